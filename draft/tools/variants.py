@@ -18,7 +18,7 @@ def check(only, log):
     return r.returncode, r.stdout
 bases = {}
 for name in sys.argv[2:]:
-    edits = out[name]; mods = sorted({module(f) for f, _, _ in edits})
+    edits = out[name]; mods = [os.environ["ONLY"]] if "ONLY" in os.environ else sorted({module(f) for f, _, _ in edits})
     subprocess.run(["git", "-C", TREE, "checkout", "-q", "--", f"crates/{crate}/src"], check=True)
     for f, old, new in edits:
         p = f"{TREE}/crates/{crate}/{f}"; s = open(p).read(); assert s.count(old) == 1, (name, f, s.count(old)); open(p, "w").write(s.replace(old, new))
