@@ -1,0 +1,13 @@
+//! Names, paths and ids: the plain values that every layer speaks of.
+#![tactic(auto)]
+
+pub mod ast_id;
+pub mod builtin_type;
+pub mod edition;
+pub mod file_path;
+pub mod ids;
+pub mod limit;
+pub mod macro_kind;
+pub mod mod_path;
+pub mod name;
+pub mod place;

@@ -1,0 +1,2 @@
+pub mod KeptForest
+pub mod Imports
