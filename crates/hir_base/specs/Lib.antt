@@ -1,3 +1,15 @@
 pub mod Refusal
+pub mod Text
+pub mod NameForm
+pub mod Name
 pub mod ModPath
+pub mod Path
+pub mod ParsePath
+pub mod Root
+pub mod ParseFile
 pub mod Place
+pub mod Display
+pub mod DisplayText
+pub mod MacroKind
+pub mod BuiltinType
+pub mod Laws

@@ -1,59 +1,121 @@
-ghost use Rattle.std.specs.Prelude.{◌≡◌, ℕ, ◌<◌, ◌≤◌, ◌↔◌, nat_eq, ◌++◌, List, [], length, IfOk, IfErr, IsOk, IsErr, IsTrue, string_bytes, string_len};
+//! Names of items.
+ghost use Rattle.std.specs.Prelude.{◌≡◌, ℕ, nat_eq, List, IfOk};
 ghost use Rattle.std.specs.Cmp.Lexicographic.{slice_cmp, pointwise};
 ghost use Rattle.std.specs.Ordering.{nat_cmp, as_partial_cmp};
 ghost use Rattle.std.specs.Cmp.{partial_order_from_own_ties};
 ghost use Rattle.std.specs.Cmp.Rules.{comparing, hashing};
 ghost use Rattle.std.proofs.Common.{rules};
+ghost use Rattle.std.specs.Fmt.{debug_str};
 ghost use Rattle.std.specs.Hash as fed;
+ghost use Rattle.std.specs.List.{list_any};
+ghost use Rattle.std.specs.Str.{chars};
+ghost use Rattle.hir_base.specs.Refusal.{Gives};
+ghost use Rattle.hir_base.specs.NameForm.{ends_name, is_name, is_path_word, IsName};
 
+use crate::text::Text;
 use std::alloc::{AllocError, Global};
 use std::cmp::Ordering;
 use std::default::MadeWith;
+use std::fmt::{Debug, Formatter, Write};
 use std::hash::{Hash, Hasher};
 use std::marker::Model;
 
 /// The most bytes that a name may have.
 pub const MAX_NAME: usize = 1000;
 
-/// Why a text is no name.
-#[derive(Debug, Drop)]
+/// Why a text is no name, in the order in which it is looked for.
+#[derive(Clone, Copy, Debug, PartialEq, Eq)]
 pub enum NameError {
+    /// The text hasn't the form of a name.
+    Bad,
+    /// The text has more than `MAX_NAME` bytes.
     TooLarge,
     Memory,
 }
 
-/// A name of an item: a text of at most `MAX_NAME` bytes.
+/// A name of an item: a text of 1 to `MAX_NAME` bytes without `:`, `/` or white space, which doesn't begin with `$`
+/// and is none of `self`, `super`, `crate`, `_` and `*`. Raw names stand without their `r#`.
 #[derive(Drop)]
 pub struct Name {
-    text: String,
+    text: Text,
 }
 
 impl Model for Name {
+    ghost use Rattle.std.specs.Prelude.{ℕ, List};
+
     ghost Value = { List ℕ };
 
-    ghost view = { λ n. string_bytes n.text };
+    ghost use Rattle.hir_base.specs.NameForm.{IsName};
+
+    ghost view = { λ n. n.text };
+
+    ghost invariant = { λ n. IsName n.text };
+}
+
+/// Whether no name may have this character in it.
+fn ends_name(c: char) -> bool
+    ensures value { result ≡ ends_name c }
+{
+    c == ':' || c == '/' || c.is_whitespace()
+}
+
+/// Whether a text has the form of a name, however long it is.
+pub fn is_name(text: &str) -> bool
+    ensures value { result ≡ is_name text.now }
+{
+    !text.is_empty() && text.as_bytes()[0] != b'$' && !is_path_word(text) && !has_name_end(text)
+}
+
+/// Whether some character of a text can be in no name.
+fn has_name_end(text: &str) -> bool
+    ensures value { result ≡ list_any ends_name (chars text.now) }
+{
+    text.chars().any(|c| ends_name(c))
+}
+
+/// Whether a text is a word that stands where a name could stand.
+fn is_path_word(text: &str) -> bool
+    ensures value { result ≡ is_path_word text.now }
+{
+    text == "self" || text == "super" || text == "crate" || text == "_" || text == "*"
 }
 
 impl Name {
+    ghost use Rattle.hir_base.specs.Name.{name_verdict, IsMemory};
+
+    /// The name that a text is.
     pub fn new(alloc: Global, text: &str) -> Result<Name, NameError>
-        ensures ok { IfOk result (λ n. n ≡ text.now) }
-        ensures too_large { (result ≡ Err NameError.TooLarge) ↔ (1000 < length text.now) }
+        ensures answer { Gives IsMemory result (name_verdict text.now) }
     {
+        if !is_name(text) {
+            return Err(NameError::Bad);
+        }
         if text.len() > MAX_NAME {
             return Err(NameError::TooLarge);
         }
-        match String::from_str(alloc, text) {
+        match Text::from_str(alloc, text) {
             Ok(text) => Ok(Name { text }),
             Err(_) => Err(NameError::Memory),
         }
     }
 
+    /// The name that a text is, which is known to be one.
+    pub(crate) fn of_valid(alloc: Global, text: &str) -> Result<Name, AllocError>
+        requires valid { IsName text.now }
+        ensures ok { IfOk result (λ n. n ≡ text.now) }
+    {
+        let text = Text::from_str(alloc, text)?;
+        Ok(Name { text })
+    }
+
+    /// The text.
     pub fn as_str(&self) -> &str
         ensures value { result.now ≡ self.now }
     {
         self.text.as_str()
     }
 
+    /// The same name; both keep one text.
     pub fn clone(&self) -> Result<Name, AllocError>
         ensures value { IfOk result (λ n. n ≡ self.now) }
     {
@@ -65,11 +127,9 @@ impl Name {
 
 // What fills the unused inline places of a `SmallVec` of names.
 impl MadeWith<Global> for Name {
-    ghost is_made_with = { λ n. n ≡ [] };
-
-    fn made_with(alloc: Global) -> Name {
+    fn made_with(_alloc: Global) -> Name {
         Name {
-            text: String::new(alloc),
+            text: Text::fixed("blank"),
         }
     }
 }
@@ -118,6 +178,15 @@ impl Hash for Name {
     ghost respects_eq = { Prim.search (hashing, rules) };
 
     fn hash<H: Hasher>(&self, state: &mut H) {
-        self.text.as_str().hash(state);
+        self.text.hash(state);
+    }
+}
+
+impl Debug for Name {
+    ghost debug_output = { debug_str };
+
+    fn fmt<W: Write>(&self, f: &mut Formatter<W>) -> std::fmt::Result {
+        let text = self.as_str();
+        Debug::fmt(&text, f)
     }
 }

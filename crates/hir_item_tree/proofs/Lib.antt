@@ -1,0 +1,2 @@
+pub mod KeptForestLemmas
+pub mod Repeats

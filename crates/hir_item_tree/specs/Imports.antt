@@ -4,7 +4,7 @@ use Rattle.hir_base.specs.ModPath.{Path}
 use Rattle.hir_item_tree.specs.declared.shape.ImportAlias.{ImportAlias}
 use Rattle.hir_item_tree.specs.declared.shape.ImportKind.{ImportKind}
 use Rattle.hir_item_tree.specs.declared.shape.ImportKind.TheVariants as kinds
-use Rattle.hir_item_tree.specs.KeptForest.{UseTree, single}
+use Rattle.hir_item_tree.specs.UseTree.{UseTree, single}
 
 -- one import: the leaf's place among the use tree's parts in preorder, and what it names
 pub record Import : Type 0 where

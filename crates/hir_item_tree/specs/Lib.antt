@@ -1,2 +1,11 @@
+pub mod Source
+pub mod UseTree
 pub mod KeptForest
 pub mod Imports
+pub mod Codes
+pub mod Same
+pub mod ItemTree
+pub mod ModItem
+pub mod Limits
+pub mod SyntaxIds
+pub mod Check

@@ -1,1 +1,4 @@
 pub mod PerNs
+pub mod Pushes
+pub mod ModuleTree
+pub mod Visibility

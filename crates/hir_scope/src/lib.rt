@@ -2,5 +2,7 @@
 #![tactic(auto)]
 
 pub mod imports;
+pub mod module_tree;
 pub mod per_ns;
+pub mod push;
 pub mod visibility;

@@ -1,0 +1,15 @@
+-- Which bytes does a kept text have?
+use Rattle.std.specs.Prelude.{ℕ, List, map}
+use Rattle.std.specs.Borrow.{Bor}
+use Rattle.std.specs.Rc.{rc_str_bytes}
+use Rattle.hir_base.specs.declared.text.Kept.{Kept}
+use Rattle.hir_base.specs.declared.text.Kept.TheVariants.{Fixed, Shared}
+
+-- the bytes of a text, wherever it is kept
+abbrev pub kept_bytes : Kept → List ℕ
+kept_bytes (Fixed text) = text.now
+kept_bytes (Shared text) = rc_str_bytes text
+
+-- the texts that these references point to
+abbrev pub nows : List (Bor (List ℕ)) → List (List ℕ)
+nows refs = map (λ text. text.now) refs

@@ -1,0 +1,182 @@
+-- What is bound stays bound, and what an import's takings reached is bound under its name.
+use Rattle.std.proofs.Common.{◌≡◌, ◌≢◌, ◌∙◌, ℕ, zero, suc, ◌+◌, ◌<◌, ◌≤◌, Bool, true, false, ◌||◌, cond, List, [], ◌∷◌, ◌++◌, length, map, slice_get, slice_set, Option, Some, None, is_some, ◌⊎◌, inl, inr, refl, sym, ap, subst, arith}
+use Rattle.std.specs.Option.{option_map}
+use Rattle.std.specs.Ordering.{nat_cmp, ordering_reverse}
+use Rattle.std.specs.Cmp.Lexicographic.{slice_cmp}
+use Rattle.std.specs.declared.cmp.Ordering.{Ordering}
+use Rattle.std.specs.declared.cmp.Ordering.TheVariants.{Less, Equal, Greater}
+use Rattle.std.proofs.lemmas.Bool.{cases_lt}
+use Rattle.std.proofs.lemmas.Cmp.{nat_list_cmp_total}
+use Rattle.std.proofs.lemmas.Map.Lookups.{exact_bytes}
+use Rattle.hir_scope.specs.PerNs.{nothing}
+use Rattle.hir_scope.specs.Pushes.{slot_after, changes_slot, gives_way, after_push}
+use Rattle.hir_scope.specs.declared.imports.ImportId.{ImportId}
+use Rattle.hir_scope.specs.declared.per_ns.Item.{Item}
+use Rattle.hir_scope.specs.declared.per_ns.PerNs.{PerNs}
+use Rattle.hir_scope.specs.declared.visibility.Visibility.{Visibility}
+use Rattle.hir_def_map.specs.State.{Map, ModuleValue, changed_at, module_at, entry_at, entry_of, pushed, with_module}
+use Rattle.hir_def_map.specs.Grown.{entry_at-pushed, entry_at-pushed_other, entry_at-pushed_elsewhere, entry_at-with_module}
+use Rattle.hir_def_collector.specs.declared.collector.imports.Namespaces.{Namespaces}
+use Rattle.hir_base.specs.declared.ast_id.HirFileId.{HirFileId}
+use Rattle.hir_item_tree.specs.KeptForest.{Head}
+use Rattle.hir_scope.specs.Visibility.{visibility_of}
+use Rattle.hir_def_collector.specs.Items.{module_id, inline_origin, declared_module}
+use Rattle.hir_def_collector.specs.State.{Core, counted, with_map}
+use Rattle.hir_def_collector.specs.Steps.{with_bound_module}
+use Rattle.hir_def_collector.specs.Imports.{AreAmong, namespaces_of, both_of, brought, imported, bound_as}
+
+-- ---- sets of namespaces
+
+pub AreAmong-same : (a : Namespaces) → AreAmong a a
+AreAmong-same a = record { types = λ h. h; values = λ h. h; macros = λ h. h }
+
+pub AreAmong-trans : {a b c : Namespaces} → AreAmong a b → AreAmong b c → AreAmong a c
+AreAmong-trans p q = record { types = λ h. q.types (p.types h); values = λ h. q.values (p.values h); macros = λ h. q.macros (p.macros h) }
+
+pub AreAmong-by : {a b c : Namespaces} → b ≡ c → AreAmong a b → AreAmong a c
+AreAmong-by {a} e p = subst (λ (x : Namespaces). AreAmong a x) e p
+
+either : (a b : Bool) (P : Type 0) → (a ≡ true → P) → (b ≡ true → P) → (a || b) ≡ true → P
+either true b P f g h = f refl
+either false b P f g h = g h
+
+pub AreAmong-both : {a b c : Namespaces} → AreAmong a c → AreAmong b c → AreAmong (both_of a b) c
+AreAmong-both {a} {b} {c} p q = record {
+  types = either a.types b.types (c.types ≡ true) p.types q.types;
+  values = either a.values b.values (c.values ≡ true) p.values q.values;
+  macros = either a.macros b.macros (c.macros ≡ true) p.macros q.macros;
+}
+
+pub AreAmong-nothing : (c : Namespaces) → AreAmong (namespaces_of nothing) c
+AreAmong-nothing c = record { types = λ h. absurd (let no : ⊥ = cc in no); values = λ h. absurd (let no : ⊥ = cc in no); macros = λ h. absurd (let no : ⊥ = cc in no) }
+
+-- ---- one namespace after a push
+
+module _ {D I : Type 0} (same_def : D → D → Bool) (same_import : I → I → Bool) where
+  both_some : (b : Bool) (x y : Item D I) → is_some (cond b (Some x) (Some y)) ≡ true
+  both_some true x y = refl
+  both_some false x y = refl
+
+  slot_kept : (bound push : Option (Item D I)) → is_some bound ≡ true → is_some (slot_after same_def same_import bound push) ≡ true
+  slot_kept None push h = absurd (let no : ⊥ = cc in no)
+  slot_kept (Some b) None h = refl
+  slot_kept (Some b) (Some p) h = both_some (gives_way same_def same_import b p) p b
+
+  slot_taken : (bound push : Option (Item D I)) → is_some push ≡ true → is_some (slot_after same_def same_import bound push) ≡ true
+  slot_taken bound None h = absurd (let no : ⊥ = cc in no)
+  slot_taken None (Some p) h = refl
+  slot_taken (Some b) (Some p) h = both_some (gives_way same_def same_import b p) p b
+
+kept_after_push : (bound push : PerNs) → AreAmong (namespaces_of bound) (namespaces_of (after_push bound push))
+kept_after_push bound push = record {
+  types = slot_kept _ _ bound.types push.types;
+  values = slot_kept _ _ bound.values push.values;
+  macros = slot_kept _ _ bound.macros push.macros;
+}
+
+taken_after_push : (bound push : PerNs) → AreAmong (namespaces_of push) (namespaces_of (after_push bound push))
+taken_after_push bound push = record {
+  types = slot_taken _ _ bound.types push.types;
+  values = slot_taken _ _ bound.values push.values;
+  macros = slot_taken _ _ bound.macros push.macros;
+}
+
+-- ---- names are the same or not
+
+itself : (o : Ordering) → o ≡ ordering_reverse o → o ≡ Equal
+itself Less e = absurd (let no : ⊥ = cc in no)
+itself Equal e = refl
+itself Greater e = absurd (let no : ⊥ = cc in no)
+
+cmp_itself : (x y : List ℕ) → x ≡ y → slice_cmp nat_cmp x y ≡ Equal
+cmp_itself x y e = subst (λ (z : List ℕ). slice_cmp nat_cmp x z ≡ Equal) e (itself (slice_cmp nat_cmp x x) (nat_list_cmp_total.antisymm x x))
+
+same_or_not : (o : Ordering) (x y : List ℕ) → slice_cmp nat_cmp x y ≡ o → (x ≡ y) ⊎ (x ≢ y)
+same_or_not Less x y e = inr (λ s. let equal : slice_cmp nat_cmp x y ≡ Equal = cmp_itself x y s in let no : ⊥ = cc in no)
+same_or_not Equal x y e = inl (exact_bytes x y e)
+same_or_not Greater x y e = inr (λ s. let equal : slice_cmp nat_cmp x y ≡ Equal = cmp_itself x y s in let no : ⊥ = cc in no)
+
+pub number_same_or_not : (m n : ℕ) → (m ≡ n) ⊎ (m ≢ n)
+number_same_or_not m n = elim (cases_lt m n) [ inl h ↦ inr (omega arith) | inr h ↦ elim (cases_lt n m) [ inl g ↦ inr (omega arith) | inr g ↦ inl (omega arith) ] ]
+
+-- ---- what a push leaves bound
+
+kept_here : (m : Map) (at : ℕ) (name : List ℕ) (items : PerNs) (o : Option ModuleValue) → module_at m at ≡ o
+    → AreAmong (namespaces_of (entry_at m at name)) (namespaces_of (entry_at (pushed m at name items) at name))
+kept_here m at name items None e = rw e (AreAmong-nothing (namespaces_of (entry_at (pushed m at name items) at name)))
+kept_here m at name items (Some v) e = AreAmong-by (ap namespaces_of (sym (entry_at-pushed m at name items v e))) (kept_after_push (entry_at m at name) items)
+
+pub kept-pushed : (m : Map) (at : ℕ) (name : List ℕ) (items : PerNs) (k : ℕ) (other : List ℕ)
+    → AreAmong (namespaces_of (entry_at m k other)) (namespaces_of (entry_at (pushed m at name items) k other))
+kept-pushed m at name items k other = elim (number_same_or_not k at) [
+  | inr ne ↦ AreAmong-by (ap namespaces_of (sym (entry_at-pushed_elsewhere m at name other items k ne))) (AreAmong-same (namespaces_of (entry_at m k other)))
+  | inl here ↦ elim (same_or_not (slice_cmp nat_cmp other name) other name refl) [
+    | inr ne ↦ AreAmong-by (ap namespaces_of (sym (entry_at-pushed_other m at name other items k ne))) (AreAmong-same (namespaces_of (entry_at m k other)))
+    | inl same ↦
+        let P : ℕ → Type 0 = λ j. AreAmong (namespaces_of (entry_at m j other)) (namespaces_of (entry_at (pushed m at name items) j other)) in
+        let Q : List ℕ → Type 0 = λ n. AreAmong (namespaces_of (entry_at m at n)) (namespaces_of (entry_at (pushed m at name items) at n)) in
+        subst P (sym here) (subst Q (sym same) (kept_here m at name items (module_at m at) refl))
+  ]
+]
+
+length-changed_at : (ms : List ModuleValue) (at : ℕ) (change : ModuleValue → ModuleValue) → length (changed_at ms at change) ≡ length ms
+length-changed_at [] at change = refl
+length-changed_at (x ∷ xs) zero change = refl
+length-changed_at (x ∷ xs) (suc at) change = ap suc (length-changed_at xs at change)
+
+length-one_more : (ms : List ModuleValue) (m : ModuleValue) → length (ms ++ m ∷ []) ≡ suc (length ms)
+length-one_more [] m = refl
+length-one_more (x ∷ xs) m = ap suc (length-one_more xs m)
+
+pub length-pushed : (m : Map) (at : ℕ) (name : List ℕ) (items : PerNs) → length (pushed m at name items).modules ≡ length m.modules
+length-pushed m at name items = length-changed_at m.modules at _
+
+pub length-with_module : (m : Map) (at : ℕ) (name : List ℕ) (origin : _) (visibility : Visibility) → length (with_module m at name origin visibility).modules ≡ suc (length m.modules)
+length-with_module m at name origin visibility = length-one_more (changed_at m.modules at _) _ ∙ ap suc (length-changed_at m.modules at _)
+
+-- ---- what a taking leaves bound
+
+some_brought : {D I : Type 0} (m : Map) (own : Visibility) (by : I) (o : Option (Item D I)) → is_some (option_map (brought m own by) o) ≡ is_some o
+some_brought m own by None = refl
+some_brought m own by (Some i) = refl
+
+pub namespaces_of-imported : (m : Map) (own : Visibility) (by : ImportId) (items : PerNs) → namespaces_of (imported m own by items) ≡ namespaces_of items
+namespaces_of-imported m own by items = rw (some_brought m own _ items.types, some_brought m own _ items.values, some_brought m own _ items.macros) refl
+
+pub kept-bound_as : (m : Map) (at : ℕ) (name : Option (List ℕ)) (items : PerNs) (k : ℕ) (other : List ℕ)
+    → AreAmong (namespaces_of (entry_at m k other)) (namespaces_of (entry_at (bound_as m at name items) k other))
+kept-bound_as m at None items k other = AreAmong-same (namespaces_of (entry_at m k other))
+kept-bound_as m at (Some name) items k other = kept-pushed m at name items k other
+
+pub length-bound_as : (m : Map) (at : ℕ) (name : Option (List ℕ)) (items : PerNs) → length (bound_as m at name items).modules ≡ length m.modules
+length-bound_as m at None items = refl
+length-bound_as m at (Some name) items = length-pushed m at name items
+
+there : (ms : List ModuleValue) (at : ℕ) → at < length ms → (m : ModuleValue) × (slice_get ms at ≡ Some m)
+there [] at h = absurd (omega arith)
+there (m ∷ ms) zero h = (m, refl)
+there (m ∷ ms) (suc at) h = there ms at (omega arith)
+
+-- what is pushed is bound
+pub taken-pushed : (m : Map) (at : ℕ) (name : List ℕ) (items : PerNs) → at < length m.modules
+    → AreAmong (namespaces_of items) (namespaces_of (entry_at (pushed m at name items) at name))
+taken-pushed m at name items h =
+    let v = there m.modules at h in
+    AreAmong-by (ap namespaces_of (sym (entry_at-pushed m at name items v.0 v.1))) (taken_after_push (entry_at m at name) items)
+
+-- ---- maps grow
+
+-- what is declared adds no module
+pub grows_declare : (c new : Core) (at : ℕ) (name : List ℕ) (items : PerNs) → new ≡ counted (with_map c (pushed c.map at name items)) → length c.map.modules ≤ length new.map.modules
+grows_declare c new at name items is =
+    let same : length (pushed c.map at name items).modules ≡ length c.map.modules = length-pushed c.map at name items in
+    rw is (omega arith)
+
+-- a module that is made adds one
+pub grows_open : (c new : Core) (home : ℕ) (file : HirFileId) (head : Head) (name : List ℕ) → new ≡ counted (with_map c (with_bound_module c.map home file head name)) → length c.map.modules < length new.map.modules
+grows_open c new home file head name is =
+    let visibility = visibility_of (module_id c.map home) head.visibility in
+    let mid : Map = with_module c.map home name (inline_origin file head.id) visibility in
+    let longer : length mid.modules ≡ suc (length c.map.modules) = length-with_module c.map home name (inline_origin file head.id) visibility in
+    let same : length (with_bound_module c.map home file head name).modules ≡ length mid.modules = length-pushed mid home name (declared_module c.map visibility) in
+    rw is (omega arith)

@@ -1,0 +1,116 @@
+-- What a reached import brings.
+use Rattle.std.specs.Prelude.{◌≡◌, ℕ, ◌-◌, length, Bool, true, false, ◌||◌, ◌&&◌, not, is_some, List, [], ◌∷◌, Option, None, Some, map, option_map, unwrap_or, slice_get, cond}
+use Rattle.std.specs.Option.{option_and_then}
+use Rattle.hir_base.specs.ModPath.{Path}
+use Rattle.hir_base.specs.declared.ids.ModuleId.{ModuleId}
+use Rattle.hir_base.specs.declared.ids.UseId.{UseId}
+use Rattle.hir_base.specs.declared.ast_id.HirFileId.{HirFileId}
+use Rattle.hir_base.specs.declared.ast_id.SyntaxId.{SyntaxId}
+use Rattle.hir_item_tree.specs.Imports.{Import, imports_of}
+use Rattle.hir_item_tree.specs.KeptForest.{Head, UseTree}
+use Rattle.hir_item_tree.specs.declared.raw_visibility.RawVisibility.{RawVisibility}
+use Rattle.hir_item_tree.specs.declared.shape.ImportAlias.{ImportAlias}
+use Rattle.hir_item_tree.specs.declared.shape.ImportAlias.TheVariants.{Underscore, Alias}
+use Rattle.hir_scope.specs.Visibility.{visibility_of}
+use Rattle.hir_scope.specs.declared.imports.ImportId.{ImportId}
+use Rattle.hir_scope.specs.declared.imports.ImportOrExternCrate.TheVariants as ways
+use Rattle.hir_scope.specs.declared.imports.ImportOrGlob.TheVariants as value_ways
+use Rattle.hir_scope.specs.declared.per_ns.Item.{Item}
+use Rattle.hir_scope.specs.declared.per_ns.PerNs.{PerNs}
+use Rattle.hir_scope.specs.declared.visibility.Visibility.{Visibility}
+use Rattle.hir_def_map.specs.Reaches.{reached_items}
+use Rattle.hir_def_map.specs.State.{Map, alone, pushed}
+use Rattle.hir_def_collector.specs.declared.collector.imports.ReachedImport.{ReachedImport}
+use Rattle.hir_def_collector.specs.declared.collector.imports.Namespaces.{Namespaces}
+use Rattle.hir_def_collector.specs.declared.collector.imports.Taking.{Taking}
+use Rattle.hir_def_collector.specs.State.{Core}
+use Rattle.hir_def_collector.specs.Items.{module_id, lesser_in}
+
+-- the `use` item that a node of a file writes in a module
+abbrev pub use_id : ModuleId → HirFileId → SyntaxId → UseId
+use_id at file id = record { container = at; file_id = file; block = None; id = id }
+
+-- one import of a `use` item of a module
+abbrev pub reached_import : ℕ → UseId → RawVisibility → Import → ReachedImport
+reached_import home by visibility i = record { home = home; id = record { use_ = by; idx = i.place }; visibility = visibility; path = i.path; alias = i.alias }
+
+-- the imports of a `use` item of a module
+abbrev pub imports_by : Map → ℕ → HirFileId → Head → UseTree → List ReachedImport
+imports_by m home file head tree = map (reached_import home (use_id (module_id m home) file head.id) head.visibility) (imports_of tree)
+
+-- the last name of a path, if it has one
+abbrev pub last_of : List (List ℕ) → Option (List ℕ)
+last_of names = slice_get names (length names - 1)
+
+-- the name that an import gives: its alias, or else the last name of its path
+abbrev pub name_by : Option ImportAlias → List (List ℕ) → Option (List ℕ)
+name_by (Some (Alias name)) segments = Some name
+name_by (Some Underscore) segments = None
+name_by None segments = last_of segments
+
+abbrev pub name_of : ReachedImport → Option (List ℕ)
+name_of i = name_by i.alias i.path.segments
+
+-- what a path reaches that an import of the module names
+unfoldable pub reached_in : Map → ModuleId → Path → PerNs
+reached_in m at path = reached_items (alone m) at path
+
+-- what the path of an import reaches
+abbrev pub reached_by : Map → ReachedImport → PerNs
+reached_by m i = reached_in m (module_id m i.home) i.path
+
+-- the namespaces in which something is bound
+abbrev pub namespaces_of : PerNs → Namespaces
+namespaces_of items = record { types = is_some items.types; values = is_some items.values; macros = is_some items.macros }
+
+-- the namespaces of both
+abbrev pub both_of : Namespaces → Namespaces → Namespaces
+both_of a b = record { types = a.types || b.types; values = a.values || b.values; macros = a.macros || b.macros }
+
+-- each of the namespaces is among the others
+pub record AreAmong (some all : Namespaces) : Type 0 where
+  pub types : some.types ≡ true → all.types ≡ true
+  pub values : some.values ≡ true → all.values ≡ true
+  pub macros : some.macros ≡ true → all.macros ≡ true
+
+-- there is no namespace
+abbrev pub is_empty : Namespaces → Bool
+is_empty a = not ((a.types || a.values) || a.macros)
+
+-- one of the namespaces isn't among the others
+abbrev pub goes_beyond : Namespaces → Namespaces → Bool
+goes_beyond some all = ((some.types && not all.types) || (some.values && not all.values)) || (some.macros && not all.macros)
+
+-- an item as an import binds it: with the lesser of its own visibility and the reached one, and with its own where they are unrelated
+abbrev pub brought : {D I : Type 0} → Map → Visibility → I → Item D I → Item D I
+brought m own by i = record { def = i.def; vis = unwrap_or (lesser_in m own i.vis) own; import = Some by }
+
+-- what an import of this visibility binds of what it reaches
+abbrev pub imported : Map → Visibility → ImportId → PerNs → PerNs
+imported m own by items = record {
+  types = option_map (brought m own (ways.Import by)) items.types;
+  values = option_map (brought m own (value_ways.Import by)) items.values;
+  macros = option_map (brought m own (ways.Import by)) items.macros;
+}
+
+-- what is bound under the name, if there is one
+abbrev pub bound_as : Map → ℕ → Option (List ℕ) → PerNs → Map
+bound_as m home None items = m
+bound_as m home (Some name) items = pushed m home name items
+
+-- the map once the import is taken
+abbrev pub after_import : Map → ReachedImport → Map
+after_import m i = bound_as m i.home (name_of i) (imported m (visibility_of (module_id m i.home) i.visibility) i.id (reached_by m i))
+
+-- the taking of an import of which these namespaces were reached before, where it reaches another
+abbrev pub taking_of : Map → ReachedImport → Namespaces → Option Taking
+taking_of m r t = cond (goes_beyond (namespaces_of (reached_by m r)) t) (Some (record {
+  home = r.home;
+  name = name_of r;
+  items = imported m (visibility_of (module_id m r.home) r.visibility) r.id (reached_by m r);
+  namespaces = both_of t (namespaces_of (reached_by m r));
+})) None
+
+-- the taking that is due of the import at the place, if one is
+abbrev pub taking_at : Core → ℕ → Option Taking
+taking_at c i = option_and_then (λ r. option_and_then (λ t. taking_of c.map r t) (slice_get c.taken i)) (slice_get c.reached i)

@@ -1,0 +1,10 @@
+pub mod Workspace
+pub mod Keys
+pub mod State
+pub mod Items
+pub mod Imports
+pub mod Start
+pub mod Steps
+pub mod Causes
+pub mod Derivation
+pub mod Moves

@@ -1,0 +1,71 @@
+-- Where a run stands.
+use Rattle.std.specs.Prelude.{ℕ, ◌+◌, false, List, [], ◌∷◌, ◌++◌, slice_set}
+use Rattle.hir_base.specs.declared.ast_id.HirFileId.{HirFileId}
+use Rattle.hir_item_tree.specs.KeptForest.{KeptItem, KeptForest, no_items, item}
+use Rattle.hir_def_map.specs.State.{Map}
+use Rattle.hir_def_collector.specs.declared.collector.imports.ReachedImport.{ReachedImport}
+use Rattle.hir_def_collector.specs.declared.collector.imports.Namespaces.{Namespaces}
+use Rattle.hir_def_collector.specs.declared.source_database.Key.{Key}
+
+-- an item that was come upon and not handled yet: the number of its module, the file that writes it, and the item
+pub record Visit : Type 0 where
+  pub home : ℕ
+  pub file : HirFileId
+  pub item : KeptItem
+
+-- where a run stands
+pub record State : Type 0 where
+  -- the modules so far, and what each binds
+  pub map : Map
+  -- what is still to be visited, the next item first
+  pub agenda : List Visit
+  -- the imports that were come upon, in order
+  pub reached : List ReachedImport
+  -- for each of them the namespaces that its takings reached
+  pub taken : List Namespaces
+  -- the keys that were asked for
+  pub asked : List Key
+  -- how many steps were taken
+  pub count : ℕ
+
+-- the same, the agenda aside
+pub record Core : Type 0 where
+  pub map : Map
+  pub reached : List ReachedImport
+  pub taken : List Namespaces
+  pub asked : List Key
+  pub count : ℕ
+
+-- no namespace
+abbrev pub no_namespaces : Namespaces
+no_namespaces = record { types = false; values = false; macros = false }
+
+-- a core and what is still to be visited
+abbrev pub joined : Core → List Visit → State
+joined c agenda = record { map = c.map; agenda = agenda; reached = c.reached; taken = c.taken; asked = c.asked; count = c.count }
+
+-- the core with another map, with one more import, with other namespaces at a place, with one more step
+abbrev pub with_map : Core → Map → Core
+with_map c m = record { map = m; reached = c.reached; taken = c.taken; asked = c.asked; count = c.count }
+
+abbrev pub with_import : Core → ReachedImport → Core
+with_import c r = record { map = c.map; reached = c.reached ++ r ∷ []; taken = c.taken ++ no_namespaces ∷ []; asked = c.asked; count = c.count }
+
+abbrev pub with_taken : Core → ℕ → Namespaces → Core
+with_taken c i t = record { map = c.map; reached = c.reached; taken = slice_set c.taken i t; asked = c.asked; count = c.count }
+
+abbrev pub counted : Core → Core
+counted c = record { map = c.map; reached = c.reached; taken = c.taken; asked = c.asked; count = c.count + 1 }
+
+-- a core with nothing to be visited
+abbrev pub at_rest : Core → State
+at_rest c = joined c []
+
+-- the items of a forest, to be visited one after another in the module
+abbrev pub visits : ℕ → HirFileId → KeptForest → List Visit
+visits home file no_items = []
+visits home file (item i is) = record { home = home; file = file; item = i } ∷ visits home file is
+
+-- the state with one more step counted
+abbrev pub ticked : State → State
+ticked s = record s { count = s.count + 1 }

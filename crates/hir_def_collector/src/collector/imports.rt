@@ -1,0 +1,151 @@
+//! Imports that a run has come upon, and what they bring.
+ghost use Rattle.std.specs.Prelude.{◌≡◌, IfOk, option_map};
+ghost use Rattle.hir_def_collector.specs.Imports.{brought, both_of, goes_beyond, imported, is_empty, name_of, namespaces_of, reached_in};
+ghost use Rattle.hir_def_collector.specs.Items.{lesser_in};
+
+use hir_base::ids::ModuleId;
+use hir_base::mod_path::ModPath;
+use hir_base::name::Name;
+use hir_def_map::nameres::DefMap;
+use hir_item_tree::raw_visibility::RawVisibility;
+use hir_item_tree::shape::ImportAlias;
+use hir_scope::imports::{ImportId, ImportOrExternCrate, ImportOrGlob};
+use hir_scope::per_ns::{Item, PerNs};
+use hir_scope::visibility::Visibility;
+use std::alloc::AllocError;
+
+/// An import that a run has come upon.
+#[derive(Drop)]
+pub struct ReachedImport {
+    /// The number of the module that has it.
+    pub home: u32,
+    pub id: ImportId,
+    pub visibility: RawVisibility,
+    pub path: ModPath,
+    pub alias: Option<ImportAlias>,
+}
+
+/// A set of namespaces.
+#[derive(Clone, Copy, Debug, PartialEq, Eq)]
+pub struct Namespaces {
+    pub types: bool,
+    pub values: bool,
+    pub macros: bool,
+}
+
+/// What is to be done to take an import.
+#[derive(Drop)]
+pub struct Taking {
+    /// The number of the module that has the import.
+    pub home: u32,
+    /// The name that it gives, if it gives one.
+    pub name: Option<Name>,
+    /// What it binds.
+    pub items: PerNs,
+    /// The namespaces that its takings will have reached.
+    pub namespaces: Namespaces,
+}
+
+impl Namespaces {
+    /// Those in which something is bound.
+    pub fn of(items: PerNs) -> Namespaces
+        ensures value { result ≡ namespaces_of items }
+    {
+        Namespaces {
+            types: items.types.is_some(),
+            values: items.values.is_some(),
+            macros: items.macros.is_some(),
+        }
+    }
+
+    /// Those of both sets.
+    pub fn or(self, other: Namespaces) -> Namespaces
+        ensures value { result ≡ both_of self other }
+    {
+        Namespaces {
+            types: self.types || other.types,
+            values: self.values || other.values,
+            macros: self.macros || other.macros,
+        }
+    }
+
+    /// Whether there is none.
+    pub fn is_empty(self) -> bool
+        ensures value { result ≡ is_empty self }
+    {
+        !(self.types || self.values || self.macros)
+    }
+
+    /// Whether one of these isn't among the others.
+    pub fn goes_beyond(self, other: Namespaces) -> bool
+        ensures value { result ≡ goes_beyond self other }
+    {
+        self.types && !other.types || self.values && !other.values || self.macros && !other.macros
+    }
+}
+
+impl ReachedImport {
+    /// The name that it gives: its alias, or else the last name of its path.
+    pub fn name(&self) -> Result<Option<Name>, AllocError>
+        ensures value { IfOk result (λ name. name ≡ name_of self.now) }
+    {
+        match &self.alias {
+            Some(ImportAlias::Alias(name)) => Ok(Some(name.clone()?)),
+            Some(ImportAlias::Underscore) => Ok(None),
+            None => match self.path.segments().last() {
+                Some(name) => Ok(Some(name.clone()?)),
+                None => Ok(None),
+            },
+        }
+    }
+}
+
+/// The lesser of two visibilities in the map, if they aren't unrelated.
+#[tactic(auto, unfolding(crate::specs::Items::lesser_in))]
+pub fn lesser(map: &DefMap, one: Visibility, other: Visibility) -> Option<Visibility>
+    ensures value { result ≡ lesser_in map.now one other }
+{
+    map.lesser(one, other)
+}
+
+/// What a path reaches that a module's import asks for.
+#[tactic(auto, unfolding(crate::specs::Imports::reached_in))]
+pub fn reached(map: &DefMap, at: ModuleId, path: &ModPath) -> PerNs
+    ensures value { result ≡ reached_in map.now at path.now }
+{
+    map.reached_items(at, path)
+}
+
+/// An item as an import of this visibility binds it.
+fn brought<Def: Copy, Import: Copy>(
+    map: &DefMap,
+    own: Visibility,
+    by: Import,
+    item: Option<Item<Def, Import>>,
+) -> Option<Item<Def, Import>>
+    ensures value { result ≡ option_map (brought map.now own by) item }
+{
+    let Some(item) = item else {
+        return None;
+    };
+    let vis = match lesser(map, own, item.vis) {
+        Some(vis) => vis,
+        None => own,
+    };
+    Some(Item {
+        def: item.def,
+        vis,
+        import: Some(by),
+    })
+}
+
+/// What an import of this visibility binds of what it reaches.
+pub fn imported(map: &DefMap, own: Visibility, by: ImportId, items: PerNs) -> PerNs
+    ensures value { result ≡ imported map.now own by items }
+{
+    PerNs {
+        types: brought(map, own, ImportOrExternCrate::Import(by), items.types),
+        values: brought(map, own, ImportOrGlob::Import(by), items.values),
+        macros: brought(map, own, ImportOrExternCrate::Import(by), items.macros),
+    }
+}

@@ -1,0 +1,61 @@
+//! Passes over the imports, until one moves nothing.
+ghost use Rattle.std.specs.Prelude.{◌≡◌, ℕ, ◌≤◌, Some, OnOk, IfOk};
+ghost use Rattle.hir_def_collector.specs.Workspace.{Workspace};
+ghost use Rattle.hir_def_collector.specs.State.{at_rest};
+ghost use Rattle.hir_def_collector.specs.Imports.{taking_at};
+ghost use Rattle.hir_def_collector.specs.Steps.{Step, Steps};
+ghost use Rattle.hir_def_collector.specs.Derivation.{IsSettled, IsSpent};
+ghost use Rattle.hir_def_collector.specs.Moves.{Moves};
+
+use crate::collector::imports::Taking;
+use crate::collector::run::Run;
+use crate::collector::{CollectError, STEP_LIMIT};
+
+/// Takes an import.
+fn take(run: &mut Run, i: usize, taking: Taking) -> Result<(), CollectError>
+    requires due { taking_at run.old i ≡ Some taking }
+    ensures ok { OnOk result ((w : Workspace) → Step w (at_rest run.old) (at_rest run.new)) }
+    ensures many { result ≡ Err CollectError.TooMany → STEP_LIMIT ≤ run.old.count }
+{
+    run.bind_as(taking.home, taking.name, taking.items)?;
+    run.note(i, taking.namespaces);
+    run.tick()?;
+    Ok(())
+}
+
+/// Takes the import at the place, if its path reaches a namespace that no taking of it reached; whether it did.
+fn try_import(run: &mut Run, i: usize) -> Result<bool, CollectError>
+    ensures ok { IfOk result (λ moved. (w : Workspace) → Moves w (at_rest run.old) (at_rest run.new) moved (λ s. IsSettled s i)) }
+    ensures many { result ≡ Err CollectError.TooMany → STEP_LIMIT ≤ run.old.count }
+{
+    let Some(taking) = run.taking(i)? else {
+        return Ok(false);
+    };
+    take(run, i, taking)?;
+    Ok(true)
+}
+
+/// Tries each import once, in the order in which they were come upon; whether one was taken.
+fn pass(run: &mut Run) -> Result<bool, CollectError>
+    ensures ok { IfOk result (λ moved. (w : Workspace) → Moves w (at_rest run.old) (at_rest run.new) moved (λ s. (i : ℕ) → IsSettled s i)) }
+    ensures small { IfOk result (λ _. run.new.count ≤ STEP_LIMIT) }
+    ensures many { result ≡ Err CollectError.TooMany → (w : Workspace) → IsSpent w (at_rest run.old) }
+{
+    let mut moved = false;
+    for i in 0..run.reached_len() {
+        moved |= try_import(run, i)?;
+    }
+    let _ = run.count();
+    Ok(moved)
+}
+
+/// Tries the imports until none is taken.
+pub fn settle(run: &mut Run) -> Result<(), CollectError>
+    ensures derived { OnOk result ((w : Workspace) → Steps w (at_rest run.old) (at_rest run.new)) }
+    ensures settled { OnOk result ((i : ℕ) → IsSettled (at_rest run.new) i) }
+    ensures many { result ≡ Err CollectError.TooMany → (w : Workspace) → IsSpent w (at_rest run.old) }
+{
+    let _ = run.count();
+    while pass(run)? {}
+    Ok(())
+}

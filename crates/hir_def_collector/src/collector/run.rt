@@ -1,0 +1,219 @@
+//! Where a run stands, and what each change leaves.
+ghost use Rattle.std.specs.Prelude.{◌≡◌, ◌<◌, ◌≤◌, length, OnOk, IfOk};
+ghost use Rattle.hir_def_map.specs.State.{with_module, new_id};
+ghost use Rattle.hir_def_collector.specs.State.{with_map, with_import, with_taken, counted};
+ghost use Rattle.hir_def_collector.specs.Items.{module_id};
+ghost use Rattle.hir_def_collector.specs.Imports.{bound_as, reached_by, taking_at};
+ghost use Rattle.hir_def_collector.specs.Start.{start_core};
+ghost use Rattle.hir_def_collector.specs.Derivation.{leftover_among};
+
+use crate::collector::collected::Collected;
+use crate::collector::imports::{Namespaces, ReachedImport, Taking, imported, reached};
+use crate::collector::leftovers::untaken;
+use crate::collector::{CollectError, STEP_LIMIT, Start};
+use crate::source_database::Key;
+use hir_base::ast_id::HirFileId;
+use hir_base::ids::{MapId, ModuleId};
+use hir_base::name::Name;
+use hir_def_map::nameres::DefMap;
+use hir_def_map::nameres::origin::ModuleOrigin;
+use hir_scope::imports::ImportId;
+use hir_scope::per_ns::PerNs;
+use hir_scope::visibility::Visibility;
+use std::alloc::{AllocError, Global};
+use std::marker::Model;
+
+/// Where a run stands, what it has still to visit aside.
+#[derive(Drop)]
+pub struct Run {
+    map: DefMap,
+    reached: Vec<ReachedImport>,
+    taken: Vec<Namespaces>,
+    asked: Vec<Key>,
+    count: u32,
+}
+
+impl Model for Run {
+    ghost use Rattle.std.specs.Prelude.{◌≤◌};
+    ghost use Rattle.hir_def_collector.specs.State.{Core};
+    ghost use Rattle.hir_def_collector.specs.declared.collector.TheConstants.{STEP_LIMIT};
+
+    ghost Value = { Core };
+
+    ghost view = { λ r. record { map = r.map; reached = r.reached.items; taken = r.taken.items; asked = r.asked.items; count = r.count } };
+
+    ghost invariant = { λ r. r.count ≤ STEP_LIMIT };
+}
+
+impl Run {
+    /// The root module alone, its tree asked for.
+    pub fn start(alloc: Global, start: Start) -> Result<Run, AllocError>
+        ensures value { IfOk result (λ run. run ≡ start_core start) }
+    {
+        let id = MapId {
+            krate: start.krate,
+            block: None,
+        };
+        let origin = ModuleOrigin::CrateRoot {
+            definition: start.root,
+        };
+        let map = DefMap::empty(alloc, id, start.root.edition, origin, Visibility::Public)?;
+        let mut asked = Vec::new(alloc);
+        asked.push(Key::Tree(start.krate, HirFileId::File(start.root)))?;
+        Ok(Run {
+            map,
+            reached: Vec::new(alloc),
+            taken: Vec::new(alloc),
+            asked,
+            count: 0,
+        })
+    }
+
+    /// The modules so far.
+    pub fn map(&self) -> &DefMap
+        ensures value { result.now ≡ self.now.map }
+    {
+        &self.map
+    }
+
+    /// The module of a number.
+    pub fn module_id(&self, home: u32) -> ModuleId
+        ensures value { result ≡ module_id self.now.map home }
+    {
+        ModuleId {
+            map: self.map.id(),
+            index: home,
+        }
+    }
+
+    /// How many steps were taken.
+    pub fn count(&self) -> u32
+        ensures value { result ≡ self.now.count }
+        ensures small { result ≤ STEP_LIMIT }
+    {
+        self.count
+    }
+
+    /// How many imports were come upon.
+    pub fn reached_len(&self) -> usize
+        ensures value { result ≡ length self.now.reached }
+    {
+        self.reached.len()
+    }
+
+    /// Counts a step.
+    pub fn tick(&mut self) -> Result<(), CollectError>
+        ensures ok { OnOk result (self.new ≡ counted self.old) }
+        ensures many { result ≡ Err CollectError.TooMany → STEP_LIMIT ≤ self.old.count }
+    {
+        if self.count >= STEP_LIMIT {
+            return Err(CollectError::TooMany);
+        }
+        self.count += 1;
+        Ok(())
+    }
+
+    /// Binds items under a name in a module.
+    pub fn bind(&mut self, home: u32, name: Name, items: PerNs) -> Result<(), AllocError>
+        ensures ok { OnOk result (self.new ≡ with_map self.old (bound_as self.old.map home (Some name) items)) }
+    {
+        self.map.push(home, name, items)?;
+        Ok(())
+    }
+
+    /// Binds items under a name in a module, if there is a name.
+    pub fn bind_as(&mut self, home: u32, name: Option<Name>, items: PerNs) -> Result<(), AllocError>
+        ensures ok { OnOk result (self.new ≡ with_map self.old (bound_as self.old.map home name items)) }
+    {
+        match name {
+            Some(name) => self.bind(home, name, items),
+            None => Ok(()),
+        }
+    }
+
+    /// Makes a module.
+    pub fn open(
+        &mut self,
+        home: u32,
+        name: Name,
+        origin: ModuleOrigin,
+        visibility: Visibility,
+    ) -> Result<ModuleId, CollectError>
+        requires in_range { home < length self.old.map.modules }
+        ensures made { IfOk result (λ id. id ≡ new_id self.old.map) }
+        ensures ok { OnOk result (self.new ≡ with_map self.old (with_module self.old.map home name origin visibility)) }
+        ensures many { result ≡ Err CollectError.TooMany → STEP_LIMIT ≤ length self.old.map.modules }
+    {
+        let id = self.map.add_module(home, name, origin, visibility)?;
+        Ok(id)
+    }
+
+    /// Notes an import that was come upon.
+    pub fn reach(&mut self, import: ReachedImport) -> Result<(), AllocError>
+        ensures ok { OnOk result (self.new ≡ with_import self.old import) }
+    {
+        self.reached.push(import)?;
+        self.taken.push(Namespaces {
+            types: false,
+            values: false,
+            macros: false,
+        })?;
+        Ok(())
+    }
+
+    /// Notes the namespaces that the takings of an import have reached.
+    pub fn note(&mut self, i: usize, namespaces: Namespaces)
+        ensures value { self.new ≡ with_taken self.old i namespaces }
+    {
+        if i < self.taken.len() {
+            self.taken[i] = namespaces;
+        }
+    }
+
+    /// What the path of an import reaches now.
+    fn reached_by(&self, import: &ReachedImport) -> PerNs
+        ensures value { result ≡ reached_by self.now.map import.now }
+    {
+        let at = self.module_id(import.home);
+        reached(&self.map, at, &import.path)
+    }
+
+    /// The taking that is due of the import at the place: where its path reaches a namespace that no
+    /// taking of it reached, all that it reaches now is bound.
+    pub fn taking(&self, i: usize) -> Result<Option<Taking>, AllocError>
+        ensures value { IfOk result (λ taking. taking ≡ taking_at self.now i) }
+    {
+        let Some(import) = self.reached.get(i) else {
+            return Ok(None);
+        };
+        let Some(before) = self.taken.get(i) else {
+            return Ok(None);
+        };
+        let items = self.reached_by(import);
+        let namespaces = Namespaces::of(items);
+        if !namespaces.goes_beyond(*before) {
+            return Ok(None);
+        }
+        let own = Visibility::of_raw(self.module_id(import.home), &import.visibility);
+        Ok(Some(Taking {
+            home: import.home,
+            name: import.name()?,
+            items: imported(&self.map, own, import.id, items),
+            namespaces: before.or(namespaces),
+        }))
+    }
+
+    /// The imports that were never taken, in the order in which they were come upon.
+    pub fn leftover(&self, alloc: Global) -> Result<Vec<ImportId>, AllocError>
+        ensures value { IfOk result (λ ids. ids.items ≡ leftover_among self.now.reached self.now.taken) }
+    {
+        untaken(alloc, &self.reached, &self.taken)
+    }
+
+    /// What a run comes to.
+    pub fn finish(self, leftover: Vec<ImportId>) -> Collected
+        ensures value { result ≡ record { map = self.map; leftover = leftover.items; asked = self.asked } }
+    {
+        Collected::new(self.map, leftover, self.asked)
+    }
+}

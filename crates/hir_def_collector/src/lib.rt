@@ -1,0 +1,5 @@
+//! What a crate's names stand for: runs of the import rules to their end, after rust-analyzer's `nameres/collector.rs`.
+#![tactic(auto)]
+
+pub mod collector;
+pub mod source_database;

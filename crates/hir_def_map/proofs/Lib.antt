@@ -1,0 +1,4 @@
+pub mod Modules
+pub mod Climb
+pub mod Agreement
+pub mod LastSegment

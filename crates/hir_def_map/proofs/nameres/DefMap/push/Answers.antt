@@ -1,0 +1,13 @@
+-- A push leaves each module's parent.
+use Rattle.std.proofs.Common.{refl, List}
+use Rattle.hir_def_map.specs.State.{ModuleValue, IsRooted, changed_at, pushed_module}
+use Rattle.hir_def_map.proofs.Modules.{IsRooted-changed_at, either_way}
+use Rattle.hir_def_map.proofs.nameres.DefMap.push.Goals as goal
+
+pub invariant_of-self : goal.invariant_of-self
+invariant_of-self c =
+    let rooted : List ModuleValue → Type 0 = λ ms. IsRooted c.self.inside.id ms in
+    either_way rooted c.push_in.result c.push_in.new.modules.items c.self.inside.modules.items
+    (changed_at c.self.inside.modules.items c.args.at (pushed_module c.args.name c.args.items))
+    c.push_in.ensures.ok c.push_in.ensures.err c.self.invariant
+    (IsRooted-changed_at c.self.inside.id c.self.inside.modules.items c.args.at (pushed_module c.args.name c.args.items) (λ m. refl) c.self.invariant)

@@ -1,0 +1,108 @@
+//! One module of a def map.
+ghost use Rattle.std.specs.Prelude.{◌≡◌, [], None, IfOk, OnOk, OnErr};
+ghost use Rattle.hir_scope.specs.Pushes.{changes};
+ghost use Rattle.hir_def_map.specs.State.{at_name, bound, pushed_module, with_child};
+
+use crate::nameres::origin::ModuleOrigin;
+use crate::nameres::scope::Scope;
+use hir_base::ids::ModuleId;
+use hir_base::name::Name;
+use hir_scope::per_ns::PerNs;
+use hir_scope::visibility::Visibility;
+use std::alloc::{AllocError, Global};
+use std::collections::BTreeMap;
+use std::marker::Model;
+
+/// A module, after rust-analyzer's `ModuleData`.
+#[derive(Drop)]
+pub struct ModuleData {
+    origin: ModuleOrigin,
+    visibility: Visibility,
+    parent: Option<ModuleId>,
+    children: BTreeMap<Name, ModuleId>,
+    scope: Scope,
+}
+
+impl Model for ModuleData {
+    ghost use Rattle.hir_def_map.specs.State.{ModuleValue};
+
+    ghost Value = { ModuleValue };
+
+    ghost view = { λ m. record { origin = m.origin; visibility = m.visibility; parent = m.parent; children = m.children.entries; scope = m.scope } };
+}
+
+impl ModuleData {
+    /// A module without children and bindings.
+    pub fn new(
+        alloc: Global,
+        origin: ModuleOrigin,
+        visibility: Visibility,
+        parent: Option<ModuleId>,
+    ) -> ModuleData
+        ensures value { result ≡ record { origin = origin; visibility = visibility; parent = parent; children = []; scope = [] } }
+    {
+        ModuleData {
+            origin,
+            visibility,
+            parent,
+            children: BTreeMap::new(alloc),
+            scope: Scope::new(alloc),
+        }
+    }
+
+    /// Where the module is written.
+    pub fn origin(&self) -> ModuleOrigin
+        ensures value { result ≡ self.now.origin }
+    {
+        self.origin
+    }
+
+    /// Who may see the module.
+    pub fn visibility(&self) -> Visibility
+        ensures value { result ≡ self.now.visibility }
+    {
+        self.visibility
+    }
+
+    /// What the module is in.
+    pub fn parent(&self) -> Option<ModuleId>
+        ensures value { result ≡ self.now.parent }
+    {
+        self.parent
+    }
+
+    /// The first module of this name in it.
+    pub fn child(&self, name: &Name) -> Option<ModuleId>
+        ensures value { result ≡ at_name self.now.children name.now }
+    {
+        self.children.get(name).copied()
+    }
+
+    /// What a name stands for in it.
+    pub fn entry(&self, name: &Name) -> PerNs
+        ensures value { result ≡ bound self.now.scope name.now }
+    {
+        self.scope.get(name)
+    }
+
+    /// Gives the module a child under a name that isn't taken.
+    pub fn add_child(&mut self, name: Name, id: ModuleId) -> Result<(), AllocError>
+        ensures ok { OnOk result (self.new ≡ with_child name id self.old) }
+        ensures err { OnErr result (self.new ≡ self.old) }
+    {
+        if self.children.contains_key(&name) {
+            return Ok(());
+        }
+        self.children.insert(name, id)?;
+        Ok(())
+    }
+
+    /// Binds items under a name, and says whether that changed what it stands for.
+    pub fn push(&mut self, name: Name, items: PerNs) -> Result<bool, AllocError>
+        ensures ok { OnOk result (self.new ≡ pushed_module name items self.old) }
+        ensures changed { IfOk result (λ changed. changed ≡ changes (bound self.old.scope name) items) }
+        ensures err { OnErr result (self.new ≡ self.old) }
+    {
+        self.scope.push(name, items)
+    }
+}

@@ -1,0 +1,92 @@
+use Rattle.std.proofs.Common.{◌≡◌, ◌⊎◌, inl, inr, ℕ, false, List, Option, refl, sym, subst, ap, ◌∙◌, Contains}
+use Rattle.hir_base.specs.declared.ids.Crate.{Crate}
+use Rattle.hir_def_collector.specs.Workspace.{Workspace}
+use Rattle.hir_def_collector.specs.Keys.{look}
+use Rattle.hir_def_collector.specs.declared.source_database.Key.{Key}
+use Rattle.hir_session.specs.Crates.{CrateValue, dependencies_in}
+use Rattle.hir_session.specs.Files.{Files}
+use Rattle.hir_session.specs.SessionState.{SessionState, Resolution, workspace_of, dependencies_of, kept_of, kept_in, is_marked, IsSound}
+use Rattle.hir_session.specs.Spread.{Spread}
+use Rattle.hir_session.specs.Spread.Spread.{here, depends}
+use Rattle.hir_session.specs.Marks.{IsAltered, IsTouched}
+use Rattle.hir_session.specs.Marks.IsTouched.{before, asked_for}
+use Rattle.hir_session.specs.Due.{IsBehind, IsAskedBehind}
+use Rattle.hir_session.specs.Due.IsBehind.{itself, next}
+use Rattle.hir_session.specs.Changes.{Becomes, edited_files, with_files}
+use Rattle.hir_session.specs.Histories.{History, WasAltered, DifferOnlyWhereAltered}
+use Rattle.hir_session.specs.Histories.History.{none, edit, refresh}
+use Rattle.hir_session.proofs.Truth.{clash, on_bool}
+
+-- what is behind the crate is as it was
+pub record IsSame (from to : SessionState) (k : ℕ) : Type 0 where
+  pub crates : to.crates ≡ from.crates
+  pub paths : to.paths ≡ from.paths
+  pub off : (j : ℕ) → IsBehind from k j → is_marked to j ≡ false
+  pub kept : (j : ℕ) → IsBehind from k j → kept_of to j ≡ kept_of from j
+
+-- all behind an unmarked crate is unmarked
+pub unmarked_behind : {s : SessionState} {k j : ℕ} → IsSound s → is_marked s k ≡ false → IsBehind s k j → is_marked s j ≡ false
+unmarked_behind sound off itself = off
+unmarked_behind {s} {k} sound off (next j d behind among) = sound.closed j d (unmarked_behind sound off behind) among
+
+-- what an unmarked crate depends on is unmarked
+pub record IsClosed (s : SessionState) : Type 0 where
+  pub closed : (k : ℕ) (d : Crate) → is_marked s k ≡ false → Contains (dependencies_of s k) d → is_marked s d.0 ≡ false
+
+-- so it is after an edit
+pub closed_after : {old new : SessionState} {files : Files} → Becomes old files new → IsClosed new
+closed_after {old} {new} is = record {
+  closed = λ k d off among. on_bool (is_marked new d.0)
+      (λ on. clash (is.all k (depends k d (subst (λ (cs : List CrateValue). Contains (dependencies_in cs k) d) is.crates among) (is.only d.0 on))) off)
+      (λ h. h);
+}
+
+-- all that was behind a crate is unmarked where the crate still is
+pub unmarked_still : {from to : SessionState} {k j : ℕ} → to.crates ≡ from.crates → IsClosed to → is_marked to k ≡ false → IsBehind from k j → is_marked to j ≡ false
+unmarked_still alike closed off itself = off
+unmarked_still alike closed off (next j d behind among) =
+    closed.closed j d (unmarked_still alike closed off behind) (subst (λ (cs : List CrateValue). Contains (dependencies_in cs j) d) (sym alike) among)
+
+-- what was marked shows a key that was altered
+pub what_marked : {from mid : SessionState} {k : ℕ} (w : Workspace) → IsSame from mid k → {j : ℕ} → Spread (dependencies_of mid) (IsTouched mid w) j → IsBehind from k j
+    → (key : Key) × IsAskedBehind from k key × IsAltered (workspace_of mid) w key
+what_marked w same (here j (before m)) behind = clash m (same.off j behind)
+what_marked w same (here j (asked_for key r is has ne)) behind =
+    (key, record { place = j; found = r; behind = behind; is = sym (same.kept j behind) ∙ is; asked = has }, ne)
+what_marked w same (depends j d among sp) behind =
+    what_marked w same sp (next j d behind (subst (λ (cs : List CrateValue). Contains (dependencies_in cs j) d) same.crates among))
+
+-- the workspace that an accepted edit leaves is the edited one
+workspace-becomes : {old new : SessionState} {files : Files} → Becomes old files new → workspace_of new ≡ workspace_of (with_files old files)
+workspace-becomes is = rw (is.crates, is.paths, is.files_are) refl
+
+pub same_or_altered : {from : SessionState} {k : ℕ} → IsSound from → is_marked from k ≡ false → {to : SessionState} → (h : History from to)
+    → IsSame from to k ⊎ ((key : Key) × IsAskedBehind from k key × WasAltered key h)
+same_or_altered sound off none = inl (record { crates = refl; paths = refl; off = λ j behind. unmarked_behind sound off behind; kept = λ j behind. refl })
+same_or_altered {from} {k} sound off (edit mid to e earlier is) = elim (same_or_altered sound off earlier) [
+  | inl same ↦ on_bool (is_marked to k)
+      (λ on. let hit = what_marked (workspace_of (with_files mid (edited_files mid e))) same (is.only k on) itself in
+      inr (hit.0, hit.1, inl (λ h. hit.2 (subst (λ (w : Workspace). look w hit.0 ≡ look (workspace_of mid) hit.0) (workspace-becomes is) h))))
+      (λ still. inl (record {
+        crates = is.crates ∙ same.crates;
+        paths = is.paths ∙ same.paths;
+        off = λ j behind. unmarked_still (is.crates ∙ same.crates) (closed_after is) still behind;
+        kept = λ j behind. ap (λ (kept : List (Option Resolution)). kept_in kept j) is.kept ∙ same.kept j behind;
+      }))
+  | inr hit ↦ inr (hit.0, hit.1, inr hit.2)
+]
+same_or_altered {from} {k} sound off (refresh mid to done earlier is) = elim (same_or_altered sound off earlier) [
+  | inl same ↦ inl (record {
+    crates = is.crates ∙ same.crates;
+    paths = is.paths ∙ same.paths;
+    off = λ j behind. (is.others j (same.off j behind)).0;
+    kept = λ j behind. (is.others j (same.off j behind)).1 ∙ same.kept j behind;
+  })
+  | inr hit ↦ inr (hit.0, hit.1, hit.2)
+]
+
+pub differ_only : DifferOnlyWhereAltered
+differ_only from to place path shadow style sound off h = elim (same_or_altered sound off h) [
+  | inl same ↦ inl (rw (same.crates, same.paths, same.off place.krate.0 itself, same.kept place.krate.0 itself, off) refl)
+  | inr hit ↦ inr hit
+]

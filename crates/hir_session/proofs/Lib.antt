@@ -1,0 +1,14 @@
+pub mod Truth
+pub mod Spreading
+pub mod Sound
+pub mod Start
+pub mod Due
+pub mod FileLemmas
+pub mod Differ
+pub mod Stand
+pub mod Replies
+pub mod Histories
+pub mod CutLemmas
+pub mod PartLemmas
+pub mod RunLemmas
+pub mod FateLemmas

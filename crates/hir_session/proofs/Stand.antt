@@ -1,0 +1,48 @@
+use Rattle.std.proofs.Common.{◌≡◌, Option, Some, None, Result, Ok, refl, sym, ap, ◌∙◌, nat_lt, length}
+use Rattle.hir_base.specs.ModPath.{Path}
+use Rattle.hir_base.specs.Place.{PlaceValue}
+use Rattle.hir_def_map.specs.State.{root_of}
+use Rattle.hir_wire.specs.declared.answer.Answer.{Answer}
+use Rattle.hir_wire.specs.declared.command.Shadow.{Shadow}
+use Rattle.hir_wire.specs.declared.command.MacroStyle.{MacroStyle}
+use Rattle.hir_session.specs.SessionState.{SessionState, kept_of, is_marked, IsSound}
+use Rattle.hir_wire.specs.declared.reply.Status.{Status}
+use Rattle.hir_wire.specs.declared.reply.Status.TheVariants as status
+use Rattle.hir_session.specs.declared.error.QueryError.{QueryError}
+use Rattle.hir_session.specs.Status.{module_below, module_of, status_of}
+use Rattle.hir_session.specs.Answers.{answer_of, answer_by, answer_from, answer_in}
+use Rattle.hir_session.specs.AnswersStand.{AnswersStand}
+use Rattle.hir_session.proofs.Truth.{on_bool}
+
+on_option : {A X : Type 0} (o : Option X) → (o ≡ None → A) → ((x : X) → o ≡ Some x → A) → A
+on_option None f g = f refl
+on_option (Some x) f g = g x refl
+
+-- where the status is current, the answer is the one over what is kept
+pub answer_of-current : (s : SessionState) (place : PlaceValue) (path : Path) (shadow : Shadow) (style : Option MacroStyle) {r : Result Answer QueryError}
+    → status.Current ≡ status_of s place → answer_from s.paths (kept_of s place.krate.0) (module_of s place) path shadow style ≡ r
+    → answer_of s place path shadow style ≡ r
+answer_of-current s place path shadow style current over =
+    ap (λ (now : Status). answer_by now (answer_from s.paths (kept_of s place.krate.0) (module_of s place) path shadow style)) (sym current) ∙ over
+
+-- an answer that is given stands
+pub stands : (s : SessionState) (place : PlaceValue) (path : Path) (shadow : Shadow) (style : Option MacroStyle) (a : Answer) → IsSound s
+    → answer_of s place path shadow style ≡ Ok a → AnswersStand s place path shadow style a
+stands s place path shadow style a sound h =
+    on_bool (nat_lt place.krate.0 (length s.crates))
+    (λ within. on_bool (is_marked s place.krate.0)
+    (λ stale. absurd (let wrong : ⊥ = cc (rw (within, stale) at h) in wrong))
+    (λ off. let now = sound.current place.krate.0 off in
+    let over = rw (within, off, now.is) at h in
+    on_option (module_below now.found.map (root_of now.found.map.id) place.elements)
+    (λ none. absurd (let wrong : ⊥ = cc (rw none at over) in wrong))
+    (λ m some. let given = rw some at over in
+    record {
+      found = now.found;
+      kept = now.is;
+      present = now.resolved;
+      asked_from = m;
+      named = some;
+      is = let e : a ≡ answer_in s.paths now.found.map m path shadow style = cc given in e;
+    })))
+    (λ past. absurd (let wrong : ⊥ = cc (rw past at h) in wrong))

@@ -1,0 +1,25 @@
+-- Each crate in turn is either not due, or the first that still is.
+use Rattle.std.proofs.Common.{◌∙◌, sym, List, length, arith, ap}
+use Rattle.hir_session.specs.Crates.{CrateValue}
+use Rattle.hir_session.proofs.Due.{refreshing-start, refreshing-more, refreshing-skip, refreshing-end}
+use Rattle.hir_session.proofs.session.Session.refresh.Goals as goal
+use Rattle.hir_session.proofs.session.Session.refresh.Goals.{then-is_marked_at+in_ok-note+in_ok-resolve_at, else-is_marked_at}
+
+pub loop-k-init : goal.loop-k-init
+loop-k-init c = rw c.new-done.ensures.items (refreshing-start _ c.sound.ensures.sound)
+
+pub returns-clause-refreshes : goal.returns-clause-refreshes
+returns-clause-refreshes c =
+    let count = ap (λ (xs : List CrateValue). length xs) c.loop-k.invariant.so_far.crates in
+    refreshing-end c.loop-k.k c.loop-k.invariant c.sound-2.ensures.sound (omega arith)
+
+pub loop-k-preserved : goal.loop-k-preserved
+loop-k-preserved c =
+    let count = ap (λ (xs : List CrateValue). length xs) c.loop-k.invariant.so_far.crates in
+    elim c.if-is_marked_at.branch [
+      | then-is_marked_at+in_ok-note+in_ok-resolve_at w ↦
+          let found = w.in_ok-resolve_at.ensures.ok in
+          rw (w.self-is, w.done-is, found.2, w.in_ok-note.ensures.ok)
+          (refreshing-more c.loop-k.k found.0 c.loop-k.invariant w.sound-then-is_marked_at.ensures.sound (omega arith) (sym c.is_marked_at.ensures.value ∙ w.if-is_marked_at.true) found.1)
+      | else-is_marked_at w ↦ rw (w.self-is, w.done-is) (refreshing-skip c.loop-k.k c.loop-k.invariant (sym c.is_marked_at.ensures.value ∙ w.if-is_marked_at.false))
+    ]

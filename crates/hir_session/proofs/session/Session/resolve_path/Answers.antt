@@ -1,0 +1,1 @@
+-- Where the status is current the answer is the one over what is kept, and that stands in a sound session.

@@ -1,0 +1,71 @@
+-- What is a path answered?
+use Rattle.std.specs.Prelude.{ℕ, List, Option, None, Some, Result, Ok, Err}
+use Rattle.std.specs.Option.{option_and_then}
+use Rattle.hir_base.specs.ModPath.{Path}
+use Rattle.hir_base.specs.Place.{PlaceValue}
+use Rattle.hir_base.specs.declared.ids.ModuleId.{ModuleId}
+use Rattle.hir_def_map.specs.State.{Map, alone}
+use Rattle.hir_def_map.specs.Scoping.{Asking, resolution_of}
+use Rattle.hir_def_map.specs.declared.nameres.path_resolution.ResolveMode.TheVariants as mode
+use Rattle.hir_def_map.specs.declared.nameres.path_resolution.BuiltinShadowMode.{BuiltinShadowMode}
+use Rattle.hir_def_map.specs.declared.nameres.path_resolution.BuiltinShadowMode.TheVariants as shadow_mode
+use Rattle.hir_def_map.specs.declared.nameres.path_resolution.MacroSubNs.{MacroSubNs}
+use Rattle.hir_def_map.specs.declared.nameres.path_resolution.MacroSubNs.TheVariants as sub_ns
+use Rattle.hir_def_map.specs.declared.nameres.path_resolution.ResolvePathResult.{ResolvePathResult}
+use Rattle.hir_wire.specs.declared.answer.Answer.{Answer}
+use Rattle.hir_wire.specs.declared.command.Shadow.{Shadow}
+use Rattle.hir_wire.specs.declared.command.Shadow.TheVariants as shadow
+use Rattle.hir_wire.specs.declared.command.MacroStyle.{MacroStyle}
+use Rattle.hir_wire.specs.declared.command.MacroStyle.TheVariants as style
+use Rattle.hir_wire.specs.declared.reply.Status.{Status}
+use Rattle.hir_wire.specs.declared.reply.Status.TheVariants as status
+use Rattle.hir_session.specs.declared.error.QueryError.{QueryError}
+use Rattle.hir_session.specs.declared.error.QueryError.TheVariants as error
+use Rattle.hir_session.specs.SessionState.{SessionState, Resolution, kept_of}
+use Rattle.hir_session.specs.Status.{status_of, module_of}
+use Rattle.hir_session.specs.SourceItems.{answered_type, answered_value, answered_macro}
+
+-- the shadow mode that a query asks for
+abbrev pub shadow_mode_of : Shadow → BuiltinShadowMode
+shadow_mode_of shadow.Module = shadow_mode.Module
+shadow_mode_of shadow.Other = shadow_mode.Other
+
+-- the macros that a query asks for
+abbrev pub sub_ns_of : Option MacroStyle → Option MacroSubNs
+sub_ns_of None = None
+sub_ns_of (Some style.Bang) = Some sub_ns.Bang
+sub_ns_of (Some style.Attr) = Some sub_ns.Attr
+
+-- how a query asks
+abbrev pub asking_of : Shadow → Option MacroStyle → Asking
+asking_of shadow style = record { mode = mode.Other; shadow = shadow_mode_of shadow; sub_ns = sub_ns_of style }
+
+-- what a path means, in source items
+abbrev pub named_by : List (List ℕ) → Map → ResolvePathResult → Answer
+named_by paths map r = record {
+  types = option_and_then (answered_type paths map) r.resolved_def.types;
+  values = option_and_then (answered_value paths map) r.resolved_def.values;
+  macros = option_and_then (answered_macro paths map) r.resolved_def.macros;
+  stop = r.segment_index;
+}
+
+-- what a path means in a module of a map, in source items
+abbrev pub answer_in : List (List ℕ) → Map → ModuleId → Path → Shadow → Option MacroStyle → Answer
+answer_in paths map m path shadow style = named_by paths map (resolution_of (alone map) (asking_of shadow style) m path)
+
+-- the answer over what is kept, from a module of it
+abbrev pub answer_from : List (List ℕ) → Option Resolution → Option ModuleId → Path → Shadow → Option MacroStyle → Result Answer QueryError
+answer_from paths None m path shadow style = Err error.UnknownPlace
+answer_from paths (Some r) None path shadow style = Err error.UnknownPlace
+answer_from paths (Some r) (Some m) path shadow style = Ok (answer_in paths r.map m path shadow style)
+
+-- the answer, where the place's answers stand so
+abbrev pub answer_by : Status → Result Answer QueryError → Result Answer QueryError
+answer_by status.Current answer = answer
+answer_by status.Stale answer = Err error.StalePlace
+answer_by status.Unknown answer = Err error.UnknownPlace
+
+-- the answer to a query
+abbrev pub answer_of : SessionState → PlaceValue → Path → Shadow → Option MacroStyle → Result Answer QueryError
+answer_of s place path shadow style =
+    answer_by (status_of s place) (answer_from s.paths (kept_of s place.krate.0) (module_of s place) path shadow style)

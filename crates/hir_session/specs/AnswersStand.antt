@@ -1,0 +1,22 @@
+-- What does an answer stand on?
+use Rattle.std.specs.Prelude.{◌≡◌, Some, Option}
+use Rattle.hir_base.specs.ModPath.{Path}
+use Rattle.hir_base.specs.Place.{PlaceValue}
+use Rattle.hir_base.specs.declared.ids.ModuleId.{ModuleId}
+use Rattle.hir_def_map.specs.State.{root_of}
+use Rattle.hir_wire.specs.declared.answer.Answer.{Answer}
+use Rattle.hir_wire.specs.declared.command.Shadow.{Shadow}
+use Rattle.hir_wire.specs.declared.command.MacroStyle.{MacroStyle}
+use Rattle.hir_session.specs.SessionState.{SessionState, Resolution, workspace_of, start_of, kept_of, IsResolved}
+use Rattle.hir_session.specs.Status.{module_below}
+use Rattle.hir_session.specs.Answers.{answer_in}
+
+-- the answer is what the path means, from the place's module, over a resolution in which a derivation from the present sources ends
+pub record AnswersStand (s : SessionState) (place : PlaceValue) (path : Path) (shadow : Shadow) (style : Option MacroStyle) (answer : Answer) : Type 0 where
+  pub found : Resolution
+  pub kept : kept_of s place.krate.0 ≡ Some found
+  -- over the present workspace, and over each that agrees with it on what the run asked for
+  pub present : IsResolved (workspace_of s) (start_of s place.krate.0) found
+  pub asked_from : ModuleId
+  pub named : module_below found.map (root_of found.map.id) place.elements ≡ Some asked_from
+  pub is : answer ≡ answer_in s.paths found.map asked_from path shadow style

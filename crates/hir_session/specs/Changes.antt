@@ -1,0 +1,52 @@
+-- What do the calls of a session change?
+use Rattle.std.specs.Prelude.{◌≡◌, ℕ, true, false, List, ◌++◌}
+use Rattle.hir_base.specs.Place.{PlaceValue}
+use Rattle.hir_item_tree.specs.ItemTree.{tree_of}
+use Rattle.hir_wire.specs.Edits.{EditValue, set_file}
+use Rattle.hir_session.specs.Files.{Files, with_file}
+use Rattle.hir_session.specs.SessionState.{SessionState, workspace_of, kept_of, is_marked, IsCurrent}
+use Rattle.hir_session.specs.Marks.{marks_after}
+use Rattle.hir_session.specs.Due.{due_places}
+
+-- the files once the edit is made
+abbrev pub edited_files : SessionState → EditValue → Files
+edited_files s (set_file path source) = with_file s.files path (tree_of source)
+
+-- the session with other files
+abbrev pub with_files : SessionState → Files → SessionState
+with_files s files = record s { files = files }
+
+-- the files became these, and exactly what that touches is marked
+pub record Becomes (old : SessionState) (files : Files) (new : SessionState) : Type 0 where
+  pub crates : new.crates ≡ old.crates
+  pub paths : new.paths ≡ old.paths
+  pub files_are : new.files ≡ files
+  pub kept : new.kept ≡ old.kept
+  pub only : (k : ℕ) → is_marked new k ≡ true → marks_after old (workspace_of (with_files old files)) k
+  pub all : (k : ℕ) → marks_after old (workspace_of (with_files old files)) k → is_marked new k ≡ true
+  -- what isn't marked is what the import rules could have given just now
+  pub current : (k : ℕ) → is_marked new k ≡ false → IsCurrent new k
+
+-- the edit was accepted
+abbrev pub Applies : SessionState → EditValue → SessionState → Type 0
+Applies old edit new = Becomes old (edited_files old edit) new
+
+-- the places of the list, the first that were due, were resolved in turn, and nothing else was
+pub record Resolves (old : SessionState) (done : List PlaceValue) (new : SessionState) : Type 0 where
+  pub crates : new.crates ≡ old.crates
+  pub paths : new.paths ≡ old.paths
+  pub files : new.files ≡ old.files
+  pub due : due_places old ≡ done ++ due_places new
+  pub others : (k : ℕ) → is_marked old k ≡ false → (is_marked new k ≡ false) × (kept_of new k ≡ kept_of old k)
+  -- what isn't marked is what the import rules could have given just now
+  pub current : (k : ℕ) → is_marked new k ≡ false → IsCurrent new k
+
+-- the refresh resolved all that was due
+pub record Refreshes (old : SessionState) (done : List PlaceValue) (new : SessionState) : Type 0 where
+  pub resolves : Resolves old done new
+  pub listed : done ≡ due_places old
+
+-- the refresh ended early: what it had resolved stays, and all else is still marked
+pub record RefreshesPartly (old new : SessionState) : Type 0 where
+  pub done : List PlaceValue
+  pub resolves : Resolves old done new

@@ -1,0 +1,32 @@
+-- What is a crate of a session?
+use Rattle.std.specs.Prelude.{ℕ, List, [], slice_index_or}
+use Rattle.hir_base.specs.declared.ast_id.EditionedFileId.{EditionedFileId}
+use Rattle.hir_base.specs.declared.edition.Edition.TheVariants.{Edition2024}
+use Rattle.hir_base.specs.declared.ids.Crate.{Crate}
+use Rattle.hir_def_collector.specs.Workspace.{CrateData}
+use Rattle.hir_def_collector.specs.declared.collector.Start.{Start}
+
+-- its root file, in its edition, and the crates that it depends on
+pub record CrateValue : Type 0 where
+  pub root : EditionedFileId
+  pub dependencies : List Crate
+
+-- what stands for a crate that isn't there
+abbrev pub no_crate : CrateValue
+no_crate = record { root = record { file_id = record { 0 = 0 }; edition = Edition2024 }; dependencies = [] }
+
+-- the crate of this number
+abbrev pub crate_in : List CrateValue → ℕ → CrateValue
+crate_in crates k = slice_index_or crates k no_crate
+
+-- what it depends on
+abbrev pub dependencies_in : List CrateValue → ℕ → List Crate
+dependencies_in crates k = (crate_in crates k).dependencies
+
+-- a crate as a run of the import rules sees it
+abbrev pub crate_data : CrateValue → CrateData
+crate_data c = record { root = c.root }
+
+-- where the run for a crate begins
+abbrev pub start_in : List CrateValue → ℕ → Start
+start_in crates k = record { krate = record { 0 = k }; root = (crate_in crates k).root }

@@ -1,0 +1,94 @@
+-- What are a session and an edit refused for?
+use Rattle.std.specs.Prelude.{◌≡◌, ℕ, ◌+◌, Bool, true, not, nat_le, nat_lt, List, [], ◌∷◌, length, map, replicate, Option, Some, None, Result, Ok, Err, if◌then◌else◌}
+use Rattle.std.specs.List.{list_any}
+use Rattle.hir_base.specs.declared.ids.Crate.{Crate}
+use Rattle.hir_base.specs.declared.limit.Limit.TheVariants as limit
+use Rattle.hir_item_tree.specs.Source.{SourceValue}
+use Rattle.hir_item_tree.specs.Check.{verdict_of_check}
+use Rattle.hir_item_tree.specs.declared.check.CheckError.{CheckError}
+use Rattle.hir_item_tree.specs.declared.check.CheckError.TheVariants as check_error
+use Rattle.hir_wire.specs.declared.command.CrateInput.{CrateInput}
+use Rattle.hir_wire.specs.declared.command.Dependency.{Dependency}
+use Rattle.hir_wire.specs.Edits.{EditValue, set_file}
+use Rattle.hir_session.specs.declared.error.NewSessionError.{NewSessionError}
+use Rattle.hir_session.specs.declared.error.NewSessionError.TheVariants as new_error
+use Rattle.hir_session.specs.declared.error.EditError.{EditError}
+use Rattle.hir_session.specs.declared.error.EditError.TheVariants as edit_error
+use Rattle.hir_session.specs.declared.error.QueryError.{QueryError}
+use Rattle.hir_session.specs.declared.error.QueryError.TheVariants as query_error
+use Rattle.hir_session.specs.Crates.{CrateValue}
+use Rattle.hir_session.specs.SessionState.{SessionState, max_crates}
+use Rattle.hir_session.specs.NotYet.{is_crate_taken, is_source_taken}
+
+-- memory ran out
+abbrev pub IsNewMemory : NewSessionError → Type 0
+IsNewMemory e = e ≡ new_error.Memory
+
+-- memory ran out
+abbrev pub IsEditMemory : EditError → Type 0
+IsEditMemory e = e ≡ edit_error.Memory
+
+-- memory ran out
+abbrev pub IsQueryMemory : QueryError → Type 0
+IsQueryMemory e = e ≡ query_error.Memory
+
+-- the crates that a list names as dependencies
+abbrev pub dependency_crates : List Dependency → List Crate
+dependency_crates dependencies = map (λ d. d.krate) dependencies
+
+-- whether one of the crates doesn't come before this one
+abbrev pub has_late : ℕ → List Crate → Bool
+has_late k crates = list_any (λ d. nat_le k d.0) crates
+
+-- the first crate, from this number on, that has a dependency that doesn't come before it
+abbrev pub first_out_of_order : ℕ → List CrateInput → Option Crate
+first_out_of_order k [] = None
+first_out_of_order k (c ∷ cs) =
+    if has_late k (dependency_crates c.deps) then Some (record { 0 = k }) else first_out_of_order (k + 1) cs
+
+-- the crates of a session, each with its root file's number, which is the crate's own
+abbrev pub crates_from : ℕ → List CrateInput → List CrateValue
+crates_from k [] = []
+crates_from k (c ∷ cs) =
+    record { root = record { file_id = record { 0 = k }; edition = c.edition }; dependencies = dependency_crates c.deps } ∷ crates_from (k + 1) cs
+
+-- a session over these crates, without files, of which nothing is resolved
+abbrev pub started : List CrateInput → SessionState
+started inputs = record {
+  crates = crates_from 0 inputs;
+  paths = map (λ c. c.root) inputs;
+  files = [];
+  kept = replicate (length inputs) None;
+  marked = replicate (length inputs) true;
+}
+
+-- what is said of the order of the crates, and then of their number
+abbrev pub verdict_of_order : List CrateInput → Option Crate → Result SessionState NewSessionError
+verdict_of_order inputs (Some krate) = Err (new_error.DependencyOrder krate)
+verdict_of_order inputs None = if nat_lt max_crates (length inputs) then Err (new_error.TooLarge limit.Crates) else Ok (started inputs)
+
+-- the session over the crates, or the first thing for which it is refused
+abbrev pub verdict_of_new : List CrateInput → Result SessionState NewSessionError
+verdict_of_new inputs =
+    if nat_lt 1 (length inputs) then Err new_error.NotYet else
+    (if list_any (λ c. not (is_crate_taken c)) inputs then Err new_error.NotYet else
+    verdict_of_order inputs (first_out_of_order 0 inputs))
+
+-- what an edit is refused for where its source is
+abbrev pub edit_error_of : CheckError → EditError
+edit_error_of (check_error.TooLarge limit) = edit_error.TooLarge limit
+edit_error_of (check_error.DuplicateId kind id) = edit_error.DuplicateId kind id
+edit_error_of check_error.Memory = edit_error.Memory
+
+-- the same of an answer
+abbrev pub edit_result_of : Result (Unit {0}) CheckError → Result (Unit {0}) EditError
+edit_result_of (Ok u) = Ok tt
+edit_result_of (Err e) = Err (edit_error_of e)
+
+-- what a source is refused for
+abbrev pub verdict_of_source : SourceValue → Result (Unit {0}) EditError
+verdict_of_source source = if is_source_taken source then edit_result_of (verdict_of_check source) else Err edit_error.NotYet
+
+-- that the edit is accepted, or the first thing for which it is refused
+abbrev pub verdict_of_apply : EditValue → Result (Unit {0}) EditError
+verdict_of_apply (set_file path source) = verdict_of_source source

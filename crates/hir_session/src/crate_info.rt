@@ -1,0 +1,54 @@
+//! The crates of a session.
+ghost use Rattle.std.specs.Prelude.{◌≡◌, List};
+ghost use Rattle.hir_session.specs.Crates.{crate_in, dependencies_in};
+
+use hir_base::ast_id::EditionedFileId;
+use hir_base::ids::Crate;
+use std::marker::Model;
+
+/// A crate: its root file, in its edition, and the crates that it depends on.
+#[derive(Drop)]
+pub struct CrateInfo {
+    root: EditionedFileId,
+    dependencies: Vec<Crate>,
+}
+
+impl Model for CrateInfo {
+    ghost use Rattle.hir_session.specs.Crates.{CrateValue};
+
+    ghost Value = { CrateValue };
+
+    ghost view = { λ c. record { root = c.root; dependencies = c.dependencies.items } };
+}
+
+impl CrateInfo {
+    pub fn new(root: EditionedFileId, dependencies: Vec<Crate>) -> CrateInfo
+        ensures value { result ≡ record { root = root; dependencies = dependencies.items } }
+    {
+        CrateInfo { root, dependencies }
+    }
+
+    /// Its root file.
+    pub fn root(&self) -> EditionedFileId
+        ensures value { result ≡ self.now.root }
+    {
+        self.root
+    }
+
+    /// What it depends on.
+    pub fn dependencies(&self) -> &[Crate]
+        ensures value { result.now ≡ self.now.dependencies }
+    {
+        self.dependencies.as_slice()
+    }
+}
+
+/// What a crate depends on; nothing where it isn't there.
+pub fn dependencies_at(crates: &Vec<CrateInfo>, k: usize) -> &[Crate]
+    ensures value { result.now ≡ dependencies_in crates.now.items k }
+{
+    match crates.get(k) {
+        Some(info) => info.dependencies(),
+        None => &[],
+    }
+}

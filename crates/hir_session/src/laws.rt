@@ -1,0 +1,12 @@
+//! What holds of all that a session does; each function's contract is a law.
+ghost use Rattle.hir_session.specs.Histories.{DifferOnlyWhereAltered, RunsMakeHistories};
+
+/// Two answers to one query differ only where an edit between them altered something that was asked for behind the first.
+pub fn answers_differ_only_where_altered()
+    ensures law { DifferOnlyWhereAltered }
+{}
+
+/// What answers lines makes a history of edits and refreshes, of which the other law speaks.
+pub fn runs_make_histories()
+    ensures law { RunsMakeHistories }
+{}

@@ -1,0 +1,24 @@
+//! A session that stays right between edits, and the run that serves it over a reader and a writer.
+#![tactic(auto)]
+
+mod answers;
+mod crate_info;
+pub mod error;
+mod files;
+pub mod laws;
+mod marks;
+mod not_yet;
+mod open_line;
+mod output;
+mod server;
+pub mod server_state;
+pub mod session;
+mod source_items;
+mod sources;
+
+pub use error::{EditError, NewSessionError, QueryError, RefreshError};
+pub use open_line::LINE_LIMIT;
+pub use output::Fault;
+pub use server::{MOST_READS, run};
+pub use server_state::Machine;
+pub use session::Session;

@@ -1,0 +1,206 @@
+//! What answers lines: a session, or none before the first that is made.
+ghost use Rattle.std.specs.Prelude.{◌≡◌, false, None, Some, Option};
+ghost use Rattle.hir_wire.specs.CommandValue.{command_view, crates as makes, edit as edits, refresh as refreshes, resolve as resolves, status as asks_status};
+ghost use Rattle.hir_wire.specs.Edits.{edit_view};
+ghost use Rattle.hir_wire.specs.Replies.{is_fixed};
+ghost use Rattle.hir_wire.specs.declared.reply.Reply.TheVariants as reply;
+ghost use Rattle.hir_session.specs.Machine.{MachineState, first_state, new_reply, edit_reply, refresh_reply, query_error_reply, read_reply, Moves, AnswersCommand, AnswersLine};
+
+use crate::error::{EditError, NewSessionError, QueryError, RefreshError};
+use crate::session::Session;
+use hir_base::mod_path::ModPath;
+use hir_base::place::Place;
+use hir_wire::command::{Command, CrateInput, MacroStyle, Shadow};
+use hir_wire::edit::Edit;
+use hir_wire::read_command;
+use hir_wire::read_error::ReadError;
+use hir_wire::reply::{Places, Reply};
+use std::alloc::Global;
+use std::marker::Model;
+
+/// A session, or none before the first that is made.
+#[derive(Drop)]
+pub struct Machine {
+    session: Option<Session>,
+}
+
+impl Model for Machine {
+    ghost use Rattle.hir_session.specs.Machine.{MachineState};
+    ghost use Rattle.hir_session.specs.MachineCodes.{coded_machine};
+
+    ghost Value = { MachineState };
+
+    ghost coded = { coded_machine };
+
+    ghost view = { λ m. m.session };
+}
+
+fn new_error_reply(error: NewSessionError) -> Reply
+    ensures value { result ≡ new_reply error }
+{
+    match error {
+        NewSessionError::NotYet => Reply::Command,
+        NewSessionError::DependencyOrder(krate) => Reply::DependencyOrder(krate),
+        NewSessionError::TooLarge(limit) => Reply::TooLarge(limit),
+        NewSessionError::Memory => Reply::Memory,
+    }
+}
+
+fn edit_error_reply(error: EditError) -> Reply
+    ensures value { result ≡ edit_reply error }
+{
+    match error {
+        EditError::NotYet => Reply::Command,
+        EditError::UnknownCrate => Reply::UnknownCrate,
+        EditError::TooLarge(limit) => Reply::TooLarge(limit),
+        EditError::DuplicateId { kind, id } => Reply::DuplicateId { kind, id },
+        EditError::Memory => Reply::Memory,
+    }
+}
+
+fn refresh_error_reply(error: RefreshError) -> Reply
+    ensures value { result ≡ refresh_reply error }
+{
+    match error {
+        RefreshError::TooMany => Reply::TooMany,
+        RefreshError::Memory => Reply::Memory,
+    }
+}
+
+fn reply_to_query(error: QueryError) -> Reply
+    ensures value { result ≡ query_error_reply error }
+{
+    match error {
+        QueryError::StalePlace => Reply::StalePlace,
+        QueryError::UnknownPlace => Reply::UnknownPlace,
+        QueryError::Memory => Reply::Memory,
+    }
+}
+
+fn reply_to_line(error: ReadError) -> Reply
+    ensures value { result ≡ read_reply error }
+{
+    match error {
+        ReadError::Json => Reply::Json,
+        ReadError::Command => Reply::Command,
+        ReadError::TooLarge(limit) => Reply::TooLarge(limit),
+        ReadError::Memory => Reply::Memory,
+    }
+}
+
+/// An edit of a session.
+fn edited(alloc: Global, session: &mut Session, edit: Edit) -> Reply
+    ensures step { AnswersCommand (Some session.old) (edits (edit_view edit)) result (Some session.new) }
+    ensures or_memory { is_fixed result ≡ false
+        → AnswersCommand (Some session.old) (edits (edit_view edit)) reply.Memory (Some session.new) }
+{
+    match session.apply(alloc, edit) {
+        Ok(()) => Reply::Done,
+        Err(error) => edit_error_reply(error),
+    }
+}
+
+/// A refresh of a session.
+fn refreshed(alloc: Global, session: &mut Session) -> Reply
+    ensures step { AnswersCommand (Some session.old) refreshes result (Some session.new) }
+    ensures or_memory { is_fixed result ≡ false
+        → AnswersCommand (Some session.old) refreshes reply.Memory (Some session.new) }
+{
+    match session.refresh(alloc) {
+        Ok(places) => Reply::Places(Places::new(places)),
+        Err(error) => refresh_error_reply(error),
+    }
+}
+
+/// A query of a session.
+fn answered(
+    alloc: Global,
+    session: &Session,
+    at: &Place,
+    path: &ModPath,
+    shadow: Shadow,
+    style: Option<MacroStyle>,
+) -> Reply
+    ensures step { AnswersCommand (Some session.now) (resolves at.now path.now shadow style) result (Some session.now) }
+{
+    match session.resolve_path(alloc, at, path, shadow, style) {
+        Ok(answer) => Reply::Answer(answer),
+        Err(error) => reply_to_query(error),
+    }
+}
+
+/// What a command does to a session, and what is told of it.
+fn called(alloc: Global, session: &mut Session, command: Command) -> Reply
+    ensures step { AnswersCommand (Some session.old) (command_view command) result (Some session.new) }
+    ensures or_memory { is_fixed result ≡ false
+        → AnswersCommand (Some session.old) (command_view command) reply.Memory (Some session.new) }
+{
+    match command {
+        Command::Crates(_) => Reply::Command,
+        Command::Edit(edit) => edited(alloc, session, edit),
+        Command::Refresh => refreshed(alloc, session),
+        Command::Resolve {
+            at,
+            path,
+            shadow,
+            sub,
+        } => answered(alloc, session, &at, &path, shadow, sub),
+        Command::Status { at } => Reply::Status(session.status(&at)),
+    }
+}
+
+impl Machine {
+    /// Before the first line.
+    pub fn new(_alloc: Global) -> Machine
+        ensures first { result ≡ first_state }
+    {
+        Machine { session: None }
+    }
+
+    /// Begins a session.
+    fn begin(&mut self, alloc: Global, inputs: Vec<CrateInput>) -> Reply
+        requires before { self.old ≡ None }
+        ensures step { AnswersCommand self.old (makes inputs.items) result self.new }
+    {
+        match Session::new(alloc, inputs) {
+            Ok(session) => {
+                self.session = Some(session);
+                Reply::Done
+            }
+            Err(error) => new_error_reply(error),
+        }
+    }
+
+    /// Carries out a command.
+    fn carry_out(&mut self, alloc: Global, command: Command) -> Reply
+        ensures step { AnswersCommand self.old (command_view command) result self.new }
+        ensures or_memory { is_fixed result ≡ false
+            → AnswersCommand self.old (command_view command) reply.Memory self.new }
+    {
+        match self.session.take() {
+            Some(mut session) => {
+                let told = called(alloc, &mut session, command);
+                self.session = Some(session);
+                told
+            }
+            None => match command {
+                Command::Crates(inputs) => self.begin(alloc, inputs),
+                _ => Reply::Command,
+            },
+        }
+    }
+
+    /// Answers one line.
+    ///
+    /// A reply whose text takes memory may be told as want of memory.
+    pub fn answer(&mut self, alloc: Global, line: &[u8]) -> Reply
+        ensures step { AnswersLine self.old line.now result self.new }
+        ensures or_memory { is_fixed result ≡ false
+            → AnswersLine self.old line.now reply.Memory self.new }
+    {
+        match read_command(alloc, line) {
+            Ok(command) => self.carry_out(alloc, command),
+            Err(error) => reply_to_line(error),
+        }
+    }
+}

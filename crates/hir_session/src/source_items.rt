@@ -1,0 +1,348 @@
+//! The source items for which ids stand.
+ghost use Rattle.std.specs.Prelude.{◌≡◌, IfOk};
+ghost use Rattle.hir_session.specs.SourceItems.{source_of, item_of, crate_of, module_by, module_definition, adt_definition, macro_definition, definition_of, is_explicit, visibility_source, use_source, import_source, value_import_source};
+
+use crate::sources::path_at;
+use hir_base::ast_id::{AstKind, BlockId, HirFileId, SyntaxId};
+use hir_base::file_path::FilePath;
+use hir_base::ids::{AdtId, Crate, ItemContainerId, ModuleDefId, ModuleId, UseId};
+use hir_base::macro_kind::MacroId;
+use hir_def_map::nameres::DefMap;
+use hir_def_map::nameres::origin::ModuleOrigin;
+use hir_item_tree::raw_visibility::VisibilityExplicitness;
+use hir_scope::imports::{ImportOrExternCrate, ImportOrGlob};
+use hir_scope::visibility::Visibility;
+use hir_wire::answer::{
+    AnswerVisibility, Definition, ImportOrigin, ImportSource, ItemSource, SourceCalls, SourceItem,
+    SourceKind, SourceRoot,
+};
+use std::alloc::{AllocError, Global};
+
+/// What holds syntax, where it is a file of the table.
+fn source_at(
+    alloc: Global,
+    paths: &Vec<FilePath>,
+    file: HirFileId,
+    block: Option<BlockId>,
+) -> Result<Option<ItemSource>, AllocError>
+    ensures value { IfOk result (λ o. o ≡ source_of paths.now.items file block) }
+{
+    if block.is_some() {
+        return Ok(None);
+    }
+    match path_at(paths, file) {
+        Some(path) => Ok(Some(ItemSource {
+            root: SourceRoot::File(path.clone()?),
+            calls: SourceCalls::new(Vec::new(alloc)),
+        })),
+        None => Ok(None),
+    }
+}
+
+/// An item of a crate, by what holds it and its node there.
+fn item_at(
+    alloc: Global,
+    paths: &Vec<FilePath>,
+    krate: Crate,
+    kind: SourceKind,
+    file: HirFileId,
+    block: Option<BlockId>,
+    id: SyntaxId,
+) -> Result<Option<Definition>, AllocError>
+    ensures value { IfOk result (λ o. o ≡ item_of paths.now.items krate kind file block id) }
+{
+    match source_at(alloc, paths, file, block)? {
+        Some(source) => Ok(Some(Definition::Item {
+            krate,
+            item: SourceItem { source, kind, id },
+        })),
+        None => Ok(None),
+    }
+}
+
+/// The crate of what holds an item.
+fn crate_at(container: ItemContainerId) -> Crate
+    ensures value { result ≡ crate_of container }
+{
+    match container {
+        ItemContainerId::ExternBlockId(id) => id.container.map.krate,
+        ItemContainerId::ModuleId(id) => id.map.krate,
+        ItemContainerId::ImplId(id) => id.container.map.krate,
+        ItemContainerId::TraitId(id) => id.container.map.krate,
+    }
+}
+
+/// The crate's root, or the module's node.
+fn module_with(
+    alloc: Global,
+    paths: &Vec<FilePath>,
+    krate: Crate,
+    origin: ModuleOrigin,
+) -> Result<Option<Definition>, AllocError>
+    ensures value { IfOk result (λ o. o ≡ module_by paths.now.items krate origin) }
+{
+    match origin {
+        ModuleOrigin::CrateRoot { .. } => Ok(Some(Definition::CrateRoot(krate))),
+        ModuleOrigin::Inline { definition, .. } => {
+            let kind = SourceKind::Node(AstKind::Module);
+            let file = definition.file_id;
+            item_at(alloc, paths, krate, kind, file, None, definition.id)
+        }
+    }
+}
+
+/// A module, by its node.
+fn module_at(
+    alloc: Global,
+    paths: &Vec<FilePath>,
+    map: &DefMap,
+    m: ModuleId,
+) -> Result<Option<Definition>, AllocError>
+    ensures value { IfOk result (λ o. o ≡ module_definition paths.now.items map.now m) }
+{
+    if m.map != map.id() {
+        return Ok(None);
+    }
+    match map.origin(m.index) {
+        Some(origin) => module_with(alloc, paths, m.map.krate, origin),
+        None => Ok(None),
+    }
+}
+
+/// A struct, a union or an enum.
+fn adt_at(
+    alloc: Global,
+    paths: &Vec<FilePath>,
+    adt: AdtId,
+) -> Result<Option<Definition>, AllocError>
+    ensures value { IfOk result (λ o. o ≡ adt_definition paths.now.items adt) }
+{
+    match adt {
+        AdtId::StructId(i) => {
+            let kind = SourceKind::Node(AstKind::Struct);
+            let krate = i.container.map.krate;
+            item_at(alloc, paths, krate, kind, i.file_id, i.block, i.id)
+        }
+        AdtId::UnionId(i) => {
+            let kind = SourceKind::Node(AstKind::Union);
+            let krate = i.container.map.krate;
+            item_at(alloc, paths, krate, kind, i.file_id, i.block, i.id)
+        }
+        AdtId::EnumId(i) => {
+            let kind = SourceKind::Node(AstKind::Enum);
+            let krate = i.container.map.krate;
+            item_at(alloc, paths, krate, kind, i.file_id, i.block, i.id)
+        }
+    }
+}
+
+/// A macro; a procedural one is named by its function.
+pub fn macro_at(
+    alloc: Global,
+    paths: &Vec<FilePath>,
+    makro: MacroId,
+) -> Result<Option<Definition>, AllocError>
+    ensures value { IfOk result (λ o. o ≡ macro_definition paths.now.items makro) }
+{
+    match makro {
+        MacroId::Macro2Id(i) => {
+            let kind = SourceKind::Node(AstKind::MacroDef);
+            let krate = i.container.map.krate;
+            item_at(alloc, paths, krate, kind, i.file_id, i.block, i.id)
+        }
+        MacroId::MacroRulesId(i) => {
+            let kind = SourceKind::Node(AstKind::MacroRules);
+            let krate = i.container.map.krate;
+            item_at(alloc, paths, krate, kind, i.file_id, i.block, i.id)
+        }
+        MacroId::ProcMacroId(i) => {
+            let kind = SourceKind::ProcMacro;
+            let krate = i.container.map.krate;
+            item_at(alloc, paths, krate, kind, i.file_id, i.block, i.id)
+        }
+    }
+}
+
+/// An item in a module, a trait, an impl or an extern block.
+fn held_item_at(
+    alloc: Global,
+    paths: &Vec<FilePath>,
+    container: ItemContainerId,
+    kind: AstKind,
+    file: HirFileId,
+    block: Option<BlockId>,
+    id: SyntaxId,
+) -> Result<Option<Definition>, AllocError>
+    ensures value { IfOk result (λ o. o ≡ item_of paths.now.items (crate_of container) (SourceKind.Node kind) file block id) }
+{
+    let krate = crate_at(container);
+    item_at(alloc, paths, krate, SourceKind::Node(kind), file, block, id)
+}
+
+/// What a type or a value stands for.
+pub fn definition_at(
+    alloc: Global,
+    paths: &Vec<FilePath>,
+    map: &DefMap,
+    def: ModuleDefId,
+) -> Result<Option<Definition>, AllocError>
+    ensures value { IfOk result (λ o. o ≡ definition_of paths.now.items map.now def) }
+{
+    match def {
+        ModuleDefId::ModuleId(m) => module_at(alloc, paths, map, m),
+        ModuleDefId::FunctionId(i) => {
+            held_item_at(
+                alloc,
+                paths,
+                i.container,
+                AstKind::Fn,
+                i.file_id,
+                i.block,
+                i.id,
+            )
+        }
+        ModuleDefId::AdtId(adt) => adt_at(alloc, paths, adt),
+        ModuleDefId::EnumVariantId(i) => {
+            let kind = SourceKind::Node(AstKind::Variant);
+            let parent = i.parent;
+            let krate = parent.container.map.krate;
+            item_at(
+                alloc,
+                paths,
+                krate,
+                kind,
+                parent.file_id,
+                parent.block,
+                i.id,
+            )
+        }
+        ModuleDefId::ConstId(i) => {
+            held_item_at(
+                alloc,
+                paths,
+                i.container,
+                AstKind::Const,
+                i.file_id,
+                i.block,
+                i.id,
+            )
+        }
+        ModuleDefId::StaticId(i) => {
+            held_item_at(
+                alloc,
+                paths,
+                i.container,
+                AstKind::Static,
+                i.file_id,
+                i.block,
+                i.id,
+            )
+        }
+        ModuleDefId::TraitId(i) => {
+            let kind = SourceKind::Node(AstKind::Trait);
+            let krate = i.container.map.krate;
+            item_at(alloc, paths, krate, kind, i.file_id, i.block, i.id)
+        }
+        ModuleDefId::TypeAliasId(i) => {
+            held_item_at(
+                alloc,
+                paths,
+                i.container,
+                AstKind::TypeAlias,
+                i.file_id,
+                i.block,
+                i.id,
+            )
+        }
+        ModuleDefId::BuiltinType(builtin) => Ok(Some(Definition::Builtin(builtin))),
+        ModuleDefId::MacroId(makro) => macro_at(alloc, paths, makro),
+    }
+}
+
+fn is_written(explicitness: VisibilityExplicitness) -> bool
+    ensures value { result ≡ is_explicit explicitness }
+{
+    match explicitness {
+        VisibilityExplicitness::Explicit => true,
+        VisibilityExplicitness::Implicit => false,
+    }
+}
+
+/// From where a binding is visible.
+pub fn visibility_at(
+    alloc: Global,
+    paths: &Vec<FilePath>,
+    map: &DefMap,
+    visibility: Visibility,
+) -> Result<Option<AnswerVisibility>, AllocError>
+    ensures value { IfOk result (λ o. o ≡ visibility_source paths.now.items map.now visibility) }
+{
+    match visibility {
+        Visibility::Public => Ok(Some(AnswerVisibility::Public)),
+        Visibility::PubCrate(krate) => Ok(Some(AnswerVisibility::Crate(krate))),
+        Visibility::Module(m, written) => match module_at(alloc, paths, map, m)? {
+            Some(module) => Ok(Some(AnswerVisibility::Module {
+                explicit: is_written(written),
+                module,
+            })),
+            None => Ok(None),
+        },
+    }
+}
+
+/// A `use` item, with the kind and the place of its leaf.
+fn use_at(
+    alloc: Global,
+    paths: &Vec<FilePath>,
+    by: UseId,
+    origin: ImportOrigin,
+) -> Result<Option<ImportSource>, AllocError>
+    ensures value { IfOk result (λ o. o ≡ use_source paths.now.items by origin) }
+{
+    match source_at(alloc, paths, by.file_id, by.block)? {
+        Some(source) => Ok(Some(ImportSource {
+            source,
+            id: by.id,
+            origin,
+        })),
+        None => Ok(None),
+    }
+}
+
+/// What made a type or a macro.
+pub fn import_at(
+    alloc: Global,
+    paths: &Vec<FilePath>,
+    by: ImportOrExternCrate,
+) -> Result<Option<ImportSource>, AllocError>
+    ensures value { IfOk result (λ o. o ≡ import_source paths.now.items by) }
+{
+    match by {
+        ImportOrExternCrate::Glob(g) => use_at(alloc, paths, g.use_, ImportOrigin::Glob(g.idx)),
+        ImportOrExternCrate::Import(i) => use_at(alloc, paths, i.use_, ImportOrigin::Import(i.idx)),
+        ImportOrExternCrate::ExternCrate(i) => {
+            match source_at(alloc, paths, i.file_id, i.block)? {
+                Some(source) => Ok(Some(ImportSource {
+                    source,
+                    id: i.id,
+                    origin: ImportOrigin::ExternCrate,
+                })),
+                None => Ok(None),
+            }
+        }
+    }
+}
+
+/// What made a value.
+pub fn value_import_at(
+    alloc: Global,
+    paths: &Vec<FilePath>,
+    by: ImportOrGlob,
+) -> Result<Option<ImportSource>, AllocError>
+    ensures value { IfOk result (λ o. o ≡ value_import_source paths.now.items by) }
+{
+    match by {
+        ImportOrGlob::Glob(g) => use_at(alloc, paths, g.use_, ImportOrigin::Glob(g.idx)),
+        ImportOrGlob::Import(i) => use_at(alloc, paths, i.use_, ImportOrigin::Import(i.idx)),
+    }
+}

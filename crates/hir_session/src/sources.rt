@@ -1,0 +1,89 @@
+//! What a run of the import rules reads of a session.
+ghost use Rattle.std.specs.Prelude.{◌≡◌, ◌<◌, length, IfOk, option_map, slice_get};
+ghost use Rattle.hir_def_collector.specs.Workspace.{tree_look};
+ghost use Rattle.hir_session.specs.Crates.{start_in};
+ghost use Rattle.hir_session.specs.Files.{path_in, tree_in, workspace_in};
+ghost use Rattle.hir_session.specs.SessionState.{IsResolved};
+
+use crate::crate_info::CrateInfo;
+use crate::error::RefreshError;
+use crate::files::Files;
+use hir_base::ast_id::HirFileId;
+use hir_base::file_path::FilePath;
+use hir_base::ids::Crate;
+use hir_def_collector::collector::collected::Collected;
+use hir_def_collector::collector::{Start, collect_defs};
+use hir_def_collector::source_database::SourceDatabase;
+use hir_item_tree::item_tree::ItemTree;
+use std::alloc::{AllocError, Global};
+
+/// The parts of a session that make up its workspace.
+#[derive(Drop)]
+pub struct Sources<'a> {
+    pub crates: &'a Vec<CrateInfo>,
+    pub paths: &'a Vec<FilePath>,
+    pub files: &'a Files,
+}
+
+impl<'a> SourceDatabase for Sources<'a> {
+    ghost use Rattle.hir_session.specs.Files.{workspace_in};
+
+    ghost workspace = { λ s. workspace_in s.crates.now.items s.paths.now.items s.files.now };
+
+    fn tree(
+        &self,
+        _alloc: Global,
+        _krate: Crate,
+        file: HirFileId,
+    ) -> Result<Option<ItemTree>, AllocError> {
+        match tree_at(self.paths, self.files, file) {
+            Some(tree) => Ok(Some(tree.clone()?)),
+            None => Ok(None),
+        }
+    }
+}
+
+/// The path of what holds syntax, where it is a file of the table.
+pub fn path_at(paths: &Vec<FilePath>, file: HirFileId) -> Option<&FilePath>
+    ensures value { option_map (λ p. p.now) result ≡ path_in paths.now.items file }
+{
+    match file {
+        HirFileId::File(file) => paths.get(file.file_id.0 as usize),
+        HirFileId::Macro(_) => None,
+    }
+}
+
+/// The tree of what holds syntax, if it is there.
+fn tree_at<'a>(paths: &'a Vec<FilePath>, files: &'a Files, file: HirFileId) -> Option<&'a ItemTree>
+    ensures value { option_map (λ t. t.now) result ≡ tree_in paths.now.items files.now file }
+{
+    match path_at(paths, file) {
+        Some(path) => files.get(path),
+        None => None,
+    }
+}
+
+/// Resolves a crate over the present files.
+pub fn resolve_crate(
+    alloc: Global,
+    crates: &Vec<CrateInfo>,
+    paths: &Vec<FilePath>,
+    files: &Files,
+    k: u32,
+) -> Result<Collected, RefreshError>
+    requires within { k < length crates.now.items }
+    ensures resolved { IfOk result (λ found. IsResolved (workspace_in crates.now.items paths.now.items files.now)
+        (start_in crates.now.items k) found) }
+{
+    let start = Start {
+        krate: Crate(k),
+        root: crates[k as usize].root(),
+    };
+    let sources = Sources {
+        crates,
+        paths,
+        files,
+    };
+    let found = collect_defs(alloc, &sources, start)?;
+    Ok(found)
+}

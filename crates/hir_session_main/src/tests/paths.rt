@@ -1,0 +1,206 @@
+//! What paths name.
+
+use super::converse;
+use std::test::Fail;
+
+#[test]
+fn paths_hold(rt: HostRuntime) -> Result<(), Fail> {
+    let rows = [
+        (
+            "path_past_a_struct_stops",
+            r#"{"do":"crates","crates":[{"edition":"2021","root":"lib.rs"}]}
+{"do":"set file","file":"lib.rs","unit":{"nodes":[{"id":[1,0],"kind":"Module","name":"a","nodes":[{"id":[2,0],"kind":"Struct","name":"S","vis":"pub"}]},{"id":[3,0],"kind":"Use","tree":{"single":"a::S"}}]}}
+{"do":"refresh"}
+{"do":"resolve","at":[0],"path":"a::S::x"}
+"#,
+            r#"{"ok":null}
+{"ok":null}
+{"ok":[[0]]}
+{"ok":{"macros":null,"stop":2,"types":{"def":{"crate":0,"id":[2,0],"in":["lib.rs"],"kind":"Struct"},"import":null,"vis":"pub"},"values":null}}
+"#,
+        ),
+        (
+            "absolute_super_and_empty_paths",
+            r#"{"do":"crates","crates":[{"edition":"2021","root":"lib.rs"}]}
+{"do":"set file","file":"lib.rs","unit":{"nodes":[{"id":[1,0],"kind":"Module","name":"a","nodes":[{"id":[2,0],"kind":"Struct","name":"S","vis":"pub"}]},{"id":[3,0],"kind":"Use","tree":{"single":"a::S"}}]}}
+{"do":"refresh"}
+{"do":"resolve","at":[0],"path":"::a"}
+{"do":"resolve","at":[0],"path":"super::S"}
+{"do":"resolve","at":[0],"path":""}
+"#,
+            r#"{"ok":null}
+{"ok":null}
+{"ok":[[0]]}
+{"ok":{"macros":null,"stop":null,"types":null,"values":null}}
+{"ok":{"macros":null,"stop":null,"types":null,"values":null}}
+{"ok":{"macros":null,"stop":null,"types":null,"values":null}}
+"#,
+        ),
+        (
+            "builtin_type_or_module",
+            r#"{"do":"crates","crates":[{"edition":"2021","root":"lib.rs"}]}
+{"do":"set file","file":"lib.rs","unit":{"nodes":[{"id":[1,0],"kind":"Module","name":"u8","nodes":[]}]}}
+{"do":"refresh"}
+{"do":"resolve","at":[0],"path":"u8","shadow":"other"}
+{"do":"resolve","at":[0],"path":"u8","shadow":"module"}
+{"do":"resolve","at":[0],"path":"u8"}
+"#,
+            r#"{"ok":null}
+{"ok":null}
+{"ok":[[0]]}
+{"ok":{"macros":null,"stop":null,"types":{"def":{"builtin":"u8"},"import":null,"vis":"pub"},"values":null}}
+{"ok":{"macros":null,"stop":null,"types":{"def":{"crate":0,"id":[1,0],"in":["lib.rs"],"kind":"Module"},"import":null,"vis":{"explicit":false,"module":{"crate":0,"kind":"CrateRoot"}}},"values":null}}
+{"ok":{"macros":null,"stop":null,"types":{"def":{"builtin":"u8"},"import":null,"vis":"pub"},"values":null}}
+"#,
+        ),
+        (
+            "rooted_paths",
+            r#"{"do":"crates","crates":[{"edition":"2021","root":"lib.rs"}]}
+{"do":"set file","file":"lib.rs","unit":{"nodes":[{"kind":"Module","id":[1,0],"name":"a","nodes":[{"kind":"Struct","id":[2,0],"name":"S","vis":"pub"},{"kind":"Module","id":[3,0],"name":"b","nodes":[{"kind":"Fn","id":[4,0],"name":"f"}]}]}]}}
+{"do":"refresh"}
+{"do":"resolve","at":[0],"path":"crate::a::S"}
+{"do":"resolve","at":[0],"path":"self::a::S"}
+{"do":"resolve","at":[0],"path":"$0::a::S"}
+{"do":"resolve","at":[0],"path":"$1::a::S"}
+{"do":"resolve","at":[0,"a","b"],"path":"super::super::a::S"}
+{"do":"resolve","at":[0,"a","b"],"path":"self::super::S"}
+{"do":"resolve","at":[0,"a","b"],"path":"super::super::super::a"}
+{"do":"resolve","at":[0,"a","b"],"path":"crate"}
+{"do":"resolve","at":[0,"a","b"],"path":"self"}
+{"do":"resolve","at":[0,"a","b"],"path":"super"}
+{"do":"resolve","at":[0],"path":"::"}
+{"do":"resolve","at":[0],"path":"::crate_name::S"}
+{"do":"resolve","at":[0,"a","b"],"path":"f"}
+{"do":"resolve","at":[0,"a"],"path":"f"}
+{"do":"resolve","at":[0],"path":"a::b::f"}
+"#,
+            r#"{"ok":null}
+{"ok":null}
+{"ok":[[0]]}
+{"ok":{"macros":null,"stop":null,"types":{"def":{"crate":0,"id":[2,0],"in":["lib.rs"],"kind":"Struct"},"import":null,"vis":"pub"},"values":{"def":{"crate":0,"id":[2,0],"in":["lib.rs"],"kind":"Struct"},"import":null,"vis":"pub"}}}
+{"ok":{"macros":null,"stop":null,"types":{"def":{"crate":0,"id":[2,0],"in":["lib.rs"],"kind":"Struct"},"import":null,"vis":"pub"},"values":{"def":{"crate":0,"id":[2,0],"in":["lib.rs"],"kind":"Struct"},"import":null,"vis":"pub"}}}
+{"ok":{"macros":null,"stop":null,"types":{"def":{"crate":0,"id":[2,0],"in":["lib.rs"],"kind":"Struct"},"import":null,"vis":"pub"},"values":{"def":{"crate":0,"id":[2,0],"in":["lib.rs"],"kind":"Struct"},"import":null,"vis":"pub"}}}
+{"ok":{"macros":null,"stop":null,"types":null,"values":null}}
+{"ok":{"macros":null,"stop":null,"types":{"def":{"crate":0,"id":[2,0],"in":["lib.rs"],"kind":"Struct"},"import":null,"vis":"pub"},"values":{"def":{"crate":0,"id":[2,0],"in":["lib.rs"],"kind":"Struct"},"import":null,"vis":"pub"}}}
+{"ok":{"macros":null,"stop":null,"types":{"def":{"crate":0,"id":[2,0],"in":["lib.rs"],"kind":"Struct"},"import":null,"vis":"pub"},"values":{"def":{"crate":0,"id":[2,0],"in":["lib.rs"],"kind":"Struct"},"import":null,"vis":"pub"}}}
+{"ok":{"macros":null,"stop":null,"types":null,"values":null}}
+{"ok":{"macros":null,"stop":null,"types":{"def":{"crate":0,"kind":"CrateRoot"},"import":null,"vis":"pub"},"values":null}}
+{"ok":{"macros":null,"stop":null,"types":{"def":{"crate":0,"id":[3,0],"in":["lib.rs"],"kind":"Module"},"import":null,"vis":"pub"},"values":null}}
+{"ok":{"macros":null,"stop":null,"types":{"def":{"crate":0,"id":[1,0],"in":["lib.rs"],"kind":"Module"},"import":null,"vis":"pub"},"values":null}}
+{"ok":{"macros":null,"stop":null,"types":null,"values":null}}
+{"ok":{"macros":null,"stop":null,"types":null,"values":null}}
+{"ok":{"macros":null,"stop":null,"types":null,"values":{"def":{"crate":0,"id":[4,0],"in":["lib.rs"],"kind":"Fn"},"import":null,"vis":{"explicit":false,"module":{"crate":0,"id":[3,0],"in":["lib.rs"],"kind":"Module"}}}}}
+{"ok":{"macros":null,"stop":null,"types":null,"values":null}}
+{"ok":{"macros":null,"stop":null,"types":null,"values":null}}
+"#,
+        ),
+        (
+            "missing_names",
+            r#"{"do":"crates","crates":[{"edition":"2021","root":"lib.rs"}]}
+{"do":"set file","file":"lib.rs","unit":{"nodes":[{"kind":"Module","id":[1,0],"name":"a","nodes":[{"kind":"Struct","id":[2,0],"name":"S","vis":"pub"},{"kind":"Module","id":[3,0],"name":"b","nodes":[{"kind":"Fn","id":[4,0],"name":"f"}]}]}]}}
+{"do":"refresh"}
+{"do":"resolve","at":[0],"path":"a::T"}
+{"do":"resolve","at":[0],"path":"T::x"}
+{"do":"resolve","at":[0],"path":"a::b::c::d"}
+"#,
+            r#"{"ok":null}
+{"ok":null}
+{"ok":[[0]]}
+{"ok":{"macros":null,"stop":null,"types":null,"values":null}}
+{"ok":{"macros":null,"stop":null,"types":null,"values":null}}
+{"ok":{"macros":null,"stop":null,"types":null,"values":null}}
+"#,
+        ),
+        (
+            "builtin_types_are_types_alone",
+            r#"{"do":"crates","crates":[{"edition":"2021","root":"lib.rs"}]}
+{"do":"set file","file":"lib.rs","unit":{"nodes":[]}}
+{"do":"refresh"}
+{"do":"resolve","at":[0],"path":"str"}
+{"do":"resolve","at":[0],"path":"f128","shadow":"module"}
+{"do":"resolve","at":[0],"path":"u8::MAX"}
+{"do":"resolve","at":[0],"path":"self::u8"}
+"#,
+            r#"{"ok":null}
+{"ok":null}
+{"ok":[[0]]}
+{"ok":{"macros":null,"stop":null,"types":{"def":{"builtin":"str"},"import":null,"vis":"pub"},"values":null}}
+{"ok":{"macros":null,"stop":null,"types":{"def":{"builtin":"f128"},"import":null,"vis":"pub"},"values":null}}
+{"ok":{"macros":null,"stop":1,"types":{"def":{"builtin":"u8"},"import":null,"vis":"pub"},"values":null}}
+{"ok":{"macros":null,"stop":null,"types":null,"values":null}}
+"#,
+        ),
+        (
+            "module_named_like_a_builtin_leads_on",
+            r#"{"do":"crates","crates":[{"edition":"2021","root":"lib.rs"}]}
+{"do":"set file","file":"lib.rs","unit":{"nodes":[{"kind":"Module","id":[1,0],"name":"u8","nodes":[{"kind":"Struct","id":[2,0],"name":"S","shape":"record","vis":"pub"}]}]}}
+{"do":"refresh"}
+{"do":"resolve","at":[0],"path":"u8::S"}
+"#,
+            r#"{"ok":null}
+{"ok":null}
+{"ok":[[0]]}
+{"ok":{"macros":null,"stop":null,"types":{"def":{"crate":0,"id":[2,0],"in":["lib.rs"],"kind":"Struct"},"import":null,"vis":"pub"},"values":null}}
+"#,
+        ),
+        (
+            "module_and_function_of_one_name",
+            r#"{"do":"crates","crates":[{"edition":"2021","root":"lib.rs"}]}
+{"do":"set file","file":"lib.rs","unit":{"nodes":[{"kind":"Module","id":[1,0],"name":"x","nodes":[]},{"kind":"Fn","id":[2,0],"name":"x"}]}}
+{"do":"refresh"}
+{"do":"resolve","at":[0],"path":"x"}
+"#,
+            r#"{"ok":null}
+{"ok":null}
+{"ok":[[0]]}
+{"ok":{"macros":null,"stop":null,"types":{"def":{"crate":0,"id":[1,0],"in":["lib.rs"],"kind":"Module"},"import":null,"vis":{"explicit":false,"module":{"crate":0,"kind":"CrateRoot"}}},"values":{"def":{"crate":0,"id":[2,0],"in":["lib.rs"],"kind":"Fn"},"import":null,"vis":{"explicit":false,"module":{"crate":0,"kind":"CrateRoot"}}}}}
+"#,
+        ),
+        (
+            "shapes_of_structs",
+            r#"{"do":"crates","crates":[{"edition":"2021","root":"lib.rs"}]}
+{"do":"set file","file":"lib.rs","unit":{"nodes":[{"kind":"Struct","id":[1,0],"name":"R","shape":"record"},{"kind":"Struct","id":[2,0],"name":"U"},{"kind":"Struct","id":[3,0],"name":"T","shape":"tuple","fields":["pub"]},{"kind":"Struct","id":[4,0],"name":"P","shape":"tuple","vis":"pub","fields":[null,"pub"]},{"kind":"Struct","id":[5,0],"name":"C","shape":"tuple","vis":"pub","fields":["crate"]},{"kind":"Struct","id":[6,0],"name":"E","shape":"tuple","vis":"self","fields":[]}]}}
+{"do":"refresh"}
+{"do":"resolve","at":[0],"path":"R"}
+{"do":"resolve","at":[0],"path":"U"}
+{"do":"resolve","at":[0],"path":"T"}
+{"do":"resolve","at":[0],"path":"P"}
+{"do":"resolve","at":[0],"path":"C"}
+{"do":"resolve","at":[0],"path":"E"}
+"#,
+            r#"{"ok":null}
+{"ok":null}
+{"ok":[[0]]}
+{"ok":{"macros":null,"stop":null,"types":{"def":{"crate":0,"id":[1,0],"in":["lib.rs"],"kind":"Struct"},"import":null,"vis":{"explicit":false,"module":{"crate":0,"kind":"CrateRoot"}}},"values":null}}
+{"ok":{"macros":null,"stop":null,"types":{"def":{"crate":0,"id":[2,0],"in":["lib.rs"],"kind":"Struct"},"import":null,"vis":{"explicit":false,"module":{"crate":0,"kind":"CrateRoot"}}},"values":{"def":{"crate":0,"id":[2,0],"in":["lib.rs"],"kind":"Struct"},"import":null,"vis":{"explicit":false,"module":{"crate":0,"kind":"CrateRoot"}}}}}
+{"ok":{"macros":null,"stop":null,"types":{"def":{"crate":0,"id":[3,0],"in":["lib.rs"],"kind":"Struct"},"import":null,"vis":{"explicit":false,"module":{"crate":0,"kind":"CrateRoot"}}},"values":{"def":{"crate":0,"id":[3,0],"in":["lib.rs"],"kind":"Struct"},"import":null,"vis":{"explicit":false,"module":{"crate":0,"kind":"CrateRoot"}}}}}
+{"ok":{"macros":null,"stop":null,"types":{"def":{"crate":0,"id":[4,0],"in":["lib.rs"],"kind":"Struct"},"import":null,"vis":"pub"},"values":{"def":{"crate":0,"id":[4,0],"in":["lib.rs"],"kind":"Struct"},"import":null,"vis":{"explicit":false,"module":{"crate":0,"kind":"CrateRoot"}}}}}
+{"ok":{"macros":null,"stop":null,"types":{"def":{"crate":0,"id":[5,0],"in":["lib.rs"],"kind":"Struct"},"import":null,"vis":"pub"},"values":{"def":{"crate":0,"id":[5,0],"in":["lib.rs"],"kind":"Struct"},"import":null,"vis":{"crate":0}}}}
+{"ok":{"macros":null,"stop":null,"types":{"def":{"crate":0,"id":[6,0],"in":["lib.rs"],"kind":"Struct"},"import":null,"vis":{"explicit":true,"module":{"crate":0,"kind":"CrateRoot"}}},"values":{"def":{"crate":0,"id":[6,0],"in":["lib.rs"],"kind":"Struct"},"import":null,"vis":{"explicit":true,"module":{"crate":0,"kind":"CrateRoot"}}}}}
+"#,
+        ),
+        (
+            "second_module_of_a_name_has_no_path",
+            r#"{"do":"crates","crates":[{"edition":"2021","root":"lib.rs"}]}
+{"do":"set file","file":"lib.rs","unit":{"nodes":[{"kind":"Module","id":[1,0],"name":"a","nodes":[{"kind":"Struct","id":[2,0],"name":"S","shape":"record","vis":"pub"}]},{"kind":"Module","id":[3,0],"name":"a","nodes":[{"kind":"Struct","id":[4,0],"name":"T","shape":"record","vis":"pub"}]}]}}
+{"do":"refresh"}
+{"do":"resolve","at":[0],"path":"a::S"}
+{"do":"resolve","at":[0],"path":"a::T"}
+{"do":"status","at":[0,"a"]}
+{"do":"resolve","at":[0,"a"],"path":"T"}
+"#,
+            r#"{"ok":null}
+{"ok":null}
+{"ok":[[0]]}
+{"ok":{"macros":null,"stop":null,"types":{"def":{"crate":0,"id":[2,0],"in":["lib.rs"],"kind":"Struct"},"import":null,"vis":"pub"},"values":null}}
+{"ok":{"macros":null,"stop":null,"types":null,"values":null}}
+{"ok":"current"}
+{"ok":{"macros":null,"stop":null,"types":null,"values":null}}
+"#,
+        ),
+    ];
+    for (label, lines, replies) in rows {
+        converse(&rt, rt.alloc(), label, lines, replies)?;
+    }
+    Ok(())
+}

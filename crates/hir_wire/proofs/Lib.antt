@@ -1,0 +1,5 @@
+pub mod PlainLemmas
+pub mod ReadingLemmas
+pub mod IdLemmas
+pub mod NodeLemmas
+pub mod LineLemmas

@@ -1,0 +1,172 @@
+-- Which command does a line mean?
+use Rattle.std.specs.Prelude.{ℕ, List, [], Bool, true, false, Option, Some, None, option_and_then, Result, Ok, Err, if◌then◌else◌, codes}
+use Rattle.std.specs.Str.{bytes_eq, is_utf8}
+use Rattle.serde_json.specs.Data.{Data, null, boolean, number, string, array, object, Members}
+use Rattle.serde_json.specs.Find.{as_bool, as_str}
+use Rattle.serde_json.specs.Read.{read}
+use Rattle.serde_json.specs.Written.{has_float}
+use Rattle.hir_base.specs.ModPath.{Path}
+use Rattle.hir_base.specs.Place.{PlaceValue}
+use Rattle.hir_base.specs.declared.edition.Edition.{Edition}
+use Rattle.hir_base.specs.declared.edition.Edition.TheVariants as edition
+use Rattle.hir_wire.specs.declared.command.CrateInput.{CrateInput}
+use Rattle.hir_wire.specs.declared.command.Dependency.{Dependency}
+use Rattle.hir_wire.specs.declared.command.MacroStyle.{MacroStyle}
+use Rattle.hir_wire.specs.declared.command.MacroStyle.TheVariants as style
+use Rattle.hir_wire.specs.declared.command.Shadow.{Shadow}
+use Rattle.hir_wire.specs.declared.command.Shadow.TheVariants as shadow
+use Rattle.hir_wire.specs.declared.read.line.Verb.{Verb}
+use Rattle.hir_wire.specs.declared.read.line.Verb.TheVariants as verb
+use Rattle.hir_wire.specs.declared.read_error.ReadError.TheVariants.{Json, Command}
+use Rattle.hir_wire.specs.CommandValue.{CommandValue, crates, edit, refresh, resolve, status}
+use Rattle.hir_wire.specs.Edits.{set_file}
+use Rattle.hir_wire.specs.Nodes.{list_of, empty_of, source_of}
+use Rattle.hir_wire.specs.Paths.{name_of, path_of, file_of, crate_of, place_of}
+use Rattle.hir_wire.specs.Reading.{Reading, made, paired, required, optional, formed}
+
+-- a value as a truth value
+abbrev pub bool_of : Data → Reading Bool
+bool_of d = formed (as_bool d)
+
+-- the edition that a word stands for
+abbrev pub edition_of_word : List ℕ → Option Edition
+edition_of_word word =
+    if bytes_eq word (codes "2015") then Some edition.Edition2015 else
+    (if bytes_eq word (codes "2018") then Some edition.Edition2018 else
+    (if bytes_eq word (codes "2021") then Some edition.Edition2021 else
+    (if bytes_eq word (codes "2024") then Some edition.Edition2024 else None)))
+
+-- a value as an edition
+abbrev pub edition_of : Data → Reading Edition
+edition_of d = formed (option_and_then edition_of_word (as_str d))
+
+-- the name of a dependency, and whether it stands in the extern prelude
+unfoldable pub dependency_name_in : Members → Reading (List ℕ × Bool)
+dependency_name_in ms = made (λ p. p) (paired (required name_of (codes "name") ms) (optional true bool_of (codes "prelude") ms))
+
+-- a dependency's members
+abbrev pub dependency_in : Members → Reading Dependency
+dependency_in ms = made (λ p. record { krate = p.0; name = p.1.0; prelude = p.1.1 }) (paired (required crate_of (codes "crate") ms) (dependency_name_in ms))
+
+-- a value as a dependency
+abbrev pub dependency_of : Data → Reading Dependency
+dependency_of null = Err Command
+dependency_of (boolean b) = Err Command
+dependency_of (number n) = Err Command
+dependency_of (string s) = Err Command
+dependency_of (array ds) = Err Command
+dependency_of (object ms) = dependency_in ms
+
+-- the edition and the root file of a crate
+unfoldable pub crate_root_in : Members → Reading (Edition × List ℕ)
+crate_root_in ms = made (λ p. p) (paired (required edition_of (codes "edition") ms) (required file_of (codes "root") ms))
+
+-- the dependencies of a crate, and whether it is one of procedural macros
+unfoldable pub crate_links_in : Members → Reading (List Dependency × Bool)
+crate_links_in ms = made (λ p. p) (paired (optional [] (list_of dependency_of) (codes "deps") ms) (optional false bool_of (codes "proc_macro") ms))
+
+-- the attributes and options of a crate, of which there are none yet
+unfoldable pub crate_options_in : Members → Reading (Unit {0})
+crate_options_in ms = made (λ p. tt) (paired (optional tt empty_of (codes "attrs") ms) (optional tt empty_of (codes "cfg") ms))
+
+-- what a crate has besides its root
+unfoldable pub crate_rest_in : Members → Reading (List Dependency × Bool)
+crate_rest_in ms = made (λ p. p.0) (paired (crate_links_in ms) (crate_options_in ms))
+
+-- a crate's members
+abbrev pub crate_input_in : Members → Reading CrateInput
+crate_input_in ms =
+    made (λ p. record { edition = p.0.0; root = p.0.1; deps = p.1.0; proc_macro = p.1.1 }) (paired (crate_root_in ms) (crate_rest_in ms))
+
+-- a value as a crate
+abbrev pub crate_input_of : Data → Reading CrateInput
+crate_input_of null = Err Command
+crate_input_of (boolean b) = Err Command
+crate_input_of (number n) = Err Command
+crate_input_of (string s) = Err Command
+crate_input_of (array ds) = Err Command
+crate_input_of (object ms) = crate_input_in ms
+
+-- the way of shadowing that a word stands for
+abbrev pub shadow_of_word : List ℕ → Option Shadow
+shadow_of_word word =
+    if bytes_eq word (codes "module") then Some shadow.Module else
+    (if bytes_eq word (codes "other") then Some shadow.Other else None)
+
+-- a value as a way of shadowing
+abbrev pub shadow_of : Data → Reading Shadow
+shadow_of d = formed (option_and_then shadow_of_word (as_str d))
+
+-- the style of a macro call that a word stands for
+abbrev pub style_of_word : List ℕ → Option (Option MacroStyle)
+style_of_word word =
+    if bytes_eq word (codes "bang") then Some (Some style.Bang) else
+    (if bytes_eq word (codes "attr") then Some (Some style.Attr) else None)
+
+-- a value as a style of a macro call
+abbrev pub style_of : Data → Reading (Option MacroStyle)
+style_of d = formed (option_and_then style_of_word (as_str d))
+
+-- the command that a word stands for
+abbrev pub verb_of_word : List ℕ → Option Verb
+verb_of_word word =
+    if bytes_eq word (codes "crates") then Some verb.Crates else
+    (if bytes_eq word (codes "set file") then Some verb.SetFile else
+    (if bytes_eq word (codes "refresh") then Some verb.Refresh else
+    (if bytes_eq word (codes "resolve") then Some verb.Resolve else
+    (if bytes_eq word (codes "status") then Some verb.Status else None))))
+
+-- a value as the word of a command
+abbrev pub verb_of : Data → Reading Verb
+verb_of d = formed (option_and_then verb_of_word (as_str d))
+
+-- the file and the source of an edit
+unfoldable pub set_file_in : Members → Reading CommandValue
+set_file_in ms = made (λ p. edit (set_file p.0 p.1)) (paired (required file_of (codes "file") ms) (required source_of (codes "unit") ms))
+
+-- the place and the path of a query
+unfoldable pub asked_in : Members → Reading (PlaceValue × Path)
+asked_in ms = made (λ p. p) (paired (required place_of (codes "at") ms) (required path_of (codes "path") ms))
+
+-- how a query wants builtin types and macros
+unfoldable pub modes_in : Members → Reading (Shadow × Option MacroStyle)
+modes_in ms = made (λ p. p) (paired (optional shadow.Other shadow_of (codes "shadow") ms) (optional None style_of (codes "sub") ms))
+
+-- a query
+unfoldable pub resolve_in : Members → Reading CommandValue
+resolve_in ms = made (λ p. resolve p.0.0 p.0.1 p.1.0 p.1.1) (paired (asked_in ms) (modes_in ms))
+
+-- the fields of a command
+abbrev pub fields_of : Verb → Members → Reading CommandValue
+fields_of verb.Crates ms = made crates (required (list_of crate_input_of) (codes "crates") ms)
+fields_of verb.SetFile ms = set_file_in ms
+fields_of verb.Refresh ms = Ok refresh
+fields_of verb.Resolve ms = resolve_in ms
+fields_of verb.Status ms = made status (required place_of (codes "at") ms)
+
+-- a command, once its word is read
+abbrev pub command_with : Reading Verb → Members → Reading CommandValue
+command_with (Err e) ms = Err e
+command_with (Ok v) ms = fields_of v ms
+
+-- a value as a command
+abbrev pub command_of : Data → Reading CommandValue
+command_of null = Err Command
+command_of (boolean b) = Err Command
+command_of (number n) = Err Command
+command_of (string s) = Err Command
+command_of (array ds) = Err Command
+command_of (object ms) = command_with (required verb_of (codes "do") ms) ms
+
+-- what was read as JSON; a number that is read as a float is refused, wherever it stands
+abbrev pub reading_from : Option Data → Reading CommandValue
+reading_from None = Err Json
+reading_from (Some d) = if has_float d then Err Command else command_of d
+
+-- a line as JSON, where it is UTF-8 and JSON that nests no deeper than 127
+unfoldable pub data_of : List ℕ → Option Data
+data_of line = if is_utf8 line then read line else None
+
+-- what a line means, or why it means nothing
+abbrev pub reading_of : List ℕ → Reading CommandValue
+reading_of line = reading_from (data_of line)

@@ -1,0 +1,14 @@
+-- What does an edit hand in?
+use Rattle.std.specs.Prelude.{ℕ, List}
+use Rattle.hir_item_tree.specs.Source.{SourceValue, source_view}
+use Rattle.hir_wire.specs.declared.edit.Edit.{Edit}
+use Rattle.hir_wire.specs.declared.edit.Edit.TheVariants as edit
+
+-- an edit, as plain values
+pub data EditValue : Type 0 where
+  -- a file, and its source
+  set_file : List ℕ → SourceValue → EditValue
+
+-- the plain value of an edit
+abbrev pub edit_view : Edit → EditValue
+edit_view (edit.SetFile file source) = set_file file (source_view source)

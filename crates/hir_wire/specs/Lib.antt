@@ -1,0 +1,9 @@
+pub mod Reading
+pub mod Parts
+pub mod Paths
+pub mod Nodes
+pub mod Edits
+pub mod CommandValue
+pub mod Words
+pub mod Commands
+pub mod Replies

@@ -1,0 +1,84 @@
+-- What does reading a part of a line give?
+use Rattle.std.specs.Prelude.{◌≡◌, ℕ, List, [], ◌∷◌, Bool, Option, Some, None, Result, Ok, Err, if◌then◌else◌, nat_lt, ⊤}
+use Rattle.serde_json.specs.Data.{Data, Items, no_items, item, Members}
+use Rattle.serde_json.specs.Find.{get_member}
+use Rattle.hir_base.specs.declared.limit.Limit.TheVariants as limit
+use Rattle.hir_wire.specs.declared.read_error.ReadError.{ReadError}
+use Rattle.hir_wire.specs.declared.read_error.ReadError.TheVariants.{Json, Command, TooLarge, Memory}
+
+-- what a part of a line means, or why it means nothing
+abbrev pub Reading : Type 0 → Type 0
+Reading A = Result A ReadError
+
+-- how soon an error is told: a fault of form before a limit, a limit before those that come after it
+abbrev pub gravity : ReadError → ℕ
+gravity (TooLarge limit.Crates) = 0
+gravity (TooLarge limit.Blocks) = 1
+gravity (TooLarge limit.Cfg) = 2
+gravity (TooLarge limit.UseTree) = 3
+gravity (TooLarge limit.Modules) = 4
+gravity (TooLarge limit.Nodes) = 5
+gravity (TooLarge limit.Index) = 6
+gravity (TooLarge limit.File) = 7
+gravity (TooLarge limit.Path) = 8
+gravity (TooLarge limit.Name) = 9
+gravity (TooLarge limit.Line) = 10
+gravity Command = 11
+gravity Json = 12
+gravity Memory = 13
+
+-- of two errors the one that is told
+unfoldable pub graver : ReadError → ReadError → ReadError
+graver e other = if nat_lt (gravity e) (gravity other) then other else e
+
+-- two parts, of which each has to mean something
+abbrev pub paired : {A B : Type 0} → Reading A → Reading B → Reading (A × B)
+paired (Ok a) (Ok b) = Ok (a, b)
+paired (Ok a) (Err e) = Err e
+paired (Err e) (Ok b) = Err e
+paired (Err e) (Err other) = Err (graver e other)
+
+-- what is made of a part
+abbrev pub made : {A B : Type 0} → (A → B) → Reading A → Reading B
+made f (Ok a) = Ok (f a)
+made f (Err e) = Err e
+
+-- the first of a list, and those that follow it
+abbrev pub listed : {A : Type 0} → Reading A → Reading (List A) → Reading (List A)
+listed first others = made (λ p. p.0 ∷ p.1) (paired first others)
+
+-- each item of a list
+abbrev pub each_of : {A : Type 0} → (Data → Reading A) → Items → Reading (List A)
+each_of read no_items = Ok []
+each_of read (item d ds) = listed (read d) (each_of read ds)
+
+-- a part without which the whole means nothing
+abbrev pub if_there : {A : Type 0} → (Data → Reading A) → Option Data → Reading A
+if_there read None = Err Command
+if_there read (Some d) = read d
+
+-- a part that stands for something where it is absent
+abbrev pub if_given : {A : Type 0} → A → (Data → Reading A) → Option Data → Reading A
+if_given absent read None = Ok absent
+if_given absent read (Some d) = read d
+
+-- the field of this name
+unfoldable pub required : {A : Type 0} → (Data → Reading A) → List ℕ → Members → Reading A
+required read name ms = if_there read (get_member name ms)
+
+-- the field of this name, which may be absent
+unfoldable pub optional : {A : Type 0} → A → (Data → Reading A) → List ℕ → Members → Reading A
+optional absent read name ms = if_given absent read (get_member name ms)
+
+-- a part that has a form or not, and no limit
+abbrev pub formed : {A : Type 0} → Option A → Reading A
+formed None = Err Command
+formed (Some a) = Ok a
+
+-- A call read what is meant, seen by `see`, or told the error. It may want memory.
+abbrev pub Reads : {A B : Type 0} → (A → B) → Reading B → Result A ReadError → Type 0
+Reads see meaning (Ok a) = meaning ≡ Ok (see a)
+Reads see meaning (Err Json) = ⊥
+Reads see meaning (Err Command) = meaning ≡ Err Command
+Reads see meaning (Err (TooLarge l)) = meaning ≡ Err (TooLarge l)
+Reads see meaning (Err Memory) = ⊤

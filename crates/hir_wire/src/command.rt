@@ -1,0 +1,92 @@
+//! Commands.
+ghost use Rattle.std.specs.Prelude.{◌≡◌};
+
+use crate::edit::Edit;
+use hir_base::edition::Edition;
+use hir_base::file_path::FilePath;
+use hir_base::ids::Crate;
+use hir_base::mod_path::ModPath;
+use hir_base::name::Name;
+use hir_base::place::Place;
+use std::marker::Model;
+
+/// A crate that another stands on.
+#[derive(Drop)]
+pub struct Dependency {
+    pub krate: Crate,
+    /// The name under which the crate is known there.
+    pub name: Name,
+    /// Whether the name stands in the extern prelude.
+    pub prelude: bool,
+}
+
+/// The dependencies of a crate, in the order in which they are handed in.
+#[derive(Drop)]
+pub struct Dependencies {
+    inner: Vec<Dependency>,
+}
+
+impl Model for Dependencies {
+    ghost use Rattle.std.specs.Prelude.{List};
+    ghost use Rattle.hir_wire.specs.declared.command.Dependency.{Dependency};
+
+    ghost Value = { List Dependency };
+
+    ghost view = { λ d. d.inner.items };
+}
+
+impl Dependencies {
+    pub fn new(inner: Vec<Dependency>) -> Dependencies
+        ensures value { result ≡ inner.items }
+    {
+        Dependencies { inner }
+    }
+
+    pub fn as_slice(&self) -> &[Dependency]
+        ensures value { result.now ≡ self.now }
+    {
+        self.inner.as_slice()
+    }
+}
+
+/// A crate, as it is handed in.
+#[derive(Drop)]
+pub struct CrateInput {
+    pub edition: Edition,
+    /// The file of the crate's root module.
+    pub root: FilePath,
+    pub deps: Dependencies,
+    pub proc_macro: bool,
+}
+
+/// Whether a module of a builtin type's name comes before the builtin type.
+#[derive(Clone, Copy, Debug, PartialEq, Eq)]
+pub enum Shadow {
+    Module,
+    Other,
+}
+
+/// How a macro that is asked for would be called.
+#[derive(Clone, Copy, Debug, PartialEq, Eq)]
+pub enum MacroStyle {
+    Bang,
+    Attr,
+}
+
+/// What a line asks for.
+#[derive(Drop)]
+pub enum Command {
+    /// Begins a session with these crates, which are numbered in this order.
+    Crates(Vec<CrateInput>),
+    Edit(Edit),
+    Refresh,
+    Resolve {
+        at: Place,
+        path: ModPath,
+        shadow: Shadow,
+        sub: Option<MacroStyle>,
+    },
+    Status {
+        at: Place,
+    },
+}

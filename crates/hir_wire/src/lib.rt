@@ -1,0 +1,22 @@
+//! Commands and replies as lines of JSON.
+#![tactic(auto)]
+
+pub mod answer;
+pub mod command;
+pub mod edit;
+pub mod read;
+pub mod read_error;
+pub mod reply;
+pub mod write;
+
+pub use answer::{
+    Answer, AnswerItem, AnswerVisibility, Definition, ImportOrigin, ImportSource, ItemSource,
+    SourceCall, SourceCallKind, SourceCalls, SourceItem, SourceKind, SourceRoot,
+};
+pub use command::{Command, CrateInput, Dependencies, Dependency, MacroStyle, Shadow};
+pub use edit::Edit;
+pub use hir_base::place::{Place, PlaceElement};
+pub use read::line::read_command;
+pub use read_error::ReadError;
+pub use reply::{Places, Reply, Status};
+pub use write::{fixed_text, reply_text};

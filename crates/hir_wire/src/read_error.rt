@@ -1,0 +1,90 @@
+//! Why a line is no command.
+ghost use Rattle.std.specs.Prelude.{◌≡◌};
+ghost use Rattle.hir_wire.specs.Reading.{gravity, graver, paired};
+
+use hir_base::limit::Limit;
+use std::alloc::{AllocError, AllocFailed};
+
+/// Why a line is no command, in the order in which it is looked for.
+#[derive(Clone, Copy, Debug, Drop, PartialEq, Eq)]
+pub enum ReadError {
+    /// The line is no JSON, or nests more than 127 deep.
+    Json,
+    /// A field is missing or ill-formed, or a number is read as a float.
+    Command,
+    /// The first limit that a text in the line passes.
+    TooLarge(Limit),
+    Memory,
+}
+
+impl From<AllocError> for ReadError {
+    ghost use Rattle.std.specs.Prelude.{◌≡◌};
+    ghost use Rattle.hir_wire.specs.declared.read_error.ReadError.TheVariants.{Memory};
+
+    ghost from_gives = { λ _ e. e ≡ Memory };
+
+    fn from(_refused: AllocError) -> ReadError {
+        ReadError::Memory
+    }
+}
+
+impl<T: Drop> From<AllocFailed<T>> for ReadError {
+    ghost use Rattle.std.specs.Prelude.{◌≡◌};
+    ghost use Rattle.hir_wire.specs.declared.read_error.ReadError.TheVariants.{Memory};
+
+    ghost from_gives = { λ _ e. e ≡ Memory };
+
+    fn from(_refused: AllocFailed<T>) -> ReadError {
+        ReadError::Memory
+    }
+}
+
+impl ReadError {
+    fn gravity(self) -> u8
+        ensures value { result ≡ gravity self }
+    {
+        match self {
+            ReadError::TooLarge(Limit::Crates) => 0,
+            ReadError::TooLarge(Limit::Blocks) => 1,
+            ReadError::TooLarge(Limit::Cfg) => 2,
+            ReadError::TooLarge(Limit::UseTree) => 3,
+            ReadError::TooLarge(Limit::Modules) => 4,
+            ReadError::TooLarge(Limit::Nodes) => 5,
+            ReadError::TooLarge(Limit::Index) => 6,
+            ReadError::TooLarge(Limit::File) => 7,
+            ReadError::TooLarge(Limit::Path) => 8,
+            ReadError::TooLarge(Limit::Name) => 9,
+            ReadError::TooLarge(Limit::Line) => 10,
+            ReadError::Command => 11,
+            ReadError::Json => 12,
+            ReadError::Memory => 13,
+        }
+    }
+
+    /// The error that is told where two parts of a line have these.
+    #[tactic(auto, unfolding(crate::specs::Reading::graver))]
+    pub fn graver(self, other: ReadError) -> ReadError
+        ensures value { result ≡ graver self other }
+    {
+        if self.gravity() < other.gravity() {
+            other
+        } else {
+            self
+        }
+    }
+}
+
+/// Both readings, if both succeeded. Of two errors the graver is told.
+pub fn both<A: Drop, B: Drop>(
+    first: Result<A, ReadError>,
+    second: Result<B, ReadError>,
+) -> Result<(A, B), ReadError>
+    ensures value { result ≡ paired first second }
+{
+    match (first, second) {
+        (Ok(first), Ok(second)) => Ok((first, second)),
+        (Ok(_), Err(error)) => Err(error),
+        (Err(error), Ok(_)) => Err(error),
+        (Err(error), Err(other)) => Err(error.graver(other)),
+    }
+}
