@@ -15,6 +15,4 @@ pub mod name;
 mod parse_path;
 mod pieces;
 pub mod place;
-#[cfg(test)]
-mod tests;
 mod text;
