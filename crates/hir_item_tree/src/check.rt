@@ -274,3 +274,6 @@ fn first_repeat(alloc: Global, nodes: &[NodeId]) -> Result<Option<NodeId>, Alloc
     }
     Ok(None)
 }
+
+#[cfg(test)]
+mod tests;
