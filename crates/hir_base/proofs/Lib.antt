@@ -1,3 +1,7 @@
 pub mod DigitLemmas
 pub mod FileLemmas
 pub mod PathLemmas
+mod NumberLemmas
+mod AtomLemmas
+mod CfgLemmas
+mod BuiltinLemmas

@@ -1,4 +1,5 @@
 pub mod Refusal
+pub mod Limit
 pub mod Text
 pub mod NameForm
 pub mod Name
@@ -10,6 +11,11 @@ pub mod ParseFile
 pub mod Place
 pub mod Display
 pub mod DisplayText
+pub mod Ids
 pub mod MacroKind
 pub mod BuiltinType
+pub mod Cfg
+pub mod CfgOptions
+pub mod SameCfg
+pub mod Locations
 pub mod Laws

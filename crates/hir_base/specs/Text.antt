@@ -1,13 +1,15 @@
 -- Which bytes does a kept text have?
-use Rattle.std.specs.Prelude.{ℕ, List, map}
+use Rattle.std.specs.Prelude.{ℕ, List, map, codes}
 use Rattle.std.specs.Borrow.{Bor}
 use Rattle.std.specs.Rc.{rc_str_bytes}
+use Rattle.hir_base.specs.BuiltinType.{builtin_text}
 use Rattle.hir_base.specs.declared.text.Kept.{Kept}
-use Rattle.hir_base.specs.declared.text.Kept.TheVariants.{Fixed, Shared}
+use Rattle.hir_base.specs.declared.text.Kept.TheVariants.{Blank, Builtin, Shared}
 
 -- the bytes of a text, wherever it is kept
 abbrev pub kept_bytes : Kept → List ℕ
-kept_bytes (Fixed text) = text.now
+kept_bytes Blank = codes "blank"
+kept_bytes (Builtin builtin) = builtin_text builtin
 kept_bytes (Shared text) = rc_str_bytes text
 
 -- the texts that these references point to

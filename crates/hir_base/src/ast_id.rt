@@ -28,6 +28,11 @@ pub enum HirFileId {
     Macro(MacroCallId),
 }
 
+/// An attribute of a node, by its number in preorder in the list that was handed in; what a `cfg_attr` holds
+/// is counted too.
+#[derive(Clone, Copy, Debug, PartialEq, Eq, PartialOrd, Ord, Hash)]
+pub struct AttrId(pub u32);
+
 /// The kind of a node.
 #[derive(Clone, Copy, Debug, PartialEq, Eq, PartialOrd, Ord, Hash)]
 pub enum AstKind {

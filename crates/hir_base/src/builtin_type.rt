@@ -184,6 +184,13 @@ impl BuiltinType {
             BuiltinType::Float(kind) => kind.as_str(),
         }
     }
+
+    /// The type's name, as a name.
+    pub fn as_name(&self) -> Name
+        ensures value { result ≡ builtin_text self.now }
+    {
+        Name::of_builtin(*self)
+    }
 }
 
 /// All builtin types.

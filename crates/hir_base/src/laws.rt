@@ -3,7 +3,12 @@ ghost use Rattle.hir_base.specs.Laws.{HashesAlike, OrdersTotally};
 
 use crate::ast_id::{AstId, HirFileId};
 use crate::file_path::FilePath;
-use crate::ids::{ItemContainerId, MapId, ModuleDefId, ModuleId};
+use crate::ids::{
+    AdtId, AssocItemId, ConstId, EnumId, EnumVariantId, ExternBlockId, ExternCrateId, FunctionId,
+    ImplId, ItemContainerId, MapId, ModuleDefId, ModuleId, StaticId, StructId, TraitId,
+    TypeAliasId, UnionId, UseId,
+};
+use crate::macro_kind::{BuiltinDeriveImplId, Macro2Id, MacroId, MacroRulesId, ProcMacroId};
 use crate::mod_path::ModPath;
 use crate::name::Name;
 use crate::place::Place;
@@ -67,4 +72,94 @@ pub fn ids_are_totally_ordered()
     orders_totally::<ModuleId>();
     orders_totally::<ItemContainerId>();
     orders_totally::<ModuleDefId>();
+}
+
+/// Equal ids of items are hashed alike.
+pub fn equal_item_ids_hash_alike()
+    ensures functions { HashesAlike (⟦<FunctionId as PartialEq>⟧.eq) (⟦<FunctionId as Hash>⟧.hash_input) }
+    ensures constants { HashesAlike (⟦<ConstId as PartialEq>⟧.eq) (⟦<ConstId as Hash>⟧.hash_input) }
+    ensures statics { HashesAlike (⟦<StaticId as PartialEq>⟧.eq) (⟦<StaticId as Hash>⟧.hash_input) }
+    ensures aliases { HashesAlike (⟦<TypeAliasId as PartialEq>⟧.eq) (⟦<TypeAliasId as Hash>⟧.hash_input) }
+    ensures structs { HashesAlike (⟦<StructId as PartialEq>⟧.eq) (⟦<StructId as Hash>⟧.hash_input) }
+    ensures unions { HashesAlike (⟦<UnionId as PartialEq>⟧.eq) (⟦<UnionId as Hash>⟧.hash_input) }
+    ensures enums { HashesAlike (⟦<EnumId as PartialEq>⟧.eq) (⟦<EnumId as Hash>⟧.hash_input) }
+    ensures variants { HashesAlike (⟦<EnumVariantId as PartialEq>⟧.eq) (⟦<EnumVariantId as Hash>⟧.hash_input) }
+    ensures traits { HashesAlike (⟦<TraitId as PartialEq>⟧.eq) (⟦<TraitId as Hash>⟧.hash_input) }
+    ensures impls { HashesAlike (⟦<ImplId as PartialEq>⟧.eq) (⟦<ImplId as Hash>⟧.hash_input) }
+    ensures uses { HashesAlike (⟦<UseId as PartialEq>⟧.eq) (⟦<UseId as Hash>⟧.hash_input) }
+    ensures extern_crates { HashesAlike (⟦<ExternCrateId as PartialEq>⟧.eq) (⟦<ExternCrateId as Hash>⟧.hash_input) }
+    ensures extern_blocks { HashesAlike (⟦<ExternBlockId as PartialEq>⟧.eq) (⟦<ExternBlockId as Hash>⟧.hash_input) }
+    ensures legacy_macros { HashesAlike (⟦<MacroRulesId as PartialEq>⟧.eq) (⟦<MacroRulesId as Hash>⟧.hash_input) }
+    ensures macros { HashesAlike (⟦<Macro2Id as PartialEq>⟧.eq) (⟦<Macro2Id as Hash>⟧.hash_input) }
+    ensures proc_macros { HashesAlike (⟦<ProcMacroId as PartialEq>⟧.eq) (⟦<ProcMacroId as Hash>⟧.hash_input) }
+    ensures derives { HashesAlike (⟦<BuiltinDeriveImplId as PartialEq>⟧.eq) (⟦<BuiltinDeriveImplId as Hash>⟧.hash_input) }
+    ensures adts { HashesAlike (⟦<AdtId as PartialEq>⟧.eq) (⟦<AdtId as Hash>⟧.hash_input) }
+    ensures assoc_items { HashesAlike (⟦<AssocItemId as PartialEq>⟧.eq) (⟦<AssocItemId as Hash>⟧.hash_input) }
+    ensures any_macros { HashesAlike (⟦<MacroId as PartialEq>⟧.eq) (⟦<MacroId as Hash>⟧.hash_input) }
+{
+    hashes_alike::<FunctionId>();
+    hashes_alike::<ConstId>();
+    hashes_alike::<StaticId>();
+    hashes_alike::<TypeAliasId>();
+    hashes_alike::<StructId>();
+    hashes_alike::<UnionId>();
+    hashes_alike::<EnumId>();
+    hashes_alike::<EnumVariantId>();
+    hashes_alike::<TraitId>();
+    hashes_alike::<ImplId>();
+    hashes_alike::<UseId>();
+    hashes_alike::<ExternCrateId>();
+    hashes_alike::<ExternBlockId>();
+    hashes_alike::<MacroRulesId>();
+    hashes_alike::<Macro2Id>();
+    hashes_alike::<ProcMacroId>();
+    hashes_alike::<BuiltinDeriveImplId>();
+    hashes_alike::<AdtId>();
+    hashes_alike::<AssocItemId>();
+    hashes_alike::<MacroId>();
+}
+
+/// Ids of items are totally ordered, in accord with their equality.
+pub fn item_ids_are_totally_ordered()
+    ensures functions { OrdersTotally (⟦<FunctionId as PartialEq>⟧.eq) (⟦<FunctionId as Ord>⟧.cmp) }
+    ensures constants { OrdersTotally (⟦<ConstId as PartialEq>⟧.eq) (⟦<ConstId as Ord>⟧.cmp) }
+    ensures statics { OrdersTotally (⟦<StaticId as PartialEq>⟧.eq) (⟦<StaticId as Ord>⟧.cmp) }
+    ensures aliases { OrdersTotally (⟦<TypeAliasId as PartialEq>⟧.eq) (⟦<TypeAliasId as Ord>⟧.cmp) }
+    ensures structs { OrdersTotally (⟦<StructId as PartialEq>⟧.eq) (⟦<StructId as Ord>⟧.cmp) }
+    ensures unions { OrdersTotally (⟦<UnionId as PartialEq>⟧.eq) (⟦<UnionId as Ord>⟧.cmp) }
+    ensures enums { OrdersTotally (⟦<EnumId as PartialEq>⟧.eq) (⟦<EnumId as Ord>⟧.cmp) }
+    ensures variants { OrdersTotally (⟦<EnumVariantId as PartialEq>⟧.eq) (⟦<EnumVariantId as Ord>⟧.cmp) }
+    ensures traits { OrdersTotally (⟦<TraitId as PartialEq>⟧.eq) (⟦<TraitId as Ord>⟧.cmp) }
+    ensures impls { OrdersTotally (⟦<ImplId as PartialEq>⟧.eq) (⟦<ImplId as Ord>⟧.cmp) }
+    ensures uses { OrdersTotally (⟦<UseId as PartialEq>⟧.eq) (⟦<UseId as Ord>⟧.cmp) }
+    ensures extern_crates { OrdersTotally (⟦<ExternCrateId as PartialEq>⟧.eq) (⟦<ExternCrateId as Ord>⟧.cmp) }
+    ensures extern_blocks { OrdersTotally (⟦<ExternBlockId as PartialEq>⟧.eq) (⟦<ExternBlockId as Ord>⟧.cmp) }
+    ensures legacy_macros { OrdersTotally (⟦<MacroRulesId as PartialEq>⟧.eq) (⟦<MacroRulesId as Ord>⟧.cmp) }
+    ensures macros { OrdersTotally (⟦<Macro2Id as PartialEq>⟧.eq) (⟦<Macro2Id as Ord>⟧.cmp) }
+    ensures proc_macros { OrdersTotally (⟦<ProcMacroId as PartialEq>⟧.eq) (⟦<ProcMacroId as Ord>⟧.cmp) }
+    ensures derives { OrdersTotally (⟦<BuiltinDeriveImplId as PartialEq>⟧.eq) (⟦<BuiltinDeriveImplId as Ord>⟧.cmp) }
+    ensures adts { OrdersTotally (⟦<AdtId as PartialEq>⟧.eq) (⟦<AdtId as Ord>⟧.cmp) }
+    ensures assoc_items { OrdersTotally (⟦<AssocItemId as PartialEq>⟧.eq) (⟦<AssocItemId as Ord>⟧.cmp) }
+    ensures any_macros { OrdersTotally (⟦<MacroId as PartialEq>⟧.eq) (⟦<MacroId as Ord>⟧.cmp) }
+{
+    orders_totally::<FunctionId>();
+    orders_totally::<ConstId>();
+    orders_totally::<StaticId>();
+    orders_totally::<TypeAliasId>();
+    orders_totally::<StructId>();
+    orders_totally::<UnionId>();
+    orders_totally::<EnumId>();
+    orders_totally::<EnumVariantId>();
+    orders_totally::<TraitId>();
+    orders_totally::<ImplId>();
+    orders_totally::<UseId>();
+    orders_totally::<ExternCrateId>();
+    orders_totally::<ExternBlockId>();
+    orders_totally::<MacroRulesId>();
+    orders_totally::<Macro2Id>();
+    orders_totally::<ProcMacroId>();
+    orders_totally::<BuiltinDeriveImplId>();
+    orders_totally::<AdtId>();
+    orders_totally::<AssocItemId>();
+    orders_totally::<MacroId>();
 }

@@ -2,8 +2,8 @@
 ghost use Rattle.std.specs.Prelude.{◌≡◌};
 ghost use Rattle.hir_base.specs.MacroKind.{every_style, contains_styles, styles_of_expander, styles_of_kind, styles_of};
 
-use crate::ast_id::{BlockId, HirFileId, SyntaxId};
-use crate::ids::ModuleId;
+use crate::ast_id::{AttrId, BlockId, HirFileId, SyntaxId};
+use crate::ids::{AdtId, ModuleId};
 
 /// The styles in which a macro may be called.
 #[derive(Clone, Copy, Debug, PartialEq, Eq, PartialOrd, Ord, Hash)]
@@ -136,6 +136,16 @@ pub enum MacroId {
     Macro2Id(Macro2Id),
     MacroRulesId(MacroRulesId),
     ProcMacroId(ProcMacroId),
+}
+
+/// The impl that a builtin derive macro stands for: which type it is on, which macro it is, and where the `derive`
+/// names it.
+#[derive(Clone, Copy, Debug, PartialEq, Eq, PartialOrd, Ord, Hash)]
+pub struct BuiltinDeriveImplId {
+    pub adt: AdtId,
+    pub derive: MacroId,
+    pub derive_attr_id: AttrId,
+    pub derive_index: u32,
 }
 
 /// The styles in which a macro may be called: those of its expander, of a procedural macro its one style.

@@ -18,6 +18,7 @@ use std::alloc::{AllocError, AllocFailed, Global};
 use std::cmp::Ordering;
 use std::hash::{Hash, Hasher};
 use std::marker::Model;
+use thiserror::Error;
 
 /// The most segments of a path.
 pub const MAX_SEGMENTS: usize = 64;
@@ -26,12 +27,15 @@ pub const MAX_SEGMENTS: usize = 64;
 pub const MAX_LEVELS: usize = 255;
 
 /// Why a text is no path, or no file, in the order in which it is looked for.
-#[derive(Clone, Copy, Debug, PartialEq, Eq)]
+#[derive(Clone, Copy, Debug, PartialEq, Eq, Error)]
 pub enum ParseError {
     /// The text hasn't the form.
+    #[error("not a path")]
     Bad,
     /// The text has the form, and passes this limit.
+    #[error("a path above the limit: {0}")]
     TooLarge(Limit),
+    #[error("out of memory")]
     Memory,
 }
 

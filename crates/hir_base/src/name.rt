@@ -9,9 +9,11 @@ ghost use Rattle.std.specs.Fmt.{debug_str};
 ghost use Rattle.std.specs.Hash as fed;
 ghost use Rattle.std.specs.List.{list_any};
 ghost use Rattle.std.specs.Str.{chars};
+ghost use Rattle.hir_base.specs.BuiltinType.{builtin_text};
 ghost use Rattle.hir_base.specs.Refusal.{Gives};
 ghost use Rattle.hir_base.specs.NameForm.{ends_name, is_name, is_path_word, IsName};
 
+use crate::builtin_type::BuiltinType;
 use crate::text::Text;
 use std::alloc::{AllocError, Global};
 use std::cmp::Ordering;
@@ -19,17 +21,21 @@ use std::default::MadeWith;
 use std::fmt::{Debug, Formatter, Write};
 use std::hash::{Hash, Hasher};
 use std::marker::Model;
+use thiserror::Error;
 
 /// The most bytes that a name may have.
 pub const MAX_NAME: usize = 1000;
 
 /// Why a text is no name, in the order in which it is looked for.
-#[derive(Clone, Copy, Debug, PartialEq, Eq)]
+#[derive(Clone, Copy, Debug, PartialEq, Eq, Error)]
 pub enum NameError {
     /// The text hasn't the form of a name.
+    #[error("not a name")]
     Bad,
     /// The text has more than `MAX_NAME` bytes.
+    #[error("a name of more than {MAX_NAME} bytes")]
     TooLarge,
+    #[error("out of memory")]
     Memory,
 }
 
@@ -108,6 +114,16 @@ impl Name {
         Ok(Name { text })
     }
 
+    /// The name of a builtin type.
+    #[tactic(auto, using(crate::proofs::BuiltinLemmas::is_name_of_builtin))]
+    pub(crate) fn of_builtin(builtin: BuiltinType) -> Name
+        ensures value { result ≡ builtin_text builtin }
+    {
+        Name {
+            text: Text::of_builtin(builtin),
+        }
+    }
+
     /// The text.
     pub fn as_str(&self) -> &str
         ensures value { result.now ≡ self.now }
@@ -129,7 +145,7 @@ impl Name {
 impl MadeWith<Global> for Name {
     fn made_with(_alloc: Global) -> Name {
         Name {
-            text: Text::fixed("blank"),
+            text: Text::blank(),
         }
     }
 }

@@ -1,14 +1,18 @@
 //! Texts that are cloned without a copy.
-ghost use Rattle.std.specs.Prelude.{◌≡◌, ℕ, nat_eq, List, IfOk, string_bytes};
+ghost use Rattle.std.specs.Prelude.{◌≡◌, ℕ, nat_eq, List, IfOk, codes, string_bytes};
 ghost use Rattle.std.specs.Cmp.Lexicographic.{slice_cmp, pointwise};
 ghost use Rattle.std.specs.Ordering.{nat_cmp, as_partial_cmp};
 ghost use Rattle.std.specs.Cmp.{partial_order_from_own_ties};
 ghost use Rattle.std.specs.Cmp.Rules.{comparing, hashing};
 ghost use Rattle.std.proofs.Common.{rules};
+ghost use Rattle.std.specs.Fmt.{debug_str};
 ghost use Rattle.std.specs.Hash as fed;
+ghost use Rattle.hir_base.specs.BuiltinType.{builtin_text};
 
+use crate::builtin_type::BuiltinType;
 use std::alloc::{AllocError, Global};
 use std::cmp::Ordering;
+use std::fmt::{Debug, Formatter, Write};
 use std::hash::{Hash, Hasher};
 use std::marker::Model;
 use std::rc::RcStr;
@@ -16,7 +20,10 @@ use std::rc::RcStr;
 /// Where a text is kept.
 #[derive(Drop)]
 pub(crate) enum Kept {
-    Fixed(&'static str),
+    /// The text of an unused place.
+    Blank,
+    /// The name of a builtin type.
+    Builtin(BuiltinType),
     Shared(RcStr),
 }
 
@@ -53,12 +60,19 @@ impl Text {
         Ok(Text { kept })
     }
 
-    /// A text of the program itself.
-    pub fn fixed(text: &'static str) -> Text
-        ensures value { result ≡ text.now }
+    /// A text that stands where none has been written.
+    pub fn blank() -> Text
+        ensures value { result ≡ codes "blank" }
+    {
+        Text { kept: Kept::Blank }
+    }
+
+    /// The name of a builtin type, without a copy.
+    pub fn of_builtin(builtin: BuiltinType) -> Text
+        ensures value { result ≡ builtin_text builtin }
     {
         Text {
-            kept: Kept::Fixed(text),
+            kept: Kept::Builtin(builtin),
         }
     }
 
@@ -67,7 +81,8 @@ impl Text {
         ensures value { result.now ≡ self.now }
     {
         match &self.kept {
-            Kept::Fixed(text) => *text,
+            Kept::Blank => "blank",
+            Kept::Builtin(builtin) => builtin.as_str(),
             Kept::Shared(text) => text.as_str(),
         }
     }
@@ -77,7 +92,8 @@ impl Text {
         ensures value { IfOk result (λ t. t ≡ self.now) }
     {
         let kept = match &self.kept {
-            Kept::Fixed(text) => Kept::Fixed(*text),
+            Kept::Blank => Kept::Blank,
+            Kept::Builtin(builtin) => Kept::Builtin(*builtin),
             Kept::Shared(text) => Kept::Shared(text.clone()?),
         };
         Ok(Text { kept })
@@ -129,5 +145,14 @@ impl Hash for Text {
 
     fn hash<H: Hasher>(&self, state: &mut H) {
         self.as_str().hash(state);
+    }
+}
+
+impl Debug for Text {
+    ghost debug_output = { debug_str };
+
+    fn fmt<W: Write>(&self, f: &mut Formatter<W>) -> std::fmt::Result {
+        let text = self.as_str();
+        Debug::fmt(&text, f)
     }
 }

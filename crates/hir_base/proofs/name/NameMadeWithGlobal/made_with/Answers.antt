@@ -10,4 +10,4 @@ unfolding chars
 blank = (refl, lit≤ tt)
 
 pub invariant_of-result : goal.invariant_of-result
-invariant_of-result c = subst IsName (sym c.fixed.ensures.value) blank
+invariant_of-result c = subst IsName (sym c.blank.ensures.value) blank
