@@ -16,6 +16,8 @@ use hir_base::limit::Limit;
 use hir_base::mod_path::ModPath;
 use std::alloc::{AllocError, Global};
 use std::collections::HashSet;
+use std::error::Error;
+use std::fmt::{Display, Formatter, Write};
 
 /// The most segments of a path.
 pub const MAX_SEGMENTS: usize = 64;
@@ -53,6 +55,39 @@ impl From<AllocError> for CheckError {
         CheckError::Memory
     }
 }
+
+impl Display for CheckError {
+    fn fmt<W: Write>(&self, f: &mut Formatter<W>) -> std::fmt::Result {
+        match self {
+            CheckError::TooLarge(Limit::Path) => {
+                write!(f, "a path has more than {MAX_SEGMENTS} segments")
+            }
+            CheckError::TooLarge(Limit::Index) => {
+                write!(f, "the index of an id is above {MAX_INDEX}")
+            }
+            CheckError::TooLarge(Limit::Nodes) => {
+                write!(
+                    f,
+                    "there are more than {MAX_NODES} nodes, fields and use trees"
+                )
+            }
+            CheckError::TooLarge(Limit::Modules) => {
+                write!(f, "modules nest more than {MAX_MODULES} deep")
+            }
+            CheckError::TooLarge(limit) => write!(f, "a limit is passed: {limit:?}"),
+            CheckError::DuplicateId { kind, id } => {
+                write!(
+                    f,
+                    "two {kind:?} nodes have the id [{}, {}]",
+                    id.hash, id.index
+                )
+            }
+            CheckError::Memory => f.write_str("out of memory"),
+        }
+    }
+}
+
+impl Error for CheckError {}
 
 /// Refuses a source for the first limit, in their order, that it passes anywhere, or else for the first
 /// node in preorder whose kind and id stood before.

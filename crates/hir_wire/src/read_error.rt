@@ -2,8 +2,11 @@
 ghost use Rattle.std.specs.Prelude.{◌≡◌};
 ghost use Rattle.hir_wire.specs.Reading.{gravity, graver, paired};
 
+use crate::write::limit_word;
 use hir_base::limit::Limit;
 use std::alloc::{AllocError, AllocFailed};
+use std::error::Error;
+use std::fmt::{Display, Formatter, Write};
 
 /// Why a line is no command, in the order in which it is looked for.
 #[derive(Clone, Copy, Debug, Drop, PartialEq, Eq)]
@@ -38,6 +41,22 @@ impl<T: Drop> From<AllocFailed<T>> for ReadError {
         ReadError::Memory
     }
 }
+
+impl Display for ReadError {
+    fn fmt<W: Write>(&self, f: &mut Formatter<W>) -> std::fmt::Result {
+        match *self {
+            ReadError::Json => f.write_str("the line is no JSON"),
+            ReadError::Command => f.write_str("the line is no command"),
+            ReadError::TooLarge(limit) => {
+                let word = limit_word(limit);
+                write!(f, "the line passes a limit: {word}")
+            }
+            ReadError::Memory => f.write_str("out of memory"),
+        }
+    }
+}
+
+impl Error for ReadError {}
 
 impl ReadError {
     fn gravity(self) -> u8

@@ -149,7 +149,8 @@ fn places_list(alloc: Global, places: &[Place]) -> Result<Vec<Value>, AllocError
     Ok(values)
 }
 
-fn limit_word(limit: Limit) -> &'static str
+/// The word of a limit.
+pub fn limit_word(limit: Limit) -> &'static str
     ensures value { result.now ≡ limit_word limit }
 {
     match limit {

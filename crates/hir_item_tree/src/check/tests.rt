@@ -184,3 +184,35 @@ fn refusals(rt: HostRuntime) -> Result<(), Fail> {
     );
     Ok(())
 }
+
+#[test]
+fn refusals_as_they_are_told(rt: HostRuntime) -> Result<(), Fail> {
+    let kind = AstKind::Struct;
+    let rows = [
+        (
+            CheckError::TooLarge(Limit::Path),
+            "a path has more than 64 segments",
+        ),
+        (
+            CheckError::TooLarge(Limit::Index),
+            "the index of an id is above 2047",
+        ),
+        (
+            CheckError::TooLarge(Limit::Nodes),
+            "there are more than 1000000 nodes, fields and use trees",
+        ),
+        (
+            CheckError::TooLarge(Limit::Modules),
+            "modules nest more than 32 deep",
+        ),
+        (
+            CheckError::DuplicateId { kind, id: id(7) },
+            "two Struct nodes have the id [1, 7]",
+        ),
+        (CheckError::Memory, "out of memory"),
+    ];
+    for (error, text) in rows {
+        assert_eq!(rt; error.to_string(rt.alloc())?.as_str(), text);
+    }
+    Ok(())
+}
