@@ -1,1 +1,10 @@
 pub mod Wider
+pub mod RoomLemmas
+pub mod Rewrites
+pub mod Prevails
+pub mod SlotLemmas
+pub mod PushesSlots
+pub mod ImportChainLemmas
+pub mod MergeLemmas
+pub mod WalkLemmas
+pub mod AskLemmas

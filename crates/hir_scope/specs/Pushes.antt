@@ -1,11 +1,14 @@
 -- What a push makes of a name, namespace by namespace.
-use Rattle.std.specs.Prelude.{Bool, true, false, ◌&&◌, ◌||◌, not, Option, None, Some, cond}
+use Rattle.std.specs.Prelude.{Bool, true, false, ◌&&◌, ◌||◌, not, Option, None, Some, cond, List, [], ◌∷◌, filter, option_map, option_to_list}
 use Rattle.hir_base.specs.contracts.ids.ModuleDefIdPartialEq.TheImpl as module_def
 use Rattle.hir_base.specs.contracts.macro_kind.MacroIdPartialEq.TheImpl as makro
 use Rattle.hir_scope.specs.contracts.imports.ImportOrExternCratePartialEq.TheImpl as import_or_extern_crate
 use Rattle.hir_scope.specs.contracts.imports.ImportOrGlobPartialEq.TheImpl as import_or_glob
 use Rattle.hir_scope.specs.declared.per_ns.Item.{Item}
 use Rattle.hir_scope.specs.declared.per_ns.PerNs.{PerNs}
+use Rattle.hir_scope.specs.declared.push.Push.{Push}
+use Rattle.hir_scope.specs.declared.visibility.Visibility.{Visibility}
+use Rattle.hir_scope.specs.PerNs.{first_of}
 
 -- both name an import, and the same one
 abbrev pub is_same_import : {I : Type 0} → (I → I → Bool) → Option I → Option I → Bool
@@ -41,3 +44,72 @@ changes bound push =
     changes_slot module_def.ghosts.eq import_or_extern_crate.ghosts.eq bound.types push.types
     || (changes_slot module_def.ghosts.eq import_or_glob.ghosts.eq bound.values push.values
     || changes_slot makro.ghosts.eq import_or_extern_crate.ghosts.eq bound.macros push.macros)
+
+-- ---- a slot: a name in one namespace of a module
+
+-- what is bound there, and whether the glob table has the name
+pub record Slot (D I : Type 0) : Type 0 where
+  pub bound : Option (Item D I)
+  pub globbed : Bool
+
+-- whether a push changes a slot: an empty one always, and else where no glob pushes, and a glob brought what is there or it gives way
+abbrev pub takes : {D I : Type 0} → (D → D → Bool) → (I → I → Bool) → Bool → Option (Item D I) → Push D I → Bool
+takes same_def same_import globbed None push = true
+takes same_def same_import globbed (Some bound) push = not push.is_glob && (globbed || gives_way same_def same_import bound push.item)
+
+-- a slot after a push
+abbrev pub slot_after_push : {D I : Type 0} → (D → D → Bool) → (I → I → Bool) → Slot D I → Push D I → Slot D I
+slot_after_push same_def same_import slot push =
+    cond (takes same_def same_import slot.globbed slot.bound push) (record { bound = Some push.item; globbed = push.is_glob }) slot
+
+-- an item with another visibility
+abbrev pub with_item_visibility : {D I : Type 0} → Visibility → Item D I → Item D I
+with_item_visibility vis item = record { def = item.def; vis = vis; import = item.import }
+
+-- an item with another definition and another visibility; its import stays
+abbrev pub with_item_definition : {D I : Type 0} → D → Visibility → Item D I → Item D I
+with_item_definition def vis item = record { def = def; vis = vis; import = item.import }
+
+-- a slot after a definition and a visibility are written over what is bound there
+abbrev pub after_update : {D I : Type 0} → D → Visibility → Slot D I → Slot D I
+after_update def vis slot = record { bound = option_map (with_item_definition def vis) slot.bound; globbed = slot.globbed }
+
+-- what stands in a slot, as the one push from which its history goes on
+abbrev pub history_of : {D I : Type 0} → Slot D I → List (Push D I)
+history_of slot = option_to_list (option_map (λ (i : Item _ _). record { item = i; is_glob = slot.globbed }) slot.bound)
+
+-- ---- what prevails among the pushes of a slot
+
+-- the pushes from the first explicit one on
+abbrev pub from_explicit : {D I : Type 0} → List (Push D I) → List (Push D I)
+from_explicit [] = []
+from_explicit (p ∷ ps) = cond p.is_glob (from_explicit ps) (p ∷ ps)
+
+-- whether an import pushes, and no glob
+abbrev pub is_by_import : {D I : Type 0} → (I → I → Bool) → Option I → Push D I → Bool
+is_by_import same_import import push = not push.is_glob && is_same_import same_import import push.item.import
+
+-- the items that begin a run of equal definitions, after one that began a run before them
+abbrev pub run_starts : {D I : Type 0} → (D → D → Bool) → Item D I → List (Push D I) → List (Item D I)
+run_starts same_def before [] = []
+run_starts same_def before (p ∷ ps) = cond (same_def before.def p.item.def) (run_starts same_def p.item ps) (p.item ∷ run_starts same_def p.item ps)
+
+-- the last of a list, or else the item before it
+abbrev pub last_or : {A : Type 0} → A → List A → A
+last_or x [] = x
+last_or x (y ∷ ys) = last_or y ys
+
+-- of the pushes from an explicit one on: that one, and where an import made it, of that import's pushes the one that begins the last run of equal definitions
+abbrev pub explicit_binding : {D I : Type 0} → (D → D → Bool) → (I → I → Bool) → List (Push D I) → Option (Item D I)
+explicit_binding same_def same_import [] = None
+explicit_binding same_def same_import (p ∷ ps) =
+    Some (last_or p.item (run_starts same_def p.item (filter (is_by_import same_import p.item.import) ps)))
+
+-- the first push of a list
+abbrev pub first_item : {D I : Type 0} → List (Push D I) → Option (Item D I)
+first_item [] = None
+first_item (p ∷ ps) = Some p.item
+
+-- what a slot holds after pushes: the first explicit one prevails, which its import alone may correct, and without one the first glob's
+abbrev pub prevailing : {D I : Type 0} → (D → D → Bool) → (I → I → Bool) → List (Push D I) → Option (Item D I)
+prevailing same_def same_import pushes = first_of (explicit_binding same_def same_import (from_explicit pushes)) (first_item pushes)

@@ -1,6 +1,6 @@
 //! What brings a name into a scope, after rust-analyzer's `item_scope.rs`.
 
-use hir_base::ids::{ExternCrateId, UseId};
+use hir_base::ids::{ExternCrateId, ModuleDefId, UseId};
 
 /// An import of one name: its `use` item, and its leaf's place there.
 #[derive(Clone, Copy, Debug, PartialEq, Eq, PartialOrd, Ord, Hash)]
@@ -17,16 +17,25 @@ pub struct GlobId {
 }
 
 /// What brought a value.
-#[derive(Clone, Copy, Debug, PartialEq, Eq, Hash)]
+#[derive(Clone, Copy, Debug, PartialEq, Eq, PartialOrd, Ord, Hash)]
 pub enum ImportOrGlob {
     Glob(GlobId),
     Import(ImportId),
 }
 
 /// What brought a type or a macro.
-#[derive(Clone, Copy, Debug, PartialEq, Eq, Hash)]
+#[derive(Clone, Copy, Debug, PartialEq, Eq, PartialOrd, Ord, Hash)]
 pub enum ImportOrExternCrate {
     Glob(GlobId),
     Import(ImportId),
     ExternCrate(ExternCrateId),
+}
+
+/// What an import reached: what had brought it there, or else its definition.
+#[derive(Clone, Copy, Debug, PartialEq, Eq, Hash)]
+pub enum ImportOrDef {
+    Import(ImportId),
+    Glob(GlobId),
+    ExternCrate(ExternCrateId),
+    Def(ModuleDefId),
 }

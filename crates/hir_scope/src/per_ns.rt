@@ -1,12 +1,20 @@
 //! What a name stands for in each namespace, after rust-analyzer's `per_ns.rs`.
-ghost use Rattle.std.specs.Prelude.{◌≡◌, Bool};
-ghost use Rattle.hir_scope.specs.PerNs.{nothing, types_only, is_full, or_of, keep_of};
+ghost use Rattle.std.specs.Prelude.{◌≡◌, Bool, true, false};
+ghost use Rattle.hir_scope.specs.PerNs.{nothing, types_only, values_only, macros_only, types_and_values, value_import, with_constructor, per_ns_of, is_full, is_nothing, def_of, or_of, keep_of, seen_as, item_seen_as};
 ghost use Rattle.hir_scope.specs.declared.visibility.Visibility.{Visibility};
+ghost use Rattle.hir_scope.specs.declared.per_ns.PerNs.{PerNs};
 
 use crate::imports::{ImportOrExternCrate, ImportOrGlob};
 use crate::visibility::Visibility;
-use hir_base::ids::ModuleDefId;
+use hir_base::ids::{AdtId, ModuleDefId};
 use hir_base::macro_kind::MacroId;
+
+#[derive(Clone, Copy, Debug, PartialEq, Eq, Hash)]
+pub enum Namespace {
+    Types,
+    Values,
+    Macros,
+}
 
 /// What a name stands for in one namespace: the definition, who may see it there, and what brought it.
 #[derive(Clone, Copy, Debug, PartialEq, Eq, Hash)]
@@ -30,6 +38,14 @@ pub struct PerNs {
     pub macros: Option<MacrosItem>,
 }
 
+impl Default for PerNs {
+    ghost is_default = { λ items. items ≡ nothing };
+
+    fn default() -> PerNs {
+        PerNs::none()
+    }
+}
+
 impl PerNs {
     pub fn none() -> PerNs
         ensures value { result ≡ nothing }
@@ -37,6 +53,17 @@ impl PerNs {
         PerNs {
             types: None,
             values: None,
+            macros: None,
+        }
+    }
+
+    /// A definition in values alone.
+    pub fn values(def: ModuleDefId, vis: Visibility, import: Option<ImportOrGlob>) -> PerNs
+        ensures value { result ≡ values_only def vis import }
+    {
+        PerNs {
+            types: None,
+            values: Some(Item { def, vis, import }),
             macros: None,
         }
     }
@@ -52,10 +79,113 @@ impl PerNs {
         }
     }
 
+    /// A type and a value under one visibility. Values have no import of an `extern crate`.
+    pub fn both(
+        types: ModuleDefId,
+        values: ModuleDefId,
+        vis: Visibility,
+        import: Option<ImportOrExternCrate>,
+    ) -> PerNs
+        ensures value { result ≡ types_and_values types vis values vis import }
+    {
+        PerNs {
+            types: Some(Item {
+                def: types,
+                vis,
+                import,
+            }),
+            values: Some(Item {
+                def: values,
+                vis,
+                import: value_import(import),
+            }),
+            macros: None,
+        }
+    }
+
+    pub fn macros(def: MacroId, vis: Visibility, import: Option<ImportOrExternCrate>) -> PerNs
+        ensures value { result ≡ macros_only def vis import }
+    {
+        PerNs {
+            types: None,
+            values: None,
+            macros: Some(Item { def, vis, import }),
+        }
+    }
+
+    /// A definition in its namespaces. A struct and a variant are values too where their constructor has a
+    /// visibility there.
+    pub fn from_def(
+        def: ModuleDefId,
+        vis: Visibility,
+        value_ns_ctor_vis: Option<Visibility>,
+        import: Option<ImportOrExternCrate>,
+    ) -> PerNs
+        ensures value { result ≡ per_ns_of def vis value_ns_ctor_vis import }
+    {
+        match def {
+            ModuleDefId::ModuleId(_)
+            | ModuleDefId::AdtId(AdtId::UnionId(_))
+            | ModuleDefId::AdtId(AdtId::EnumId(_))
+            | ModuleDefId::TraitId(_)
+            | ModuleDefId::TypeAliasId(_)
+            | ModuleDefId::BuiltinType(_) => PerNs::types(def, vis, import),
+            ModuleDefId::FunctionId(_) | ModuleDefId::ConstId(_) | ModuleDefId::StaticId(_) => {
+                PerNs::values(def, vis, value_import(import))
+            }
+            ModuleDefId::AdtId(AdtId::StructId(_)) | ModuleDefId::EnumVariantId(_) => {
+                with_constructor(def, vis, value_ns_ctor_vis, import)
+            }
+            ModuleDefId::MacroId(id) => PerNs::macros(id, vis, import),
+        }
+    }
+
+    pub fn is_none(&self) -> bool
+        ensures value { result ≡ is_nothing self.now }
+    {
+        self.types.is_none() && self.values.is_none() && self.macros.is_none()
+    }
+
     pub fn is_full(&self) -> bool
         ensures value { result ≡ is_full self.now }
     {
         self.types.is_some() && self.values.is_some() && self.macros.is_some()
+    }
+
+    pub fn take_types(self) -> Option<ModuleDefId>
+        ensures value { result ≡ def_of self.types }
+    {
+        self.types.map(|item| item.def)
+    }
+
+    pub fn take_types_full(self) -> Option<TypesItem>
+        ensures value { result ≡ self.types }
+    {
+        self.types
+    }
+
+    pub fn take_values(self) -> Option<ModuleDefId>
+        ensures value { result ≡ def_of self.values }
+    {
+        self.values.map(|item| item.def)
+    }
+
+    pub fn take_values_full(self) -> Option<ValuesItem>
+        ensures value { result ≡ self.values }
+    {
+        self.values
+    }
+
+    pub fn take_macros(self) -> Option<MacroId>
+        ensures value { result ≡ def_of self.macros }
+    {
+        self.macros.map(|item| item.def)
+    }
+
+    pub fn take_macros_full(self) -> Option<MacrosItem>
+        ensures value { result ≡ self.macros }
+    {
+        self.macros
     }
 
     /// The items whose visibility passes the test.
@@ -65,21 +195,32 @@ impl PerNs {
             → ((v : Visibility) (b : Bool) → F.post test v b → b ≡ keep v) → result ≡ keep_of keep self }
     {
         let types = match self.types {
-            Some(item) if test(item.vis) => Some(item),
+            Some(ty) if test(ty.vis) => Some(ty),
             _ => None,
         };
         let values = match self.values {
-            Some(item) if test(item.vis) => Some(item),
+            Some(value) if test(value.vis) => Some(value),
             _ => None,
         };
         let macros = match self.macros {
-            Some(item) if test(item.vis) => Some(item),
+            Some(makro) if test(makro.vis) => Some(makro),
             _ => None,
         };
         PerNs {
             types,
             values,
             macros,
+        }
+    }
+
+    /// The same items, each under this visibility.
+    pub fn with_visibility(self, vis: Visibility) -> PerNs
+        ensures value { result ≡ seen_as vis self }
+    {
+        PerNs {
+            types: item_seen_as(self.types, vis),
+            values: item_seen_as(self.values, vis),
+            macros: item_seen_as(self.macros, vis),
         }
     }
 
@@ -92,5 +233,59 @@ impl PerNs {
             values: self.values.or(other.values),
             macros: self.macros.or(other.macros),
         }
+    }
+
+    /// `or`, where the other is computed only if some namespace is empty.
+    pub fn or_else<F: FnOnce() -> PerNs + Drop>(self, other: F) -> PerNs
+        requires { is_full self ≡ false → F.pre other }
+        ensures value { (given : PerNs) → ((items : PerNs) → F.post other items → items ≡ given)
+            → result ≡ or_of self given }
+        ensures full { is_full self ≡ true → result ≡ self }
+    {
+        if self.is_full() {
+            self
+        } else {
+            self.or(other())
+        }
+    }
+}
+
+fn item_seen_as<Def: Copy, Import: Copy>(
+    item: Option<Item<Def, Import>>,
+    vis: Visibility,
+) -> Option<Item<Def, Import>>
+    ensures value { result ≡ item_seen_as vis item }
+{
+    match item {
+        Some(item) => Some(Item {
+            def: item.def,
+            vis,
+            import: item.import,
+        }),
+        None => None,
+    }
+}
+
+fn value_import(import: Option<ImportOrExternCrate>) -> Option<ImportOrGlob>
+    ensures value { result ≡ value_import import }
+{
+    match import {
+        Some(import) => import.import_or_glob(),
+        None => None,
+    }
+}
+
+fn with_constructor(
+    def: ModuleDefId,
+    vis: Visibility,
+    constructor: Option<Visibility>,
+    import: Option<ImportOrExternCrate>,
+) -> PerNs
+    ensures value { result ≡ with_constructor def vis constructor import }
+{
+    let types = PerNs::types(def, vis, import);
+    match constructor {
+        Some(vis) => types.or(PerNs::values(def, vis, value_import(import))),
+        None => types,
     }
 }

@@ -4,6 +4,14 @@ ghost use Rattle.hir_scope.specs.Pushes.{after_push, changes, changes_slot, slot
 
 use crate::per_ns::{Item, PerNs};
 
+/// What is pushed to a name in one namespace: an item with the import that is to be stored, and whether a glob
+/// pushes it.
+#[derive(Clone, Copy, Debug, PartialEq, Eq, Hash)]
+pub struct Push<Def, Import> {
+    pub item: Item<Def, Import>,
+    pub is_glob: bool,
+}
+
 /// Whether a push changes what a namespace holds.
 fn changes_slot<Def: Copy + PartialEq, Import: Copy + PartialEq>(
     bound: Option<Item<Def, Import>>,

@@ -1,5 +1,8 @@
 //! Who may see an item, after rust-analyzer's `visibility.rs`.
-ghost use Rattle.std.specs.Prelude.{◌≡◌, ◌↔◌, IsTrue, IfSome};
+ghost use Rattle.std.specs.Prelude.{◌≡◌, ◌↔◌, IsTrue, IfSome, Option};
+ghost use Rattle.std.specs.Option.{unwrap_or};
+ghost use Rattle.std.specs.Fn.{FnOnceReturnsAt};
+ghost use Rattle.hir_scope.specs.declared.visibility.Visibility.{Visibility};
 ghost use Rattle.hir_scope.specs.declared.visibility.Visibility.TheVariants.{Module, Public};
 ghost use Rattle.hir_scope.specs.ModuleTree.{is_at_or_above};
 ghost use Rattle.hir_scope.specs.Visibility.{stands_for, is_visible, greater_of, lesser_of, either_written, upper_of, lower_of, IsUnion, IsMeet, visibility_of};
@@ -31,6 +34,24 @@ impl Visibility {
         }
     }
 
+    /// What a visibility means that is written somewhere; one whose path doesn't lead to a module counts as public.
+    ///
+    /// The look-up is a function from `&RawVisibility`. It is asked once, for what is written, whose type is left open here.
+    pub fn resolve<Raw, F: FnOnce(&Raw) -> Option<Visibility> + Drop>(
+        lookup: F,
+        raw: &Raw,
+    ) -> Visibility
+        requires { F.IsAlwaysCallable lookup }
+        ensures value { (found : Option Visibility) × FnOnceReturnsAt F.FnOnce lookup raw.now found
+            × (result ≡ unwrap_or found Public) }
+    {
+        let found = lookup(raw);
+        match found {
+            Some(vis) => vis,
+            None => Visibility::Public,
+        }
+    }
+
     pub fn is_public(&self) -> bool
         ensures value { IsTrue result ↔ (self.now ≡ Public) }
     {
@@ -41,7 +62,7 @@ impl Visibility {
     pub fn is_visible_from_other_crate(self) -> bool
         ensures value { IsTrue result ↔ (self ≡ Public) }
     {
-        matches!(self, Visibility::Public)
+        self.is_public()
     }
 
     /// Whether the module may see.

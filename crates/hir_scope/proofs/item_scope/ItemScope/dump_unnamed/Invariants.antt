@@ -1,0 +1,11 @@
+use Rattle.std.proofs.Common.{◌≡◌, ◌++◌, length}
+use Rattle.std.specs.List.{flat_map}
+use Rattle.std.specs.String.{string_bytes}
+use Rattle.hir_scope.specs.Dump.{unnamed_line}
+use Rattle.hir_scope.proofs.item_scope.ItemScope.dump_unnamed.Given as goal
+
+abbrev pub invariant-lines : goal.invariant-lines
+invariant-lines l = string_bytes l.initial.buf ++ flat_map unnamed_line l.initial.left ≡ string_bytes l.buf ++ flat_map unnamed_line l.left
+
+abbrev pub decreases-lines : goal.decreases-lines
+decreases-lines l = length l.left

@@ -1,0 +1,33 @@
+-- Which list do two sorted lists make together?
+use Rattle.std.specs.Prelude.{◌≡◌, List, [], ◌∷◌, Option, None, Some, MatchOption}
+use Rattle.std.specs.Ordering.{match_ordering}
+use Rattle.std.specs.declared.cmp.Ordering.{Ordering}
+
+-- an item before a rest, which is still to be merged with a second list
+abbrev pub merged_in : {K : Type 0} → (K → K → Ordering) → K → (List K → List K) → List K → List K
+merged_in cmp x rest [] = x ∷ rest []
+merged_in cmp x rest (y ∷ ys) = match_ordering (cmp x y) (x ∷ rest (y ∷ ys)) (x ∷ rest ys) (y ∷ merged_in cmp x rest ys)
+
+-- two sorted lists as one, which has what both have once
+abbrev pub merge : {K : Type 0} → (K → K → Ordering) → List K → List K → List K
+merge cmp [] ys = ys
+merge cmp (x ∷ xs) ys = merged_in cmp x (merge cmp xs) ys
+
+-- a list with the item before it that was taken out already
+abbrev pub with_head : {K : Type 0} → Option K → List K → List K
+with_head None xs = xs
+with_head (Some x) xs = x ∷ xs
+
+-- of the heads of two lists the one that comes first, and the heads that are left
+pub record Picked (K : Type 0) : Type 0 where
+  pub given : Option K
+  pub first : Option K
+  pub second : Option K
+
+abbrev pub pick : {K : Type 0} → (K → K → Ordering) → Option K → Option K → Picked K
+pick cmp None second = record { given = second; first = None; second = None }
+pick cmp (Some x) None = record { given = Some x; first = None; second = None }
+pick cmp (Some x) (Some y) = match_ordering (cmp x y)
+    (record { given = Some x; first = None; second = Some y })
+    (record { given = Some x; first = None; second = None })
+    (record { given = Some y; first = Some x; second = None })

@@ -1,0 +1,80 @@
+//! The names that globs brought, after rust-analyzer's `PerNsGlobImports`.
+ghost use Rattle.std.specs.Prelude.{◌≡◌, []};
+ghost use Rattle.std.specs.Cmp.{IsTotalOrder};
+ghost use Rattle.std.specs.List.Sorted.{IsStrictlySortedBy};
+ghost use Rattle.hir_scope.specs.GlobImports.{place_cmp, has_place};
+
+use hir_base::ids::ModuleId;
+use hir_base::name::Name;
+use std::alloc::Global;
+use std::collections::BTreeSet;
+use std::marker::Model;
+
+/// The names of modules that stand for what a glob brought, by namespace.
+#[derive(Drop)]
+pub struct PerNsGlobImports {
+    pub(crate) types: BTreeSet<(ModuleId, Name)>,
+    pub(crate) values: BTreeSet<(ModuleId, Name)>,
+    pub(crate) macros: BTreeSet<(ModuleId, Name)>,
+}
+
+impl Model for PerNsGlobImports {
+    ghost use Rattle.hir_scope.specs.GlobImports.{GlobNames};
+
+    ghost Value = { GlobNames };
+
+    ghost view = { λ g. record { types = g.types.keys; values = g.values.keys; macros = g.macros.keys } };
+}
+
+impl PerNsGlobImports {
+    pub fn new(alloc: Global) -> PerNsGlobImports
+        ensures value { result ≡ record { types = []; values = []; macros = [] } }
+    {
+        PerNsGlobImports {
+            types: BTreeSet::new(alloc),
+            values: BTreeSet::new(alloc),
+            macros: BTreeSet::new(alloc),
+        }
+    }
+
+    /// Whether a glob brought what the name stands for in the module's types.
+    pub fn contains_type(&self, module_id: ModuleId, name: Name) -> bool
+        ensures value { result ≡ has_place self.now.types (module_id, name) }
+    {
+        self.types.contains(&(module_id, name))
+    }
+
+    /// Whether a glob brought what the name stands for in the module's values.
+    pub fn contains_value(&self, module_id: ModuleId, name: Name) -> bool
+        ensures value { result ≡ has_place self.now.values (module_id, name) }
+    {
+        self.values.contains(&(module_id, name))
+    }
+
+    /// Whether a glob brought what the name stands for in the module's macros.
+    pub fn contains_macro(&self, module_id: ModuleId, name: Name) -> bool
+        ensures value { result ≡ has_place self.now.macros (module_id, name) }
+    {
+        self.macros.contains(&(module_id, name))
+    }
+
+    // Each name of a module is there once, since the sets are in order.
+    pub(crate) fn is_ordered(&self)
+        ensures total { IsTotalOrder place_cmp }
+        ensures types { IsStrictlySortedBy place_cmp self.now.types }
+        ensures values { IsStrictlySortedBy place_cmp self.now.values }
+        ensures macros { IsStrictlySortedBy place_cmp self.now.macros }
+    {
+        keys_are_ordered(&self.types);
+        keys_are_ordered(&self.values);
+        keys_are_ordered(&self.macros);
+    }
+}
+
+// The keys of a set are in order, by an order that is total.
+fn keys_are_ordered<K: Ord>(keys: &BTreeSet<K>)
+    ensures total { IsTotalOrder K.cmp }
+    ensures ordered { IsStrictlySortedBy K.cmp keys.now.keys }
+{
+    let _ = keys.len();
+}

@@ -1,0 +1,51 @@
+//! Asking about each name of an item, after rust-analyzer's `names_of`.
+ghost use Rattle.std.specs.Prelude.{◌≡◌, List, ℕ};
+ghost use Rattle.hir_scope.specs.NamesOfItem.{names_with, names_of_item};
+ghost use Rattle.hir_scope.specs.AskNames.{AsksInOrder};
+
+use crate::item_in_ns::ItemInNs;
+use crate::item_scope::ItemScope;
+use crate::per_ns::Item;
+use crate::visibility::Visibility;
+use hir_base::name::Name;
+use std::collections::btree_map;
+
+impl ItemScope {
+    /// Asks about each name under which an item is bound, by name, until there is an answer: with its visibility, and whether
+    /// it has no import.
+    pub fn names_of<T, F: FnMut(&str, Visibility, bool) -> Option<T> + Drop>(
+        &self,
+        item: ItemInNs,
+        cb: F,
+    ) -> Option<T>
+        requires { F.IsAlwaysCallable cb }
+        ensures value { AsksInOrder F.step cb (names_of_item self.now item) result }
+    {
+        match item {
+            ItemInNs::Types(id) => ask_names(self.types.iter(), id, cb),
+            ItemInNs::Values(id) => ask_names(self.values.iter(), id, cb),
+            ItemInNs::Macros(id) => ask_names(self.macros.iter(), id, cb),
+        }
+    }
+}
+
+fn ask_names<
+    'a,
+    Def: Copy + PartialEq,
+    Import: Copy,
+    T,
+    F: FnMut(&str, Visibility, bool) -> Option<T> + Drop,
+>(entries: btree_map::Iter<'a, Name, Item<Def, Import>>, def: Def, mut cb: F) -> Option<T>
+    requires { F.IsAlwaysCallable cb }
+    ensures value { AsksInOrder F.step cb (names_with Def.eq def entries.entry) result }
+{
+    let mut left = entries;
+    'next: while let Some((name, item)) = left.next() {
+        if item.def == def {
+            if let Some(answer) = cb(name.as_str(), item.vis, item.import.is_none()) {
+                return Some(answer);
+            }
+        }
+    }
+    None
+}

@@ -1,0 +1,144 @@
+//! What a scope holds, list by list and name by name.
+ghost use Rattle.std.specs.Prelude.{◌≡◌};
+ghost use Rattle.std.specs.Option.{option_copied};
+ghost use Rattle.hir_scope.specs.ScopeReads.{type_at, macro_at, legacy_at, at_node, derive_attribute, derive_call, unnamed_vis};
+
+use crate::item_scope::ItemScope;
+use crate::item_scope::macro_calls::DeriveAttribute;
+use crate::per_ns::{MacrosItem, TypesItem, ValuesItem};
+use crate::visibility::Visibility;
+use hir_base::ast_id::{AstId, AttrId, MacroCallId};
+use hir_base::ids::{ConstId, ExternBlockId, ExternCrateId, ModuleDefId, TraitId, UseId};
+use hir_base::macro_kind::{BuiltinDeriveImplId, MacroId};
+use hir_base::name::Name;
+use std::collections::btree_map;
+
+impl ItemScope {
+    /// The values, by name.
+    pub fn values(&self) -> btree_map::Iter<'_, Name, ValuesItem>
+        ensures value { result ≡ self.now.values }
+    {
+        self.values.iter()
+    }
+
+    /// The types, by name.
+    pub fn types(&self) -> btree_map::Iter<'_, Name, TypesItem>
+        ensures value { result ≡ self.now.types }
+    {
+        self.types.iter()
+    }
+
+    /// The macros, by name; those in textual scope don't count.
+    pub fn macros(&self) -> btree_map::Iter<'_, Name, MacrosItem>
+        ensures value { result ≡ self.now.macros }
+    {
+        self.macros.iter()
+    }
+
+    /// The definitions that are declared here.
+    pub fn declarations(&self) -> &[ModuleDefId]
+        ensures value { result.now ≡ self.now.declarations }
+    {
+        self.declarations.as_slice()
+    }
+
+    pub fn extern_crate_decls(&self) -> &[ExternCrateId]
+        ensures value { result.now ≡ self.now.extern_crate_decls }
+    {
+        self.extern_crate_decls.as_slice()
+    }
+
+    pub fn extern_blocks(&self) -> &[ExternBlockId]
+        ensures value { result.now ≡ self.now.extern_blocks }
+    {
+        self.extern_blocks.as_slice()
+    }
+
+    pub fn use_decls(&self) -> &[UseId]
+        ensures value { result.now ≡ self.now.use_decls }
+    {
+        self.use_decls.as_slice()
+    }
+
+    pub fn builtin_derive_impls(&self) -> &[BuiltinDeriveImplId]
+        ensures value { result.now ≡ self.now.builtin_derive_impls }
+    {
+        self.builtin_derive_impls.as_slice()
+    }
+
+    pub fn unnamed_consts(&self) -> &[ConstId]
+        ensures value { result.now ≡ self.now.unnamed_consts }
+    {
+        self.unnamed_consts.as_slice()
+    }
+
+    /// The macros of a name in textual scope, the last one last.
+    pub fn get_legacy_macro(&self, name: &Name) -> Option<&[MacroId]>
+        ensures value { option_copied result ≡ legacy_at self.now name.now }
+    {
+        match self.legacy_macros.get(name) {
+            Some(of_name) => Some(of_name.macros.as_slice()),
+            None => None,
+        }
+    }
+
+    /// The type of a name.
+    pub fn type_(&self, name: &Name) -> Option<(ModuleDefId, Visibility)>
+        ensures value { result ≡ type_at self.now name.now }
+    {
+        match self.types.get(name) {
+            Some(item) => Some((item.def, item.vis)),
+            None => None,
+        }
+    }
+
+    /// The macro of a name; those in textual scope don't count.
+    pub fn makro(&self, name: &Name) -> Option<MacroId>
+        ensures value { result ≡ macro_at self.now name.now }
+    {
+        match self.macros.get(name) {
+            Some(item) => Some(item.def),
+            None => None,
+        }
+    }
+
+    /// What a macro call became.
+    pub fn macro_invoc(&self, call: AstId) -> Option<MacroCallId>
+        ensures value { result ≡ at_node self.now.macro_calls call }
+    {
+        self.macro_calls.get(&call).copied()
+    }
+
+    /// What a `derive` attribute of an item became.
+    pub fn derive_macro_invoc(&self, ast_id: AstId, attr_id: AttrId) -> Option<MacroCallId>
+        ensures value { result ≡ derive_call self.now ast_id attr_id }
+    {
+        match self.derive_macros.get(&ast_id) {
+            Some(of_node) => call_of_attribute(of_node.attributes.as_slice(), attr_id),
+            None => None,
+        }
+    }
+
+    /// The visibility under which a trait is imported without a name.
+    pub fn unnamed_trait_vis(&self, id: TraitId) -> Option<Visibility>
+        ensures value { result ≡ unnamed_vis self.now id }
+    {
+        match self.unnamed_traits.get(&id) {
+            Some(item) => Some(item.vis),
+            None => None,
+        }
+    }
+}
+
+fn call_of_attribute(attributes: &[DeriveAttribute], attr_id: AttrId) -> Option<MacroCallId>
+    ensures value { result ≡ derive_attribute attr_id attributes.now }
+{
+    let mut left = attributes;
+    'next: while let [attribute, others @ ..] = left {
+        if attribute.attr_id == attr_id {
+            return Some(attribute.attr_call_id);
+        }
+        left = others;
+    }
+    None
+}

@@ -1,0 +1,91 @@
+//! Room in maps and sets, which is made before anything is written.
+ghost use Rattle.std.specs.Prelude.{◌≡◌, Bool, false, List, Some, OnErr, IfOk};
+ghost use Rattle.hir_scope.specs.ImportRecords.{with_some_entry};
+ghost use Rattle.hir_scope.specs.Room.{IsRoomFor, IsKeyFor};
+
+use std::alloc::AllocError;
+use std::collections::{BTreeMap, BTreeSet};
+
+/// Where room was made for an offer.
+#[derive(Clone, Copy)]
+pub(crate) struct Room {
+    pub(crate) item: bool,
+    pub(crate) glob: bool,
+    pub(crate) source: bool,
+}
+
+/// Adds an entry unless its key is there, and says whether it was added.
+pub(crate) fn add_entry<K: Ord + Drop, V: Drop>(
+    map: &mut BTreeMap<K, V>,
+    entry: Option<(K, V)>,
+) -> Result<bool, AllocError>
+    ensures ok { IfOk result (λ added. IsRoomFor K.cmp map.old.entries entry added map.new.entries) }
+    ensures err { OnErr result (map.new.entries ≡ map.old.entries) }
+{
+    let Some((key, value)) = entry else {
+        return Ok(false);
+    };
+    if map.contains_key(&key) {
+        return Ok(false);
+    }
+    map.insert(key, value)?;
+    Ok(true)
+}
+
+/// Takes back an entry that was added.
+pub(crate) fn take_entry_back<K: Ord + Drop, V: Drop>(
+    map: &mut BTreeMap<K, V>,
+    key: &K,
+    added: bool,
+)
+    ensures back { (earlier : List (K × V)) (value : V) → IsRoomFor K.cmp earlier (Some (key.now, value)) added map.old.entries
+        → map.new.entries ≡ earlier }
+    ensures kept { added ≡ false → map.new.entries ≡ map.old.entries }
+{
+    if added {
+        map.remove(key);
+    }
+}
+
+/// Writes a value at a key for which room was made.
+pub(crate) fn write_entry<K: Ord + Drop, V: Drop>(
+    map: &mut BTreeMap<K, V>,
+    key: &K,
+    value: V,
+    added: bool,
+)
+    ensures written { (earlier : List (K × V)) → IsRoomFor K.cmp earlier (Some (key.now, value)) added map.old.entries
+        → map.new.entries ≡ with_some_entry K.cmp earlier (Some (key.now, value)) }
+{
+    if added {
+        return;
+    }
+    if let Some(place) = map.get_mut(key) {
+        *place = value;
+    }
+}
+
+/// Adds a key, if it is wanted, unless it is there, and says whether it was added.
+pub(crate) fn add_key<K: Ord + Drop>(
+    set: &mut BTreeSet<K>,
+    key: K,
+    wanted: bool,
+) -> Result<bool, AllocError>
+    ensures ok { IfOk result (λ added. IsKeyFor K.cmp set.old.keys key wanted added set.new.keys) }
+    ensures err { OnErr result (set.new.keys ≡ set.old.keys) }
+{
+    if !wanted {
+        return Ok(false);
+    }
+    Ok(set.insert(key)?)
+}
+
+/// Takes back a key that was added.
+pub(crate) fn take_key_back<K: Ord + Drop>(set: &mut BTreeSet<K>, key: &K, added: bool)
+    ensures back { (earlier : List K) (wanted : Bool) → IsKeyFor K.cmp earlier key.now wanted added set.old.keys
+        → set.new.keys ≡ earlier }
+{
+    if added {
+        set.remove(key);
+    }
+}

@@ -1,0 +1,150 @@
+//! When two scopes are equal: table by table, and in each entry by entry, in order.
+ghost use Rattle.std.specs.Prelude.{◌≡◌};
+ghost use Rattle.std.specs.Cmp.Lexicographic.{pointwise};
+ghost use Rattle.hir_scope.specs.SameScope.{same_entry, same_derive, same_bindings, same_declarations, same_uses, same_imports, same_macros, same_scope};
+
+use crate::item_scope::ItemScope;
+use crate::item_scope::macro_calls::{DeriveAttribute, DeriveAttributes, LegacyMacros};
+use hir_base::macro_kind::MacroId;
+use indexmap::IndexMap;
+use std::hash::Hash;
+
+impl PartialEq for LegacyMacros {
+    ghost use Rattle.std.specs.Cmp.{partial_equiv_from_equiv};
+    ghost use Rattle.std.specs.Cmp.Lexicographic.{lists_equiv};
+    ghost use Rattle.hir_base.specs.contracts.macro_kind.MacroIdEq.TheImpl.Laws.{laws-law as macro_laws};
+
+    ghost eq = { pointwise ⟦<MacroId as PartialEq>⟧.eq };
+
+    ghost laws = { partial_equiv_from_equiv (lists_equiv macro_laws) };
+
+    fn eq(&self, other: &LegacyMacros) -> bool {
+        self.macros == other.macros
+    }
+}
+
+impl Eq for LegacyMacros {
+    ghost use Rattle.std.specs.Cmp.Lexicographic.{lists_equiv};
+    ghost use Rattle.hir_base.specs.contracts.macro_kind.MacroIdEq.TheImpl.Laws.{laws-law as macro_laws};
+
+    ghost laws = { lists_equiv macro_laws };
+}
+
+impl PartialEq for DeriveAttribute {
+    ghost use Rattle.std.specs.Cmp.{partial_equiv_from_equiv};
+    ghost use Rattle.hir_scope.specs.SameScope.{same_derive_equiv};
+
+    ghost eq = { same_derive };
+
+    ghost laws = { partial_equiv_from_equiv same_derive_equiv };
+
+    fn eq(&self, other: &DeriveAttribute) -> bool {
+        self.attr_id == other.attr_id
+            && self.attr_call_id == other.attr_call_id
+            && self.derive_call_ids == other.derive_call_ids
+    }
+}
+
+impl Eq for DeriveAttribute {
+    ghost use Rattle.hir_scope.specs.SameScope.{same_derive_equiv};
+
+    ghost laws = { same_derive_equiv };
+}
+
+impl PartialEq for DeriveAttributes {
+    ghost use Rattle.std.specs.Cmp.{partial_equiv_from_equiv};
+    ghost use Rattle.std.specs.Cmp.Lexicographic.{lists_equiv};
+    ghost use Rattle.hir_scope.specs.SameScope.{same_derive_equiv};
+
+    ghost eq = { pointwise same_derive };
+
+    ghost laws = { partial_equiv_from_equiv (lists_equiv same_derive_equiv) };
+
+    fn eq(&self, other: &DeriveAttributes) -> bool {
+        self.attributes == other.attributes
+    }
+}
+
+impl Eq for DeriveAttributes {
+    ghost use Rattle.std.specs.Cmp.Lexicographic.{lists_equiv};
+    ghost use Rattle.hir_scope.specs.SameScope.{same_derive_equiv};
+
+    ghost laws = { lists_equiv same_derive_equiv };
+}
+
+/// Whether two maps have the same entries in the same order.
+fn same_entries<K: Eq + Hash, V: PartialEq>(map: &IndexMap<K, V>, other: &IndexMap<K, V>) -> bool
+    ensures value { result ≡ pointwise (same_entry K.eq V.eq) map.now.entries other.now.entries }
+{
+    map.iter().as_slice() == other.iter().as_slice()
+}
+
+impl ItemScope {
+    fn has_same_bindings(&self, other: &ItemScope) -> bool
+        ensures value { result ≡ same_bindings self.now other.now }
+    {
+        self.types == other.types
+            && self.values == other.values
+            && self.macros == other.macros
+            && self.unresolved == other.unresolved
+    }
+
+    fn has_same_declarations(&self, other: &ItemScope) -> bool
+        ensures value { result ≡ same_declarations self.now other.now }
+    {
+        self.declarations == other.declarations
+            && self.impls == other.impls
+            && self.builtin_derive_impls == other.builtin_derive_impls
+            && self.unnamed_consts == other.unnamed_consts
+    }
+
+    fn has_same_uses(&self, other: &ItemScope) -> bool
+        ensures value { result ≡ same_uses self.now other.now }
+    {
+        self.use_decls == other.use_decls
+            && self.extern_crate_decls == other.extern_crate_decls
+            && self.extern_blocks == other.extern_blocks
+    }
+
+    fn has_same_imports(&self, other: &ItemScope) -> bool
+        ensures value { result ≡ same_imports self.now other.now }
+    {
+        self.type_imports == other.type_imports
+            && self.value_imports == other.value_imports
+            && self.macro_imports == other.macro_imports
+            && same_entries(&self.unnamed_traits, &other.unnamed_traits)
+    }
+
+    fn has_same_macros(&self, other: &ItemScope) -> bool
+        ensures value { result ≡ same_macros self.now other.now }
+    {
+        same_entries(&self.legacy_macros, &other.legacy_macros)
+            && same_entries(&self.attr_macros, &other.attr_macros)
+            && same_entries(&self.macro_calls, &other.macro_calls)
+            && same_entries(&self.derive_macros, &other.derive_macros)
+    }
+}
+
+impl PartialEq for ItemScope {
+    ghost use Rattle.std.specs.Cmp.{partial_equiv_from_equiv};
+    ghost use Rattle.hir_scope.specs.SameScope.{same_scope_equiv};
+
+    ghost eq = { same_scope };
+
+    ghost laws = { partial_equiv_from_equiv same_scope_equiv };
+
+    /// Whether two scopes have the same entries in each table, in the same order.
+    fn eq(&self, other: &ItemScope) -> bool {
+        self.has_same_bindings(other)
+            && self.has_same_declarations(other)
+            && self.has_same_uses(other)
+            && self.has_same_imports(other)
+            && self.has_same_macros(other)
+    }
+}
+
+impl Eq for ItemScope {
+    ghost use Rattle.hir_scope.specs.SameScope.{same_scope_equiv};
+
+    ghost laws = { same_scope_equiv };
+}
