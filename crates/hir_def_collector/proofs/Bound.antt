@@ -1,5 +1,5 @@
 -- What is bound stays bound, and what an import's takings reached is bound under its name.
-use Rattle.std.proofs.Common.{◌≡◌, ◌≢◌, ◌∙◌, ℕ, zero, suc, ◌+◌, ◌<◌, ◌≤◌, Bool, true, false, ◌||◌, cond, List, [], ◌∷◌, ◌++◌, length, map, slice_get, slice_set, Option, Some, None, is_some, ◌⊎◌, inl, inr, refl, sym, ap, subst, arith}
+use Rattle.std.proofs.Common.{◌≡◌, ◌≢◌, ◌∙◌, ℕ, zero, suc, ◌<◌, ◌≤◌, Bool, true, false, ◌||◌, cond, List, [], ◌∷◌, ◌++◌, length, slice_get, Option, Some, None, is_some, ◌⊎◌, inl, inr, refl, sym, ap, subst, arith}
 use Rattle.std.specs.Option.{option_map}
 use Rattle.std.specs.Ordering.{nat_cmp, ordering_reverse}
 use Rattle.std.specs.Cmp.Lexicographic.{slice_cmp}
@@ -9,13 +9,15 @@ use Rattle.std.proofs.lemmas.Bool.{cases_lt}
 use Rattle.std.proofs.lemmas.Cmp.{nat_list_cmp_total}
 use Rattle.std.proofs.lemmas.Map.Lookups.{exact_bytes}
 use Rattle.hir_scope.specs.PerNs.{nothing}
-use Rattle.hir_scope.specs.Pushes.{slot_after, changes_slot, gives_way, after_push}
+use Rattle.hir_scope.specs.Pushes.{slot_after, gives_way, after_push}
+use Rattle.hir_scope.specs.ImportRecords.{is_glob}
 use Rattle.hir_scope.specs.declared.imports.ImportId.{ImportId}
+use Rattle.hir_scope.specs.declared.imports.ImportOrExternCrate.{ImportOrExternCrate}
 use Rattle.hir_scope.specs.declared.per_ns.Item.{Item}
 use Rattle.hir_scope.specs.declared.per_ns.PerNs.{PerNs}
 use Rattle.hir_scope.specs.declared.visibility.Visibility.{Visibility}
-use Rattle.hir_def_map.specs.State.{Map, ModuleValue, changed_at, module_at, entry_at, entry_of, pushed, with_module}
-use Rattle.hir_def_map.specs.Grown.{entry_at-pushed, entry_at-pushed_other, entry_at-pushed_elsewhere, entry_at-with_module}
+use Rattle.hir_def_map.specs.State.{Map, ModuleValue, changed_at, module_at, entry_at, no_globs, with_module}
+use Rattle.hir_def_map.specs.Grown.{items_by, entry_at-pushed, entry_at-pushed_other, entry_at-pushed_elsewhere}
 use Rattle.hir_def_collector.specs.declared.collector.imports.Namespaces.{Namespaces}
 use Rattle.hir_base.specs.declared.ast_id.HirFileId.{HirFileId}
 use Rattle.hir_item_tree.specs.KeptForest.{Head}
@@ -23,7 +25,7 @@ use Rattle.hir_scope.specs.Visibility.{visibility_of}
 use Rattle.hir_def_collector.specs.Items.{module_id, inline_origin, declared_module}
 use Rattle.hir_def_collector.specs.State.{Core, counted, with_map}
 use Rattle.hir_def_collector.specs.Steps.{with_bound_module}
-use Rattle.hir_def_collector.specs.Imports.{AreAmong, namespaces_of, both_of, brought, imported, bound_as}
+use Rattle.hir_def_collector.specs.Imports.{AreAmong, namespaces_of, both_of, brought, imported, bound_as, bound_in, pushing}
 
 -- ---- sets of namespaces
 
@@ -81,6 +83,19 @@ taken_after_push bound push = record {
   macros = slot_taken _ _ bound.macros push.macros;
 }
 
+-- an import has what it offers, in the same namespaces
+some_offered : {A B : Type 0} (f : A → B) (o : Option A) → is_some (option_map f o) ≡ is_some o
+some_offered f None = refl
+some_offered f (Some x) = refl
+
+namespaces_of-items_by : (import : Option ImportOrExternCrate) (items : PerNs) → namespaces_of (items_by import items) ≡ namespaces_of items
+namespaces_of-items_by import items = rw (some_offered _ items.types, some_offered _ items.values, some_offered _ items.macros) refl
+
+-- neither an import of one name nor a declaration is a glob
+pub no_glob : (import : Option ImportId) → is_glob (pushing import) ≡ false
+no_glob None = refl
+no_glob (Some i) = refl
+
 -- ---- names are the same or not
 
 itself : (o : Ordering) → o ≡ ordering_reverse o → o ≡ Equal
@@ -101,21 +116,22 @@ number_same_or_not m n = elim (cases_lt m n) [ inl h ↦ inr (omega arith) | inr
 
 -- ---- what a push leaves bound
 
-kept_here : (m : Map) (at : ℕ) (name : List ℕ) (items : PerNs) (o : Option ModuleValue) → module_at m at ≡ o
-    → AreAmong (namespaces_of (entry_at m at name)) (namespaces_of (entry_at (pushed m at name items) at name))
-kept_here m at name items None e = rw e (AreAmong-nothing (namespaces_of (entry_at (pushed m at name items) at name)))
-kept_here m at name items (Some v) e = AreAmong-by (ap namespaces_of (sym (entry_at-pushed m at name items v e))) (kept_after_push (entry_at m at name) items)
+kept_here : (m : Map) (at : ℕ) (name : List ℕ) (items : PerNs) (import : Option ImportId) (o : Option ModuleValue) → module_at m at ≡ o
+    → AreAmong (namespaces_of (entry_at m at name)) (namespaces_of (entry_at (bound_in m at name items import) at name))
+kept_here m at name items import None e = rw e (AreAmong-nothing (namespaces_of (entry_at (bound_in m at name items import) at name)))
+kept_here m at name items import (Some v) e =
+    AreAmong-by (ap namespaces_of (sym (entry_at-pushed m at name items (pushing import) v (no_glob import) e))) (kept_after_push (entry_at m at name) (items_by (pushing import) items))
 
-pub kept-pushed : (m : Map) (at : ℕ) (name : List ℕ) (items : PerNs) (k : ℕ) (other : List ℕ)
-    → AreAmong (namespaces_of (entry_at m k other)) (namespaces_of (entry_at (pushed m at name items) k other))
-kept-pushed m at name items k other = elim (number_same_or_not k at) [
-  | inr ne ↦ AreAmong-by (ap namespaces_of (sym (entry_at-pushed_elsewhere m at name other items k ne))) (AreAmong-same (namespaces_of (entry_at m k other)))
+pub kept-bound_in : (m : Map) (at : ℕ) (name : List ℕ) (items : PerNs) (import : Option ImportId) (k : ℕ) (other : List ℕ)
+    → AreAmong (namespaces_of (entry_at m k other)) (namespaces_of (entry_at (bound_in m at name items import) k other))
+kept-bound_in m at name items import k other = elim (number_same_or_not k at) [
+  | inr ne ↦ AreAmong-by (ap namespaces_of (sym (entry_at-pushed_elsewhere m no_globs at name other items (pushing import) k ne))) (AreAmong-same (namespaces_of (entry_at m k other)))
   | inl here ↦ elim (same_or_not (slice_cmp nat_cmp other name) other name refl) [
-    | inr ne ↦ AreAmong-by (ap namespaces_of (sym (entry_at-pushed_other m at name other items k ne))) (AreAmong-same (namespaces_of (entry_at m k other)))
+    | inr ne ↦ AreAmong-by (ap namespaces_of (sym (entry_at-pushed_other m no_globs at name other items (pushing import) k ne))) (AreAmong-same (namespaces_of (entry_at m k other)))
     | inl same ↦
-        let P : ℕ → Type 0 = λ j. AreAmong (namespaces_of (entry_at m j other)) (namespaces_of (entry_at (pushed m at name items) j other)) in
-        let Q : List ℕ → Type 0 = λ n. AreAmong (namespaces_of (entry_at m at n)) (namespaces_of (entry_at (pushed m at name items) at n)) in
-        subst P (sym here) (subst Q (sym same) (kept_here m at name items (module_at m at) refl))
+        let P : ℕ → Type 0 = λ j. AreAmong (namespaces_of (entry_at m j other)) (namespaces_of (entry_at (bound_in m at name items import) j other)) in
+        let Q : List ℕ → Type 0 = λ n. AreAmong (namespaces_of (entry_at m at n)) (namespaces_of (entry_at (bound_in m at name items import) at n)) in
+        subst P (sym here) (subst Q (sym same) (kept_here m at name items import (module_at m at) refl))
   ]
 ]
 
@@ -128,48 +144,51 @@ length-one_more : (ms : List ModuleValue) (m : ModuleValue) → length (ms ++ m 
 length-one_more [] m = refl
 length-one_more (x ∷ xs) m = ap suc (length-one_more xs m)
 
-pub length-pushed : (m : Map) (at : ℕ) (name : List ℕ) (items : PerNs) → length (pushed m at name items).modules ≡ length m.modules
-length-pushed m at name items = length-changed_at m.modules at _
+pub length-bound_in : (m : Map) (at : ℕ) (name : List ℕ) (items : PerNs) (import : Option ImportId)
+    → length (bound_in m at name items import).modules ≡ length m.modules
+length-bound_in m at name items import = length-changed_at m.modules at _
 
 pub length-with_module : (m : Map) (at : ℕ) (name : List ℕ) (origin : _) (visibility : Visibility) → length (with_module m at name origin visibility).modules ≡ suc (length m.modules)
 length-with_module m at name origin visibility = length-one_more (changed_at m.modules at _) _ ∙ ap suc (length-changed_at m.modules at _)
 
 -- ---- what a taking leaves bound
 
-some_brought : {D I : Type 0} (m : Map) (own : Visibility) (by : I) (o : Option (Item D I)) → is_some (option_map (brought m own by) o) ≡ is_some o
-some_brought m own by None = refl
-some_brought m own by (Some i) = refl
+pub namespaces_of-imported : (m : Map) (own : Visibility) (items : PerNs) → namespaces_of (imported m own items) ≡ namespaces_of items
+namespaces_of-imported m own items =
+    rw (some_offered (brought m own) items.types, some_offered (brought m own) items.values, some_offered (brought m own) items.macros) refl
 
-pub namespaces_of-imported : (m : Map) (own : Visibility) (by : ImportId) (items : PerNs) → namespaces_of (imported m own by items) ≡ namespaces_of items
-namespaces_of-imported m own by items = rw (some_brought m own _ items.types, some_brought m own _ items.values, some_brought m own _ items.macros) refl
+pub kept-bound_as : (m : Map) (at : ℕ) (name : Option (List ℕ)) (items : PerNs) (import : ImportId) (k : ℕ) (other : List ℕ)
+    → AreAmong (namespaces_of (entry_at m k other)) (namespaces_of (entry_at (bound_as m at name items import) k other))
+kept-bound_as m at None items import k other = AreAmong-same (namespaces_of (entry_at m k other))
+kept-bound_as m at (Some name) items import k other = kept-bound_in m at name items (Some import) k other
 
-pub kept-bound_as : (m : Map) (at : ℕ) (name : Option (List ℕ)) (items : PerNs) (k : ℕ) (other : List ℕ)
-    → AreAmong (namespaces_of (entry_at m k other)) (namespaces_of (entry_at (bound_as m at name items) k other))
-kept-bound_as m at None items k other = AreAmong-same (namespaces_of (entry_at m k other))
-kept-bound_as m at (Some name) items k other = kept-pushed m at name items k other
-
-pub length-bound_as : (m : Map) (at : ℕ) (name : Option (List ℕ)) (items : PerNs) → length (bound_as m at name items).modules ≡ length m.modules
-length-bound_as m at None items = refl
-length-bound_as m at (Some name) items = length-pushed m at name items
+pub length-bound_as : (m : Map) (at : ℕ) (name : Option (List ℕ)) (items : PerNs) (import : ImportId)
+    → length (bound_as m at name items import).modules ≡ length m.modules
+length-bound_as m at None items import = refl
+length-bound_as m at (Some name) items import = length-bound_in m at name items (Some import)
 
 there : (ms : List ModuleValue) (at : ℕ) → at < length ms → (m : ModuleValue) × (slice_get ms at ≡ Some m)
 there [] at h = absurd (omega arith)
 there (m ∷ ms) zero h = (m, refl)
 there (m ∷ ms) (suc at) h = there ms at (omega arith)
 
--- what is pushed is bound
-pub taken-pushed : (m : Map) (at : ℕ) (name : List ℕ) (items : PerNs) → at < length m.modules
-    → AreAmong (namespaces_of items) (namespaces_of (entry_at (pushed m at name items) at name))
-taken-pushed m at name items h =
+-- what is offered is bound
+pub taken-bound_in : (m : Map) (at : ℕ) (name : List ℕ) (items : PerNs) (import : Option ImportId) → at < length m.modules
+    → AreAmong (namespaces_of items) (namespaces_of (entry_at (bound_in m at name items import) at name))
+taken-bound_in m at name items import h =
     let v = there m.modules at h in
-    AreAmong-by (ap namespaces_of (sym (entry_at-pushed m at name items v.0 v.1))) (taken_after_push (entry_at m at name) items)
+    let offered : PerNs = items_by (pushing import) items in
+    let among : AreAmong (namespaces_of offered) (namespaces_of (entry_at (bound_in m at name items import) at name)) =
+    AreAmong-by (ap namespaces_of (sym (entry_at-pushed m at name items (pushing import) v.0 (no_glob import) v.1))) (taken_after_push (entry_at m at name) offered) in
+    subst (λ (x : Namespaces). AreAmong x (namespaces_of (entry_at (bound_in m at name items import) at name))) (namespaces_of-items_by (pushing import) items) among
 
 -- ---- maps grow
 
 -- what is declared adds no module
-pub grows_declare : (c new : Core) (at : ℕ) (name : List ℕ) (items : PerNs) → new ≡ counted (with_map c (pushed c.map at name items)) → length c.map.modules ≤ length new.map.modules
+pub grows_declare : (c new : Core) (at : ℕ) (name : List ℕ) (items : PerNs) → new ≡ counted (with_map c (bound_in c.map at name items None))
+    → length c.map.modules ≤ length new.map.modules
 grows_declare c new at name items is =
-    let same : length (pushed c.map at name items).modules ≡ length c.map.modules = length-pushed c.map at name items in
+    let same : length (bound_in c.map at name items None).modules ≡ length c.map.modules = length-bound_in c.map at name items None in
     rw is (omega arith)
 
 -- a module that is made adds one
@@ -178,5 +197,6 @@ grows_open c new home file head name is =
     let visibility = visibility_of (module_id c.map home) head.visibility in
     let mid : Map = with_module c.map home name (inline_origin file head.id) visibility in
     let longer : length mid.modules ≡ suc (length c.map.modules) = length-with_module c.map home name (inline_origin file head.id) visibility in
-    let same : length (with_bound_module c.map home file head name).modules ≡ length mid.modules = length-pushed mid home name (declared_module c.map visibility) in
+    let same : length (with_bound_module c.map home file head name).modules ≡ length mid.modules =
+    length-bound_in mid home name (declared_module c.map visibility) None in
     rw is (omega arith)

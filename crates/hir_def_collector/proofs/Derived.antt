@@ -1,13 +1,13 @@
 -- What holds along each derivation.
-use Rattle.std.proofs.Common.{◌≡◌, ◌≢◌, ◌∙◌, ℕ, zero, suc, ◌+◌, ◌<◌, ◌≤◌, Bool, true, false, List, [], ◌∷◌, ◌++◌, length, map, slice_get, slice_set, Option, Some, None, ◌⊎◌, inl, inr, refl, sym, ap, subst, arith, Contains}
+use Rattle.std.proofs.Common.{◌≡◌, ◌≢◌, ◌∙◌, ℕ, zero, suc, ◌+◌, ◌<◌, ◌≤◌, List, [], ◌∷◌, ◌++◌, length, map, slice_get, slice_set, Some, None, inl, inr, refl, sym, ap, subst, arith, Contains}
 use Rattle.std.proofs.lemmas.Bool.{cases_lt}
 use Rattle.hir_base.specs.declared.ast_id.HirFileId.{HirFileId}
 use Rattle.hir_base.specs.declared.ids.UseId.{UseId}
 use Rattle.hir_item_tree.specs.Imports.{Import}
 use Rattle.hir_item_tree.specs.declared.raw_visibility.RawVisibility.{RawVisibility}
-use Rattle.hir_item_tree.specs.KeptForest.{Head, KeptForest, no_items, item, UseTree}
+use Rattle.hir_item_tree.specs.KeptForest.{Head, KeptForest, no_items, item}
 use Rattle.hir_scope.specs.Visibility.{visibility_of}
-use Rattle.hir_def_map.specs.State.{Map, entry_at, with_module, entry_at, pushed}
+use Rattle.hir_def_map.specs.State.{Map, entry_at, with_module}
 use Rattle.hir_def_map.specs.Grown.{entry_at-with_module}
 use Rattle.hir_def_collector.specs.declared.collector.Start.{Start}
 use Rattle.hir_def_collector.specs.declared.collector.imports.ReachedImport.{ReachedImport}
@@ -17,13 +17,13 @@ use Rattle.hir_def_collector.specs.Workspace.{Workspace, TreeLook}
 use Rattle.hir_def_collector.specs.Keys.{Look, of_tree, look, AgreeOn}
 use Rattle.hir_def_collector.specs.State.{Visit, State, Core, at_rest, joined, visits, no_namespaces}
 use Rattle.hir_def_collector.specs.Items.{Declaration, module_id, inline_origin, declared_module}
-use Rattle.hir_def_collector.specs.Imports.{AreAmong, namespaces_of, both_of, name_of, reached_by, reached_import, imports_by, after_import, imported}
+use Rattle.hir_def_collector.specs.Imports.{AreAmong, namespaces_of, both_of, name_of, reached_by, reached_import, imports_by, after_import, bound_in, imported}
 use Rattle.hir_def_collector.specs.Start.{start_of, start_core, root_key, root_file}
 use Rattle.hir_def_collector.specs.Steps.{Step, Steps, none, more, declares_item, opens_module, reaches_import, takes_import, after_declare, after_open, after_reach, after_take, with_bound_module, CanTake}
 use Rattle.hir_def_collector.specs.Causes.{HasCause}
 use Rattle.hir_def_collector.specs.Causes as causes
 use Rattle.hir_def_collector.specs.Derivation.{IsSettled, BindsWhatItReaches, CollectedValue, Ends, leftover_among}
-use Rattle.hir_def_collector.proofs.Bound.{AreAmong-same, AreAmong-trans, AreAmong-by, AreAmong-both, AreAmong-nothing, number_same_or_not, kept-pushed, kept-bound_as, length-pushed, length-with_module, length-bound_as, namespaces_of-imported, taken-pushed}
+use Rattle.hir_def_collector.proofs.Bound.{AreAmong-trans, AreAmong-by, AreAmong-both, AreAmong-nothing, number_same_or_not, kept-bound_in, kept-bound_as, length-bound_in, length-with_module, length-bound_as, namespaces_of-imported, taken-bound_in}
 
 -- ---- lists
 
@@ -106,12 +106,12 @@ AllIn-rest n agenda v rest e all = let both : AllIn n (v ∷ rest) = subst (AllI
 
 Holds-declare : (s : State) (v : Visit) (d : Declaration) (rest : List Visit) → s.agenda ≡ v ∷ rest → Holds s → Holds (after_declare s v.home d rest)
 Holds-declare s v d rest next h =
-    let same : length (pushed s.map v.home d.name d.items).modules ≡ length s.map.modules = length-pushed s.map v.home d.name d.items in
+    let same : length (bound_in s.map v.home d.name d.items None).modules ≡ length s.map.modules = length-bound_in s.map v.home d.name d.items None in
     record {
       paired = h.paired;
       visiting = AllIn-more (length s.map.modules) _ rest (omega arith) (AllIn-rest (length s.map.modules) s.agenda v rest next h.visiting).1;
       homes = λ i r at. omega (arith, h.homes i r at);
-      bound = λ i r t name at before gives. AreAmong-trans (h.bound i r t name at before gives) (kept-pushed s.map v.home d.name d.items r.home name);
+      bound = λ i r t name at before gives. AreAmong-trans (h.bound i r t name at before gives) (kept-bound_in s.map v.home d.name d.items None r.home name);
     }
 
 Holds-open : (s : State) (home : ℕ) (file : HirFileId) (head : Head) (name : List ℕ) (items : KeptForest) (v : Visit) (rest : List Visit) → s.agenda ≡ v ∷ rest → Holds s
@@ -120,7 +120,8 @@ Holds-open s home file head name items v rest next h =
     let visibility = visibility_of (module_id s.map home) head.visibility in
     let mid : Map = with_module s.map home name (inline_origin file head.id) visibility in
     let longer : length mid.modules ≡ suc (length s.map.modules) = length-with_module s.map home name (inline_origin file head.id) visibility in
-    let same : length (with_bound_module s.map home file head name).modules ≡ length mid.modules = length-pushed mid home name (declared_module s.map visibility) in
+    let same : length (with_bound_module s.map home file head name).modules ≡ length mid.modules =
+    length-bound_in mid home name (declared_module s.map visibility) None in
     record {
       paired = h.paired;
       visiting = AllIn-visits _ (length s.map.modules) file items rest (omega arith)
@@ -128,7 +129,7 @@ Holds-open s home file head name items v rest next h =
       homes = λ i r at. omega (arith, h.homes i r at);
       bound = λ i r t gives at before named.
           AreAmong-trans (AreAmong-by (ap namespaces_of (sym (entry_at-with_module s.map home name (inline_origin file head.id) visibility r.home gives))) (h.bound i r t gives at before named))
-          (kept-pushed mid home name (declared_module s.map visibility) r.home gives);
+          (kept-bound_in mid home name (declared_module s.map visibility) None r.home gives);
     }
 
 home_of : (home : ℕ) (by : UseId) (visibility : RawVisibility) (is : List Import) (k : ℕ) (r : ReachedImport) → slice_get (map (reached_import home by visibility) is) k ≡ Some r → home ≡ r.home
@@ -170,15 +171,15 @@ bound_taken : (m : Map) (r : ReachedImport) (name : List ℕ) → name_of r ≡ 
     → AreAmong (namespaces_of (reached_by m r)) (namespaces_of (entry_at (after_import m r) r.home name))
 bound_taken m r name gives inside =
     rw gives (
-    subst (λ (x : Namespaces). AreAmong x (namespaces_of (entry_at (pushed m r.home name (imported m (visibility_of (module_id m r.home) r.visibility) r.id (reached_by m r))) r.home name)))
-    (namespaces_of-imported m (visibility_of (module_id m r.home) r.visibility) r.id (reached_by m r))
-    (taken-pushed m r.home name (imported m (visibility_of (module_id m r.home) r.visibility) r.id (reached_by m r)) inside)
+    subst (λ (x : Namespaces). AreAmong x (namespaces_of (entry_at (bound_in m r.home name (imported m (visibility_of (module_id m r.home) r.visibility) (reached_by m r)) (Some r.id)) r.home name)))
+    (namespaces_of-imported m (visibility_of (module_id m r.home) r.visibility) (reached_by m r))
+    (taken-bound_in m r.home name (imported m (visibility_of (module_id m r.home) r.visibility) (reached_by m r)) (Some r.id) inside)
     )
 
 Holds-take : (s : State) (i : ℕ) (r : ReachedImport) (t : Namespaces) → CanTake s i r t → Holds s → Holds (after_take s i r t)
 Holds-take s i r t can h =
-    let items = imported s.map (visibility_of (module_id s.map r.home) r.visibility) r.id (reached_by s.map r) in
-    let same : length (after_import s.map r).modules ≡ length s.map.modules = length-bound_as s.map r.home (name_of r) items in
+    let items = imported s.map (visibility_of (module_id s.map r.home) r.visibility) (reached_by s.map r) in
+    let same : length (after_import s.map r).modules ≡ length s.map.modules = length-bound_as s.map r.home (name_of r) items r.id in
     let now : Namespaces = both_of t (namespaces_of (reached_by s.map r)) in
     let as_long : length (slice_set s.taken i now) ≡ length s.taken = length_set s.taken i now in
     let pairs : length s.taken ≡ length s.reached = h.paired in
@@ -187,7 +188,7 @@ Holds-take s i r t can h =
       visiting = AllIn-more (length s.map.modules) _ s.agenda (omega arith) h.visiting;
       homes = λ j q at. omega (arith, h.homes j q at);
       bound = λ j q u name at before gives. elim (number_same_or_not j i) [
-        | inr ne ↦ AreAmong-trans (h.bound j q u name at (sym (get_set_other s.taken i j now ne) ∙ before) gives) (kept-bound_as s.map r.home (name_of r) items q.home name)
+        | inr ne ↦ AreAmong-trans (h.bound j q u name at (sym (get_set_other s.taken i j now ne) ∙ before) gives) (kept-bound_as s.map r.home (name_of r) items r.id q.home name)
         | inl here ↦
             let at_i : slice_get s.reached i ≡ Some q = subst (λ (k : ℕ). slice_get s.reached k ≡ Some q) here at in
             let r_at : slice_get s.reached i ≡ Some r = can.import in
@@ -198,7 +199,7 @@ Holds-take s i r t can h =
             let two : now ≡ u = cc in
             let named : name_of r ≡ Some name = subst (λ (x : ReachedImport). name_of x ≡ Some name) (sym one) gives in
             let both : AreAmong now (namespaces_of (entry_at (after_import s.map r) r.home name)) =
-            AreAmong-both (AreAmong-trans (h.bound i r t name can.import can.before named) (kept-bound_as s.map r.home (name_of r) items r.home name))
+            AreAmong-both (AreAmong-trans (h.bound i r t name can.import can.before named) (kept-bound_as s.map r.home (name_of r) items r.id r.home name))
             (bound_taken s.map r name named (h.homes i r can.import)) in
             subst (λ (x : ReachedImport). AreAmong u (namespaces_of (entry_at (after_import s.map r) x.home name))) one
             (subst (λ (x : Namespaces). AreAmong x (namespaces_of (entry_at (after_import s.map r) r.home name))) two both)

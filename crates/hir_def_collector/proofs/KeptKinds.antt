@@ -1,6 +1,5 @@
 -- What each kind of item is, as it is kept.
-use Rattle.std.proofs.Common.{◌≡◌, ◌∙◌, ℕ, List, ap, sym, refl}
-use Rattle.std.specs.declared.vec.Vec.{Vec}
+use Rattle.std.proofs.Common.{◌≡◌, ◌∙◌, ℕ, List, ap, sym}
 use Rattle.hir_base.specs.declared.ast_id.SyntaxId.{SyntaxId}
 use Rattle.hir_item_tree.specs.KeptForest.{KeptItem, leaf, function, structure, import, inline_module}
 use Rattle.hir_item_tree.specs.ModItem.{item_step, mod_item, forest_of}

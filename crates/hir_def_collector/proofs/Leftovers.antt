@@ -3,7 +3,6 @@ use Rattle.std.proofs.Common.{◌≡◌, ◌∙◌, ℕ, zero, suc, ◌+◌, ◌
 use Rattle.hir_scope.specs.declared.imports.ImportId.{ImportId}
 use Rattle.hir_def_collector.specs.declared.collector.imports.ReachedImport.{ReachedImport}
 use Rattle.hir_def_collector.specs.declared.collector.imports.Namespaces.{Namespaces}
-use Rattle.hir_def_collector.specs.Imports.{is_empty}
 use Rattle.hir_def_collector.specs.Derivation.{leftover_among, is_untaken}
 use Rattle.hir_def_collector.proofs.Lists.{drop_at, drop_some, drop_none}
 

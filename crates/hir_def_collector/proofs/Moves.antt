@@ -1,5 +1,5 @@
 -- Parts of a run, one after another.
-use Rattle.std.proofs.Common.{◌≡◌, ◌+◌, ◌≤◌, ℕ, Bool, true, false, ◌||◌, refl, ap, ◌∙◌, subst, arith}
+use Rattle.std.proofs.Common.{◌≡◌, ◌+◌, ◌≤◌, Bool, true, false, ◌||◌, refl, ap, ◌∙◌, subst, arith}
 use Rattle.hir_def_collector.specs.Workspace.{Workspace}
 use Rattle.hir_def_collector.specs.State.{State}
 use Rattle.hir_def_collector.specs.Steps.{Step, Steps, none, more, declares_item, opens_module, reaches_import, takes_import}

@@ -1,5 +1,5 @@
 -- Imports of which no taking is due.
-use Rattle.std.proofs.Common.{◌≡◌, ◌∙◌, ℕ, ◌<◌, ◌≤◌, Bool, true, false, ◌&&◌, ◌||◌, cond, not, List, length, slice_get, Option, Some, None, is_some, refl, inl, inr, sym, ap, subst, arith}
+use Rattle.std.proofs.Common.{◌≡◌, ℕ, ◌<◌, ◌≤◌, Bool, true, false, ◌&&◌, ◌||◌, cond, not, length, slice_get, Option, Some, None, refl, inl, inr, sym, subst, arith}
 use Rattle.std.specs.Option.{option_and_then}
 use Rattle.std.proofs.lemmas.Option.{slice_get_past}
 use Rattle.std.proofs.lemmas.Bool.{cases_lt}
@@ -84,7 +84,8 @@ pub record IsDue (c : Core) (i : ℕ) (taking : Taking) : Type 0 where
   pub is : taking ≡ record {
     home = r.home;
     name = name_of r;
-    items = imported c.map (visibility_of (module_id c.map r.home) r.visibility) r.id (reached_by c.map r);
+    items = imported c.map (visibility_of (module_id c.map r.home) r.visibility) (reached_by c.map r);
+    import = r.id;
     namespaces = both_of t (namespaces_of (reached_by c.map r));
   }
 
@@ -97,12 +98,12 @@ due_at c i taking (Some r) (Some t) e f h =
     record { r = r; t = t; at = e; before = f; gains = d.0; is = sym d.1 }
 
 same_step : {w : Workspace} (c new : Core) (i : ℕ) (taking : Taking) → IsDue c i taking
-    → new ≡ counted (with_taken (with_map c (bound_as c.map taking.home taking.name taking.items)) i taking.namespaces)
+    → new ≡ counted (with_taken (with_map c (bound_as c.map taking.home taking.name taking.items taking.import)) i taking.namespaces)
     → Step w (at_rest c) (at_rest new)
 same_step c new i taking d is = takes_import i d.r d.t (record { import = d.at; before = d.before; gains = d.gains }) (rw (is, d.is) refl)
 
 -- the taking of an import is a step
 pub takes : {w : Workspace} (c new : Core) (i : ℕ) (taking : Taking) → taking_at c i ≡ Some taking
-    → new ≡ counted (with_taken (with_map c (bound_as c.map taking.home taking.name taking.items)) i taking.namespaces)
+    → new ≡ counted (with_taken (with_map c (bound_as c.map taking.home taking.name taking.items taking.import)) i taking.namespaces)
     → Step w (at_rest c) (at_rest new)
 takes c new i taking h is = same_step c new i taking (due_at c i taking (slice_get c.reached i) (slice_get c.taken i) refl refl h) is

@@ -1,5 +1,5 @@
 -- What a reached import brings.
-use Rattle.std.specs.Prelude.{◌≡◌, ℕ, ◌-◌, length, Bool, true, false, ◌||◌, ◌&&◌, not, is_some, List, [], ◌∷◌, Option, None, Some, map, option_map, unwrap_or, slice_get, cond}
+use Rattle.std.specs.Prelude.{◌≡◌, ℕ, ◌-◌, length, Bool, true, ◌||◌, ◌&&◌, not, is_some, List, Option, None, Some, map, option_map, unwrap_or, slice_get, cond}
 use Rattle.std.specs.Option.{option_and_then}
 use Rattle.hir_base.specs.ModPath.{Path}
 use Rattle.hir_base.specs.declared.ids.ModuleId.{ModuleId}
@@ -13,13 +13,13 @@ use Rattle.hir_item_tree.specs.declared.shape.ImportAlias.{ImportAlias}
 use Rattle.hir_item_tree.specs.declared.shape.ImportAlias.TheVariants.{Underscore, Alias}
 use Rattle.hir_scope.specs.Visibility.{visibility_of}
 use Rattle.hir_scope.specs.declared.imports.ImportId.{ImportId}
+use Rattle.hir_scope.specs.declared.imports.ImportOrExternCrate.{ImportOrExternCrate}
 use Rattle.hir_scope.specs.declared.imports.ImportOrExternCrate.TheVariants as ways
-use Rattle.hir_scope.specs.declared.imports.ImportOrGlob.TheVariants as value_ways
 use Rattle.hir_scope.specs.declared.per_ns.Item.{Item}
 use Rattle.hir_scope.specs.declared.per_ns.PerNs.{PerNs}
 use Rattle.hir_scope.specs.declared.visibility.Visibility.{Visibility}
 use Rattle.hir_def_map.specs.Reaches.{reached_items}
-use Rattle.hir_def_map.specs.State.{Map, alone, pushed}
+use Rattle.hir_def_map.specs.State.{Map, alone, no_globs, pushed}
 use Rattle.hir_def_collector.specs.declared.collector.imports.ReachedImport.{ReachedImport}
 use Rattle.hir_def_collector.specs.declared.collector.imports.Namespaces.{Namespaces}
 use Rattle.hir_def_collector.specs.declared.collector.imports.Taking.{Taking}
@@ -81,33 +81,42 @@ is_empty a = not ((a.types || a.values) || a.macros)
 abbrev pub goes_beyond : Namespaces → Namespaces → Bool
 goes_beyond some all = ((some.types && not all.types) || (some.values && not all.values)) || (some.macros && not all.macros)
 
--- an item as an import binds it: with the lesser of its own visibility and the reached one, and with its own where they are unrelated
-abbrev pub brought : {D I : Type 0} → Map → Visibility → I → Item D I → Item D I
-brought m own by i = record { def = i.def; vis = unwrap_or (lesser_in m own i.vis) own; import = Some by }
+-- an item as an import offers it: with the lesser of its own visibility and the reached one, and with its own where they are unrelated
+abbrev pub brought : {D I : Type 0} → Map → Visibility → Item D I → Item D I
+brought m own i = record { def = i.def; vis = unwrap_or (lesser_in m own i.vis) own; import = i.import }
 
--- what an import of this visibility binds of what it reaches
-abbrev pub imported : Map → Visibility → ImportId → PerNs → PerNs
-imported m own by items = record {
-  types = option_map (brought m own (ways.Import by)) items.types;
-  values = option_map (brought m own (value_ways.Import by)) items.values;
-  macros = option_map (brought m own (ways.Import by)) items.macros;
+-- what an import of this visibility offers of what it reaches, each item with what had brought it
+abbrev pub imported : Map → Visibility → PerNs → PerNs
+imported m own items = record {
+  types = option_map (brought m own) items.types;
+  values = option_map (brought m own) items.values;
+  macros = option_map (brought m own) items.macros;
 }
 
--- what is bound under the name, if there is one
-abbrev pub bound_as : Map → ℕ → Option (List ℕ) → PerNs → Map
-bound_as m home None items = m
-bound_as m home (Some name) items = pushed m home name items
+-- what pushes: an import, or a declaration
+abbrev pub pushing : Option ImportId → Option ImportOrExternCrate
+pushing import = option_map (λ (i : ImportId). ways.Import i) import
+
+-- the map once items were pushed to a name of a module by an import, or by a declaration; no glob has brought anything
+abbrev pub bound_in : Map → ℕ → List ℕ → PerNs → Option ImportId → Map
+bound_in m home name items import = pushed m no_globs home name items (pushing import)
+
+-- the same under the name that an import gives, if it gives one
+abbrev pub bound_as : Map → ℕ → Option (List ℕ) → PerNs → ImportId → Map
+bound_as m home None items import = m
+bound_as m home (Some name) items import = bound_in m home name items (Some import)
 
 -- the map once the import is taken
 abbrev pub after_import : Map → ReachedImport → Map
-after_import m i = bound_as m i.home (name_of i) (imported m (visibility_of (module_id m i.home) i.visibility) i.id (reached_by m i))
+after_import m i = bound_as m i.home (name_of i) (imported m (visibility_of (module_id m i.home) i.visibility) (reached_by m i)) i.id
 
 -- the taking of an import of which these namespaces were reached before, where it reaches another
 abbrev pub taking_of : Map → ReachedImport → Namespaces → Option Taking
 taking_of m r t = cond (goes_beyond (namespaces_of (reached_by m r)) t) (Some (record {
   home = r.home;
   name = name_of r;
-  items = imported m (visibility_of (module_id m r.home) r.visibility) r.id (reached_by m r);
+  items = imported m (visibility_of (module_id m r.home) r.visibility) (reached_by m r);
+  import = r.id;
   namespaces = both_of t (namespaces_of (reached_by m r));
 })) None
 

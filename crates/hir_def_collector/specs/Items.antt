@@ -1,7 +1,6 @@
 -- What an item declares.
 use Rattle.std.specs.Prelude.{ℕ, List, [], ◌∷◌, Option, None, Some, map, unwrap_or}
 use Rattle.std.specs.Option.{option_and_then}
-use Rattle.hir_base.specs.declared.ast_id.AstId.{AstId}
 use Rattle.hir_base.specs.declared.ast_id.AstKind.TheVariants as kinds
 use Rattle.hir_base.specs.declared.ast_id.HirFileId.{HirFileId}
 use Rattle.hir_base.specs.declared.ast_id.SyntaxId.{SyntaxId}
@@ -12,8 +11,7 @@ use Rattle.hir_base.specs.declared.ids.ModuleDefId.{ModuleDefId}
 use Rattle.hir_base.specs.declared.ids.ModuleDefId.TheVariants as definitions
 use Rattle.hir_base.specs.declared.ids.ModuleId.{ModuleId}
 use Rattle.hir_base.specs.declared.ids.StructId.{StructId}
-use Rattle.hir_item_tree.specs.KeptForest.{Head, KeptItem, leaf, inline_module, function, structure, import}
-use Rattle.hir_item_tree.specs.declared.raw_visibility.RawVisibility.{RawVisibility}
+use Rattle.hir_item_tree.specs.KeptForest.{KeptItem, leaf, inline_module, function, structure, import}
 use Rattle.hir_item_tree.specs.declared.shape.FieldsShape.{FieldsShape}
 use Rattle.hir_item_tree.specs.declared.shape.FieldsShape.TheVariants.{Record, Tuple, Unit as UnitShape}
 use Rattle.hir_scope.specs.Visibility.{visibility_of, lesser_of}

@@ -1,25 +1,25 @@
 -- The steps that the import rules allow.
-use Rattle.std.specs.Prelude.{◌≡◌, ℕ, ◌<◌, Bool, true, false, List, [], ◌∷◌, ◌++◌, length, map, Option, None, Some, slice_get, slice_set}
+use Rattle.std.specs.Prelude.{◌≡◌, ℕ, true, List, ◌∷◌, ◌++◌, length, map, None, Some, slice_get, slice_set}
 use Rattle.hir_base.specs.declared.ast_id.HirFileId.{HirFileId}
 use Rattle.hir_item_tree.specs.KeptForest.{Head, KeptForest, leaf, import, inline_module, UseTree}
 use Rattle.hir_scope.specs.Visibility.{visibility_of}
-use Rattle.hir_def_map.specs.State.{Map, pushed, with_module}
+use Rattle.hir_def_map.specs.State.{Map, with_module}
 use Rattle.hir_def_collector.specs.declared.collector.imports.ReachedImport.{ReachedImport}
 use Rattle.hir_def_collector.specs.declared.collector.imports.Namespaces.{Namespaces}
 use Rattle.hir_def_collector.specs.Workspace.{Workspace}
 use Rattle.hir_def_collector.specs.State.{Visit, State, visits, ticked, no_namespaces}
 use Rattle.hir_def_collector.specs.Items.{Declaration, declaration_of, declared_module, inline_origin, module_id}
-use Rattle.hir_def_collector.specs.Imports.{imports_by, reached_by, namespaces_of, both_of, goes_beyond, after_import}
+use Rattle.hir_def_collector.specs.Imports.{bound_in, imports_by, reached_by, namespaces_of, both_of, goes_beyond, after_import}
 
 -- the declaration is bound, and the rest of the agenda stays
 abbrev pub after_declare : State → ℕ → Declaration → List Visit → State
-after_declare s home d rest = ticked (record s { map = pushed s.map home d.name d.items; agenda = rest })
+after_declare s home d rest = ticked (record s { map = bound_in s.map home d.name d.items None; agenda = rest })
 
 -- the map with one more module, bound as a type in its parent; one of a name that is taken is bound nowhere
 abbrev pub with_bound_module : Map → ℕ → HirFileId → Head → List ℕ → Map
 with_bound_module m home file head name =
     let visibility = visibility_of (module_id m home) head.visibility in
-    pushed (with_module m home name (inline_origin file head.id) visibility) home name (declared_module m visibility)
+    bound_in (with_module m home name (inline_origin file head.id) visibility) home name (declared_module m visibility) None
 
 -- the module is made and bound, and its items are visited next
 abbrev pub after_open : State → ℕ → HirFileId → Head → List ℕ → KeptForest → List Visit → State

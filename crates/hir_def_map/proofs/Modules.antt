@@ -6,7 +6,7 @@ use Rattle.std.proofs.Common.{get_or}
 use Rattle.std.proofs.lemmas.Option.{slice_get_read}
 use Rattle.hir_base.specs.declared.ids.MapId.{MapId}
 use Rattle.hir_base.specs.declared.ids.ModuleId.{ModuleId}
-use Rattle.hir_def_map.specs.State.{ModuleValue, changed_at, IsBefore, IsRooted}
+use Rattle.hir_def_map.specs.State.{ModuleValue, changed_at, with_child, IsBefore, IsRooted}
 
 -- a fact of the state after a call that may fail
 pub OnOk-map : {T E : Type 0} (r : Result T E) (P Q : Type 0) → (P → Q) → OnOk r P → OnOk r Q
@@ -102,3 +102,14 @@ IsRooted-append id ms m before room rooted = record {
 pub either_way : {T E : Type 0} (P : List ModuleValue → Type 0) (r : Result T E) (now before after : List ModuleValue) → OnOk r (now ≡ after) → OnErr r (now ≡ before) → P before → P after → P now
 either_way P (Ok x) now before after ok err p q = subst P (sym ok) q
 either_way P (Err e) now before after ok err p q = subst P (sym err) p
+
+-- one more module behind the others, a child of one of them, leaves them rooted; so does the call that fails
+pub IsRooted-inserted : {T E : Type 0} (r : Result T E) (id : MapId) (others now : List ModuleValue) (parent : ℕ) (name : List ℕ) (new : ModuleId) (m : ModuleValue)
+    → IsBefore id (length others) m.parent → length others < 2147483647
+    → OnOk r (now ≡ changed_at others parent (with_child name new) ++ m ∷ []) → OnErr r (now ≡ others) → IsRooted id others → IsRooted id now
+IsRooted-inserted r id others now parent name new m before room ok err rooted =
+    let child : ModuleValue → ModuleValue = with_child name new in
+    let count : length (changed_at others parent child) ≡ length others = length-changed_at others parent child in
+    either_way (λ ms. IsRooted id ms) r now others (changed_at others parent child ++ m ∷ []) ok err rooted
+    (IsRooted-append id (changed_at others parent child) m (subst (λ (n : ℕ). IsBefore id n m.parent) (sym count) before) (omega arith)
+    (IsRooted-changed_at id others parent child (λ m. refl) rooted))

@@ -1,8 +1,9 @@
 -- What do a push and one more module leave of a map?
-use Rattle.std.specs.Prelude.{◌≡◌, ◌≢◌, ℕ, zero, suc, ◌<◌, ◌++◌, List, [], ◌∷◌, length, Bool, true, false, cond, Option, None, Some, slice_get}
+use Rattle.std.specs.Prelude.{◌≡◌, ◌≢◌, ℕ, zero, suc, ◌<◌, ◌++◌, List, [], ◌∷◌, length, Bool, true, false, not, ◌&&◌, ◌||◌, cond, Option, None, Some, is_some, option_map, slice_get}
 use Rattle.std.specs.Ordering.{nat_cmp, is_eq, ordering_reverse, match_ordering}
 use Rattle.std.specs.Cmp.Lexicographic.{slice_cmp}
 use Rattle.std.specs.BTreeMap.{is_at}
+use Rattle.std.specs.Map.{set_value}
 use Rattle.std.specs.Option.{option_and_then}
 use Rattle.std.specs.declared.cmp.Ordering.{Ordering}
 use Rattle.std.specs.declared.cmp.Ordering.TheVariants.{Less, Equal, Greater}
@@ -11,12 +12,28 @@ use Rattle.std.proofs.lemmas.Cmp.{nat_list_cmp_total}
 use Rattle.std.proofs.lemmas.Map.Lookups.{exact_bytes}
 use Rattle.hir_base.specs.declared.ids.MapId.{MapId}
 use Rattle.hir_base.specs.declared.ids.ModuleId.{ModuleId}
+use Rattle.hir_base.specs.declared.ids.ModuleDefId.{ModuleDefId}
+use Rattle.hir_base.specs.declared.macro_kind.MacroId.{MacroId}
 use Rattle.hir_base.specs.contracts.ids.MapIdPartialEq.TheImpl as map_id
+use Rattle.hir_base.specs.contracts.ids.ModuleDefIdPartialEq.TheImpl as module_def
+use Rattle.hir_base.specs.contracts.macro_kind.MacroIdPartialEq.TheImpl as makro
+use Rattle.hir_scope.specs.contracts.imports.ImportOrExternCratePartialEq.TheImpl as import_or_extern_crate
+use Rattle.hir_scope.specs.contracts.imports.ImportOrGlobPartialEq.TheImpl as import_or_glob
+use Rattle.hir_scope.specs.declared.imports.ImportOrExternCrate.{ImportOrExternCrate}
+use Rattle.hir_scope.specs.declared.imports.ImportOrGlob.{ImportOrGlob}
+use Rattle.hir_scope.specs.declared.imports.ImportOrDef.{ImportOrDef}
+use Rattle.hir_scope.specs.declared.per_ns.Item.{Item}
 use Rattle.hir_scope.specs.declared.per_ns.PerNs.{PerNs}
+use Rattle.hir_scope.specs.declared.push.Push.{Push}
 use Rattle.hir_scope.specs.declared.visibility.Visibility.{Visibility}
-use Rattle.hir_scope.specs.Pushes.{after_push}
+use Rattle.hir_scope.specs.PerNs.{item_of}
+use Rattle.hir_scope.specs.GlobImports.{GlobNames, Place}
+use Rattle.hir_scope.specs.ImportRecords.{with_entry, has_key, is_glob, value_import}
+use Rattle.hir_scope.specs.ItemScope.{ScopeValue, item_at, binding_of}
+use Rattle.hir_scope.specs.Pushes.{after_push, slot_after, gives_way, takes}
+use Rattle.hir_scope.specs.ScopePushes.{macro_offer, offered_globs, offered_items, offered_scope, pushed_globs, pushed_scope, taken, taken_offers, type_offer, value_offer}
 use Rattle.hir_def_map.specs.declared.nameres.origin.ModuleOrigin.{ModuleOrigin}
-use Rattle.hir_def_map.specs.State.{Map, ModuleValue, alone, at_name, with_name, or_nothing, bound, changed_at, entry_of, entry_at, module_at, module_in, new_id, new_module, parent_of, parent_in, pushed, pushed_module, with_child, with_module}
+use Rattle.hir_def_map.specs.State.{Map, ModuleValue, alone, at_name, with_name, changed_at, entry_of, entry_at, globs_in, globs_after, module_at, module_in, new_id, new_module, no_globs, numbered, parent_of, parent_in, place_at, pushed, pushed_module, with_child, with_module}
 use Rattle.hir_def_map.specs.Chains.{above_in, above_same}
 
 -- ---- a list by names, with one more value
@@ -101,24 +118,205 @@ module _ {A : Type 0} where
   as_none part (x ∷ xs) y e zero = refl
   as_none part (x ∷ xs) y e (suc k) = as_none part xs y e k
 
--- ---- a push
+-- ---- a list by names in which a name has a value: where it stands, or at its place in the order
 
--- the name stands for what the push makes of it
-pub entry_at-pushed : (map : Map) (at : ℕ) (name : List ℕ) (items : PerNs) (m : ModuleValue) → module_at map at ≡ Some m → entry_at (pushed map at name items) at name ≡ after_push (entry_at map at name) items
-entry_at-pushed map at name items m e =
-    ap (λ (o : Option ModuleValue). entry_of o name) (changed_here map.modules at (pushed_module name items) m e)
-    ∙ ap or_nothing (at_name-with_name m.scope name (after_push (bound m.scope name) items))
-    ∙ ap (λ (o : Option ModuleValue). after_push (entry_of o name) items) (sym e)
+module _ {V : Type 0} where
+  found : (es : List (List ℕ × V)) (name : List ℕ) (v : V) → is_some (item_at es name) ≡ true
+      → item_at (set_value (is_at (slice_cmp nat_cmp name)) es v) name ≡ Some v
+  found [] name v there = absurd (let no : ⊥ = cc in no)
+  found (e ∷ es) name v there = go (found es name v) (is_at (slice_cmp nat_cmp name) e.0) refl there
+    where
+      go : (is_some (item_at es name) ≡ true → item_at (set_value (is_at (slice_cmp nat_cmp name)) es v) name ≡ Some v)
+          → (b : Bool) → is_at (slice_cmp nat_cmp name) e.0 ≡ b → is_some (cond b (Some e.1) (item_at es name)) ≡ true
+          → item_at (cond b ((e.0, v) ∷ es) (e ∷ set_value (is_at (slice_cmp nat_cmp name)) es v)) name ≡ Some v
+      go below true s h = rw s refl
+      go below false s h = rw s (below h)
+
+  found_other : (es : List (List ℕ × V)) (name other : List ℕ) (v : V) → other ≢ name
+      → item_at (set_value (is_at (slice_cmp nat_cmp name)) es v) other ≡ item_at es other
+  found_other [] name other v ne = refl
+  found_other (e ∷ es) name other v ne = go (found_other es name other v ne) (slice_cmp nat_cmp name e.0) refl
+    where
+      go : item_at (set_value (is_at (slice_cmp nat_cmp name)) es v) other ≡ item_at es other → (o : Ordering) → slice_cmp nat_cmp name e.0 ≡ o
+          → item_at (cond (is_eq o) ((e.0, v) ∷ es) (e ∷ set_value (is_at (slice_cmp nat_cmp name)) es v)) other ≡ item_at (e ∷ es) other
+      go below Less s = ap (cond (is_at (slice_cmp nat_cmp other) e.0) (Some e.1)) below
+      go below Equal s = let away : is_at (slice_cmp nat_cmp other) e.0 ≡ false = other_text other e.0 (λ k. ne (k ∙ sym (exact_bytes name e.0 s))) in rw away refl
+      go below Greater s = ap (cond (is_at (slice_cmp nat_cmp other) e.0) (Some e.1)) below
+
+  -- the name has the value
+  item_at-with_entry : (es : List (List ℕ × V)) (name : List ℕ) (v : V) → item_at (with_entry (slice_cmp nat_cmp) es name v) name ≡ Some v
+  item_at-with_entry es name v = go (has_key (slice_cmp nat_cmp) es name) refl
+    where
+      go : (b : Bool) → has_key (slice_cmp nat_cmp) es name ≡ b
+          → item_at (cond b (set_value (is_at (slice_cmp nat_cmp name)) es v) (with_name es name v)) name ≡ Some v
+      go true there = found es name v there
+      go false there = at_name-with_name es name v
+
+  -- other names stay
+  item_at-with_entry_other : (es : List (List ℕ × V)) (name other : List ℕ) (v : V) → other ≢ name
+      → item_at (with_entry (slice_cmp nat_cmp) es name v) other ≡ item_at es other
+  item_at-with_entry_other es name other v ne = go (has_key (slice_cmp nat_cmp) es name)
+    where
+      go : (b : Bool) → item_at (cond b (set_value (is_at (slice_cmp nat_cmp name)) es v) (with_name es name v)) other ≡ item_at es other
+      go true = found_other es name other v ne
+      go false = at_name-with_name_other es name other v ne
+
+-- ---- one namespace after a push
+
+module _ {D I : Type 0} (same_def : D → D → Bool) (same_import : I → I → Bool) where
+  -- where no glob has brought anything, what no glob offers is bound as a push binds
+  item_at-offered : (es : List (List ℕ × Item D I)) (at : ModuleId) (name : List ℕ) (push : Push D I) (source : ImportOrDef) → push.is_glob ≡ false
+      → item_at (offered_items name (taken same_def same_import es [] (at, name) (Some (record { push = push; source = source }))) es) name
+      ≡ slot_after same_def same_import (item_at es name) (Some push.item)
+  item_at-offered es at name push source explicit = go (item_at es name) refl
+    where
+      step : (b : Item D I) → item_at es name ≡ Some b → (gives : Bool)
+          → item_at (offered_items name (cond (not push.is_glob && (false || gives)) (Some (record { push = push; source = source })) None) es) name
+          ≡ cond gives (Some push.item) (Some b)
+      step b e true = rw explicit (item_at-with_entry es name push.item)
+      step b e false = rw explicit e
+
+      go : (o : Option (Item D I)) → item_at es name ≡ o
+          → item_at (offered_items name (cond (takes same_def same_import false o push) (Some (record { push = push; source = source })) None) es) name
+          ≡ slot_after same_def same_import o (Some push.item)
+      go None e = item_at-with_entry es name push.item
+      go (Some b) e = step b e (gives_way same_def same_import b push.item)
+
+module _ {D I : Type 0} where
+  -- other names stay
+  item_at-offered_other : (es : List (List ℕ × Item D I)) (name other : List ℕ) (o : _) → other ≢ name
+      → item_at (offered_items name o es) other ≡ item_at es other
+  item_at-offered_other es name other None ne = refl
+  item_at-offered_other es name other (Some offer) ne = item_at-with_entry_other es name other offer.push.item ne
+
+  -- no name comes to be among those that globs brought where no glob offers it
+  offered_globs-none : (place : Place) (push : Push D I) (source : ImportOrDef) → push.is_glob ≡ false → (b : Bool)
+      → offered_globs place (cond b (Some (record { push = push; source = source })) None) [] ≡ []
+  offered_globs-none place push source explicit true = rw explicit refl
+  offered_globs-none place push source explicit false = refl
+
+-- ---- a scope after a push
+
+-- the items as an import binds them
+abbrev pub items_by : Option ImportOrExternCrate → PerNs → PerNs
+items_by import items = record {
+  types = option_map (λ (i : Item ModuleDefId ImportOrExternCrate). item_of i.def i.vis import) items.types;
+  values = option_map (λ (i : Item ModuleDefId ImportOrGlob). item_of i.def i.vis (value_import import)) items.values;
+  macros = option_map (λ (i : Item MacroId ImportOrExternCrate). item_of i.def i.vis import) items.macros;
+}
+
+-- a push of nothing binds nothing, as an offer of nothing would
+binding_of-pushed : (globs : GlobNames) (place : Place) (items : PerNs) (import : Option ImportOrExternCrate) (scope : ScopeValue) (name : List ℕ)
+    → binding_of (pushed_scope globs place items import scope) name
+    ≡ binding_of (offered_scope place.1 (taken_offers scope globs place items import) scope) name
+binding_of-pushed globs place items import scope name = go items.types items.values items.macros
+  where
+    go : (t : Option (Item ModuleDefId ImportOrExternCrate)) (v : Option (Item ModuleDefId ImportOrGlob)) (m : Option (Item MacroId ImportOrExternCrate))
+        → binding_of (pushed_scope globs place (record { types = t; values = v; macros = m }) import scope) name
+        ≡ binding_of (offered_scope place.1 (taken_offers scope globs place (record { types = t; values = v; macros = m }) import) scope) name
+    go (Some i) v m = refl
+    go None (Some i) m = refl
+    go None None (Some i) = refl
+    go None None None = refl
 
 -- other names stay
-pub entry_at-pushed_other : (map : Map) (at : ℕ) (name other : List ℕ) (items : PerNs) (k : ℕ) → other ≢ name → entry_at (pushed map at name items) k other ≡ entry_at map k other
-entry_at-pushed_other map at name other items k ne =
-    kept (λ (o : Option ModuleValue). entry_of o other) map.modules at (pushed_module name items)
-    (λ m. ap or_nothing (at_name-with_name_other m.scope name other (after_push (bound m.scope name) items) ne)) k
+binding_of-pushed_other : (globs : GlobNames) (place : Place) (items : PerNs) (import : Option ImportOrExternCrate) (scope : ScopeValue) (other : List ℕ)
+    → other ≢ place.1
+    → binding_of (pushed_scope globs place items import scope) other ≡ binding_of scope other
+binding_of-pushed_other globs place items import scope other ne =
+    let offers = taken_offers scope globs place items import in
+    let types : item_at (offered_items place.1 offers.types scope.types) other ≡ item_at scope.types other =
+    item_at-offered_other scope.types place.1 other offers.types ne in
+    let values : item_at (offered_items place.1 offers.values scope.values) other ≡ item_at scope.values other =
+    item_at-offered_other scope.values place.1 other offers.values ne in
+    let macros : item_at (offered_items place.1 offers.macros scope.macros) other ≡ item_at scope.macros other =
+    item_at-offered_other scope.macros place.1 other offers.macros ne in
+    binding_of-pushed globs place items import scope other ∙ (λ i. record { types = types i; values = values i; macros = macros i })
+
+module _ (at : ModuleId) (name : List ℕ) (import : Option ImportOrExternCrate) (scope : ScopeValue) (explicit : is_glob import ≡ false) where
+  types_after : (o : Option (Item ModuleDefId ImportOrExternCrate))
+      → item_at (offered_items name (taken module_def.ghosts.eq import_or_extern_crate.ghosts.eq scope.types [] (at, name) (type_offer o import)) scope.types) name
+      ≡ slot_after module_def.ghosts.eq import_or_extern_crate.ghosts.eq (item_at scope.types name) (option_map (λ (i : Item ModuleDefId ImportOrExternCrate). item_of i.def i.vis import) o)
+  types_after None = refl
+  types_after (Some i) = item_at-offered module_def.ghosts.eq import_or_extern_crate.ghosts.eq scope.types at name _ _ explicit
+
+  values_after : (o : Option (Item ModuleDefId ImportOrGlob))
+      → item_at (offered_items name (taken module_def.ghosts.eq import_or_glob.ghosts.eq scope.values [] (at, name) (value_offer o import)) scope.values) name
+      ≡ slot_after module_def.ghosts.eq import_or_glob.ghosts.eq (item_at scope.values name) (option_map (λ (i : Item ModuleDefId ImportOrGlob). item_of i.def i.vis (value_import import)) o)
+  values_after None = refl
+  values_after (Some i) = item_at-offered module_def.ghosts.eq import_or_glob.ghosts.eq scope.values at name _ _ explicit
+
+  macros_after : (o : Option (Item MacroId ImportOrExternCrate))
+      → item_at (offered_items name (taken makro.ghosts.eq import_or_extern_crate.ghosts.eq scope.macros [] (at, name) (macro_offer o import)) scope.macros) name
+      ≡ slot_after makro.ghosts.eq import_or_extern_crate.ghosts.eq (item_at scope.macros name) (option_map (λ (i : Item MacroId ImportOrExternCrate). item_of i.def i.vis import) o)
+  macros_after None = refl
+  macros_after (Some i) = item_at-offered makro.ghosts.eq import_or_extern_crate.ghosts.eq scope.macros at name _ _ explicit
+
+  -- where no glob has brought anything, the name stands for what a push by no glob makes of it
+  pub binding_of-pushed_here : (items : PerNs)
+      → binding_of (pushed_scope no_globs (at, name) items import scope) name ≡ after_push (binding_of scope name) (items_by import items)
+  binding_of-pushed_here items =
+      let types = types_after items.types in
+      let values = values_after items.values in
+      let macros = macros_after items.macros in
+      binding_of-pushed no_globs (at, name) items import scope name ∙ (λ i. record { types = types i; values = values i; macros = macros i })
+
+  none_of_types : (o : Option (Item ModuleDefId ImportOrExternCrate))
+      → offered_globs (at, name) (taken module_def.ghosts.eq import_or_extern_crate.ghosts.eq scope.types [] (at, name) (type_offer o import)) [] ≡ []
+  none_of_types None = refl
+  none_of_types (Some i) = offered_globs-none (at, name) _ _ explicit _
+
+  none_of_values : (o : Option (Item ModuleDefId ImportOrGlob))
+      → offered_globs (at, name) (taken module_def.ghosts.eq import_or_glob.ghosts.eq scope.values [] (at, name) (value_offer o import)) [] ≡ []
+  none_of_values None = refl
+  none_of_values (Some i) = offered_globs-none (at, name) _ _ explicit _
+
+  none_of_macros : (o : Option (Item MacroId ImportOrExternCrate))
+      → offered_globs (at, name) (taken makro.ghosts.eq import_or_extern_crate.ghosts.eq scope.macros [] (at, name) (macro_offer o import)) [] ≡ []
+  none_of_macros None = refl
+  none_of_macros (Some i) = offered_globs-none (at, name) _ _ explicit _
+
+  -- and globs still have brought nothing
+  pub pushed_globs-none : (items : PerNs) → pushed_globs scope (at, name) items import no_globs ≡ no_globs
+  pushed_globs-none items =
+      let types = none_of_types items.types in
+      let values = none_of_values items.values in
+      let macros = none_of_macros items.macros in
+      λ i. record { types = types i; values = values i; macros = macros i }
+
+-- ---- a push
+
+-- where no glob has brought anything, the name stands for what a push by no glob makes of it
+pub entry_at-pushed : (map : Map) (at : ℕ) (name : List ℕ) (items : PerNs) (import : Option ImportOrExternCrate) (m : ModuleValue)
+    → is_glob import ≡ false → module_at map at ≡ Some m
+    → entry_at (pushed map no_globs at name items import) at name ≡ after_push (entry_at map at name) (items_by import items)
+entry_at-pushed map at name items import m explicit e =
+    ap (λ (o : Option ModuleValue). entry_of o name) (changed_here map.modules at (pushed_module no_globs (place_at map.id at name) items import) m e)
+    ∙ binding_of-pushed_here (numbered map.id at) name import m.scope explicit items
+    ∙ ap (λ (o : Option ModuleValue). after_push (entry_of o name) (items_by import items)) (sym e)
+
+-- a push by no glob leaves it so that no glob has brought anything
+pub globs_after-none : (map : Map) (at : ℕ) (name : List ℕ) (items : PerNs) (import : Option ImportOrExternCrate) → is_glob import ≡ false
+    → globs_after map no_globs at name items import ≡ no_globs
+globs_after-none map at name items import explicit = go (module_at map at)
+  where
+    go : (o : Option ModuleValue) → globs_in o no_globs (place_at map.id at name) items import ≡ no_globs
+    go None = refl
+    go (Some m) = pushed_globs-none (numbered map.id at) name import m.scope explicit items
+
+-- other names stay
+pub entry_at-pushed_other : (map : Map) (globs : GlobNames) (at : ℕ) (name other : List ℕ) (items : PerNs) (import : Option ImportOrExternCrate) (k : ℕ)
+    → other ≢ name
+    → entry_at (pushed map globs at name items import) k other ≡ entry_at map k other
+entry_at-pushed_other map globs at name other items import k ne =
+    kept (λ (o : Option ModuleValue). entry_of o other) map.modules at (pushed_module globs (place_at map.id at name) items import)
+    (λ m. binding_of-pushed_other globs (place_at map.id at name) items import m.scope other ne) k
 
 -- and so do other modules
-pub entry_at-pushed_elsewhere : (map : Map) (at : ℕ) (name other : List ℕ) (items : PerNs) (k : ℕ) → k ≢ at → entry_at (pushed map at name items) k other ≡ entry_at map k other
-entry_at-pushed_elsewhere map at name other items k ne = ap (λ (o : Option ModuleValue). entry_of o other) (changed_elsewhere map.modules at (pushed_module name items) k ne)
+pub entry_at-pushed_elsewhere : (map : Map) (globs : GlobNames) (at : ℕ) (name other : List ℕ) (items : PerNs) (import : Option ImportOrExternCrate) (k : ℕ) → k ≢ at
+    → entry_at (pushed map globs at name items import) k other ≡ entry_at map k other
+entry_at-pushed_elsewhere map globs at name other items import k ne =
+    ap (λ (o : Option ModuleValue). entry_of o other) (changed_elsewhere map.modules at (pushed_module globs (place_at map.id at name) items import) k ne)
 
 -- a part of the modules of one map alone
 alone_part : {B : Type 0} (part : Option ModuleValue → B) (one other : Map) → one.id ≡ other.id → ((k : ℕ) → part (module_at one k) ≡ part (module_at other k)) → (m : ModuleId) → part (module_in (alone one) m) ≡ part (module_in (alone other) m)
@@ -128,12 +326,16 @@ alone_part part one other e same m = ap (λ (i : MapId). part (option_and_then (
     go true = same m.index
     go false = refl
 
-pub parent_in-pushed : (map : Map) (at : ℕ) (name : List ℕ) (items : PerNs) (m : ModuleId) → parent_in (alone (pushed map at name items)) m ≡ parent_in (alone map) m
-parent_in-pushed map at name items m = alone_part parent_of (pushed map at name items) map refl (kept parent_of map.modules at (pushed_module name items) (λ x. refl)) m
+pub parent_in-pushed : (map : Map) (globs : GlobNames) (at : ℕ) (name : List ℕ) (items : PerNs) (import : Option ImportOrExternCrate) (m : ModuleId)
+    → parent_in (alone (pushed map globs at name items import)) m ≡ parent_in (alone map) m
+parent_in-pushed map globs at name items import m =
+    alone_part parent_of (pushed map globs at name items import) map refl (kept parent_of map.modules at (pushed_module globs (place_at map.id at name) items import) (λ x. refl)) m
 
 -- the same lies above each module
-pub above_in-pushed : (map : Map) (at : ℕ) (name : List ℕ) (items : PerNs) (m : ModuleId) → above_in (alone (pushed map at name items)) m ≡ above_in (alone map) m
-above_in-pushed map at name items m = above_same (alone (pushed map at name items)) (alone map) m (λ x i j. parent_in-pushed map at name items x)
+pub above_in-pushed : (map : Map) (globs : GlobNames) (at : ℕ) (name : List ℕ) (items : PerNs) (import : Option ImportOrExternCrate) (m : ModuleId)
+    → above_in (alone (pushed map globs at name items import)) m ≡ above_in (alone map) m
+above_in-pushed map globs at name items import m =
+    above_same (alone (pushed map globs at name items import)) (alone map) m (λ x i j. parent_in-pushed map globs at name items import x)
 
 -- ---- one more module
 

@@ -1,5 +1,5 @@
 -- What a def map is, and what each building call makes of it.
-use Rattle.std.specs.Prelude.{◌≡◌, ℕ, zero, suc, ◌<◌, ◌≤◌, ◌++◌, List, [], ◌∷◌, length, Option, None, Some, is_some, Bool, false, cond, slice_get, option_and_then}
+use Rattle.std.specs.Prelude.{◌≡◌, ℕ, zero, suc, ◌<◌, ◌≤◌, ◌++◌, List, [], ◌∷◌, length, Option, None, Some, is_some, Bool, false, cond, slice_get, option_and_then, option_map}
 use Rattle.std.specs.Ordering.{nat_cmp}
 use Rattle.std.specs.Cmp.Lexicographic.{slice_cmp}
 use Rattle.std.specs.BTreeMap.{is_at, insert_entry}
@@ -8,10 +8,13 @@ use Rattle.hir_base.specs.declared.edition.Edition.{Edition}
 use Rattle.hir_base.specs.declared.ids.MapId.{MapId}
 use Rattle.hir_base.specs.declared.ids.ModuleId.{ModuleId}
 use Rattle.hir_base.specs.contracts.ids.MapIdPartialEq.TheImpl as map_id
+use Rattle.hir_scope.specs.declared.imports.ImportOrExternCrate.{ImportOrExternCrate}
 use Rattle.hir_scope.specs.declared.per_ns.PerNs.{PerNs}
 use Rattle.hir_scope.specs.declared.visibility.Visibility.{Visibility}
 use Rattle.hir_scope.specs.PerNs.{nothing}
-use Rattle.hir_scope.specs.Pushes.{after_push, changes}
+use Rattle.hir_scope.specs.GlobImports.{GlobNames, Place}
+use Rattle.hir_scope.specs.ItemScope.{ScopeValue, binding_of, empty_scope}
+use Rattle.hir_scope.specs.ScopePushes.{pushed_scope, pushed_globs, push_changes as scope_changes}
 use Rattle.hir_def_map.specs.declared.nameres.origin.ModuleOrigin.{ModuleOrigin}
 
 -- a module: where it is written, who may see it, what it is in, what it holds by name
@@ -21,8 +24,8 @@ pub record ModuleValue : Type 0 where
   pub parent : Option ModuleId
   -- the first module of each name
   pub children : List (List ℕ × ModuleId)
-  -- what each name stands for
-  pub scope : List (List ℕ × PerNs)
+  -- what each name stands for, and what the module declares
+  pub scope : ScopeValue
 
 -- a def map, finished or still being built: its modules by number, the root first
 pub record Map : Type 0 where
@@ -40,19 +43,10 @@ at_name entries name = lookup (is_at (slice_cmp nat_cmp name)) entries
 abbrev pub with_name : {V : Type 0} → List (List ℕ × V) → List ℕ → V → List (List ℕ × V)
 with_name entries name value = insert_entry (slice_cmp nat_cmp) entries name value
 
--- the items, or else none
-abbrev pub or_nothing : Option PerNs → PerNs
-or_nothing None = nothing
-or_nothing (Some items) = items
-
--- what a name stands for in a scope
-abbrev pub bound : List (List ℕ × PerNs) → List ℕ → PerNs
-bound scope name = or_nothing (at_name scope name)
-
 -- what a name stands for in a module
 abbrev pub entry_of : Option ModuleValue → List ℕ → PerNs
 entry_of None name = nothing
-entry_of (Some m) name = bound m.scope name
+entry_of (Some m) name = binding_of m.scope name
 
 -- the module of this name below a module
 abbrev pub child_of : Option ModuleValue → List ℕ → Option ModuleId
@@ -67,6 +61,10 @@ parent_of (Some m) = m.parent
 -- the module of this number
 abbrev pub module_at : Map → ℕ → Option ModuleValue
 module_at map at = slice_get map.modules at
+
+-- its scope, where it is there
+abbrev pub scope_at : Map → ℕ → Option ScopeValue
+scope_at map at = option_map (λ (m : ModuleValue). m.scope) (module_at map at)
 
 abbrev pub entry_at : Map → ℕ → List ℕ → PerNs
 entry_at map at name = entry_of (module_at map at) name
@@ -114,7 +112,7 @@ abbrev pub root_map : MapId → Edition → ModuleOrigin → Visibility → Map
 root_map id edition origin visibility = record {
   id = id;
   edition = edition;
-  modules = record { origin = origin; visibility = visibility; parent = None; children = []; scope = [] } ∷ [];
+  modules = record { origin = origin; visibility = visibility; parent = None; children = []; scope = empty_scope } ∷ [];
 }
 
 -- the id of the next module
@@ -144,7 +142,7 @@ new_module map parent origin visibility = record {
   visibility = visibility;
   parent = Some (numbered map.id parent);
   children = [];
-  scope = [];
+  scope = empty_scope;
 }
 
 -- the map with one more module; its parent gains the child name unless that is taken
@@ -155,32 +153,46 @@ with_module map parent name origin visibility = record {
   modules = changed_at map.modules parent (with_child name (new_id map)) ++ new_module map parent origin visibility ∷ [];
 }
 
--- the scope once items were pushed under a name
-abbrev pub pushed_scope : List (List ℕ × PerNs) → List ℕ → PerNs → List (List ℕ × PerNs)
-pushed_scope scope name items = with_name scope name (after_push (bound scope name) items)
+-- the names that globs brought, where none has brought any
+abbrev pub no_globs : GlobNames
+no_globs = record { types = []; values = []; macros = [] }
 
--- the module once items were pushed under a name
-abbrev pub pushed_module : List ℕ → PerNs → ModuleValue → ModuleValue
-pushed_module name items m = record {
+-- a name in the module of a number
+abbrev pub place_at : MapId → ℕ → List ℕ → Place
+place_at id at name = (numbered id at, name)
+
+-- the module once items were pushed to a place by an import
+abbrev pub pushed_module : GlobNames → Place → PerNs → Option ImportOrExternCrate → ModuleValue → ModuleValue
+pushed_module globs place items import m = record {
   origin = m.origin;
   visibility = m.visibility;
   parent = m.parent;
   children = m.children;
-  scope = pushed_scope m.scope name items;
+  scope = pushed_scope globs place items import m.scope;
 }
 
--- the map once items were pushed under a name in a module
-abbrev pub pushed : Map → ℕ → List ℕ → PerNs → Map
-pushed map at name items = record { id = map.id; edition = map.edition; modules = changed_at map.modules at (pushed_module name items) }
+-- the map once items were pushed under a name in a module by an import
+abbrev pub pushed : Map → GlobNames → ℕ → List ℕ → PerNs → Option ImportOrExternCrate → Map
+pushed map globs at name items import =
+    record { id = map.id; edition = map.edition; modules = changed_at map.modules at (pushed_module globs (place_at map.id at name) items import) }
 
--- whether a push changes what the name stands for in a module
-abbrev pub changes_module : Option ModuleValue → List ℕ → PerNs → Bool
-changes_module None name items = false
-changes_module (Some m) name items = changes (bound m.scope name) items
+-- the names that globs brought, once items were pushed to a place in a module
+abbrev pub globs_in : Option ModuleValue → GlobNames → Place → PerNs → Option ImportOrExternCrate → GlobNames
+globs_in None globs place items import = globs
+globs_in (Some m) globs place items import = pushed_globs m.scope place items import globs
 
--- whether a push changes what the name stands for
-abbrev pub push_changes : Map → ℕ → List ℕ → PerNs → Bool
-push_changes map at name items = changes_module (module_at map at) name items
+-- the names that globs brought, once items were pushed under a name in a module by an import
+abbrev pub globs_after : Map → GlobNames → ℕ → List ℕ → PerNs → Option ImportOrExternCrate → GlobNames
+globs_after map globs at name items import = globs_in (module_at map at) globs (place_at map.id at name) items import
+
+-- whether a push to a place changes anything in a module
+abbrev pub changes_module : Option ModuleValue → GlobNames → Place → PerNs → Option ImportOrExternCrate → Bool
+changes_module None globs place items import = false
+changes_module (Some m) globs place items import = scope_changes m.scope globs place items import
+
+-- whether a push changes anything
+abbrev pub push_changes : Map → GlobNames → ℕ → List ℕ → PerNs → Option ImportOrExternCrate → Bool
+push_changes map globs at name items import = changes_module (module_at map at) globs (place_at map.id at name) items import
 
 -- ---- what holds of every def map
 

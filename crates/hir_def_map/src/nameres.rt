@@ -1,18 +1,20 @@
 //! The def map of a crate, after rust-analyzer's `nameres.rs`.
 ghost use Rattle.std.specs.Prelude.{◌≡◌, ◌<◌, ◌++◌, [], ◌∷◌, length, slice_get, IfOk, OnOk, OnErr, IfSome, option_map};
 ghost use Rattle.hir_base.specs.Refusal.{Gives};
-ghost use Rattle.hir_def_map.specs.State.{child_at, entry_at, parent_at, module_at, root_map, root_of, with_child, with_module, changed_at, changes_module, pushed_module, pushed, push_changes, IsRooted};
+ghost use Rattle.hir_def_map.specs.State.{child_at, entry_at, parent_at, module_at, root_map, scope_at, root_of, with_child, with_module, changed_at, changes_module, globs_in, globs_after, pushed_module, pushed, push_changes, IsRooted};
 ghost use Rattle.hir_def_map.specs.Building.{new_module_verdict, IsMemory};
 
 pub mod module_data;
 pub mod origin;
 pub mod path_resolution;
-mod scope;
 mod tree;
 
 use hir_base::edition::Edition;
 use hir_base::ids::{MapId, ModuleId};
 use hir_base::name::Name;
+use hir_scope::glob_imports::PerNsGlobImports;
+use hir_scope::imports::ImportOrExternCrate;
+use hir_scope::item_scope::ItemScope;
 use hir_scope::per_ns::PerNs;
 use hir_scope::visibility::Visibility;
 use module_data::ModuleData;
@@ -139,6 +141,16 @@ impl DefMap {
         }
     }
 
+    /// What the names of a module stand for, and what it declares.
+    pub fn scope(&self, at: u32) -> Option<&ItemScope>
+        ensures value { option_map (λ s. s.now) result ≡ scope_at self.now at }
+    {
+        match self.modules.get(at as usize) {
+            Some(module) => Some(module.scope()),
+            None => None,
+        }
+    }
+
     /// What a name stands for in a module.
     pub fn entry(&self, at: u32, name: &Name) -> PerNs
         ensures value { result ≡ entry_at self.now at name.now }
@@ -182,15 +194,38 @@ impl DefMap {
         Ok(id)
     }
 
-    /// Binds items under a name in a module, namespace by namespace, and says whether that changed anything.
+    /// Binds items under a name in a module by an import, and says whether that changed anything.
     ///
-    /// What is bound gives way only to the import that bound it. Nothing happens where the module isn't there.
-    pub fn push(&mut self, at: u32, name: Name, items: PerNs) -> Result<bool, AllocError>
-        ensures ok { OnOk result (self.new ≡ pushed self.old at name items) }
-        ensures changed { IfOk result (λ changed. changed ≡ push_changes self.old at name items) }
+    /// The names that globs brought are kept by the caller. Nothing happens where the module isn't
+    /// there. After rust-analyzer's `DefCollector::update`.
+    pub fn push(
+        &mut self,
+        glob_imports: &mut PerNsGlobImports,
+        at: u32,
+        name: Name,
+        items: PerNs,
+        import: Option<ImportOrExternCrate>,
+    ) -> Result<bool, AllocError>
+        ensures ok { OnOk result (self.new ≡ pushed self.old glob_imports.old at name items import) }
+        ensures globs { OnOk result
+            (glob_imports.new ≡ globs_after self.old glob_imports.old at name items import) }
+        ensures changed { IfOk result (λ changed. changed
+            ≡ push_changes self.old glob_imports.old at name items import) }
         ensures err { OnErr result (self.new ≡ self.old) }
+        ensures err_globs { OnErr result (glob_imports.new ≡ glob_imports.old) }
     {
-        push_in(&mut self.modules, at as usize, name, items)
+        let module = ModuleId {
+            map: self.id,
+            index: at,
+        };
+        push_in(
+            &mut self.modules,
+            glob_imports,
+            at as usize,
+            (module, name),
+            items,
+            import,
+        )
     }
 }
 
@@ -217,19 +252,26 @@ fn insert_module(
     }
 }
 
-/// Binds items under a name in one of the modules, where it is there.
+/// Binds items to a place in one of the modules, where it is there.
 fn push_in(
     modules: &mut Vec<ModuleData>,
+    glob_imports: &mut PerNsGlobImports,
     at: usize,
-    name: Name,
+    place: (ModuleId, Name),
     items: PerNs,
+    import: Option<ImportOrExternCrate>,
 ) -> Result<bool, AllocError>
-    ensures ok { OnOk result (modules.new.items ≡ changed_at modules.old.items at (pushed_module name items)) }
-    ensures changed { IfOk result (λ changed. changed ≡ changes_module (slice_get modules.old.items at) name items) }
+    ensures ok { OnOk result (modules.new.items
+        ≡ changed_at modules.old.items at (pushed_module glob_imports.old place items import)) }
+    ensures globs { OnOk result (glob_imports.new
+        ≡ globs_in (slice_get modules.old.items at) glob_imports.old place items import) }
+    ensures changed { IfOk result (λ changed. changed
+        ≡ changes_module (slice_get modules.old.items at) glob_imports.old place items import) }
     ensures err { OnErr result (modules.new.items ≡ modules.old.items) }
+    ensures err_globs { OnErr result (glob_imports.new ≡ glob_imports.old) }
 {
     if at >= modules.len() {
         return Ok(false);
     }
-    modules[at].push(name, items)
+    modules[at].push(glob_imports, place, items, import)
 }

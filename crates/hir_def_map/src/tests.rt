@@ -5,12 +5,14 @@ use hir_base::ast_id::{AstId, AstKind, EditionedFileId, FileId, HirFileId, Synta
 use hir_base::builtin_type::{BuiltinType, BuiltinUint};
 use hir_base::edition::Edition;
 use hir_base::ids::{
-    AdtId, Crate, FunctionId, ItemContainerId, MapId, ModuleDefId, ModuleId, StructId, UseId,
+    AdtId, Crate, ExternCrateId, FunctionId, ItemContainerId, MapId, ModuleDefId, ModuleId,
+    StructId, UseId,
 };
 use hir_base::mod_path::ModPath;
 use hir_base::name::Name;
 use hir_item_tree::raw_visibility::{RawVisibility, VisibilityExplicitness};
-use hir_scope::imports::{ImportId, ImportOrExternCrate, ImportOrGlob};
+use hir_scope::glob_imports::PerNsGlobImports;
+use hir_scope::imports::{GlobId, ImportId, ImportOrExternCrate, ImportOrGlob};
 use hir_scope::per_ns::{Item, PerNs};
 use hir_scope::visibility::Visibility;
 use std::alloc::Global;
@@ -68,16 +70,47 @@ fn function(container: u32, number: u16) -> ModuleDefId {
     })
 }
 
+fn use_item(number: u16) -> UseId {
+    UseId {
+        container: module(0),
+        file_id: HirFileId::File(FILE),
+        block: None,
+        id: node(number),
+    }
+}
+
 fn import(number: u16) -> ImportId {
     ImportId {
-        use_: UseId {
-            container: module(0),
-            file_id: HirFileId::File(FILE),
-            block: None,
-            id: node(number),
-        },
+        use_: use_item(number),
         idx: 0,
     }
+}
+
+/// The import of a node.
+fn by(number: u16) -> Option<ImportOrExternCrate> {
+    Some(ImportOrExternCrate::Import(import(number)))
+}
+
+fn glob_id(number: u16) -> GlobId {
+    GlobId {
+        use_: use_item(number),
+        idx: 0,
+    }
+}
+
+/// The glob of a node.
+fn by_glob(number: u16) -> Option<ImportOrExternCrate> {
+    Some(ImportOrExternCrate::Glob(glob_id(number)))
+}
+
+/// The `extern crate` item of a node.
+fn by_extern_crate(number: u16) -> Option<ImportOrExternCrate> {
+    Some(ImportOrExternCrate::ExternCrate(ExternCrateId {
+        container: module(0),
+        file_id: HirFileId::File(FILE),
+        block: None,
+        id: node(number),
+    }))
 }
 
 fn types(def: ModuleDefId, vis: Visibility) -> PerNs {
@@ -100,20 +133,37 @@ fn both(def: ModuleDefId, vis: Visibility) -> PerNs {
     types(def, vis).or(values(def, vis))
 }
 
-fn imported(def: ModuleDefId, by: u16) -> PerNs {
+/// A public type and value, the one with this import, the other with that.
+fn bound(
+    def: ModuleDefId,
+    types: Option<ImportOrExternCrate>,
+    values: Option<ImportOrGlob>,
+) -> PerNs {
     PerNs {
         types: Some(Item {
             def,
             vis: Visibility::Public,
-            import: Some(ImportOrExternCrate::Import(import(by))),
+            import: types,
         }),
         values: Some(Item {
             def,
             vis: Visibility::Public,
-            import: Some(ImportOrGlob::Import(import(by))),
+            import: values,
         }),
         macros: None,
     }
+}
+
+fn imported(def: ModuleDefId, number: u16) -> PerNs {
+    bound(def, by(number), Some(ImportOrGlob::Import(import(number))))
+}
+
+fn globbed(def: ModuleDefId, number: u16) -> PerNs {
+    bound(
+        def,
+        by_glob(number),
+        Some(ImportOrGlob::Glob(glob_id(number))),
+    )
 }
 
 fn only(index: u32) -> Visibility {
@@ -136,11 +186,12 @@ fn builtin(kind: BuiltinUint) -> PerNs {
 fn sample(alloc: Global) -> Result<DefMap, Fail> {
     let origin = ModuleOrigin::CrateRoot { definition: FILE };
     let mut map = DefMap::empty(alloc, MAP, Edition::Edition2021, origin, Visibility::Public)?;
+    let mut globs = PerNsGlobImports::new(alloc);
     for (parent, text, number) in [(0u32, "a", 10u16), (1, "b", 11), (0, "u8", 12)] {
         let name = Name::new(alloc, text)?;
         if parent < map.module_count() {
             let id = map.add_module(parent, name.clone()?, inline(number), Visibility::Public)?;
-            map.push(parent, name, to_module(id.index))?;
+            map.push(&mut globs, parent, name, to_module(id.index), None)?;
         }
     }
     let rows = [
@@ -151,7 +202,7 @@ fn sample(alloc: Global) -> Result<DefMap, Fail> {
         (0, "l", to_module(0)),
     ];
     for (at, text, items) in rows {
-        map.push(at, Name::new(alloc, text)?, items)?;
+        map.push(&mut globs, at, Name::new(alloc, text)?, items, None)?;
     }
     Ok(map)
 }
@@ -319,72 +370,125 @@ fn fixed_points(rt: HostRuntime) -> Result<(), Fail> {
     Ok(())
 }
 
-/// What a name stands for after two pushes, and whether the second changed it.
+/// What a name stands for after two pushes, and whether the second changed anything.
 #[test]
 fn pushes(rt: HostRuntime) -> Result<(), Fail> {
     let one = structure(0, 1);
     let two = structure(0, 2);
-    let declared = both(one, Visibility::Public);
+    let none = PerNs::none();
+    let a = both(one, Visibility::Public);
+    let b = both(two, Visibility::Public);
+    let type_alone = types(one, only(0));
+    let value_alone = values(two, only(0));
     let rows = [
-        (
-            "item then item",
-            declared,
-            both(two, Visibility::Public),
-            declared,
-            false,
-        ),
-        (
-            "item then import",
-            declared,
-            imported(two, 5),
-            declared,
-            false,
-        ),
+        ("item then item", a, None, b, None, a, false),
+        ("item then import", a, None, b, by(5), a, false),
         (
             "import then item",
-            imported(two, 5),
-            declared,
+            b,
+            by(5),
+            a,
+            None,
             imported(two, 5),
             false,
         ),
         (
             "import then another",
-            imported(one, 5),
-            imported(two, 6),
+            a,
+            by(5),
+            b,
+            by(6),
             imported(one, 5),
             false,
         ),
         (
             "import then itself",
-            imported(one, 5),
-            imported(one, 5),
+            a,
+            by(5),
+            a,
+            by(5),
             imported(one, 5),
             false,
         ),
         (
             "import that reaches something else",
-            imported(one, 5),
-            imported(two, 5),
+            a,
+            by(5),
+            b,
+            by(5),
             imported(two, 5),
             true,
         ),
-        ("nothing then item", PerNs::none(), declared, declared, true),
+        (
+            "what an item was brought by isn't kept",
+            none,
+            None,
+            imported(one, 6),
+            by(5),
+            imported(one, 5),
+            true,
+        ),
+        ("glob then item", a, by_glob(5), b, None, b, true),
+        (
+            "glob then import",
+            a,
+            by_glob(5),
+            b,
+            by(6),
+            imported(two, 6),
+            true,
+        ),
+        ("item then glob", a, None, b, by_glob(5), a, false),
+        (
+            "glob then another",
+            a,
+            by_glob(5),
+            b,
+            by_glob(6),
+            globbed(one, 5),
+            false,
+        ),
+        (
+            "an extern crate as a value",
+            none,
+            None,
+            a,
+            by_extern_crate(5),
+            bound(one, by_extern_crate(5), None),
+            true,
+        ),
+        ("nothing then item", none, None, a, None, a, true),
+        ("nothing twice", none, None, none, None, none, false),
+        ("item then nothing", a, None, none, None, a, true),
         (
             "type then value",
-            types(one, only(0)),
-            values(two, only(0)),
-            types(one, only(0)).or(values(two, only(0))),
+            type_alone,
+            None,
+            value_alone,
+            None,
+            type_alone.or(value_alone),
             true,
         ),
     ];
-    for (row, first, second, after, changed) in rows {
+    for (row, first, first_by, second, second_by, after, changed) in rows {
         let mut map = sample(rt.alloc())?;
+        let mut globs = PerNsGlobImports::new(rt.alloc());
         let name = Name::new(rt.alloc(), "T")?;
-        map.push(2, name.clone()?, first)?;
-        assert_eq!(rt; map.push(2, name.clone()?, second)?, changed, "{row}");
+        map.push(&mut globs, 2, name.clone()?, first, first_by)?;
+        let moved = map.push(&mut globs, 2, name.clone()?, second, second_by)?;
+        assert_eq!(rt; moved, changed, "{row}");
         assert_eq!(rt; map.entry(2, &name), after, "{row}");
+        assert_eq!(rt;
+            map.scope(2).map(|scope| scope.get(&name)),
+            Some(after),
+            "{row}"
+        );
         assert_eq!(rt; map.entry(1, &name), PerNs::none(), "{row}");
-        assert!(rt; !map.push(9, name, first)?, "no such module");
+        assert!(rt; map.scope(9).is_none(), "no such module");
+        assert!(rt;
+            !map.push(&mut globs, 9, name, first, first_by)?,
+            "no such module"
+        );
     }
     Ok(())
 }

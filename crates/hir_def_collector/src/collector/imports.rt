@@ -9,7 +9,7 @@ use hir_base::name::Name;
 use hir_def_map::nameres::DefMap;
 use hir_item_tree::raw_visibility::RawVisibility;
 use hir_item_tree::shape::ImportAlias;
-use hir_scope::imports::{ImportId, ImportOrExternCrate, ImportOrGlob};
+use hir_scope::imports::ImportId;
 use hir_scope::per_ns::{Item, PerNs};
 use hir_scope::visibility::Visibility;
 use std::alloc::AllocError;
@@ -40,8 +40,10 @@ pub struct Taking {
     pub home: u32,
     /// The name that it gives, if it gives one.
     pub name: Option<Name>,
-    /// What it binds.
+    /// What it offers, each item with what had brought it.
     pub items: PerNs,
+    /// The import itself, which the bindings keep.
+    pub import: ImportId,
     /// The namespaces that its takings will have reached.
     pub namespaces: Namespaces,
 }
@@ -116,14 +118,13 @@ pub fn reached(map: &DefMap, at: ModuleId, path: &ModPath) -> PerNs
     map.reached_items(at, path)
 }
 
-/// An item as an import of this visibility binds it.
+/// An item as an import of this visibility offers it.
 fn brought<Def: Copy, Import: Copy>(
     map: &DefMap,
     own: Visibility,
-    by: Import,
     item: Option<Item<Def, Import>>,
 ) -> Option<Item<Def, Import>>
-    ensures value { result ≡ option_map (brought map.now own by) item }
+    ensures value { result ≡ option_map (brought map.now own) item }
 {
     let Some(item) = item else {
         return None;
@@ -135,17 +136,17 @@ fn brought<Def: Copy, Import: Copy>(
     Some(Item {
         def: item.def,
         vis,
-        import: Some(by),
+        import: item.import,
     })
 }
 
-/// What an import of this visibility binds of what it reaches.
-pub fn imported(map: &DefMap, own: Visibility, by: ImportId, items: PerNs) -> PerNs
-    ensures value { result ≡ imported map.now own by items }
+/// What an import of this visibility offers of what it reaches.
+pub fn imported(map: &DefMap, own: Visibility, items: PerNs) -> PerNs
+    ensures value { result ≡ imported map.now own items }
 {
     PerNs {
-        types: brought(map, own, ImportOrExternCrate::Import(by), items.types),
-        values: brought(map, own, ImportOrGlob::Import(by), items.values),
-        macros: brought(map, own, ImportOrExternCrate::Import(by), items.macros),
+        types: brought(map, own, items.types),
+        values: brought(map, own, items.values),
+        macros: brought(map, own, items.macros),
     }
 }

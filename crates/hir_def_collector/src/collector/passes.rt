@@ -17,7 +17,7 @@ fn take(run: &mut Run, i: usize, taking: Taking) -> Result<(), CollectError>
     ensures ok { OnOk result ((w : Workspace) → Step w (at_rest run.old) (at_rest run.new)) }
     ensures many { result ≡ Err CollectError.TooMany → STEP_LIMIT ≤ run.old.count }
 {
-    run.bind_as(taking.home, taking.name, taking.items)?;
+    run.bind_as(taking.home, taking.name, taking.items, taking.import)?;
     run.note(i, taking.namespaces);
     run.tick()?;
     Ok(())

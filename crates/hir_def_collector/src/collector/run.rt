@@ -3,7 +3,7 @@ ghost use Rattle.std.specs.Prelude.{◌≡◌, ◌<◌, ◌≤◌, length, OnOk,
 ghost use Rattle.hir_def_map.specs.State.{with_module, new_id};
 ghost use Rattle.hir_def_collector.specs.State.{with_map, with_import, with_taken, counted};
 ghost use Rattle.hir_def_collector.specs.Items.{module_id};
-ghost use Rattle.hir_def_collector.specs.Imports.{bound_as, reached_by, taking_at};
+ghost use Rattle.hir_def_collector.specs.Imports.{bound_as, bound_in, pushing, reached_by, taking_at};
 ghost use Rattle.hir_def_collector.specs.Start.{start_core};
 ghost use Rattle.hir_def_collector.specs.Derivation.{leftover_among};
 
@@ -17,7 +17,8 @@ use hir_base::ids::{MapId, ModuleId};
 use hir_base::name::Name;
 use hir_def_map::nameres::DefMap;
 use hir_def_map::nameres::origin::ModuleOrigin;
-use hir_scope::imports::ImportId;
+use hir_scope::glob_imports::PerNsGlobImports;
+use hir_scope::imports::{ImportId, ImportOrExternCrate};
 use hir_scope::per_ns::PerNs;
 use hir_scope::visibility::Visibility;
 use std::alloc::{AllocError, Global};
@@ -27,6 +28,7 @@ use std::marker::Model;
 #[derive(Drop)]
 pub struct Run {
     map: DefMap,
+    from_glob_import: PerNsGlobImports,
     reached: Vec<ReachedImport>,
     taken: Vec<Namespaces>,
     asked: Vec<Key>,
@@ -34,7 +36,8 @@ pub struct Run {
 }
 
 impl Model for Run {
-    ghost use Rattle.std.specs.Prelude.{◌≤◌};
+    ghost use Rattle.std.specs.Prelude.{◌≡◌, ◌≤◌};
+    ghost use Rattle.hir_def_map.specs.State.{no_globs};
     ghost use Rattle.hir_def_collector.specs.State.{Core};
     ghost use Rattle.hir_def_collector.specs.declared.collector.TheConstants.{STEP_LIMIT};
 
@@ -42,7 +45,18 @@ impl Model for Run {
 
     ghost view = { λ r. record { map = r.map; reached = r.reached.items; taken = r.taken.items; asked = r.asked.items; count = r.count } };
 
-    ghost invariant = { λ r. r.count ≤ STEP_LIMIT };
+    // No glob brings anything yet.
+    ghost invariant = { λ r. (r.count ≤ STEP_LIMIT) × (r.from_glob_import ≡ no_globs) };
+}
+
+/// What pushes: an import, or a declaration.
+fn pushing(import: Option<ImportId>) -> Option<ImportOrExternCrate>
+    ensures value { result ≡ pushing import }
+{
+    match import {
+        Some(import) => Some(ImportOrExternCrate::Import(import)),
+        None => None,
+    }
 }
 
 impl Run {
@@ -62,6 +76,7 @@ impl Run {
         asked.push(Key::Tree(start.krate, HirFileId::File(start.root)))?;
         Ok(Run {
             map,
+            from_glob_import: PerNsGlobImports::new(alloc),
             reached: Vec::new(alloc),
             taken: Vec::new(alloc),
             asked,
@@ -113,20 +128,36 @@ impl Run {
         Ok(())
     }
 
-    /// Binds items under a name in a module.
-    pub fn bind(&mut self, home: u32, name: Name, items: PerNs) -> Result<(), AllocError>
-        ensures ok { OnOk result (self.new ≡ with_map self.old (bound_as self.old.map home (Some name) items)) }
+    /// Binds items under a name in a module, by an import or by a declaration.
+    ///
+    /// After rust-analyzer's `DefCollector::update`.
+    pub fn bind(
+        &mut self,
+        home: u32,
+        name: Name,
+        items: PerNs,
+        import: Option<ImportId>,
+    ) -> Result<(), AllocError>
+        ensures ok { OnOk result (self.new ≡ with_map self.old (bound_in self.old.map home name items import)) }
     {
-        self.map.push(home, name, items)?;
+        let import = pushing(import);
+        self.map
+            .push(&mut self.from_glob_import, home, name, items, import)?;
         Ok(())
     }
 
-    /// Binds items under a name in a module, if there is a name.
-    pub fn bind_as(&mut self, home: u32, name: Option<Name>, items: PerNs) -> Result<(), AllocError>
-        ensures ok { OnOk result (self.new ≡ with_map self.old (bound_as self.old.map home name items)) }
+    /// Binds items under the name that an import gives in a module, if it gives one.
+    pub fn bind_as(
+        &mut self,
+        home: u32,
+        name: Option<Name>,
+        items: PerNs,
+        import: ImportId,
+    ) -> Result<(), AllocError>
+        ensures ok { OnOk result (self.new ≡ with_map self.old (bound_as self.old.map home name items import)) }
     {
         match name {
-            Some(name) => self.bind(home, name, items),
+            Some(name) => self.bind(home, name, items, Some(import)),
             None => Ok(()),
         }
     }
@@ -198,7 +229,8 @@ impl Run {
         Ok(Some(Taking {
             home: import.home,
             name: import.name()?,
-            items: imported(&self.map, own, import.id, items),
+            items: imported(&self.map, own, items),
+            import: import.id,
             namespaces: before.or(namespaces),
         }))
     }

@@ -4,12 +4,12 @@ ghost use Rattle.hir_item_tree.specs.KeptForest.{leaf, function, structure, impo
 ghost use Rattle.hir_item_tree.specs.ModItem.{mod_item, forest_of};
 ghost use Rattle.hir_item_tree.specs.UseTree.{use_tree_view};
 ghost use Rattle.hir_scope.specs.Visibility.{visibility_of};
-ghost use Rattle.hir_def_map.specs.State.{pushed, new_id};
+ghost use Rattle.hir_def_map.specs.State.{new_id};
 ghost use Rattle.hir_def_collector.specs.Workspace.{Workspace};
 ghost use Rattle.hir_def_collector.specs.State.{Visit, joined, visits, with_map, counted};
 ghost use Rattle.hir_def_collector.specs.Items.{constructor_of, declared_struct, inline_origin, module_id, meet_of};
 ghost use Rattle.hir_item_tree.specs.Imports.{imports_of};
-ghost use Rattle.hir_def_collector.specs.Imports.{reached_import};
+ghost use Rattle.hir_def_collector.specs.Imports.{bound_in, reached_import};
 ghost use Rattle.hir_def_collector.specs.Steps.{Step, Steps, with_bound_module};
 ghost use Rattle.hir_def_collector.specs.Derivation.{IsFull, IsSpent};
 
@@ -32,11 +32,11 @@ use std::alloc::AllocError;
 
 /// Binds what is declared under a name.
 fn declare(run: &mut Run, home: u32, name: Name, items: PerNs) -> Result<(), CollectError>
-    ensures ok { OnOk result (run.new ≡ counted (with_map run.old (pushed run.old.map home name items))) }
+    ensures ok { OnOk result (run.new ≡ counted (with_map run.old (bound_in run.old.map home name items None))) }
     ensures grows { OnOk result (length run.old.map.modules ≤ length run.new.map.modules) }
     ensures many { result ≡ Err CollectError.TooMany → STEP_LIMIT ≤ run.old.count }
 {
-    run.bind(home, name, items)?;
+    run.bind(home, name, items, None)?;
     run.tick()?;
     Ok(())
 }

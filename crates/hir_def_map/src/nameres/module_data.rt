@@ -1,12 +1,15 @@
 //! One module of a def map.
 ghost use Rattle.std.specs.Prelude.{◌≡◌, [], None, IfOk, OnOk, OnErr};
-ghost use Rattle.hir_scope.specs.Pushes.{changes};
-ghost use Rattle.hir_def_map.specs.State.{at_name, bound, pushed_module, with_child};
+ghost use Rattle.hir_scope.specs.ItemScope.{binding_of, empty_scope};
+ghost use Rattle.hir_scope.specs.ScopePushes.{pushed_globs, push_changes};
+ghost use Rattle.hir_def_map.specs.State.{at_name, pushed_module, with_child};
 
 use crate::nameres::origin::ModuleOrigin;
-use crate::nameres::scope::Scope;
 use hir_base::ids::ModuleId;
 use hir_base::name::Name;
+use hir_scope::glob_imports::PerNsGlobImports;
+use hir_scope::imports::ImportOrExternCrate;
+use hir_scope::item_scope::ItemScope;
 use hir_scope::per_ns::PerNs;
 use hir_scope::visibility::Visibility;
 use std::alloc::{AllocError, Global};
@@ -20,7 +23,7 @@ pub struct ModuleData {
     visibility: Visibility,
     parent: Option<ModuleId>,
     children: BTreeMap<Name, ModuleId>,
-    scope: Scope,
+    scope: ItemScope,
 }
 
 impl Model for ModuleData {
@@ -39,14 +42,14 @@ impl ModuleData {
         visibility: Visibility,
         parent: Option<ModuleId>,
     ) -> ModuleData
-        ensures value { result ≡ record { origin = origin; visibility = visibility; parent = parent; children = []; scope = [] } }
+        ensures value { result ≡ record { origin = origin; visibility = visibility; parent = parent; children = []; scope = empty_scope } }
     {
         ModuleData {
             origin,
             visibility,
             parent,
             children: BTreeMap::new(alloc),
-            scope: Scope::new(alloc),
+            scope: ItemScope::new(alloc),
         }
     }
 
@@ -78,9 +81,16 @@ impl ModuleData {
         self.children.get(name).copied()
     }
 
+    /// What its names stand for, and what it declares.
+    pub fn scope(&self) -> &ItemScope
+        ensures value { result.now ≡ self.now.scope }
+    {
+        &self.scope
+    }
+
     /// What a name stands for in it.
     pub fn entry(&self, name: &Name) -> PerNs
-        ensures value { result ≡ bound self.now.scope name.now }
+        ensures value { result ≡ binding_of self.now.scope name.now }
     {
         self.scope.get(name)
     }
@@ -97,12 +107,23 @@ impl ModuleData {
         Ok(())
     }
 
-    /// Binds items under a name, and says whether that changed what it stands for.
-    pub fn push(&mut self, name: Name, items: PerNs) -> Result<bool, AllocError>
-        ensures ok { OnOk result (self.new ≡ pushed_module name items self.old) }
-        ensures changed { IfOk result (λ changed. changed ≡ changes (bound self.old.scope name) items) }
+    /// Binds items to a place in it, and says whether that changed anything.
+    pub fn push(
+        &mut self,
+        glob_imports: &mut PerNsGlobImports,
+        place: (ModuleId, Name),
+        items: PerNs,
+        import: Option<ImportOrExternCrate>,
+    ) -> Result<bool, AllocError>
+        ensures ok { OnOk result (self.new ≡ pushed_module glob_imports.old place items import self.old) }
+        ensures globs { OnOk result
+            (glob_imports.new ≡ pushed_globs self.old.scope place items import glob_imports.old) }
+        ensures changed { IfOk result (λ changed. changed
+            ≡ push_changes self.old.scope glob_imports.old place items import) }
         ensures err { OnErr result (self.new ≡ self.old) }
+        ensures err_globs { OnErr result (glob_imports.new ≡ glob_imports.old) }
     {
-        self.scope.push(name, items)
+        self.scope
+            .push_res_with_import(glob_imports, place, items, import)
     }
 }

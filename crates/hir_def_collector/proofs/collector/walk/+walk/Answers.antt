@@ -1,8 +1,5 @@
-use Rattle.std.proofs.Common.{rules, inl, arith, ◌≤◌, ◌<◌, length, refl}
-use Rattle.std.proofs.Common.{subst, sym, List}
-use Rattle.hir_item_tree.specs.KeptForest.{KeptItem}
+use Rattle.std.proofs.Common.{rules, inl, arith}
 use Rattle.hir_def_collector.proofs.KeptKinds.{function_item, struct_item, use_item, module_item}
-use Rattle.hir_def_collector.specs.State.{joined}
 use Rattle.hir_def_collector.specs.Steps.{none}
 use Rattle.hir_def_collector.proofs.Moves.{Steps-one, Steps-first, spent_after}
 use Rattle.hir_def_collector.proofs.Walked.{opens, walked_next, walked_all, walked_spent}

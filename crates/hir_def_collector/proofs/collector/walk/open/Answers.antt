@@ -1,4 +1,4 @@
-use Rattle.std.proofs.Common.{rules, ◌≡◌, ap, subst, sym, ◌<◌, ◌≤◌, ℕ, length, arith}
+use Rattle.std.proofs.Common.{rules, ◌≡◌, ap, subst, sym, ◌<◌, ℕ, length, arith}
 use Rattle.hir_base.specs.declared.ids.ModuleId.{ModuleId}
 use Rattle.hir_def_collector.specs.State.{counted, with_map}
 use Rattle.hir_def_collector.specs.Steps.{with_bound_module}
