@@ -1,8 +1,8 @@
-use Rattle.std.proofs.Common.{append_assoc, append-nil, ◌≡◌, ℕ, zero, suc, ◌+◌, ◌<◌, ◌≤◌, Bool, true, false, List, [], ◌∷◌, length, get_or, set, arith, below_more, refl, sym, ◌∙◌, ap, ◌++◌, Some, None, map}
+use Rattle.std.proofs.Common.{append_assoc, append-nil, ◌≡◌, ℕ, zero, suc, ◌+◌, ◌<◌, ◌≤◌, Bool, true, false, List, [], ◌∷◌, length, get_or, set, arith, below_more, refl, sym, ◌∙◌, ap, ◌++◌, Some, None, map, Result, Ok, Err, IsErrAnd}
 use Rattle.std.proofs.lemmas.List.{get_or-set_same, get_or-set_other}
 use Rattle.hir_base.specs.Place.{PlaceValue}
 use Rattle.hir_session.specs.SessionState.{SessionState, Resolution, workspace_of, start_of, is_marked, IsResolved, IsSound}
-use Rattle.hir_session.specs.Due.{due_from, due_crates, due_places, crate_place, resolved_at}
+use Rattle.hir_session.specs.Due.{due_from, due_crates, due_places, crate_place, resolved_at, IsOverlong, HasOverlongRun}
 use Rattle.hir_session.specs.Changes.{Resolves, Refreshes}
 use Rattle.hir_session.proofs.Truth.{clash}
 use Rattle.hir_session.proofs.Spreading.{mark-set}
@@ -76,4 +76,22 @@ refreshing-end {old} {new} {done} k p sound long =
     record {
       resolves = p.so_far;
       listed = sym (p.so_far.due ∙ ap (λ (xs : List PlaceValue). done ++ xs) rest ∙ append-nil done);
+    }
+
+-- the error that is passed on
+pub passed_on : {T U E : Type 0} (given : Result T E) (told : Result U E) (e f : E) → given ≡ Err e → IsErrAnd told (λ x. x ≡ e) → told ≡ Err f → given ≡ Err f
+passed_on given (Ok x) e f was h is = absurd h
+passed_on {E = E} given (Err x) e f was h is = let same : x ≡ f = cc in was ∙ ap (λ (y : E). Err y) (sym h ∙ same)
+
+-- a run that goes on for too long is that of the first crate that is due
+pub overlong_first : {old new : SessionState} {done : List PlaceValue} (k : ℕ) → IsRefreshing old new done k → IsSound new
+    → k < length new.crates → is_marked new k ≡ true → IsOverlong (workspace_of new) (start_of new k) → HasOverlongRun new
+overlong_first {old} {new} k p sound within on overlong =
+    let len : length new.marked ≡ length new.crates = sound.marked_len in
+    let zero_k : 0 + k ≡ k = omega arith in
+    record {
+      krate = k;
+      others = due_from 0 (set new.marked k false);
+      due = due-set new.marked 0 k p.below (omega arith) on ∙ ap (λ (i : ℕ). i ∷ due_from 0 (set new.marked k false)) zero_k;
+      overlong = overlong;
     }

@@ -15,7 +15,7 @@ pub after_call : {from s t : SessionState} {c : CommandValue} {answer : Reply} �
 after_call h (applies e is_edit accepted is told) = edit _ _ e h is
 after_call {from} h (refuses e why is_edit refused same told) = subst (λ (x : SessionState). History from x) (sym same) h
 after_call h (refreshes done is_refresh is told) = refresh _ _ done h is.resolves
-after_call h (refreshes_partly why is_refresh is told) = refresh _ _ is.done h is.resolves
+after_call h (refreshes_partly why is_refresh is many told) = refresh _ _ is.done h is.resolves
 after_call {from} h (resolves at path shadow style is_resolve same told) = subst (λ (x : SessionState). History from x) (sym same) h
 after_call {from} h (tells at is_status same told) = subst (λ (x : SessionState). History from x) (sym same) h
 

@@ -8,6 +8,7 @@ pub mod Differ
 pub mod Stand
 pub mod Replies
 pub mod Histories
+pub mod EditLaws
 pub mod CutLemmas
 pub mod PartLemmas
 pub mod RunLemmas

@@ -23,6 +23,7 @@ use Rattle.hir_session.specs.declared.error.QueryError.{QueryError}
 use Rattle.hir_session.specs.declared.error.QueryError.TheVariants as query_error
 use Rattle.hir_session.specs.SessionState.{SessionState}
 use Rattle.hir_session.specs.Refusals.{verdict_of_new, verdict_of_apply}
+use Rattle.hir_session.specs.Due.{HasOverlongRun}
 use Rattle.hir_session.specs.Changes.{Applies, Refreshes, RefreshesPartly}
 use Rattle.hir_session.specs.Status.{status_of}
 use Rattle.hir_session.specs.Answers.{answer_of}
@@ -77,8 +78,9 @@ pub data Moves (s : SessionState) (c : CommandValue) (answer : Reply) (t : Sessi
   refuses : (e : EditValue) (why : EditError) → c ≡ edit e → verdict_of_apply e ≡ Err why → t ≡ s → answer ≡ edit_reply why → Moves s c answer t
   -- all that was due is resolved, and listed
   refreshes : (done : List PlaceValue) → c ≡ refresh → Refreshes s done t → answer ≡ reply.Places done → Moves s c answer t
-  -- some of it is, and the rest is still marked
-  refreshes_partly : (why : RefreshError) → c ≡ refresh → RefreshesPartly s t → answer ≡ refresh_reply why → Moves s c answer t
+  -- some of it is, and the rest is still marked; it is too many only where the next run goes on for too long
+  refreshes_partly : (why : RefreshError) → c ≡ refresh → RefreshesPartly s t → (why ≡ refresh_error.TooMany → HasOverlongRun t)
+      → answer ≡ refresh_reply why → Moves s c answer t
   -- the path is answered
   resolves : (at : PlaceValue) (path : Path) (shadow : Shadow) (style : Option MacroStyle) → c ≡ resolve at path shadow style → t ≡ s
       → answer ≡ query_reply (answer_of s at path shadow style) → Moves s c answer t

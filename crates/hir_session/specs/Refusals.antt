@@ -7,6 +7,8 @@ use Rattle.hir_item_tree.specs.Source.{SourceValue}
 use Rattle.hir_item_tree.specs.Check.{verdict_of_check}
 use Rattle.hir_item_tree.specs.declared.check.CheckError.{CheckError}
 use Rattle.hir_item_tree.specs.declared.check.CheckError.TheVariants as check_error
+use Rattle.hir_def_collector.specs.declared.collector.CollectError.{CollectError}
+use Rattle.hir_def_collector.specs.declared.collector.CollectError.TheVariants as collect_error
 use Rattle.hir_wire.specs.declared.command.CrateInput.{CrateInput}
 use Rattle.hir_wire.specs.declared.command.Dependency.{Dependency}
 use Rattle.hir_wire.specs.Edits.{EditValue, set_file}
@@ -14,6 +16,8 @@ use Rattle.hir_session.specs.declared.error.NewSessionError.{NewSessionError}
 use Rattle.hir_session.specs.declared.error.NewSessionError.TheVariants as new_error
 use Rattle.hir_session.specs.declared.error.EditError.{EditError}
 use Rattle.hir_session.specs.declared.error.EditError.TheVariants as edit_error
+use Rattle.hir_session.specs.declared.error.RefreshError.{RefreshError}
+use Rattle.hir_session.specs.declared.error.RefreshError.TheVariants as refresh_error
 use Rattle.hir_session.specs.declared.error.QueryError.{QueryError}
 use Rattle.hir_session.specs.declared.error.QueryError.TheVariants as query_error
 use Rattle.hir_session.specs.Crates.{CrateValue}
@@ -31,6 +35,11 @@ IsEditMemory e = e ≡ edit_error.Memory
 -- memory ran out
 abbrev pub IsQueryMemory : QueryError → Type 0
 IsQueryMemory e = e ≡ query_error.Memory
+
+-- why a refresh ends early where a run was given up
+abbrev pub refresh_error_of : CollectError → RefreshError
+refresh_error_of collect_error.TooMany = refresh_error.TooMany
+refresh_error_of collect_error.Memory = refresh_error.Memory
 
 -- the crates that a list names as dependencies
 abbrev pub dependency_crates : List Dependency → List Crate

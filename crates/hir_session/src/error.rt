@@ -6,46 +6,78 @@ use hir_base::limit::Limit;
 use hir_def_collector::collector::CollectError;
 use hir_item_tree::check::CheckError;
 use std::alloc::{AllocError, AllocFailed};
+use thiserror::Error;
 
 /// Why a session isn't made.
-#[derive(Clone, Copy, Debug, PartialEq, Eq, Drop)]
+#[derive(Clone, Copy, Debug, PartialEq, Eq, Drop, Error)]
 pub enum NewSessionError {
     /// Something that is handed in can't be taken yet.
+    #[error("a crate is of a kind that isn't taken yet")]
     NotYet,
     /// A dependency of this crate doesn't come before it.
+    #[error("crate {} depends on one that doesn't come before it", .0.0)]
     DependencyOrder(Crate),
+    #[error("{} is above the limit", measured(*.0))]
     TooLarge(Limit),
+    #[error("out of memory")]
     Memory,
 }
 
 /// Why an edit is refused.
-#[derive(Clone, Copy, Debug, PartialEq, Eq, Drop)]
+#[derive(Clone, Copy, Debug, PartialEq, Eq, Drop, Error)]
 pub enum EditError {
     /// Something that is handed in can't be taken yet.
+    #[error("the source holds something that isn't taken yet")]
     NotYet,
+    #[error("there is no such crate")]
     UnknownCrate,
     /// The first limit that is passed.
+    #[error("{} is above the limit", measured(*.0))]
     TooLarge(Limit),
     /// Two nodes of one kind have this id.
+    #[error("two nodes of kind {kind:?} have the id [{}, {}]", .id.hash, .id.index)]
     DuplicateId { kind: AstKind, id: SyntaxId },
+    #[error("out of memory")]
     Memory,
 }
 
 /// Why a refresh ended early.
-#[derive(Clone, Copy, Debug, PartialEq, Eq, Drop)]
+#[derive(Clone, Copy, Debug, PartialEq, Eq, Drop, Error)]
 pub enum RefreshError {
     /// A run took more steps, or made more modules, than are counted.
+    #[error("a run took more steps, or made more modules, than are counted")]
     TooMany,
+    #[error("out of memory")]
     Memory,
 }
 
 /// Why a query has no answer.
-#[derive(Clone, Copy, Debug, PartialEq, Eq, Drop)]
+#[derive(Clone, Copy, Debug, PartialEq, Eq, Drop, Error)]
 pub enum QueryError {
     /// What is kept of the place may be out of date.
+    #[error("what is kept of the place may be out of date")]
     StalePlace,
+    #[error("there is no such crate or module")]
     UnknownPlace,
+    #[error("out of memory")]
     Memory,
+}
+
+/// What a limit is on.
+fn measured(limit: Limit) -> &'static str {
+    match limit {
+        Limit::Line => "the length of a line",
+        Limit::Name => "the length of a name",
+        Limit::Path => "the length of a path",
+        Limit::File => "the length of a file's path",
+        Limit::Index => "the index of an id",
+        Limit::Nodes => "the number of nodes",
+        Limit::Modules => "the depth of modules",
+        Limit::UseTree => "the depth of a use tree",
+        Limit::Cfg => "the size of a condition",
+        Limit::Blocks => "the depth of blocks",
+        Limit::Crates => "the number of crates",
+    }
 }
 
 impl From<AllocError> for NewSessionError {
@@ -108,6 +140,11 @@ impl<T: Drop> From<AllocFailed<T>> for RefreshError {
 }
 
 impl From<CollectError> for RefreshError {
+    ghost use Rattle.std.specs.Prelude.{◌≡◌};
+    ghost use Rattle.hir_session.specs.Refusals.{refresh_error_of};
+
+    ghost from_gives = { λ error r. r ≡ refresh_error_of error };
+
     fn from(error: CollectError) -> RefreshError {
         match error {
             CollectError::TooMany => RefreshError::TooMany,

@@ -1,5 +1,6 @@
 //! What holds of all that a session does; each function's contract is a law.
 ghost use Rattle.hir_session.specs.Histories.{DifferOnlyWhereAltered, RunsMakeHistories};
+ghost use Rattle.hir_session.specs.Laws.{BodyEditsMarkNothing, SetAbsentFileMarks};
 
 /// Two answers to one query differ only where an edit between them altered something that was asked for behind the first.
 pub fn answers_differ_only_where_altered()
@@ -9,4 +10,14 @@ pub fn answers_differ_only_where_altered()
 /// What answers lines makes a history of edits and refreshes, of which the other law speaks.
 pub fn runs_make_histories()
     ensures law { RunsMakeHistories }
+{}
+
+/// An edit that changes nothing but bodies leaves every answer as it is.
+pub fn body_edits_mark_nothing()
+    ensures law { BodyEditsMarkNothing }
+{}
+
+/// A file that was looked for and wasn't there makes stale what looked for it, once it is set.
+pub fn set_absent_file_marks()
+    ensures law { SetAbsentFileMarks }
 {}

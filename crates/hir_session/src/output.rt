@@ -8,13 +8,16 @@ ghost use Rattle.hir_session.specs.Output.{WritesPart, WritesReply, WritesReplyP
 use hir_wire::{Reply, fixed_text, reply_text};
 use std::alloc::Global;
 use std::io::Write;
+use thiserror::Error;
 
 /// What ended a run early.
-#[derive(Clone, Copy, Debug, Drop, PartialEq, Eq)]
+#[derive(Clone, Copy, Debug, Drop, PartialEq, Eq, Error)]
 pub enum Fault {
     /// A read failed, or there were too many of them.
+    #[error("read fault")]
     ReadFault,
     /// A write failed, or took nothing.
+    #[error("write fault")]
     WriteFault,
 }
 

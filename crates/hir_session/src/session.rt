@@ -9,7 +9,7 @@ ghost use Rattle.hir_wire.specs.Edits.{edit_view, set_file};
 ghost use Rattle.hir_session.specs.Crates.{start_in};
 ghost use Rattle.hir_session.specs.Files.{with_file, workspace_in};
 ghost use Rattle.hir_session.specs.SessionState.{SessionState, Resolution, workspace_of, start_of, kept_in, kept_of, is_marked, IsResolved, IsSound};
-ghost use Rattle.hir_session.specs.Due.{crate_place, resolved_at};
+ghost use Rattle.hir_session.specs.Due.{crate_place, resolved_at, IsOverlong, HasOverlongRun};
 ghost use Rattle.hir_session.specs.Refusals.{dependency_crates, has_late, first_out_of_order, crates_from, started, verdict_of_new, IsNewMemory, verdict_of_apply, verdict_of_source, IsEditMemory};
 ghost use Rattle.hir_session.specs.Status.{module_in_kept, module_of, status_of};
 ghost use Rattle.hir_session.specs.Answers.{answer_from, answer_of};
@@ -245,6 +245,7 @@ impl Session {
         requires first { (j : ℕ) → j < k → is_marked self.old j ≡ false }
         ensures ok { OnOk result ((r : Resolution) × IsResolved (workspace_of self.old) (start_of self.old k) r
             × (self.new ≡ resolved_at self.old k r)) }
+        ensures many { result ≡ Err RefreshError.TooMany → IsOverlong (workspace_of self.old) (start_of self.old k) }
         ensures err { OnErr result (self.new ≡ self.old) }
     {
         let found = resolve_crate(alloc, &self.crates, &self.paths, &self.files, k)?;
@@ -258,6 +259,7 @@ impl Session {
         ensures refreshes { IfOk result (λ done. Refreshes self.old done.items self.new) }
         ensures none_stale { OnOk result ((k : ℕ) → k < length self.new.crates → is_marked self.new k ≡ false) }
         ensures err { OnErr result (RefreshesPartly self.old self.new) }
+        ensures many { result ≡ Err RefreshError.TooMany → HasOverlongRun self.new }
     {
         let mut done = Vec::new(alloc);
         self.sound();

@@ -1,9 +1,10 @@
 //! What a run of the import rules reads of a session.
-ghost use Rattle.std.specs.Prelude.{◌≡◌, ◌<◌, length, IfOk, option_map, slice_get};
+ghost use Rattle.std.specs.Prelude.{◌≡◌, ◌<◌, length, Err, IfOk, option_map, slice_get};
 ghost use Rattle.hir_def_collector.specs.Workspace.{tree_look};
 ghost use Rattle.hir_session.specs.Crates.{start_in};
 ghost use Rattle.hir_session.specs.Files.{path_in, tree_in, workspace_in};
 ghost use Rattle.hir_session.specs.SessionState.{IsResolved};
+ghost use Rattle.hir_session.specs.Due.{IsOverlong};
 
 use crate::crate_info::CrateInfo;
 use crate::error::RefreshError;
@@ -74,6 +75,8 @@ pub fn resolve_crate(
     requires within { k < length crates.now.items }
     ensures resolved { IfOk result (λ found. IsResolved (workspace_in crates.now.items paths.now.items files.now)
         (start_in crates.now.items k) found) }
+    ensures many { result ≡ Err RefreshError.TooMany
+        → IsOverlong (workspace_in crates.now.items paths.now.items files.now) (start_in crates.now.items k) }
 {
     let start = Start {
         krate: Crate(k),

@@ -1,4 +1,3 @@
-use Rattle.std.proofs.Common.{◌≡◌}
 use Rattle.hir_session.proofs.FateLemmas.{answered_kept, answered_refused, answered_too_large}
 use Rattle.hir_session.proofs.server.Server.answer.Goals as goal
 use Rattle.hir_session.proofs.server.Server.answer.Goals.{in-Kept, in-Refused, in-TooLarge}

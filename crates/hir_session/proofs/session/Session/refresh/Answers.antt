@@ -1,7 +1,7 @@
 -- Each crate in turn is either not due, or the first that still is.
 use Rattle.std.proofs.Common.{◌∙◌, sym, List, length, arith, ap}
 use Rattle.hir_session.specs.Crates.{CrateValue}
-use Rattle.hir_session.proofs.Due.{refreshing-start, refreshing-more, refreshing-skip, refreshing-end}
+use Rattle.hir_session.proofs.Due.{refreshing-start, refreshing-more, refreshing-skip, refreshing-end, passed_on, overlong_first}
 use Rattle.hir_session.proofs.session.Session.refresh.Goals as goal
 use Rattle.hir_session.proofs.session.Session.refresh.Goals.{then-is_marked_at+in_ok-note+in_ok-resolve_at, else-is_marked_at}
 
@@ -12,6 +12,13 @@ pub returns-clause-refreshes : goal.returns-clause-refreshes
 returns-clause-refreshes c =
     let count = ap (λ (xs : List CrateValue). length xs) c.loop-k.invariant.so_far.crates in
     refreshing-end c.loop-k.k c.loop-k.invariant c.sound-2.ensures.sound (omega arith)
+
+pub returns-in_err-resolve_at-clause-many : goal.returns-in_err-resolve_at-clause-many
+returns-in_err-resolve_at-clause-many c = λ many.
+    let count = ap (λ (xs : List CrateValue). length xs) c.loop-k.invariant.so_far.crates in
+    rw c.in_err-resolve_at.ensures.err
+    (overlong_first c.loop-k.k c.loop-k.invariant c.sound-then-is_marked_at.ensures.sound (omega arith) (sym c.is_marked_at.ensures.value ∙ c.if-is_marked_at.true)
+    (c.resolve_at.ensures.many (passed_on _ _ _ _ c.in_err-resolve_at.was c.from_residual-in_err-resolve_at.ensures.1 many)))
 
 pub loop-k-preserved : goal.loop-k-preserved
 loop-k-preserved c =
