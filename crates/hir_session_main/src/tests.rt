@@ -3,9 +3,12 @@
 mod faults;
 mod imports;
 mod large;
+mod library;
 mod limits;
+mod lines;
 mod long_lines;
 mod marks;
+mod names;
 mod paths;
 mod refusals;
 mod streams;

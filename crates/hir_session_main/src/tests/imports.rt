@@ -141,3 +141,56 @@ fn imports_hold(rt: HostRuntime) -> Result<(), Fail> {
     }
     Ok(())
 }
+
+#[test]
+fn import_cycles_bind_nothing_of_their_own(rt: HostRuntime) -> Result<(), Fail> {
+    let rows = [
+        (
+            "import_of_its_own_name",
+            r#"{"do":"crates","crates":[{"edition":"2021","root":"lib.rs"}]}
+{"do":"set file","file":"lib.rs","unit":{"nodes":[{"kind":"Use","id":[1,0],"tree":{"single":"self::x"}}]}}
+{"do":"refresh"}
+{"do":"resolve","at":[0],"path":"x"}
+"#,
+            r#"{"ok":null}
+{"ok":null}
+{"ok":[[0]]}
+{"ok":{"macros":null,"stop":null,"types":null,"values":null}}
+"#,
+        ),
+        (
+            "imports_of_two_modules_name_each_other",
+            r#"{"do":"crates","crates":[{"edition":"2021","root":"lib.rs"}]}
+{"do":"set file","file":"lib.rs","unit":{"nodes":[{"kind":"Module","id":[1,0],"name":"a","nodes":[{"kind":"Use","id":[2,0],"tree":{"single":"crate::b::x"},"vis":"pub"}]},{"kind":"Module","id":[3,0],"name":"b","nodes":[{"kind":"Use","id":[4,0],"tree":{"single":"crate::a::x"},"vis":"pub"}]}]}}
+{"do":"refresh"}
+{"do":"resolve","at":[0],"path":"a::x"}
+{"do":"resolve","at":[0],"path":"b::x"}
+"#,
+            r#"{"ok":null}
+{"ok":null}
+{"ok":[[0]]}
+{"ok":{"macros":null,"stop":null,"types":null,"values":null}}
+{"ok":{"macros":null,"stop":null,"types":null,"values":null}}
+"#,
+        ),
+        (
+            "cycle_that_an_item_enters",
+            r#"{"do":"crates","crates":[{"edition":"2021","root":"lib.rs"}]}
+{"do":"set file","file":"lib.rs","unit":{"nodes":[{"kind":"Use","id":[1,0],"tree":{"single":"self::b","as":"a"}},{"kind":"Use","id":[2,0],"tree":{"single":"self::a","as":"b"}},{"kind":"Fn","id":[3,0],"name":"b"}]}}
+{"do":"refresh"}
+{"do":"resolve","at":[0],"path":"a"}
+{"do":"resolve","at":[0],"path":"b"}
+"#,
+            r#"{"ok":null}
+{"ok":null}
+{"ok":[[0]]}
+{"ok":{"macros":null,"stop":null,"types":null,"values":{"def":{"crate":0,"id":[3,0],"in":["lib.rs"],"kind":"Fn"},"import":{"id":[1,0],"in":["lib.rs"],"kind":"import","place":0},"vis":{"explicit":false,"module":{"crate":0,"kind":"CrateRoot"}}}}}
+{"ok":{"macros":null,"stop":null,"types":null,"values":{"def":{"crate":0,"id":[3,0],"in":["lib.rs"],"kind":"Fn"},"import":null,"vis":{"explicit":false,"module":{"crate":0,"kind":"CrateRoot"}}}}}
+"#,
+        ),
+    ];
+    for (label, lines, replies) in rows {
+        converse(&rt, rt.alloc(), label, lines, replies)?;
+    }
+    Ok(())
+}
