@@ -67,16 +67,17 @@ def main():
     size = sum(len(json.dumps(c, separators=(",", ":"))) + 1 for c in head)
     reading = best(SESSION, head)
     refreshed = best(SESSION, head + refresh)
-    answered, replies = timed(SESSION, head + refresh + asks)
+    answered = best(SESSION, head + refresh + asks)
+    replies = timed(SESSION, head + refresh + asks)[1]
     alone = best(READER, head)
-    all_alone = best(READER, head + refresh + asks)
+    asks_alone = best(READER, asks)
     missing = sum(1 for r in replies.decode().splitlines()[3:] if '"types":null' in r)
     memory = resource.getrusage(resource.RUSAGE_CHILDREN).ru_maxrss / 1024
     print(f"unit of {ITEMS} items, {size / 1e6:.2f} MB of JSON; {RESOLVES} resolves, {missing} of them without an answer")
     print(f"reading and keeping: {reading:.3f} s, {reading / alone:.1f} times reading alone ({alone:.3f} s)")
     print(f"first refresh: {refreshed - reading:.3f} s, {(refreshed - reading) / alone:.1f} times reading alone")
     print(f"{RESOLVES} resolves: {answered - refreshed:.3f} s, "
-          f"{(answered - refreshed) / max(all_alone - alone, 1e-9):.1f} times reading their lines alone")
+          f"{(answered - refreshed) / asks_alone:.1f} times reading their lines alone")
     print(f"most memory of any run: {memory:.0f} MB")
 
 
