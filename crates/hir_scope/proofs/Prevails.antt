@@ -1,11 +1,14 @@
 -- Pushes that come one after another leave what prevails among them.
-use Rattle.std.proofs.Common.{◌≡◌, ◌∙◌, sym, refl, Bool, true, false, not, ◌&&◌, ◌||◌, List, [], ◌∷◌, ◌++◌, Option, None, Some, cond, filter, fold}
+use Rattle.std.proofs.Common.{◌≡◌, ◌∙◌, ap, sym, refl, Bool, true, false, not, ◌&&◌, ◌||◌, List, [], ◌∷◌, ◌++◌, Option, None, Some, cond, filter, fold}
 use mathlib.Core.Bool.{true≢false}
 use Rattle.std.specs.Cmp.{IsEquivalence}
+use Rattle.std.proofs.lemmas.List.Sums.{fold-append}
+use Rattle.hir_scope.specs.declared.item_scope.offers.Offer.{Offer}
 use Rattle.hir_scope.specs.declared.per_ns.Item.{Item}
 use Rattle.hir_scope.specs.declared.push.Push.{Push}
 use Rattle.hir_scope.specs.PerNs.{first_of}
 use Rattle.hir_scope.specs.Pushes.{is_same_import, Slot, slot_after_push, history_of, from_explicit, is_by_import, run_starts, last_or, explicit_binding, prevailing}
+use Rattle.hir_scope.specs.ScopePushes.{slot_after_offer, pushes_of}
 
 module _ {D I : Type 0} (same_def : D → D → Bool) (same_import : I → I → Bool) (defs : IsEquivalence same_def) (imports : IsEquivalence same_import) where
   -- equal imports are equal to the same imports
@@ -86,3 +89,20 @@ module _ {D I : Type 0} (same_def : D → D → Bool) (same_import : I → I →
       go None g = first_stands ps g
       go (Some b) true = glob_stands ps b
       go (Some b) false = explicit_stands ps b b b.import (λ x. refl) (λ d. refl)
+
+  -- an offer is a push, or none
+  offer_folds : (offer : Option (Offer D I)) (slot : Slot D I)
+      → slot_after_offer same_def same_import offer slot ≡ fold (slot_after_push same_def same_import) slot (pushes_of offer)
+  offer_folds None slot = refl
+  offer_folds (Some o) slot = refl
+
+  -- and a slot that takes an offer holds what prevails among what stood there, the pushes since and the offered one
+  pub offer_prevails : (offer : Option (Offer D I)) (old new : Slot D I) → new ≡ slot_after_offer same_def same_import offer old
+      → (cut : Slot D I) (ps : List (Push D I)) → old ≡ fold (slot_after_push same_def same_import) cut ps
+      → new.bound ≡ prevailing same_def same_import (history_of cut ++ (ps ++ pushes_of offer))
+  offer_prevails offer old new made cut ps pushed =
+      let joined : new ≡ fold (slot_after_push same_def same_import) cut (ps ++ pushes_of offer) =
+      made ∙ (ap (slot_after_offer same_def same_import offer) pushed
+      ∙ (offer_folds offer (fold (slot_after_push same_def same_import) cut ps)
+      ∙ sym (fold-append (slot_after_push same_def same_import) cut ps (pushes_of offer)))) in
+      ap (λ (s : Slot D I). s.bound) joined ∙ what_prevails cut (ps ++ pushes_of offer)

@@ -2,17 +2,21 @@
 use Rattle.std.proofs.Common.{◌≡◌, ◌≢◌, ◌∙◌, ap, sym, subst, refl, ℕ, true, false, Bool, List, Option, None, Some, cond, Result, Ok, Err, OnOk}
 use Rattle.std.specs.declared.cmp.Ordering.{Ordering}
 use Rattle.std.specs.declared.cmp.Ordering.TheVariants.{Less, Equal, Greater}
-use Rattle.std.specs.Cmp.{IsTotalOrder}
+use Rattle.std.specs.Cmp.{IsTotalOrder, IsEquivalence}
 use Rattle.std.specs.Ordering.{nat_cmp, is_eq, ordering_then}
 use Rattle.std.specs.Cmp.Lexicographic.{slice_cmp}
 use Rattle.std.specs.List.Sorted.{IsStrictlySortedBy}
 use Rattle.std.proofs.lemmas.Cmp.{tied_itself, nat_list_cmp_total}
 use Rattle.std.proofs.lemmas.Map.Lookups.{exact_bytes}
 use Rattle.hir_base.specs.contracts.ids.ModuleDefIdPartialEq.TheImpl as module_def
+use Rattle.hir_base.specs.contracts.ids.ModuleDefIdEq.TheImpl.Laws.{laws-law as module_def_laws}
 use Rattle.hir_base.specs.contracts.macro_kind.MacroIdPartialEq.TheImpl as makro
+use Rattle.hir_base.specs.contracts.macro_kind.MacroIdEq.TheImpl.Laws.{laws-law as makro_laws}
 use Rattle.hir_base.specs.contracts.ids.ModuleIdOrd.TheImpl as module_id
 use Rattle.hir_scope.specs.contracts.imports.ImportOrExternCratePartialEq.TheImpl as import_or_extern_crate
+use Rattle.hir_scope.specs.contracts.imports.ImportOrExternCrateEq.TheImpl.Laws.{laws-law as import_or_extern_crate_laws}
 use Rattle.hir_scope.specs.contracts.imports.ImportOrGlobPartialEq.TheImpl as import_or_glob
+use Rattle.hir_scope.specs.contracts.imports.ImportOrGlobEq.TheImpl.Laws.{laws-law as import_or_glob_laws}
 use Rattle.hir_base.specs.declared.ids.ModuleDefId.{ModuleDefId}
 use Rattle.hir_base.specs.declared.macro_kind.MacroId.{MacroId}
 use Rattle.hir_scope.specs.declared.imports.ImportOrExternCrate.{ImportOrExternCrate}
@@ -24,7 +28,8 @@ use Rattle.hir_scope.specs.GlobImports.{Place, GlobNames, place_cmp, has_place, 
 use Rattle.hir_scope.specs.ImportRecords.{with_entry}
 use Rattle.hir_scope.specs.ItemScope.{ScopeValue, item_at}
 use Rattle.hir_scope.specs.Pushes.{takes}
-use Rattle.hir_scope.specs.ScopePushes.{slot_at, taken, offered_items, offered_globs, PushesSlot, type_offer, value_offer, macro_offer, taken_type, taken_value, taken_macro, pushed_scope, pushed_globs, PushesType, PushesValue, PushesMacro}
+use Rattle.hir_scope.specs.ScopePushes.{slot_at, taken, offered_items, offered_globs, slot_after_offer, PushesSlot, type_offer, value_offer, macro_offer, taken_type, taken_value, taken_macro, pushed_scope, pushed_globs, PushesType, PushesValue, PushesMacro}
+use Rattle.hir_scope.proofs.Prevails.{offer_prevails}
 use Rattle.hir_scope.proofs.SlotLemmas.{lookup-with_entry, has_value-with_key, has_value-remove_key}
 
 not_equal : (o : Ordering) → (o ≢ Equal) → is_eq o ≡ false
@@ -81,14 +86,28 @@ module _ {D I : Type 0} (same_def : D → D → Bool) (same_import : I → I →
       globbed_at o.push.is_glob name false (place-apart place name ne) in
       λ i. record { bound = item i; globbed = mark i }
 
+  offered_here : (offer : Option (Offer D I))
+      → slot_at (offered_items place.1 (taken same_def same_import items globs place offer) items) (offered_globs place (taken same_def same_import items globs place offer) globs) place
+      ≡ slot_after_offer same_def same_import offer (slot_at items globs place)
+  offered_here None = refl
+  offered_here (Some o) = taken_here o (takes same_def same_import (has_place globs place) (item_at items place.1) o.push)
+
+  offered_there : (offer : Option (Offer D I)) (name : List ℕ) → name ≢ place.1
+      → slot_at (offered_items place.1 (taken same_def same_import items globs place offer) items) (offered_globs place (taken same_def same_import items globs place offer) globs) (place.0, name)
+      ≡ slot_at items globs (place.0, name)
+  offered_there None name ne = refl
+  offered_there (Some o) name ne = taken_there o (takes same_def same_import (has_place globs place) (item_at items place.1) o.push) name ne
+
   -- so an offer, if it is taken, writes the slot of its name
-  pub offer_pushes : (offer : Option (Offer D I))
+  pub offer_pushes : IsEquivalence same_def → IsEquivalence same_import → (offer : Option (Offer D I))
       → PushesSlot same_def same_import place offer (slot_at items globs)
       (slot_at (offered_items place.1 (taken same_def same_import items globs place offer) items) (offered_globs place (taken same_def same_import items globs place offer) globs))
-  offer_pushes None = record { bound = refl; others = λ name ne. refl }
-  offer_pushes (Some o) = record {
-    bound = taken_here o (takes same_def same_import (has_place globs place) (item_at items place.1) o.push);
-    others = taken_there o (takes same_def same_import (has_place globs place) (item_at items place.1) o.push);
+  offer_pushes defs imports offer = record {
+    bound = offered_here offer;
+    others = offered_there offer;
+    prevails = offer_prevails same_def same_import defs imports offer (slot_at items globs place)
+        (slot_at (offered_items place.1 (taken same_def same_import items globs place offer) items) (offered_globs place (taken same_def same_import items globs place offer) globs) place)
+        (offered_here offer);
   }
 
 module _ (scope : ScopeValue) (globs : GlobNames) (place : Place) (import : Option ImportOrExternCrate) where
@@ -132,21 +151,21 @@ module _ (scope : ScopeValue) (globs : GlobNames) (place : Place) (import : Opti
     type_pushed sorted =
         let at : List (List ℕ × Item ModuleDefId ImportOrExternCrate) → Type 0 = λ xs. PushesSlot module_def.ghosts.eq import_or_extern_crate.ghosts.eq place (type_offer items.types import)
         (slot_at scope.types globs.types) (slot_at xs (offered_globs place (taken_type scope globs place items import) globs.types)) in
-        subst at (sym (pushed-types items)) (offer_pushes module_def.ghosts.eq import_or_extern_crate.ghosts.eq total scope.types globs.types sorted place (type_offer items.types import))
+        subst at (sym (pushed-types items)) (offer_pushes module_def.ghosts.eq import_or_extern_crate.ghosts.eq total scope.types globs.types sorted place module_def_laws import_or_extern_crate_laws (type_offer items.types import))
 
     pub value_pushed : IsStrictlySortedBy place_cmp globs.values
         → PushesValue place items import scope globs (pushed_scope globs place items import scope) (pushed_globs scope place items import globs)
     value_pushed sorted =
         let at : List (List ℕ × Item ModuleDefId ImportOrGlob) → Type 0 = λ xs. PushesSlot module_def.ghosts.eq import_or_glob.ghosts.eq place (value_offer items.values import)
         (slot_at scope.values globs.values) (slot_at xs (offered_globs place (taken_value scope globs place items import) globs.values)) in
-        subst at (sym (pushed-values items)) (offer_pushes module_def.ghosts.eq import_or_glob.ghosts.eq total scope.values globs.values sorted place (value_offer items.values import))
+        subst at (sym (pushed-values items)) (offer_pushes module_def.ghosts.eq import_or_glob.ghosts.eq total scope.values globs.values sorted place module_def_laws import_or_glob_laws (value_offer items.values import))
 
     pub macro_pushed : IsStrictlySortedBy place_cmp globs.macros
         → PushesMacro place items import scope globs (pushed_scope globs place items import scope) (pushed_globs scope place items import globs)
     macro_pushed sorted =
         let at : List (List ℕ × Item MacroId ImportOrExternCrate) → Type 0 = λ xs. PushesSlot makro.ghosts.eq import_or_extern_crate.ghosts.eq place (macro_offer items.macros import)
         (slot_at scope.macros globs.macros) (slot_at xs (offered_globs place (taken_macro scope globs place items import) globs.macros)) in
-        subst at (sym (pushed-macros items)) (offer_pushes makro.ghosts.eq import_or_extern_crate.ghosts.eq total scope.macros globs.macros sorted place (macro_offer items.macros import))
+        subst at (sym (pushed-macros items)) (offer_pushes makro.ghosts.eq import_or_extern_crate.ghosts.eq total scope.macros globs.macros sorted place makro_laws import_or_extern_crate_laws (macro_offer items.macros import))
 
 -- what holds of two values holds of those that an `Ok` equates with them
 pub on_ok_of : {T E A B : Type 0} (P : A → B → Type 0) (r : Result T E) (a x : A) (b y : B) → OnOk r (x ≡ a) → OnOk r (y ≡ b) → P a b → OnOk r (P x y)

@@ -1,5 +1,5 @@
 -- What does a push make of a scope, and of the names that globs brought?
-use Rattle.std.specs.Prelude.{◌≡◌, ◌≢◌, ℕ, Bool, false, ◌||◌, not, List, Option, None, Some, is_some, cond, option_map}
+use Rattle.std.specs.Prelude.{◌≡◌, ◌≢◌, ℕ, Bool, false, ◌||◌, not, List, ◌++◌, fold, Option, None, Some, is_some, cond, option_map, option_to_list}
 use Rattle.std.specs.Ordering.{nat_cmp}
 use Rattle.std.specs.Cmp.Lexicographic.{slice_cmp}
 use Rattle.std.specs.declared.cmp.Ordering.{Ordering}
@@ -22,10 +22,11 @@ use Rattle.hir_scope.specs.declared.per_ns.Item.{Item}
 use Rattle.hir_scope.specs.declared.per_ns.PerNs.{PerNs}
 use Rattle.hir_scope.specs.declared.item_scope.offers.Offer.{Offer}
 use Rattle.hir_scope.specs.declared.item_scope.offers.Offers.{Offers}
+use Rattle.hir_scope.specs.declared.push.Push.{Push}
 use Rattle.hir_scope.specs.GlobImports.{Place, GlobNames, has_place, with_place, without_place}
 use Rattle.hir_scope.specs.ImportRecords.{with_some_entry, is_glob, value_import, reached_by, value_reached_by}
 use Rattle.hir_scope.specs.ItemScope.{ScopeValue, item_at}
-use Rattle.hir_scope.specs.Pushes.{Slot, takes, slot_after_push}
+use Rattle.hir_scope.specs.Pushes.{Slot, takes, slot_after_push, history_of, prevailing}
 
 -- ---- one namespace
 
@@ -187,10 +188,17 @@ abbrev pub slot_after_offer : {D I : Type 0} → (D → D → Bool) → (I → I
 slot_after_offer same_def same_import None slot = slot
 slot_after_offer same_def same_import (Some offer) slot = slot_after_push same_def same_import slot offer.push
 
--- the slot of a name of a module takes what is offered, and the slots of the module's other names stay
+-- the push of an offer, if there is one
+abbrev pub pushes_of : {D I : Type 0} → Option (Offer D I) → List (Push D I)
+pushes_of offer = option_to_list (option_map (λ (o : Offer _ _). o.push) offer)
+
+-- the slot of a name of a module takes what is offered, and the slots of the module's other names stay;
+-- so where pushes made that slot out of what stood there before (as an update or a removal left it), it now holds what prevails among that, those pushes and the offered one
 pub record PushesSlot {D I : Type 0} (same_def : D → D → Bool) (same_import : I → I → Bool) (place : Place) (offer : Option (Offer D I)) (old new : Place → Slot D I) : Type 0 where
   pub bound : new place ≡ slot_after_offer same_def same_import offer (old place)
   pub others : (name : List ℕ) → name ≢ place.1 → new (place.0, name) ≡ old (place.0, name)
+  pub prevails : (cut : Slot D I) (pushes : List (Push D I)) → old place ≡ fold (slot_after_push same_def same_import) cut pushes
+      → (new place).bound ≡ prevailing same_def same_import (history_of cut ++ (pushes ++ pushes_of offer))
 
 abbrev pub type_slot : ScopeValue → GlobNames → Place → Slot ModuleDefId ImportOrExternCrate
 type_slot scope globs place = slot_at scope.types globs.types place
