@@ -179,3 +179,6 @@ fn collect_all(
     }
     Ok(())
 }
+
+#[cfg(test)]
+mod tests;

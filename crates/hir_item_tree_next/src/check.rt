@@ -109,3 +109,6 @@ fn check_unit(alloc: Global, unit: &Unit) -> Result<(), CheckError>
         None => Ok(()),
     }
 }
+
+#[cfg(test)]
+mod tests;

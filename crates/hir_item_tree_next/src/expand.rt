@@ -191,3 +191,6 @@ fn push_joined_glob(
         }
     }
 }
+
+#[cfg(test)]
+mod tests;

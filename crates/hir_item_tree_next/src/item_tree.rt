@@ -234,3 +234,6 @@ impl Eq for ItemTree {
 
     ghost laws = { same_by_equiv coded_tree };
 }
+
+#[cfg(test)]
+mod tests;
