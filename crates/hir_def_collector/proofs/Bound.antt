@@ -1,5 +1,5 @@
 -- What is bound stays bound, and what an import's takings reached is bound under its name.
-use Rattle.std.proofs.Common.{◌≡◌, ◌≢◌, ◌∙◌, ℕ, zero, suc, ◌<◌, ◌≤◌, Bool, true, false, ◌||◌, cond, List, [], ◌∷◌, ◌++◌, length, slice_get, Option, Some, None, is_some, ◌⊎◌, inl, inr, refl, sym, ap, subst, arith}
+use Rattle.std.proofs.Common.{◌≡◌, ◌≢◌, ◌∙◌, ℕ, zero, suc, ◌<◌, Bool, true, false, ◌||◌, cond, List, [], ◌∷◌, ◌++◌, length, slice_get, Option, Some, None, is_some, ◌⊎◌, inl, inr, refl, sym, ap, subst, arith}
 use Rattle.std.specs.Option.{option_map}
 use Rattle.std.specs.Ordering.{nat_cmp, ordering_reverse}
 use Rattle.std.specs.Cmp.Lexicographic.{slice_cmp}
@@ -19,12 +19,6 @@ use Rattle.hir_scope.specs.declared.visibility.Visibility.{Visibility}
 use Rattle.hir_def_map.specs.State.{Map, ModuleValue, changed_at, module_at, entry_at, no_globs, with_module}
 use Rattle.hir_def_map.specs.Grown.{items_by, entry_at-pushed, entry_at-pushed_other, entry_at-pushed_elsewhere}
 use Rattle.hir_def_collector.specs.declared.collector.imports.Namespaces.{Namespaces}
-use Rattle.hir_base.specs.declared.ast_id.HirFileId.{HirFileId}
-use Rattle.hir_item_tree.specs.KeptForest.{Head}
-use Rattle.hir_scope.specs.Visibility.{visibility_of}
-use Rattle.hir_def_collector.specs.Items.{module_id, inline_origin, declared_module}
-use Rattle.hir_def_collector.specs.State.{Core, counted, with_map}
-use Rattle.hir_def_collector.specs.Steps.{with_bound_module}
 use Rattle.hir_def_collector.specs.Imports.{AreAmong, namespaces_of, both_of, brought, imported, bound_as, bound_in, pushing}
 
 -- ---- sets of namespaces
@@ -181,22 +175,3 @@ taken-bound_in m at name items import h =
     let among : AreAmong (namespaces_of offered) (namespaces_of (entry_at (bound_in m at name items import) at name)) =
     AreAmong-by (ap namespaces_of (sym (entry_at-pushed m at name items (pushing import) v.0 (no_glob import) v.1))) (taken_after_push (entry_at m at name) offered) in
     subst (λ (x : Namespaces). AreAmong x (namespaces_of (entry_at (bound_in m at name items import) at name))) (namespaces_of-items_by (pushing import) items) among
-
--- ---- maps grow
-
--- what is declared adds no module
-pub grows_declare : (c new : Core) (at : ℕ) (name : List ℕ) (items : PerNs) → new ≡ counted (with_map c (bound_in c.map at name items None))
-    → length c.map.modules ≤ length new.map.modules
-grows_declare c new at name items is =
-    let same : length (bound_in c.map at name items None).modules ≡ length c.map.modules = length-bound_in c.map at name items None in
-    rw is (omega arith)
-
--- a module that is made adds one
-pub grows_open : (c new : Core) (home : ℕ) (file : HirFileId) (head : Head) (name : List ℕ) → new ≡ counted (with_map c (with_bound_module c.map home file head name)) → length c.map.modules < length new.map.modules
-grows_open c new home file head name is =
-    let visibility = visibility_of (module_id c.map home) head.visibility in
-    let mid : Map = with_module c.map home name (inline_origin file head.id) visibility in
-    let longer : length mid.modules ≡ suc (length c.map.modules) = length-with_module c.map home name (inline_origin file head.id) visibility in
-    let same : length (with_bound_module c.map home file head name).modules ≡ length mid.modules =
-    length-bound_in mid home name (declared_module c.map visibility) None in
-    rw is (omega arith)

@@ -1,8 +1,11 @@
 pub mod Lists
+pub mod Bound
+pub mod Kept
+pub mod Grows
 pub mod Moves
 pub mod Settled
 pub mod Leftovers
-pub mod Walked
-pub mod Bound
+pub mod Holds
 pub mod Derived
-pub mod KeptKinds
+pub mod Walked
+pub mod Reached

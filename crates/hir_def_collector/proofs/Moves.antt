@@ -2,15 +2,20 @@
 use Rattle.std.proofs.Common.{◌≡◌, ◌+◌, ◌≤◌, Bool, true, false, ◌||◌, refl, ap, ◌∙◌, subst, arith}
 use Rattle.hir_def_collector.specs.Workspace.{Workspace}
 use Rattle.hir_def_collector.specs.State.{State}
-use Rattle.hir_def_collector.specs.Steps.{Step, Steps, none, more, declares_item, opens_module, reaches_import, takes_import}
+use Rattle.hir_def_collector.specs.Steps.{Step, Steps, none, more, drops_item, passes_over, declares_item, lists_constant, lists_impl, opens_module, enters_block, reaches_imports, takes_import}
 use Rattle.hir_def_collector.specs.Derivation.{IsSpent}
 use Rattle.hir_def_collector.specs.Moves.{Moves}
 
 -- each step is counted
 pub count-Step : {w : Workspace} {old new : State} → Step w old new → new.count ≡ old.count + 1
-count-Step (declares_item v d rest can is) = ap (λ (s : State). s.count) is
-count-Step (opens_module home file head name items rest next is) = ap (λ (s : State). s.count) is
-count-Step (reaches_import home file head tree rest next is) = ap (λ (s : State). s.count) is
+count-Step (drops_item v rest next off is) = ap (λ (s : State). s.count) is
+count-Step (passes_over site head l rest next pass is) = ap (λ (s : State). s.count) is
+count-Step (declares_item v d rest next declares is) = ap (λ (s : State). s.count) is
+count-Step (lists_constant site head rest next is) = ap (λ (s : State). s.count) is
+count-Step (lists_impl site head of_trait rest next is) = ap (λ (s : State). s.count) is
+count-Step (opens_module site head name items rest next is) = ap (λ (s : State). s.count) is
+count-Step (enters_block site head items rest next is) = ap (λ (s : State). s.count) is
+count-Step (reaches_imports site head tree rest next is) = ap (λ (s : State). s.count) is
 count-Step (takes_import i r t can is) = ap (λ (s : State). s.count) is
 
 -- the steps to a state, and those from there on

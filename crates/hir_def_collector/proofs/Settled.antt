@@ -3,15 +3,13 @@ use Rattle.std.proofs.Common.{◌≡◌, ℕ, ◌<◌, ◌≤◌, Bool, true, fa
 use Rattle.std.specs.Option.{option_and_then}
 use Rattle.std.proofs.lemmas.Option.{slice_get_past}
 use Rattle.std.proofs.lemmas.Bool.{cases_lt}
-use Rattle.hir_scope.specs.Visibility.{visibility_of}
 use Rattle.hir_def_map.specs.State.{Map}
 use Rattle.hir_def_collector.specs.declared.collector.imports.ReachedImport.{ReachedImport}
 use Rattle.hir_def_collector.specs.declared.collector.imports.Namespaces.{Namespaces}
 use Rattle.hir_def_collector.specs.declared.collector.imports.Taking.{Taking}
 use Rattle.hir_def_collector.specs.Workspace.{Workspace}
 use Rattle.hir_def_collector.specs.State.{Core, State, at_rest, with_map, with_taken, counted}
-use Rattle.hir_def_collector.specs.Imports.{goes_beyond, AreAmong, namespaces_of, reached_by, taking_of, taking_at, both_of, imported, name_of, bound_as}
-use Rattle.hir_def_collector.specs.Items.{module_id}
+use Rattle.hir_def_collector.specs.Imports.{goes_beyond, AreAmong, namespaces_of, reached_by, taking_of, taking_at, both_of, offered_by, name_of, bound_as}
 use Rattle.hir_def_collector.specs.Steps.{Step, takes_import}
 use Rattle.hir_def_collector.specs.Derivation.{IsSettled}
 
@@ -84,7 +82,7 @@ pub record IsDue (c : Core) (i : ℕ) (taking : Taking) : Type 0 where
   pub is : taking ≡ record {
     home = r.home;
     name = name_of r;
-    items = imported c.map (visibility_of (module_id c.map r.home) r.visibility) (reached_by c.map r);
+    items = offered_by c.map r;
     import = r.id;
     namespaces = both_of t (namespaces_of (reached_by c.map r));
   }

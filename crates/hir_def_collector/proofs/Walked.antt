@@ -1,27 +1,32 @@
 -- The walk, step by step.
-use Rattle.std.proofs.Common.{◌≡◌, ◌∙◌, ℕ, zero, suc, ◌+◌, ◌<◌, ◌≤◌, List, [], ◌∷◌, ◌++◌, length, drop, get_or, map, Option, Some, None, refl, sym, ap, subst, arith}
-use Rattle.hir_base.specs.declared.ast_id.HirFileId.{HirFileId}
+use Rattle.std.proofs.Common.{◌≡◌, ◌∙◌, ℕ, zero, suc, ◌+◌, ◌<◌, ◌≤◌, true, false, List, [], ◌∷◌, ◌++◌, length, drop, get_or, map, slice_get, slice_index_or, Option, Some, None, refl, sym, ap, subst, arith, append_assoc}
+use Rattle.std.specs.List.{All}
+use Rattle.std.specs.Option.{IfSome}
+use Rattle.std.proofs.lemmas.List.Elements.{All-head, All-tail}
+use Rattle.hir_item_tree.specs.Collected.{is_enabled}
 use Rattle.hir_item_tree.specs.ItemTree.{Tree}
-use Rattle.hir_item_tree.specs.KeptForest.{Head, KeptItem, KeptForest, leaf, import, inline_module, UseTree}
-use Rattle.hir_item_tree.specs.ModItem.{mod_item, forest_of}
-use Rattle.hir_item_tree.specs.declared.items.ModItem.{ModItem}
-use Rattle.hir_def_collector.specs.declared.collector.Start.{Start}
-use Rattle.hir_def_collector.specs.State.{Visit, State, Core, at_rest, joined, visits, with_map, with_import, counted}
-use Rattle.hir_def_collector.specs.Start.{start_of, start_core, root_file}
-use Rattle.hir_def_collector.specs.Steps.{Step, Steps, none, opens_module, reaches_import, with_bound_module}
-use Rattle.hir_def_collector.specs.Derivation.{IsSpent}
-use Rattle.hir_def_collector.proofs.Moves.{Steps-append, spent_after}
-use Rattle.hir_base.specs.declared.ast_id.SyntaxId.{SyntaxId}
-use Rattle.hir_base.specs.declared.ids.ModuleId.{ModuleId}
-use Rattle.hir_def_collector.specs.declared.collector.imports.ReachedImport.{ReachedImport}
-use Rattle.hir_def_collector.specs.Imports.{imports_by}
+use Rattle.hir_item_tree.specs.Kinds.{item_head}
+use Rattle.hir_item_tree.specs.KeptForest.{Head, Leaf, KeptItem, KeptForest, leaf, all_items, no_items}
+use Rattle.hir_item_tree.specs.Rows.{Content, numbers_of, items_at, item_of, and_found}
 use Rattle.hir_item_tree.specs.declared.raw_visibility.RawVisibility.{RawVisibility}
+use Rattle.hir_item_tree.specs.declared.rows.ModItemId.{ModItemId}
+use Rattle.hir_base.specs.declared.ids.ModuleId.{ModuleId}
 use Rattle.hir_scope.specs.Visibility.{visibility_of}
 use Rattle.hir_scope.specs.declared.visibility.Visibility.{Visibility}
 use Rattle.hir_def_map.specs.State.{Map}
-use Rattle.hir_def_collector.specs.Items.{meet_of, lesser_in}
+use Rattle.hir_def_collector.specs.declared.collector.Start.{Start}
+use Rattle.hir_def_collector.specs.declared.collector.site.Site.{Site}
 use Rattle.hir_def_collector.specs.Workspace.{Workspace, TreeLook, tree_look}
+use Rattle.hir_def_collector.specs.State.{Visit, State, Core, at_rest, joined, visits, counted}
+use Rattle.hir_def_collector.specs.Items.{meet_of, lesser_in, is_passed_over}
+use Rattle.hir_def_collector.specs.Start.{start_of, start_core, root_file, root_site, tree_visits}
+use Rattle.hir_def_collector.specs.Steps.{Steps, none, drops_item, passes_over, visit}
+use Rattle.hir_def_collector.specs.TreeReads.{visits_at, above}
+use Rattle.hir_def_collector.specs.Derivation.{IsFull, IsSpent}
+use Rattle.hir_def_collector.specs.Moves.{Handles, Walks, WalksTooFar}
 use Rattle.hir_def_collector.proofs.Lists.{drop_at}
+use Rattle.hir_def_collector.proofs.Moves.{Steps-append, Steps-one, Steps-first, spent_after}
+use Rattle.hir_def_collector.proofs.Grows.{Grows-Step, Grows-Steps}
 
 -- a workspace without crates and sources
 abbrev pub no_workspace : Workspace
@@ -38,65 +43,171 @@ pub meet_stop : (m : Map) (at : ModuleId) (least : Visibility) (raws : List RawV
     → lesser_in m least (visibility_of at raw) ≡ None → meet_of m least (map (visibility_of at) (drop i raws)) ≡ None
 meet_stop m at least raws i raw h e found = rw (drop_at raws i raw h e, found) refl
 
--- ---- the items of a module, one after another
+-- ---- numbers
 
-drop_past : {A : Type 0} (xs : List A) (i : ℕ) → length xs ≤ i → drop i xs ≡ []
-drop_past [] zero h = refl
-drop_past [] (suc i) h = refl
-drop_past (x ∷ xs) zero h = absurd (omega arith)
-drop_past (x ∷ xs) (suc i) h = drop_past xs i (omega arith)
+-- what stands at a place, whatever the default
+pub at_place : (ids : List ModItemId) (i : ℕ) (d : ModItemId) → i < length ids → slice_index_or ids i d ≡ get_or ids i (slice_index_or ids i d)
+at_place [] i d h = absurd (omega arith)
+at_place (y ∷ ys) zero d h = refl
+at_place (y ∷ ys) (suc i) d h = at_place ys i d (omega arith)
 
-module _ (home : ℕ) (file : HirFileId) (items : List ModItem) (rest : List Visit) where
-  -- what is still to be visited at an item
-  abbrev pub left : ℕ → List Visit
-  left i = visits home file (forest_of (drop i items)) ++ rest
+-- numbers below one are all below it
+pub above_least : (n : ℕ) (ns : List ℕ) → All (λ m. m < n) ns → above ns ≤ n
+above_least n [] h = omega arith
+above_least n (m ∷ ms) h = omega (arith, All-head (λ m. m < n) m ms h, above_least n ms (All-tail (λ m. m < n) m ms h))
 
-  -- the item, and what comes after it
-  pub left_next : (i : ℕ) (x : ModItem) → i < length items → x ≡ get_or items i x
-      → left i ≡ record { home = home; file = file; item = mod_item x } ∷ left (i + 1)
-  left_next i x h e = rw (drop_at items i x h e) refl
+-- each is below that which is above them
+pub above_each : (ids : List ModItemId) (i : ℕ) (x : ModItemId) → i < length ids → x ≡ get_or ids i x → x.0 < above (numbers_of ids)
+above_each [] i x h e = absurd (omega arith)
+above_each (y ∷ ys) zero x h e = let same : x.0 ≡ y.0 = ap (λ (z : ModItemId). z.0) e in omega arith
+above_each (y ∷ ys) (suc i) x h e = omega (arith, above_each ys i x (omega arith) e)
+
+-- what holds of the numbers holds of each
+pub at_each : (n : ℕ) (ids : List ModItemId) (i : ℕ) (x : ModItemId) → All (λ m. m < n) (numbers_of ids) → i < length ids → x ≡ get_or ids i x → x.0 < n
+at_each n ids i x all h e = omega (arith, above_least n (numbers_of ids) all, above_each ids i x h e)
+
+pub All-same_numbers : (P : ℕ → Type 0) (ms ns : List ℕ) → ms ≡ ns → All P ns → All P ms
+All-same_numbers P ms ns e h = subst (All P) (sym e) h
+
+pub All-below : (m n : ℕ) (ns : List ℕ) → m ≤ n → All (λ k. k < m) ns → All (λ k. k < n) ns
+All-below m n ns h all = λ k d inside. omega (arith, all k d inside)
+
+-- ---- the items of a site, one after another
+
+visits_found : (site : Site) (o : Option KeptItem) (f : KeptForest) → visits site (and_found o f) ≡ visits site (and_found o no_items) ++ visits site f
+visits_found site None f = refl
+visits_found site (Some i) f = refl
+
+module _ (tree : Tree) (site : Site) where
+  -- the item of the first number, and then those of the others
+  visits_first : (n : ℕ) (ns : List ℕ) → visits_at tree site (n ∷ ns) ≡ visits_at tree site (n ∷ []) ++ visits_at tree site ns
+  visits_first n ns = visits_found site (slice_get (all_items tree.items) n) (items_at (all_items tree.items) ns)
+
+  -- what is still to be visited at an item: the item, and what comes after it
+  pub left_next : (ids : List ModItemId) (i : ℕ) (x : ModItemId) (rest : List Visit) → i < length ids → x ≡ get_or ids i x
+      → visits_at tree site (numbers_of (drop i ids)) ++ rest ≡ visits_at tree site (x.0 ∷ []) ++ (visits_at tree site (numbers_of (drop (i + 1) ids)) ++ rest)
+  left_next ids i x rest h e =
+      ap (λ (xs : List ModItemId). visits_at tree site (numbers_of xs) ++ rest) (drop_at ids i x h e)
+      ∙ ap (λ (vs : List Visit). vs ++ rest) (visits_first x.0 (numbers_of (drop (i + 1) ids)))
+      ∙ append_assoc (visits_at tree site (x.0 ∷ [])) (visits_at tree site (numbers_of (drop (i + 1) ids))) rest
 
   -- past the last, nothing
-  pub left_past : (i : ℕ) → length items ≤ i → left i ≡ rest
-  left_past i h = rw (drop_past items i h) refl
+  pub left_past : (ids : List ModItemId) (i : ℕ) → length ids ≤ i → visits_at tree site (numbers_of (drop i ids)) ≡ []
+  left_past ids i h = ap (λ (xs : List ModItemId). visits_at tree site (numbers_of xs)) (drop_past ids i h)
+    where
+      drop_past : (xs : List ModItemId) (i : ℕ) → length xs ≤ i → drop i xs ≡ []
+      drop_past [] zero h = refl
+      drop_past [] (suc i) h = refl
+      drop_past (x ∷ xs) zero h = absurd (omega arith)
+      drop_past (x ∷ xs) (suc i) h = drop_past xs i (omega arith)
 
-  -- steps to an item, and those through it
-  pub walked_next : {w : Workspace} {from : State} (c d : Core) (i : ℕ) (x : ModItem) → i < length items → x ≡ get_or items i x
-      → Steps w from (joined c (left i))
-      → ((after : List Visit) → Steps w (joined c (record { home = home; file = file; item = mod_item x } ∷ after)) (joined d after))
-      → Steps w from (joined d (left (i + 1)))
-  walked_next {w} {from} c d i x h e before step =
-      Steps-append (subst (λ (agenda : List Visit). Steps w from (joined c agenda)) (left_next i x h e) before) (step (left (i + 1)))
+  module _ (ids : List ModItemId) (old : Core) where
+    -- steps through those before a place
+    pub record WalksTo (c : Core) (i : ℕ) : Type 0 where
+      pub steps : (w : Workspace) (rest : List Visit) → Steps w (joined old (visits_at tree site (numbers_of ids) ++ rest)) (joined c (visits_at tree site (numbers_of (drop i ids)) ++ rest))
 
-  -- all steps
-  pub walked_all : {w : Workspace} {from : State} (c : Core) (i : ℕ) → length items ≤ i → Steps w from (joined c (left i)) → Steps w from (joined c rest)
-  walked_all {w} {from} c i h before = subst (λ (agenda : List Visit). Steps w from (joined c agenda)) (left_past i h) before
+    pub WalksTo-none : WalksTo old 0
+    WalksTo-none = record { steps = λ w rest. none }
 
-  -- steps to an item from which on they lead to as many as are counted
-  pub walked_spent : {w : Workspace} {from : State} (c : Core) (i : ℕ) (x : ModItem) → i < length items → x ≡ get_or items i x
-      → Steps w from (joined c (left i))
-      → ((after : List Visit) → IsSpent w (joined c (record { home = home; file = file; item = mod_item x } ∷ after)))
-      → IsSpent w from
-  walked_spent {w} {from} c i x h e before spent =
-      spent_after (subst (λ (agenda : List Visit). Steps w from (joined c agenda)) (left_next i x h e) before) (spent (left (i + 1)))
+    steps_to : (c : Core) (i : ℕ) (x : ModItemId) → i < length ids → x ≡ get_or ids i x → WalksTo c i → (w : Workspace) (rest : List Visit)
+        → Steps w (joined old (visits_at tree site (numbers_of ids) ++ rest)) (joined c (visits_at tree site (x.0 ∷ []) ++ (visits_at tree site (numbers_of (drop (i + 1) ids)) ++ rest)))
+    steps_to c i x h e before w rest =
+        subst (λ (agenda : List Visit). Steps w (joined old (visits_at tree site (numbers_of ids) ++ rest)) (joined c agenda)) (left_next ids i x rest h e) (before.steps w rest)
 
--- ---- a module
+    pub WalksTo-next : (c d : Core) (i : ℕ) (x : ModItemId) → i < length ids → x ≡ get_or ids i x → WalksTo c i → Walks c d (visits_at tree site (x.0 ∷ [])) → WalksTo d (i + 1)
+    WalksTo-next c d i x h e before step = record {
+      steps = λ w rest. Steps-append (steps_to c i x h e before w rest) (step.steps w (visits_at tree site (numbers_of (drop (i + 1) ids)) ++ rest));
+    }
 
--- a module is made, and its items come next
-pub opens : {w : Workspace} (c new : Core) (home made : ℕ) (file : HirFileId) (id : SyntaxId) (visibility : RawVisibility) (name : List ℕ) (inner shown : List ModItem) (whole : KeptItem) (rest : List Visit)
-    → whole ≡ inline_module (record { id = id; visibility = visibility }) name (forest_of inner)
-    → shown ≡ inner
-    → made ≡ length c.map.modules
-    → new ≡ counted (with_map c (with_bound_module c.map home file (record { id = id; visibility = visibility }) name))
-    → Step w (joined c (record { home = home; file = file; item = whole } ∷ rest)) (joined new (visits made file (forest_of shown) ++ rest))
-opens c new home made file id visibility name inner shown whole rest kept same here is =
-    opens_module home file (record { id = id; visibility = visibility }) name (forest_of inner) rest (rw kept refl) (rw (is, here, same) refl)
+    pub Walks-all : (c : Core) (i : ℕ) → length ids ≤ i → WalksTo c i → Walks old c (visits_at tree site (numbers_of ids))
+    Walks-all c i h before = record {
+      steps = λ w rest.
+          subst (λ (vs : List Visit). Steps w (joined old (visits_at tree site (numbers_of ids) ++ rest)) (joined c (vs ++ rest))) (left_past ids i h) (before.steps w rest);
+    }
 
--- a `use` is come upon
-pub reaches : {w : Workspace} (c new : Core) (home : ℕ) (file : HirFileId) (head : Head) (tree : UseTree) (i : ReachedImport) (rest : List Visit)
-    → imports_by c.map home file head tree ≡ i ∷ [] → new ≡ counted (with_import c i)
-    → Step w (joined c (record { home = home; file = file; item = leaf head (import tree) } ∷ rest)) (joined new rest)
-reaches c new home file head tree i rest one is = reaches_import home file head tree rest refl (rw (is, one) refl)
+    pub WalksTooFar-next : (c : Core) (i : ℕ) (x : ModItemId) → i < length ids → x ≡ get_or ids i x → WalksTo c i → WalksTooFar c (visits_at tree site (x.0 ∷ []))
+        → WalksTooFar old (visits_at tree site (numbers_of ids))
+    WalksTooFar-next c i x h e before far = record {
+      spent = λ w rest. spent_after (steps_to c i x h e before w rest) (far.spent w (visits_at tree site (numbers_of (drop (i + 1) ids)) ++ rest));
+    }
+
+-- steps take no module away
+pub longer_after : (old new : Core) (vs : List Visit) → Walks old new vs → length old.map.modules ≤ length new.map.modules
+longer_after old new vs walks = (Grows-Steps (walks.steps no_workspace [])).longer
+
+-- nor does one step
+pub still_there : (old new : Core) (v : Visit) (inside : List Visit) (n : ℕ) → Handles old new v inside → n < length old.map.modules → n < length new.map.modules
+still_there old new v inside n handles h =
+    let longer : length old.map.modules ≤ length new.map.modules = (Grows-Step (handles.step no_workspace [])).longer in
+    omega arith
+
+pub still_there-counted : (old new : Core) (n : ℕ) → new ≡ counted old → n < length old.map.modules → n < length new.map.modules
+still_there-counted old new n is h = rw is h
+
+-- ---- one item
+
+there_at : {A : Type 0} (xs : List A) (n : ℕ) → n < length xs → (x : A) × (slice_get xs n ≡ Some x)
+there_at [] n h = absurd (omega arith)
+there_at (x ∷ xs) zero h = (x, refl)
+there_at (x ∷ xs) (suc n) h = there_at xs n (omega arith)
+
+found : {A : Type 0} (o : Option A) (x : A) (P : A → Type 0) → o ≡ Some x → IfSome o P → P x
+found o x P e h = let p : IfSome (Some x) P = subst (λ (q : Option _). IfSome q P) e h in p
+
+module _ (tree : Tree) (site : Site) (n : ℕ) (h : Head) (c : Content) where
+  -- the item of a number, by its head and content
+  pub visits_one : n < length (all_items tree.items) → IfSome (slice_get (all_items tree.items) n) (λ i. h ≡ item_head i)
+      → IfSome (slice_get (all_items tree.items) n) (λ i. item_of (all_items tree.items) (item_head i) c ≡ i)
+      → visits_at tree site (n ∷ []) ≡ visit site (item_of (all_items tree.items) h c) ∷ []
+  visits_one there head content =
+      let items = all_items tree.items in
+      let i = there_at items n there in
+      let same_head : h ≡ item_head i.0 = found (slice_get items n) i.0 (λ i. h ≡ item_head i) i.1 head in
+      let same : item_of items (item_head i.0) c ≡ i.0 = found (slice_get items n) i.0 (λ i. item_of items (item_head i) c ≡ i) i.1 content in
+      let whole : item_of items h c ≡ i.0 = ap (λ (g : Head). item_of items g c) same_head ∙ same in
+      ap (λ (o : Option KeptItem). visits site (and_found o no_items)) i.1 ∙ ap (λ (x : KeptItem). visit site x ∷ []) (sym whole)
+
+-- a step handles the item, and then those inside are walked
+pub Walks-first : (old mid new : Core) (v : Visit) (vs inside : List Visit) → vs ≡ v ∷ [] → Handles old mid v inside → Walks mid new inside → Walks old new vs
+Walks-first old mid new v vs inside e handles walks = record {
+  steps = λ w rest.
+      subst (λ (us : List Visit). Steps w (joined old (us ++ rest)) (joined new rest)) (sym e)
+      (Steps-first (handles.step w rest) (walks.steps w rest));
+}
+
+-- steps through those inside lead too far
+pub WalksTooFar-inside : (old mid : Core) (v : Visit) (vs inside : List Visit) → vs ≡ v ∷ [] → Handles old mid v inside → WalksTooFar mid inside → WalksTooFar old vs
+WalksTooFar-inside old mid v vs inside e handles far = record {
+  spent = λ w rest.
+      subst (λ (us : List Visit). IsSpent w (joined old (us ++ rest))) (sym e)
+      (spent_after (Steps-one (handles.step w rest)) (far.spent w rest));
+}
+
+-- as many as are counted were taken already
+pub WalksTooFar-here : (old : Core) (vs : List Visit) → IsFull old.count old.map → WalksTooFar old vs
+WalksTooFar-here old vs full = record { spent = λ w rest. record { at = joined old (vs ++ rest); steps = none; full = full } }
+
+-- an item of which the rules don't speak yet is passed over
+pub passed : (site : Site) (h : Head) (l : Leaf) (old new : Core) → is_enabled h.attributes ≡ true → is_passed_over l ≡ true → new ≡ counted old
+    → Handles old new (visit site (leaf h l)) []
+passed site h l old new enabled over is = record {
+  step = λ w rest. passes_over site h l rest (record { next = refl; enabled = enabled }) over (rw is refl);
+}
+
+-- a disabled item is dropped
+pub Walks-dropped : (tree : Tree) (site : Site) (n : ℕ) (h : Head) (old new : Core) → n < length (all_items tree.items) → IfSome (slice_get (all_items tree.items) n) (λ i. h ≡ item_head i)
+    → is_enabled h.attributes ≡ false → new ≡ counted old → Walks old new (visits_at tree site (n ∷ []))
+Walks-dropped tree site n h old new there head disabled is =
+    let items = all_items tree.items in
+    let i = there_at items n there in
+    let same_head : h ≡ item_head i.0 = found (slice_get items n) i.0 (λ i. h ≡ item_head i) i.1 head in
+    let off : is_enabled (item_head i.0).attributes ≡ false = ap (λ (g : Head). is_enabled g.attributes) (sym same_head) ∙ disabled in
+    let one : visits_at tree site (n ∷ []) ≡ visit site i.0 ∷ [] = ap (λ (o : Option KeptItem). visits site (and_found o no_items)) i.1 in
+    record {
+      steps = λ w rest.
+          subst (λ (us : List Visit). Steps w (joined old (us ++ rest)) (joined new rest)) (sym one)
+          (Steps-one (drops_item (visit site i.0) rest refl off (rw is refl)));
+    }
 
 -- ---- the start
 
@@ -104,32 +215,47 @@ append_nil : (vs : List Visit) → vs ++ [] ≡ vs
 append_nil [] = refl
 append_nil (v ∷ vs) = ap (λ (us : List Visit). v ∷ us) (append_nil vs)
 
+-- a run that has nothing to visit begins at rest
+pub begins_empty : (w : Workspace) (start : Start) (run : Core) (found : Option Tree) → run ≡ start_core start → tree_look found ≡ w.tree start.krate (root_file start)
+    → tree_visits (root_site start) (tree_look found).tree ≡ [] → Steps w (start_of w start) (at_rest run)
+begins_empty w start run found is seen nothing =
+    let begin : start_of w start ≡ joined (start_core start) (tree_visits (root_site start) (tree_look found).tree)
+    = ap (λ (t : TreeLook). joined (start_core start) (tree_visits (root_site start) t.tree)) (sym seen) in
+    let same : start_of w start ≡ at_rest run = begin ∙ ap (joined (start_core start)) nothing ∙ ap at_rest (sym is) in
+    subst (λ (s : State). Steps w s (at_rest run)) (sym same) none
+
 -- a file that is absent has no items
 pub begins_absent : (w : Workspace) (start : Start) (run : Core) (found : Option Tree) → run ≡ start_core start → tree_look found ≡ w.tree start.krate (root_file start) → found ≡ None
     → Steps w (start_of w start) (at_rest run)
 begins_absent w start run found is seen absent =
-    let looks : w.tree start.krate (root_file start) ≡ tree_look None = sym seen ∙ ap tree_look absent in
-    let begin : start_of w start ≡ at_rest (start_core start) = ap (λ (t : TreeLook). joined (start_core start) (visits 0 (root_file start) t.tree.items)) looks in
-    let same : at_rest (start_core start) ≡ at_rest run = ap at_rest (sym is) in
-    subst (λ (s : State). Steps w s (at_rest run)) (sym (begin ∙ same)) none
+    begins_empty w start run found is seen (ap (λ (o : Option Tree). tree_visits (root_site start) (tree_look o).tree) absent)
 
--- one that is there has those of its tree
-present_start : (w : Workspace) (start : Start) (run : Core) (found : Option Tree) (tree : Tree) (shown : List ModItem) → run ≡ start_core start → tree_look found ≡ w.tree start.krate (root_file start)
-    → found ≡ Some tree → forest_of shown ≡ tree.items → joined run (visits 0 (root_file start) (forest_of shown) ++ []) ≡ start_of w start
-present_start w start run found tree shown is seen there trees =
-    let look : tree_look (Some tree) ≡ w.tree start.krate (root_file start) = ap tree_look (sym there) ∙ seen in
-    ap (λ (vs : List Visit). joined run vs) (append_nil (visits 0 (root_file start) (forest_of shown)))
-    ∙ ap (λ (c : Core). joined c (visits 0 (root_file start) (forest_of shown))) is
-    ∙ ap (λ (f : KeptForest). joined (start_core start) (visits 0 (root_file start) f)) trees
-    ∙ ap (λ (t : TreeLook). joined (start_core start) (visits 0 (root_file start) t.tree.items)) look
+disabled_visits : (site : Site) (tree : Tree) → is_enabled tree.attributes ≡ false → tree_visits site tree ≡ []
+disabled_visits site tree e = rw e refl
 
-pub begins_present : (w : Workspace) (start : Start) (run new : Core) (found : Option Tree) (tree : Tree) (shown : List ModItem) → run ≡ start_core start
-    → tree_look found ≡ w.tree start.krate (root_file start) → found ≡ Some tree → forest_of shown ≡ tree.items
-    → ((rest : List Visit) → Steps w (joined run (visits 0 (root_file start) (forest_of shown) ++ rest)) (joined new rest)) → Steps w (start_of w start) (at_rest new)
-begins_present w start run new found tree shown is seen there trees walk =
-    subst (λ (s : State). Steps w s (at_rest new)) (present_start w start run found tree shown is seen there trees) (walk [])
+enabled_visits : (site : Site) (tree : Tree) → is_enabled tree.attributes ≡ true → tree_visits site tree ≡ visits site tree.items
+enabled_visits site tree e = rw e refl
 
-pub begins_spent : (w : Workspace) (start : Start) (run : Core) (found : Option Tree) (tree : Tree) (shown : List ModItem) → run ≡ start_core start
-    → tree_look found ≡ w.tree start.krate (root_file start) → found ≡ Some tree → forest_of shown ≡ tree.items
-    → ((rest : List Visit) → IsSpent w (joined run (visits 0 (root_file start) (forest_of shown) ++ rest))) → IsSpent w (start_of w start)
-begins_spent w start run found tree shown is seen there trees spent = subst (λ (s : State). IsSpent w s) (present_start w start run found tree shown is seen there trees) (spent [])
+-- one that is disabled at its top declares nothing
+pub begins_disabled : (w : Workspace) (start : Start) (run : Core) (found : Option Tree) (tree : Tree) → run ≡ start_core start → tree_look found ≡ w.tree start.krate (root_file start)
+    → found ≡ Some tree → is_enabled tree.attributes ≡ false → Steps w (start_of w start) (at_rest run)
+begins_disabled w start run found tree is seen there disabled =
+    begins_empty w start run found is seen
+    (ap (λ (o : Option Tree). tree_visits (root_site start) (tree_look o).tree) there ∙ disabled_visits (root_site start) tree disabled)
+
+-- another has the items of its tree
+module _ (w : Workspace) (start : Start) (run : Core) (found : Option Tree) (tree : Tree) (ids : List ModItemId) (is : run ≡ start_core start)
+    (seen : tree_look found ≡ w.tree start.krate (root_file start)) (there : found ≡ Some tree) (enabled : is_enabled tree.attributes ≡ true)
+    (all : items_at (all_items tree.items) (numbers_of ids) ≡ tree.items) where
+  present_start : joined run (visits_at tree (root_site start) (numbers_of ids) ++ []) ≡ start_of w start
+  present_start =
+      let look : tree_look (Some tree) ≡ w.tree start.krate (root_file start) = ap tree_look (sym there) ∙ seen in
+      ap (joined run) (append_nil (visits_at tree (root_site start) (numbers_of ids)) ∙ ap (visits (root_site start)) all ∙ sym (enabled_visits (root_site start) tree enabled))
+      ∙ ap (λ (c : Core). joined c (tree_visits (root_site start) tree)) is
+      ∙ ap (λ (t : TreeLook). joined (start_core start) (tree_visits (root_site start) t.tree)) look
+
+  pub begins_present : (new : Core) → Walks run new (visits_at tree (root_site start) (numbers_of ids)) → Steps w (start_of w start) (at_rest new)
+  begins_present new walks = subst (λ (s : State). Steps w s (at_rest new)) present_start (walks.steps w [])
+
+  pub begins_spent : WalksTooFar run (visits_at tree (root_site start) (numbers_of ids)) → IsSpent w (start_of w start)
+  begins_spent far = subst (λ (s : State). IsSpent w s) present_start (far.spent w [])

@@ -9,7 +9,7 @@ use Rattle.hir_def_collector.specs.declared.collector.TheConstants.{STEP_LIMIT}
 use Rattle.hir_def_collector.specs.declared.source_database.Key.{Key}
 use Rattle.hir_def_collector.specs.Workspace.{Workspace}
 use Rattle.hir_def_collector.specs.State.{State}
-use Rattle.hir_def_collector.specs.Imports.{reached_by, namespaces_of, AreAmong, is_empty, name_of}
+use Rattle.hir_def_collector.specs.Imports.{reached_by, kept_by, namespaces_of, AreAmong, is_empty, name_of}
 use Rattle.hir_def_collector.specs.Start.{start_of}
 use Rattle.hir_def_collector.specs.Steps.{Steps}
 use Rattle.hir_def_collector.specs.Causes.{HasCause}
@@ -19,10 +19,10 @@ pub record IsSettled (s : State) (i : ℕ) : Type 0 where
   pub among : (r : ReachedImport) (t : Namespaces) → slice_get s.reached i ≡ Some r → slice_get s.taken i ≡ Some t
       → AreAmong (namespaces_of (reached_by s.map r)) t
 
--- under the name that the import at the place gives, its module binds each namespace that its path reaches
+-- under the name that the import at the place gives, its module binds each namespace that the import keeps of those that it reaches
 pub record BindsWhatItReaches (s : State) (i : ℕ) : Type 0 where
   pub binds : (r : ReachedImport) (name : List ℕ) → slice_get s.reached i ≡ Some r → name_of r ≡ Some name
-      → AreAmong (namespaces_of (reached_by s.map r)) (namespaces_of (entry_at s.map r.home name))
+      → AreAmong (namespaces_of (kept_by s.map r)) (namespaces_of (entry_at s.map r.home name))
 
 -- the imports that were never taken
 abbrev pub leftover_among : List ReachedImport → List Namespaces → List ImportId

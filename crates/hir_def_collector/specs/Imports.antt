@@ -4,13 +4,16 @@ use Rattle.std.specs.Option.{option_and_then}
 use Rattle.hir_base.specs.ModPath.{Path}
 use Rattle.hir_base.specs.declared.ids.ModuleId.{ModuleId}
 use Rattle.hir_base.specs.declared.ids.UseId.{UseId}
-use Rattle.hir_base.specs.declared.ast_id.HirFileId.{HirFileId}
-use Rattle.hir_base.specs.declared.ast_id.SyntaxId.{SyntaxId}
-use Rattle.hir_item_tree.specs.Imports.{Import, imports_of}
-use Rattle.hir_item_tree.specs.KeptForest.{Head, UseTree}
+use Rattle.hir_item_tree.specs.Imports.{imports_of}
+use Rattle.hir_item_tree.specs.declared.expand.Import.{Import}
+use Rattle.hir_item_tree.specs.KeptForest.{Head}
+use Rattle.hir_item_tree.specs.UseTree.{UseTree}
 use Rattle.hir_item_tree.specs.declared.raw_visibility.RawVisibility.{RawVisibility}
 use Rattle.hir_item_tree.specs.declared.shape.ImportAlias.{ImportAlias}
 use Rattle.hir_item_tree.specs.declared.shape.ImportAlias.TheVariants.{Underscore, Alias}
+use Rattle.hir_item_tree.specs.declared.shape.ImportKind.{ImportKind}
+use Rattle.hir_item_tree.specs.declared.shape.ImportKind.TheVariants as kinds
+use Rattle.hir_scope.specs.PerNs.{nothing}
 use Rattle.hir_scope.specs.Visibility.{visibility_of}
 use Rattle.hir_scope.specs.declared.imports.ImportId.{ImportId}
 use Rattle.hir_scope.specs.declared.imports.ImportOrExternCrate.{ImportOrExternCrate}
@@ -23,20 +26,25 @@ use Rattle.hir_def_map.specs.State.{Map, alone, no_globs, pushed}
 use Rattle.hir_def_collector.specs.declared.collector.imports.ReachedImport.{ReachedImport}
 use Rattle.hir_def_collector.specs.declared.collector.imports.Namespaces.{Namespaces}
 use Rattle.hir_def_collector.specs.declared.collector.imports.Taking.{Taking}
+use Rattle.hir_def_collector.specs.declared.collector.site.Site.{Site}
 use Rattle.hir_def_collector.specs.State.{Core}
-use Rattle.hir_def_collector.specs.Items.{module_id, lesser_in}
-
--- the `use` item that a node of a file writes in a module
-abbrev pub use_id : ModuleId → HirFileId → SyntaxId → UseId
-use_id at file id = record { container = at; file_id = file; block = None; id = id }
+use Rattle.hir_def_collector.specs.ItemIds.{module_id, use_id}
+use Rattle.hir_def_collector.specs.Items.{lesser_in}
 
 -- one import of a `use` item of a module
 abbrev pub reached_import : ℕ → UseId → RawVisibility → Import → ReachedImport
-reached_import home by visibility i = record { home = home; id = record { use_ = by; idx = i.place }; visibility = visibility; path = i.path; alias = i.alias }
+reached_import home by visibility i = record {
+  home = home;
+  id = record { use_ = by; idx = i.place };
+  visibility = visibility;
+  path = i.path;
+  kind = i.kind;
+  alias = i.alias;
+}
 
--- the imports of a `use` item of a module
-abbrev pub imports_by : Map → ℕ → HirFileId → Head → UseTree → List ReachedImport
-imports_by m home file head tree = map (reached_import home (use_id (module_id m home) file head.id) head.visibility) (imports_of tree)
+-- the imports of a `use` item of a site
+abbrev pub imports_by : Map → Site → Head → UseTree → List ReachedImport
+imports_by m s head tree = map (reached_import s.home (use_id m s head.id) head.visibility) (imports_of tree)
 
 -- the last name of a path, if it has one
 abbrev pub last_of : List (List ℕ) → Option (List ℕ)
@@ -55,9 +63,25 @@ name_of i = name_by i.alias i.path.segments
 unfoldable pub reached_in : Map → ModuleId → Path → PerNs
 reached_in m at path = reached_items (alone m) at path
 
--- what the path of an import reaches
+-- what an import of this kind reaches, where its path reaches these items: a glob reaches nothing yet
+abbrev pub reached_by_kind : ImportKind → PerNs → PerNs
+reached_by_kind kinds.Plain items = items
+reached_by_kind kinds.TypeOnly items = items
+reached_by_kind kinds.Glob items = nothing
+
+-- what an import reaches
 abbrev pub reached_by : Map → ReachedImport → PerNs
-reached_by m i = reached_in m (module_id m i.home) i.path
+reached_by m i = reached_by_kind i.kind (reached_in m (module_id m i.home) i.path)
+
+-- what an import of this kind keeps of what it reaches: `self` in a list keeps types alone
+abbrev pub kept_by_kind : ImportKind → PerNs → PerNs
+kept_by_kind kinds.Plain items = items
+kept_by_kind kinds.TypeOnly items = record { types = items.types; values = None; macros = None }
+kept_by_kind kinds.Glob items = items
+
+-- what an import keeps of what it reaches
+abbrev pub kept_by : Map → ReachedImport → PerNs
+kept_by m i = kept_by_kind i.kind (reached_by m i)
 
 -- the namespaces in which something is bound
 abbrev pub namespaces_of : PerNs → Namespaces
@@ -106,16 +130,20 @@ abbrev pub bound_as : Map → ℕ → Option (List ℕ) → PerNs → ImportId �
 bound_as m home None items import = m
 bound_as m home (Some name) items import = bound_in m home name items (Some import)
 
+-- what an import offers
+abbrev pub offered_by : Map → ReachedImport → PerNs
+offered_by m i = imported m (visibility_of (module_id m i.home) i.visibility) (kept_by m i)
+
 -- the map once the import is taken
 abbrev pub after_import : Map → ReachedImport → Map
-after_import m i = bound_as m i.home (name_of i) (imported m (visibility_of (module_id m i.home) i.visibility) (reached_by m i)) i.id
+after_import m i = bound_as m i.home (name_of i) (offered_by m i) i.id
 
 -- the taking of an import of which these namespaces were reached before, where it reaches another
 abbrev pub taking_of : Map → ReachedImport → Namespaces → Option Taking
 taking_of m r t = cond (goes_beyond (namespaces_of (reached_by m r)) t) (Some (record {
   home = r.home;
   name = name_of r;
-  items = imported m (visibility_of (module_id m r.home) r.visibility) (reached_by m r);
+  items = offered_by m r;
   import = r.id;
   namespaces = both_of t (namespaces_of (reached_by m r));
 })) None

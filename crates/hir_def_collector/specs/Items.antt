@@ -1,39 +1,28 @@
--- What an item declares.
-use Rattle.std.specs.Prelude.{ℕ, List, [], ◌∷◌, Option, None, Some, map, unwrap_or}
+-- What does an item declare?
+use Rattle.std.specs.Prelude.{ℕ, Bool, true, false, List, [], ◌∷◌, Option, None, Some, map, unwrap_or}
 use Rattle.std.specs.Option.{option_and_then}
 use Rattle.hir_base.specs.declared.ast_id.AstKind.TheVariants as kinds
 use Rattle.hir_base.specs.declared.ast_id.HirFileId.{HirFileId}
 use Rattle.hir_base.specs.declared.ast_id.SyntaxId.{SyntaxId}
 use Rattle.hir_base.specs.declared.ids.AdtId.TheVariants as adts
-use Rattle.hir_base.specs.declared.ids.FunctionId.{FunctionId}
-use Rattle.hir_base.specs.declared.ids.ItemContainerId.TheVariants as containers
 use Rattle.hir_base.specs.declared.ids.ModuleDefId.{ModuleDefId}
 use Rattle.hir_base.specs.declared.ids.ModuleDefId.TheVariants as definitions
-use Rattle.hir_base.specs.declared.ids.ModuleId.{ModuleId}
-use Rattle.hir_base.specs.declared.ids.StructId.{StructId}
-use Rattle.hir_item_tree.specs.KeptForest.{KeptItem, leaf, inline_module, function, structure, import}
+use Rattle.hir_item_tree.specs.KeptForest.{Head, Leaf, import, extern_crate, function, structure, union_structure, enumeration, constant, static_item, trait_item, implementation, type_alias, outline_module, macro_call, macro_rules, macro_def, KeptItem, leaf, holder}
 use Rattle.hir_item_tree.specs.declared.shape.FieldsShape.{FieldsShape}
 use Rattle.hir_item_tree.specs.declared.shape.FieldsShape.TheVariants.{Record, Tuple, Unit as UnitShape}
 use Rattle.hir_scope.specs.Visibility.{visibility_of, lesser_of}
 use Rattle.hir_scope.specs.declared.per_ns.PerNs.{PerNs}
 use Rattle.hir_scope.specs.declared.visibility.Visibility.{Visibility}
 use Rattle.hir_def_map.specs.Chains.{above_in}
-use Rattle.hir_def_map.specs.State.{Map, alone, numbered, new_id}
+use Rattle.hir_def_map.specs.State.{Map, alone, new_id}
 use Rattle.hir_def_map.specs.declared.nameres.origin.ModuleOrigin.{ModuleOrigin}
 use Rattle.hir_def_map.specs.declared.nameres.origin.ModuleOrigin.TheVariants as origins
+use Rattle.hir_def_collector.specs.declared.collector.declaration.Declaration.{Declaration}
+use Rattle.hir_def_collector.specs.declared.collector.site.Site.{Site}
 use Rattle.hir_def_collector.specs.State.{Visit}
+use Rattle.hir_def_collector.specs.ItemIds.{module_id, function_id, const_id, static_id, type_alias_id, struct_id, union_id, trait_id}
 
--- the module of a number
-abbrev pub module_id : Map → ℕ → ModuleId
-module_id m home = numbered m.id home
-
--- the function that a node of a file declares in a module
-abbrev pub function_id : ModuleId → HirFileId → SyntaxId → FunctionId
-function_id at file id = record { container = containers.ModuleId at; file_id = file; block = None; id = id }
-
--- the struct that a node of a file declares in a module
-abbrev pub struct_id : ModuleId → HirFileId → SyntaxId → StructId
-struct_id at file id = record { container = at; file_id = file; block = None; id = id }
+-- ---- what a name stands for
 
 -- a type that was declared, and not imported
 abbrev pub declared_type : ModuleDefId → Visibility → PerNs
@@ -56,6 +45,12 @@ declared_struct def vis (Some constructor) = record {
   macros = None;
 }
 
+-- ---- visibilities
+
+-- the visibility of an item at a site
+abbrev pub own_visibility : Map → Site → Head → Visibility
+own_visibility m s head = visibility_of (module_id m s.home) head.visibility
+
 -- the lesser of two visibilities in the map, none where they are unrelated
 unfoldable pub lesser_in : Map → Visibility → Visibility → Option Visibility
 lesser_in m a b = lesser_of (above_in (alone m)) m.id a b
@@ -72,29 +67,78 @@ constructor_of m own Record vs = None
 constructor_of m own Tuple vs = Some (unwrap_or (meet_of m own vs) own)
 constructor_of m own UnitShape vs = Some own
 
--- a name, and what it stands for
-pub record Declaration : Type 0 where
-  pub name : List ℕ
-  pub items : PerNs
+-- ---- what an item binds
 
--- what a node of a file declares in a module, modules aside
-abbrev pub declared_by : Map → ModuleId → HirFileId → KeptItem → Option Declaration
-declared_by m at file (leaf head (function name)) = Some (record {
-  name = name;
-  items = declared_value (definitions.FunctionId (function_id at file head.id)) (visibility_of at head.visibility);
-})
-declared_by m at file (leaf head (structure name shape raws)) = Some (record {
-  name = name;
-  items = declared_struct (definitions.AdtId (adts.StructId (struct_id at file head.id))) (visibility_of at head.visibility)
-      (constructor_of m (visibility_of at head.visibility) shape (map (visibility_of at) raws));
-})
-declared_by m at file (leaf head (import tree)) = None
-declared_by m at file (inline_module head name items) = None
+-- a definition that a name stands for as a type
+abbrev pub type_declaration : List ℕ → ModuleDefId → Visibility → Declaration
+type_declaration name def vis = record { name = name; def = def; items = declared_type def vis }
+
+-- one that it stands for as a value
+abbrev pub value_declaration : List ℕ → ModuleDefId → Visibility → Declaration
+value_declaration name def vis = record { name = name; def = def; items = declared_value def vis }
+
+-- a struct, with the visibilities that its constructor has to meet
+abbrev pub struct_declaration : Map → Site → Head → List ℕ → FieldsShape → List Visibility → Declaration
+struct_declaration m s head name shape fields =
+    let def = definitions.AdtId (adts.StructId (struct_id m s head.id)) in
+    let own = own_visibility m s head in
+    record { name = name; def = def; items = declared_struct def own (constructor_of m own shape fields) }
+
+-- what an item that holds no others declares under its name
+abbrev pub declared_by_leaf : Map → Site → Head → Leaf → Option Declaration
+declared_by_leaf m s h (import tree) = None
+declared_by_leaf m s h (extern_crate name alias) = None
+declared_by_leaf m s h (function name) =
+    Some (value_declaration name (definitions.FunctionId (function_id m s h.id)) (own_visibility m s h))
+declared_by_leaf m s h (structure name shape fields) =
+    Some (struct_declaration m s h name shape (map (visibility_of (module_id m s.home)) fields))
+declared_by_leaf m s h (union_structure name fields) =
+    Some (type_declaration name (definitions.AdtId (adts.UnionId (union_id m s h.id))) (own_visibility m s h))
+declared_by_leaf m s h (enumeration name) = None
+declared_by_leaf m s h (constant None) = None
+declared_by_leaf m s h (constant (Some name)) =
+    Some (value_declaration name (definitions.ConstId (const_id m s h.id)) (own_visibility m s h))
+declared_by_leaf m s h (static_item name) =
+    Some (value_declaration name (definitions.StaticId (static_id m s h.id)) (own_visibility m s h))
+declared_by_leaf m s h (trait_item name) =
+    Some (type_declaration name (definitions.TraitId (trait_id m s h.id)) (own_visibility m s h))
+declared_by_leaf m s h (implementation of_trait) = None
+declared_by_leaf m s h (type_alias name) =
+    Some (type_declaration name (definitions.TypeAliasId (type_alias_id m s h.id)) (own_visibility m s h))
+declared_by_leaf m s h (outline_module name) = None
+declared_by_leaf m s h (macro_call path) = None
+declared_by_leaf m s h (macro_rules name expander helpers) = None
+declared_by_leaf m s h (macro_def name expander helpers) = None
+
+-- what an item of a site declares under its name, modules aside
+abbrev pub declared_by : Map → Site → KeptItem → Option Declaration
+declared_by m s (leaf head l) = declared_by_leaf m s head l
+declared_by m s (holder head k items) = None
 
 -- what the visited item declares
 abbrev pub declaration_of : Map → Visit → Option Declaration
-declaration_of m v = declared_by m (module_id m v.home) v.file v.item
+declaration_of m v = declared_by m v.site v.item
 
 -- the origin of a module that is written where it is declared
 abbrev pub inline_origin : HirFileId → SyntaxId → ModuleOrigin
 inline_origin file id = origins.Inline file (record { file_id = file; kind = kinds.Module; id = id })
+
+-- ---- what the rules don't speak of yet
+
+-- whether items of this kind are passed over
+abbrev pub is_passed_over : Leaf → Bool
+is_passed_over (import tree) = false
+is_passed_over (extern_crate name alias) = true
+is_passed_over (function name) = false
+is_passed_over (structure name shape fields) = false
+is_passed_over (union_structure name fields) = false
+is_passed_over (enumeration name) = true
+is_passed_over (constant name) = false
+is_passed_over (static_item name) = false
+is_passed_over (trait_item name) = false
+is_passed_over (implementation of_trait) = false
+is_passed_over (type_alias name) = false
+is_passed_over (outline_module name) = true
+is_passed_over (macro_call path) = true
+is_passed_over (macro_rules name expander helpers) = true
+is_passed_over (macro_def name expander helpers) = true

@@ -1,9 +1,12 @@
+pub mod BuiltinAttributes
 pub mod Workspace
 pub mod Keys
 pub mod State
+pub mod ItemIds
 pub mod Items
 pub mod Imports
 pub mod Start
+pub mod TreeReads
 pub mod Steps
 pub mod Causes
 pub mod Derivation

@@ -1,16 +1,15 @@
 -- Where a run stands.
-use Rattle.std.specs.Prelude.{ℕ, ◌+◌, false, List, [], ◌∷◌, ◌++◌, slice_set}
-use Rattle.hir_base.specs.declared.ast_id.HirFileId.{HirFileId}
+use Rattle.std.specs.Prelude.{ℕ, ◌+◌, false, List, [], ◌∷◌, ◌++◌, map, slice_set}
 use Rattle.hir_item_tree.specs.KeptForest.{KeptItem, KeptForest, no_items, item}
 use Rattle.hir_def_map.specs.State.{Map}
 use Rattle.hir_def_collector.specs.declared.collector.imports.ReachedImport.{ReachedImport}
 use Rattle.hir_def_collector.specs.declared.collector.imports.Namespaces.{Namespaces}
+use Rattle.hir_def_collector.specs.declared.collector.site.Site.{Site}
 use Rattle.hir_def_collector.specs.declared.source_database.Key.{Key}
 
--- an item that was come upon and not handled yet: the number of its module, the file that writes it, and the item
+-- an item that was come upon and not handled yet, and where it is written
 pub record Visit : Type 0 where
-  pub home : ℕ
-  pub file : HirFileId
+  pub site : Site
   pub item : KeptItem
 
 -- where a run stands
@@ -40,16 +39,20 @@ pub record Core : Type 0 where
 abbrev pub no_namespaces : Namespaces
 no_namespaces = record { types = false; values = false; macros = false }
 
+-- of none of these imports a taking reached anything
+abbrev pub not_taken : List ReachedImport → List Namespaces
+not_taken imports = map (λ _. no_namespaces) imports
+
 -- a core and what is still to be visited
 abbrev pub joined : Core → List Visit → State
 joined c agenda = record { map = c.map; agenda = agenda; reached = c.reached; taken = c.taken; asked = c.asked; count = c.count }
 
--- the core with another map, with one more import, with other namespaces at a place, with one more step
+-- the core with another map, with more imports, with other namespaces at a place, with one more step
 abbrev pub with_map : Core → Map → Core
 with_map c m = record { map = m; reached = c.reached; taken = c.taken; asked = c.asked; count = c.count }
 
-abbrev pub with_import : Core → ReachedImport → Core
-with_import c r = record { map = c.map; reached = c.reached ++ r ∷ []; taken = c.taken ++ no_namespaces ∷ []; asked = c.asked; count = c.count }
+abbrev pub with_imports : Core → List ReachedImport → Core
+with_imports c rs = record { map = c.map; reached = c.reached ++ rs; taken = c.taken ++ not_taken rs; asked = c.asked; count = c.count }
 
 abbrev pub with_taken : Core → ℕ → Namespaces → Core
 with_taken c i t = record { map = c.map; reached = c.reached; taken = slice_set c.taken i t; asked = c.asked; count = c.count }
@@ -61,10 +64,10 @@ counted c = record { map = c.map; reached = c.reached; taken = c.taken; asked = 
 abbrev pub at_rest : Core → State
 at_rest c = joined c []
 
--- the items of a forest, to be visited one after another in the module
-abbrev pub visits : ℕ → HirFileId → KeptForest → List Visit
-visits home file no_items = []
-visits home file (item i is) = record { home = home; file = file; item = i } ∷ visits home file is
+-- the items of a forest that is written at a site, to be visited one after another
+abbrev pub visits : Site → KeptForest → List Visit
+visits site no_items = []
+visits site (item i is) = record { site = site; item = i } ∷ visits site is
 
 -- the state with one more step counted
 abbrev pub ticked : State → State

@@ -1,43 +1,92 @@
 -- The steps that the import rules allow.
-use Rattle.std.specs.Prelude.{◌≡◌, ℕ, true, List, ◌∷◌, ◌++◌, length, map, None, Some, slice_get, slice_set}
-use Rattle.hir_base.specs.declared.ast_id.HirFileId.{HirFileId}
-use Rattle.hir_item_tree.specs.KeptForest.{Head, KeptForest, leaf, import, inline_module, UseTree}
-use Rattle.hir_scope.specs.Visibility.{visibility_of}
-use Rattle.hir_def_map.specs.State.{Map, with_module}
+use Rattle.std.specs.Prelude.{◌≡◌, ℕ, Bool, true, false, List, ◌∷◌, ◌++◌, length, Some, None, slice_get, slice_set}
+use Rattle.hir_base.specs.declared.ids.ModuleDefId.TheVariants as definitions
+use Rattle.hir_item_tree.specs.Collected.{is_enabled}
+use Rattle.hir_item_tree.specs.Kinds.{item_head}
+use Rattle.hir_item_tree.specs.KeptForest.{Head, Leaf, KeptItem, KeptForest, leaf, import, constant, implementation, holder, extern_block, inline_module}
+use Rattle.hir_item_tree.specs.UseTree.{UseTree}
+use Rattle.hir_def_map.specs.State.{Map, new_id, with_module, with_declared, with_use, with_impl, with_extern_block, with_unnamed_const}
+use Rattle.hir_def_collector.specs.declared.collector.declaration.Declaration.{Declaration}
 use Rattle.hir_def_collector.specs.declared.collector.imports.ReachedImport.{ReachedImport}
 use Rattle.hir_def_collector.specs.declared.collector.imports.Namespaces.{Namespaces}
+use Rattle.hir_def_collector.specs.declared.collector.site.Site.{Site}
 use Rattle.hir_def_collector.specs.Workspace.{Workspace}
-use Rattle.hir_def_collector.specs.State.{Visit, State, visits, ticked, no_namespaces}
-use Rattle.hir_def_collector.specs.Items.{Declaration, declaration_of, declared_module, inline_origin, module_id}
+use Rattle.hir_def_collector.specs.State.{Visit, State, visits, ticked, not_taken}
+use Rattle.hir_def_collector.specs.ItemIds.{const_id, impl_id, extern_block_id, use_id}
+use Rattle.hir_def_collector.specs.Items.{declaration_of, declared_module, inline_origin, is_passed_over, own_visibility}
 use Rattle.hir_def_collector.specs.Imports.{bound_in, imports_by, reached_by, namespaces_of, both_of, goes_beyond, after_import}
 
--- the declaration is bound, and the rest of the agenda stays
+-- ---- what the steps make of a state
+
+-- the next item is left, and the rest of the agenda stays
+abbrev pub after_leave : State → List Visit → State
+after_leave s rest = ticked (record s { agenda = rest })
+
+-- the map with one more definition, which its module lists and binds
+abbrev pub with_declaration : Map → ℕ → Declaration → Map
+with_declaration m home d = bound_in (with_declared m home d.def) home d.name d.items None
+
+-- the definition is listed and bound
 abbrev pub after_declare : State → ℕ → Declaration → List Visit → State
-after_declare s home d rest = ticked (record s { map = bound_in s.map home d.name d.items None; agenda = rest })
+after_declare s home d rest = ticked (record s { map = with_declaration s.map home d; agenda = rest })
 
--- the map with one more module, bound as a type in its parent; one of a name that is taken is bound nowhere
-abbrev pub with_bound_module : Map → ℕ → HirFileId → Head → List ℕ → Map
-with_bound_module m home file head name =
-    let visibility = visibility_of (module_id m home) head.visibility in
-    bound_in (with_module m home name (inline_origin file head.id) visibility) home name (declared_module m visibility) None
+-- the constant without a name, or the impl, is listed
+abbrev pub after_list_constant : State → Site → Head → List Visit → State
+after_list_constant s site head rest =
+    ticked (record s { map = with_unnamed_const s.map site.home (const_id s.map site head.id); agenda = rest })
 
--- the module is made and bound, and its items are visited next
-abbrev pub after_open : State → ℕ → HirFileId → Head → List ℕ → KeptForest → List Visit → State
-after_open s home file head name items rest =
-    ticked (record s { map = with_bound_module s.map home file head name; agenda = visits (length s.map.modules) file items ++ rest })
+abbrev pub after_list_impl : State → Site → Head → Bool → List Visit → State
+after_list_impl s site head of_trait rest =
+    ticked (record s { map = with_impl s.map site.home (impl_id s.map site head.id) of_trait; agenda = rest })
 
--- the imports join those that were reached, none of them taken
-abbrev pub after_reach : State → List ReachedImport → List Visit → State
-after_reach s imports rest = ticked (record s { agenda = rest; reached = s.reached ++ imports; taken = s.taken ++ map (λ _. no_namespaces) imports })
+-- the map with one more module, listed in its parent and bound there as a type
+abbrev pub with_bound_module : Map → Site → Head → List ℕ → Map
+with_bound_module m s head name =
+    let vis = own_visibility m s head in
+    let made = with_module m s.home name (inline_origin s.file head.id) vis in
+    bound_in (with_declared made s.home (definitions.ModuleId (new_id m))) s.home name (declared_module m vis) None
+
+-- where the items of the next module of a map are written
+abbrev pub inside_module : Map → Site → Site
+inside_module m s = record { home = length m.modules; file = s.file; extern_block = None }
+
+-- the module is made, listed and bound, and its items are visited next
+abbrev pub after_open : State → Site → Head → List ℕ → KeptForest → List Visit → State
+after_open s site head name items rest = ticked (record s {
+  map = with_bound_module s.map site head name;
+  agenda = visits (inside_module s.map site) items ++ rest;
+})
+
+-- where the items of an extern block are written
+abbrev pub inside_block : Map → Site → Head → Site
+inside_block m s head = record { home = s.home; file = s.file; extern_block = Some (extern_block_id m s head.id) }
+
+-- the extern block is listed, and its items are visited next, in the same module
+abbrev pub after_enter : State → Site → Head → KeptForest → List Visit → State
+after_enter s site head items rest = ticked (record s {
+  map = with_extern_block s.map site.home (extern_block_id s.map site head.id);
+  agenda = visits (inside_block s.map site head) items ++ rest;
+})
+
+-- the `use` item is listed, and its imports join those that were reached, none of them taken
+abbrev pub after_reach : State → Site → Head → List ReachedImport → List Visit → State
+after_reach s site head imports rest = ticked (record s {
+  map = with_use s.map site.home (use_id s.map site head.id);
+  agenda = rest;
+  reached = s.reached ++ imports;
+  taken = s.taken ++ not_taken imports;
+})
 
 -- the import at the place is bound, and what it reached is noted
 abbrev pub after_take : State → ℕ → ReachedImport → Namespaces → State
 after_take s i r t = ticked (record s { map = after_import s.map r; taken = slice_set s.taken i (both_of t (namespaces_of (reached_by s.map r))) })
 
--- the next item is this one, and it declares something
-pub record CanDeclare (s : State) (v : Visit) (d : Declaration) (rest : List Visit) : Type 0 where
+-- ---- when a step may be taken
+
+-- this is the next item, and it isn't disabled
+pub record IsNext (s : State) (v : Visit) (rest : List Visit) : Type 0 where
   pub next : s.agenda ≡ v ∷ rest
-  pub declares : declaration_of s.map v ≡ Some d
+  pub enabled : is_enabled (item_head v.item).attributes ≡ true
 
 -- the import at the place reaches a namespace that none of its takings reached
 pub record CanTake (s : State) (i : ℕ) (r : ReachedImport) (t : Namespaces) : Type 0 where
@@ -45,20 +94,38 @@ pub record CanTake (s : State) (i : ℕ) (r : ReachedImport) (t : Namespaces) : 
   pub before : slice_get s.taken i ≡ Some t
   pub gains : goes_beyond (namespaces_of (reached_by s.map r)) t ≡ true
 
+-- an item that is written at a site
+abbrev pub visit : Site → KeptItem → Visit
+visit site i = record { site = site; item = i }
+
 -- one step
 pub data Step (w : Workspace) (old new : State) : Type 0 where
+  -- the next item is disabled, and is dropped with all in it
+  drops_item : (v : Visit) (rest : List Visit) → old.agenda ≡ v ∷ rest → is_enabled (item_head v.item).attributes ≡ false
+      → new ≡ after_leave old rest → Step w old new
+  -- the next item is of a kind of which the rules don't speak yet
+  passes_over : (site : Site) (head : Head) (l : Leaf) (rest : List Visit) → IsNext old (visit site (leaf head l)) rest → is_passed_over l ≡ true
+      → new ≡ after_leave old rest → Step w old new
   -- the next item binds its name
-  declares_item : (v : Visit) (d : Declaration) (rest : List Visit) → CanDeclare old v d rest
-      → new ≡ after_declare old v.home d rest → Step w old new
+  declares_item : (v : Visit) (d : Declaration) (rest : List Visit) → IsNext old v rest → declaration_of old.map v ≡ Some d
+      → new ≡ after_declare old v.site.home d rest → Step w old new
+  -- the next item is a constant without a name
+  lists_constant : (site : Site) (head : Head) (rest : List Visit) → IsNext old (visit site (leaf head (constant None))) rest
+      → new ≡ after_list_constant old site head rest → Step w old new
+  -- the next item is an impl
+  lists_impl : (site : Site) (head : Head) (of_trait : Bool) (rest : List Visit) → IsNext old (visit site (leaf head (implementation of_trait))) rest
+      → new ≡ after_list_impl old site head of_trait rest → Step w old new
   -- the next item is a module that is written where it is declared
-  opens_module : (home : ℕ) (file : HirFileId) (head : Head) (name : List ℕ) (items : KeptForest) (rest : List Visit)
-      → old.agenda ≡ record { home = home; file = file; item = inline_module head name items } ∷ rest
-      → new ≡ after_open old home file head name items rest → Step w old new
+  opens_module : (site : Site) (head : Head) (name : List ℕ) (items : KeptForest) (rest : List Visit)
+      → IsNext old (visit site (holder head (inline_module name) items)) rest
+      → new ≡ after_open old site head name items rest → Step w old new
+  -- the next item is an extern block
+  enters_block : (site : Site) (head : Head) (items : KeptForest) (rest : List Visit) → IsNext old (visit site (holder head extern_block items)) rest
+      → new ≡ after_enter old site head items rest → Step w old new
   -- the next item is a `use`
-  reaches_import : (home : ℕ) (file : HirFileId) (head : Head) (tree : UseTree) (rest : List Visit)
-      → old.agenda ≡ record { home = home; file = file; item = leaf head (import tree) } ∷ rest
-      → new ≡ after_reach old (imports_by old.map home file head tree) rest → Step w old new
-  -- an import binds what its path reaches now
+  reaches_imports : (site : Site) (head : Head) (tree : UseTree) (rest : List Visit) → IsNext old (visit site (leaf head (import tree))) rest
+      → new ≡ after_reach old site head (imports_by old.map site head tree) rest → Step w old new
+  -- an import binds what it reaches now
   takes_import : (i : ℕ) (r : ReachedImport) (t : Namespaces) → CanTake old i r t
       → new ≡ after_take old i r t → Step w old new
 

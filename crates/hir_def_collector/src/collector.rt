@@ -8,10 +8,14 @@ ghost use Rattle.hir_def_collector.specs.Steps.{Steps};
 ghost use Rattle.hir_def_collector.specs.Derivation.{CollectedValue, Ends, IsSpent};
 
 pub mod collected;
+pub mod declaration;
+mod declare;
 pub mod imports;
 mod leftovers;
 mod passes;
+mod reach;
 mod run;
+pub mod site;
 mod walk;
 
 use crate::source_database::SourceDatabase;
@@ -21,6 +25,7 @@ use hir_base::ids::Crate;
 use hir_def_map::nameres::AddModuleError;
 use passes::settle;
 use run::Run;
+use site::Site;
 use std::alloc::{AllocError, Global};
 use walk::walk_all;
 
@@ -69,7 +74,8 @@ impl From<AddModuleError> for CollectError {
 
 /// Finds what the names of a crate's modules stand for.
 ///
-/// A crate of one file: its inline modules, functions, structs and imports of single paths. After
+/// A crate of one file: its items of all kinds but enums, `extern crate` items, modules in files of their
+/// own, macro calls and macros, which are passed over, and its imports but globs, which are left over. After
 /// rust-analyzer's `collect_defs`.
 pub fn collect_defs<D: SourceDatabase>(
     alloc: Global,
@@ -97,6 +103,17 @@ fn begin<D: SourceDatabase>(alloc: Global, db: &D, start: Start) -> Result<Run, 
     let Some(tree) = db.tree(alloc, start.krate, file)? else {
         return Ok(run);
     };
-    walk_all(&mut run, 0, file, tree.top_level_items())?;
+    if !tree.top_level_attrs().is_enabled() {
+        return Ok(run);
+    }
+    let site = Site {
+        home: 0,
+        file,
+        extern_block: None,
+    };
+    walk_all(&mut run, &tree, site, tree.top_level_items())?;
     Ok(run)
 }
+
+#[cfg(test)]
+mod tests;

@@ -26,12 +26,13 @@ use Rattle.hir_scope.specs.declared.per_ns.Item.{Item}
 use Rattle.hir_scope.specs.declared.per_ns.PerNs.{PerNs}
 use Rattle.hir_scope.specs.declared.push.Push.{Push}
 use Rattle.hir_scope.specs.declared.visibility.Visibility.{Visibility}
-use Rattle.hir_scope.specs.PerNs.{item_of}
+use Rattle.hir_scope.specs.PerNs.{item_of, value_import}
 use Rattle.hir_scope.specs.GlobImports.{GlobNames, Place}
-use Rattle.hir_scope.specs.ImportRecords.{with_entry, has_key, is_glob, value_import}
+use Rattle.hir_scope.specs.ImportRecords.{with_entry, has_key, is_glob}
 use Rattle.hir_scope.specs.ItemScope.{ScopeValue, item_at, binding_of}
 use Rattle.hir_scope.specs.Pushes.{after_push, slot_after, gives_way, takes}
-use Rattle.hir_scope.specs.ScopePushes.{macro_offer, offered_globs, offered_items, offered_scope, pushed_globs, pushed_scope, taken, taken_offers, type_offer, value_offer}
+use Rattle.hir_scope.specs.Offers.{macro_offer, offered_globs, offered_items, taken, type_offer, value_offer}
+use Rattle.hir_scope.specs.ScopePushes.{offered_scope, pushed_globs, pushed_scope, taken_offers}
 use Rattle.hir_def_map.specs.declared.nameres.origin.ModuleOrigin.{ModuleOrigin}
 use Rattle.hir_def_map.specs.State.{Map, ModuleValue, alone, at_name, with_name, changed_at, entry_of, entry_at, globs_in, globs_after, module_at, module_in, new_id, new_module, no_globs, numbered, parent_of, parent_in, place_at, pushed, pushed_module, with_child, with_module}
 use Rattle.hir_def_map.specs.Chains.{above_in, above_same}
@@ -93,14 +94,14 @@ module _ {A : Type 0} where
   changed_elsewhere (y ∷ ys) (suc at) change (suc k) ne = changed_elsewhere ys at change k (λ e. ne (ap suc e))
 
   -- what a change keeps of each value, and what is there of none, stays at each place
-  kept : {B : Type 0} (part : Option A → B) (xs : List A) (at : ℕ) (change : A → A) → ((x : A) → part (Some (change x)) ≡ part (Some x)) → (k : ℕ) → part (slice_get (changed_at xs at change) k) ≡ part (slice_get xs k)
+  pub kept : {B : Type 0} (part : Option A → B) (xs : List A) (at : ℕ) (change : A → A) → ((x : A) → part (Some (change x)) ≡ part (Some x)) → (k : ℕ) → part (slice_get (changed_at xs at change) k) ≡ part (slice_get xs k)
   kept part [] at change keeps k = refl
   kept part (x ∷ xs) zero change keeps zero = keeps x
   kept part (x ∷ xs) zero change keeps (suc k) = refl
   kept part (x ∷ xs) (suc at) change keeps zero = refl
   kept part (x ∷ xs) (suc at) change keeps (suc k) = kept part xs at change keeps k
 
-  length-changed : (xs : List A) (at : ℕ) (change : A → A) → length (changed_at xs at change) ≡ length xs
+  pub length-changed : (xs : List A) (at : ℕ) (change : A → A) → length (changed_at xs at change) ≡ length xs
   length-changed [] at change = refl
   length-changed (x ∷ xs) zero change = refl
   length-changed (x ∷ xs) (suc at) change = ap suc (length-changed xs at change)
@@ -319,7 +320,7 @@ entry_at-pushed_elsewhere map globs at name other items import k ne =
     ap (λ (o : Option ModuleValue). entry_of o other) (changed_elsewhere map.modules at (pushed_module globs (place_at map.id at name) items import) k ne)
 
 -- a part of the modules of one map alone
-alone_part : {B : Type 0} (part : Option ModuleValue → B) (one other : Map) → one.id ≡ other.id → ((k : ℕ) → part (module_at one k) ≡ part (module_at other k)) → (m : ModuleId) → part (module_in (alone one) m) ≡ part (module_in (alone other) m)
+pub alone_part : {B : Type 0} (part : Option ModuleValue → B) (one other : Map) → one.id ≡ other.id → ((k : ℕ) → part (module_at one k) ≡ part (module_at other k)) → (m : ModuleId) → part (module_in (alone one) m) ≡ part (module_in (alone other) m)
 alone_part part one other e same m = ap (λ (i : MapId). part (option_and_then (λ (x : Map). module_at x m.index) (cond (map_id.ghosts.eq m.map i) (Some one) None))) e ∙ go (map_id.ghosts.eq m.map other.id)
   where
     go : (b : Bool) → part (option_and_then (λ (x : Map). module_at x m.index) (cond b (Some one) None)) ≡ part (option_and_then (λ (x : Map). module_at x m.index) (cond b (Some other) None))

@@ -9,7 +9,10 @@ use Rattle.hir_scope.specs.declared.imports.ImportOrExternCrate.{ImportOrExternC
 use Rattle.hir_scope.specs.declared.per_ns.Item.{Item}
 use Rattle.hir_scope.specs.declared.visibility.Visibility.{Visibility}
 use Rattle.hir_scope.specs.Visibility.{is_visible}
-use Rattle.hir_def_map.specs.State.{Map, Maps, alone, entry_in, parent_in, IsRooted}
+use Rattle.hir_def_map.specs.declared.nameres.declaration.Declaration.{Declaration}
+use Rattle.hir_def_map.specs.Declaration.{listed}
+use Rattle.hir_def_map.specs.Listed.{KeepsNames}
+use Rattle.hir_def_map.specs.State.{Map, Maps, alone, entry_in, parent_in, with_scope, IsRooted}
 use Rattle.hir_def_map.specs.Chains.{above_in, holders_in, up_in}
 use Rattle.hir_def_map.specs.Scoping.{Asking, resolution_of}
 use Rattle.hir_def_map.specs.Scoping.Segments.{resolved, seen}
@@ -54,3 +57,7 @@ LastSegmentsAreSeen = (maps : Maps) (mode : ResolveMode) (sub_ns : Option MacroS
     → (resolution_of maps (by_modules mode sub_ns) from path).segment_index ≡ None
     → (resolution_of maps (by_modules mode sub_ns) from path).resolved_def.types ≡ Some item
     → resolution_of maps (by_modules mode sub_ns) from (record { kind = path.kind; segments = path.segments ++ name ∷ [] }) ≡ resolved (seen maps from at name)
+
+-- a declaration that is listed leaves the modules, what they are in and what their names stand for
+abbrev pub DeclarationsKeepNames : Type 0
+DeclarationsKeepNames = (map : Map) (at : ℕ) (d : Declaration) → KeepsNames map (with_scope map at (listed d))

@@ -1,7 +1,9 @@
+pub mod Declaration
 pub mod State
 pub mod Building
 pub mod Chains
 pub mod Scoping
 pub mod Reaches
 pub mod Grown
+pub mod Listed
 pub mod Laws

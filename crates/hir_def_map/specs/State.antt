@@ -6,7 +6,12 @@ use Rattle.std.specs.BTreeMap.{is_at, insert_entry}
 use Rattle.std.specs.Map.{lookup}
 use Rattle.hir_base.specs.declared.edition.Edition.{Edition}
 use Rattle.hir_base.specs.declared.ids.MapId.{MapId}
+use Rattle.hir_base.specs.declared.ids.ConstId.{ConstId}
+use Rattle.hir_base.specs.declared.ids.ExternBlockId.{ExternBlockId}
+use Rattle.hir_base.specs.declared.ids.ImplId.{ImplId}
+use Rattle.hir_base.specs.declared.ids.ModuleDefId.{ModuleDefId}
 use Rattle.hir_base.specs.declared.ids.ModuleId.{ModuleId}
+use Rattle.hir_base.specs.declared.ids.UseId.{UseId}
 use Rattle.hir_base.specs.contracts.ids.MapIdPartialEq.TheImpl as map_id
 use Rattle.hir_scope.specs.declared.imports.ImportOrExternCrate.{ImportOrExternCrate}
 use Rattle.hir_scope.specs.declared.per_ns.PerNs.{PerNs}
@@ -15,7 +20,9 @@ use Rattle.hir_scope.specs.PerNs.{nothing}
 use Rattle.hir_scope.specs.GlobImports.{GlobNames, Place}
 use Rattle.hir_scope.specs.ItemScope.{ScopeValue, binding_of, empty_scope}
 use Rattle.hir_scope.specs.ScopePushes.{pushed_scope, pushed_globs, push_changes as scope_changes}
+use Rattle.hir_def_map.specs.declared.nameres.declaration.Declaration.TheVariants as declaration
 use Rattle.hir_def_map.specs.declared.nameres.origin.ModuleOrigin.{ModuleOrigin}
+use Rattle.hir_def_map.specs.Declaration.{listed}
 
 -- a module: where it is written, who may see it, what it is in, what it holds by name
 pub record ModuleValue : Type 0 where
@@ -152,6 +159,40 @@ with_module map parent name origin visibility = record {
   edition = map.edition;
   modules = changed_at map.modules parent (with_child name (new_id map)) ++ new_module map parent origin visibility ∷ [];
 }
+
+-- the module with its scope changed
+abbrev pub with_module_scope : (ScopeValue → ScopeValue) → ModuleValue → ModuleValue
+with_module_scope change m = record {
+  origin = m.origin;
+  visibility = m.visibility;
+  parent = m.parent;
+  children = m.children;
+  scope = change m.scope;
+}
+
+-- the map with the scope of one module changed, where that is there
+abbrev pub with_scope : Map → ℕ → (ScopeValue → ScopeValue) → Map
+with_scope map at change = record { id = map.id; edition = map.edition; modules = changed_at map.modules at (with_module_scope change) }
+
+-- the map where a module declares one more definition
+abbrev pub with_declared : Map → ℕ → ModuleDefId → Map
+with_declared map at def = with_scope map at (listed (declaration.Def def))
+
+-- the map where a module has one more `use` item
+abbrev pub with_use : Map → ℕ → UseId → Map
+with_use map at use_ = with_scope map at (listed (declaration.Use use_))
+
+-- the map where a module has one more impl, of a trait or not
+abbrev pub with_impl : Map → ℕ → ImplId → Bool → Map
+with_impl map at imp is_trait_impl = with_scope map at (listed (declaration.Impl imp is_trait_impl))
+
+-- the map where a module has one more extern block
+abbrev pub with_extern_block : Map → ℕ → ExternBlockId → Map
+with_extern_block map at extern_block = with_scope map at (listed (declaration.ExternBlock extern_block))
+
+-- the map where a module has one more constant without a name
+abbrev pub with_unnamed_const : Map → ℕ → ConstId → Map
+with_unnamed_const map at konst = with_scope map at (listed (declaration.UnnamedConst konst))
 
 -- the names that globs brought, where none has brought any
 abbrev pub no_globs : GlobNames

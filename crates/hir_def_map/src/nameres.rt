@@ -4,6 +4,7 @@ ghost use Rattle.hir_base.specs.Refusal.{Gives};
 ghost use Rattle.hir_def_map.specs.State.{child_at, entry_at, parent_at, module_at, root_map, scope_at, root_of, with_child, with_module, changed_at, changes_module, globs_in, globs_after, pushed_module, pushed, push_changes, IsRooted};
 ghost use Rattle.hir_def_map.specs.Building.{new_module_verdict, IsMemory};
 
+pub mod declaration;
 pub mod module_data;
 pub mod origin;
 pub mod path_resolution;

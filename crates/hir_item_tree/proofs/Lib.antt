@@ -1,2 +1,11 @@
-pub mod KeptForestLemmas
 pub mod Repeats
+pub mod Shown
+pub mod UseTreeLemmas
+pub mod Walked
+pub mod Bodies
+pub mod Associated
+pub mod AttributeLemmas
+pub mod UseTreePlaces
+pub mod CallLemmas
+pub mod Walks
+pub mod SideIndexLemmas

@@ -1,12 +1,15 @@
--- How large a source is, and which limits it passes.
-use Rattle.std.specs.Prelude.{◌≡◌, ℕ, suc, ◌+◌, ◌<◌, max, Bool, true, false, ◌||◌, nat_lt, List, length, Option, Some, None}
+-- How large is a source, and which limits does it pass?
+use Rattle.std.specs.Prelude.{◌≡◌, ℕ, suc, ◌+◌, ◌<◌, max, Bool, false, ◌||◌, nat_lt, length, Option, Some, None}
 use Rattle.std.specs.List.{list_any}
 use Rattle.hir_base.specs.ModPath.{Path}
 use Rattle.hir_item_tree.specs.declared.raw_visibility.RawVisibility.{RawVisibility}
 use Rattle.hir_item_tree.specs.declared.raw_visibility.RawVisibility.TheVariants as raw
 use Rattle.hir_item_tree.specs.declared.check.NodeId.{NodeId}
-use Rattle.hir_item_tree.specs.UseTree.{UseTree, single}
-use Rattle.hir_item_tree.specs.Source.{NodeHead, Item, import, function, structure, inline_module, Items, no_items, item}
+use Rattle.hir_base.specs.Cfg.{Cfg, invalid, constant as constant_cfg, atom, all, any, unless, Cfgs, no_cfgs, cfg as next_cfg}
+use Rattle.hir_item_tree.specs.Attributes.{Tokens, paths, tokens, derive, Input, literal, parentheses, Attribute, meta, cfg, cfg_attr, Attributes, no_attributes, attribute}
+use Rattle.hir_item_tree.specs.UseTree.{UseTree, single, glob, prefixed, UseTrees, no_trees, tree, tree_depth}
+pub use Rattle.hir_item_tree.specs.UseTree.{tree_size}
+use Rattle.hir_item_tree.specs.Source.{NodeHead, VariantValue, Plain, import, extern_crate, function, structure, union_structure, enumeration, constant, static_item, type_alias, outline_module, macro_call, macro_rules, macro_def, Holder, extern_block, trait_item, implementation, inline_module, Item, plain, holder, Items, no_items, item}
 
 -- a path with more than 64 segments
 abbrev pub is_long : Path → Bool
@@ -19,17 +22,76 @@ has_long_visibility (raw.PubSelf e) = false
 has_long_visibility raw.PubCrate = false
 has_long_visibility raw.Public = false
 
--- a use tree with a long path
-abbrev pub has_long_tree : UseTree → Bool
-has_long_tree (single p alias) = is_long p
+-- parentheses with a long path in them
+abbrev pub has_long_tokens : Tokens → Bool
+has_long_tokens (paths ps) = list_any is_long ps
+has_long_tokens (tokens text) = false
+has_long_tokens (derive name helpers) = false
+
+-- what stands behind an attribute's path, with a long path in it
+abbrev pub has_long_input : Option Input → Bool
+has_long_input None = false
+has_long_input (Some (literal text)) = false
+has_long_input (Some (parentheses ts)) = has_long_tokens ts
+
+abbrev mutual
+  -- an attribute with a long path in it
+  pub has_long_attribute : Attribute → Bool
+  has_long_attribute (meta m) = is_long m.path || has_long_input m.input
+  has_long_attribute (cfg c) = false
+  has_long_attribute (cfg_attr c inner) = have_long_attribute inner
+
+  -- attributes with a long path in one of them
+  pub have_long_attribute : Attributes → Bool
+  have_long_attribute no_attributes = false
+  have_long_attribute (attribute a rest) = has_long_attribute a || have_long_attribute rest
+
+-- a long path, where there is one
+abbrev pub is_long_if_some : Option Path → Bool
+is_long_if_some None = false
+is_long_if_some (Some p) = is_long p
+
+abbrev mutual
+  -- a use tree with a long path in it
+  pub has_long_tree : UseTree → Bool
+  has_long_tree (single p alias) = is_long p
+  has_long_tree (glob p) = is_long_if_some p
+  has_long_tree (prefixed p ts) = is_long_if_some p || have_long_tree ts
+
+  -- trees with a long path in one of them
+  pub have_long_tree : UseTrees → Bool
+  have_long_tree no_trees = false
+  have_long_tree (tree t ts) = has_long_tree t || have_long_tree ts
+
+-- a variant with a long path
+abbrev pub has_long_variant : VariantValue → Bool
+has_long_variant v = have_long_attribute v.attributes
+
+-- what every node has, with a long path in it
+abbrev pub has_long_head : NodeHead → Bool
+has_long_head h = has_long_visibility h.visibility || have_long_attribute h.attributes
+
+-- a kind with a long path in it
+abbrev pub has_long_plain : Plain → Bool
+has_long_plain (import t) = has_long_tree t
+has_long_plain (extern_crate name alias) = false
+has_long_plain (function name body) = false
+has_long_plain (structure name shape fields) = list_any has_long_visibility fields
+has_long_plain (union_structure name fields) = list_any has_long_visibility fields
+has_long_plain (enumeration name variants) = list_any has_long_variant variants
+has_long_plain (constant name body) = false
+has_long_plain (static_item name body) = false
+has_long_plain (type_alias name) = false
+has_long_plain (outline_module name) = false
+has_long_plain (macro_call path) = is_long path
+has_long_plain (macro_rules name definition) = false
+has_long_plain (macro_def name definition) = false
 
 abbrev mutual
   -- a node with a long path in it
   pub has_long_path : Item → Bool
-  has_long_path (import h tree) = has_long_visibility h.visibility || has_long_tree tree
-  has_long_path (function h name body) = has_long_visibility h.visibility || false
-  has_long_path (structure h name shape fields) = has_long_visibility h.visibility || list_any has_long_visibility fields
-  has_long_path (inline_module h name items) = has_long_visibility h.visibility || have_long_path items
+  has_long_path (plain h p) = has_long_head h || has_long_plain p
+  has_long_path (holder h k is) = has_long_head h || have_long_path is
 
   -- nodes with a long path in one of them
   pub have_long_path : Items → Bool
@@ -40,35 +102,159 @@ abbrev mutual
 abbrev pub has_large_index : NodeId → Bool
 has_large_index n = nat_lt 2047 n.id.index
 
--- how many use trees there are in one
-abbrev pub tree_size : UseTree → ℕ
-tree_size (single p alias) = 1
+-- how many variants, fields and use trees there are in a kind
+abbrev pub plain_size : Plain → ℕ
+plain_size (import t) = tree_size t
+plain_size (extern_crate name alias) = 0
+plain_size (function name body) = 0
+plain_size (structure name shape fields) = length fields
+plain_size (union_structure name fields) = length fields
+plain_size (enumeration name variants) = length variants
+plain_size (constant name body) = 0
+plain_size (static_item name body) = 0
+plain_size (type_alias name) = 0
+plain_size (outline_module name) = 0
+plain_size (macro_call path) = 0
+plain_size (macro_rules name definition) = 0
+plain_size (macro_def name definition) = 0
 
 abbrev mutual
-  -- how many nodes, fields and use trees there are in a node, itself included
+  -- how many nodes, variants, fields and use trees there are in a node, itself included
   pub item_size : Item → ℕ
-  item_size (import h tree) = suc (tree_size tree)
-  item_size (function h name body) = 1
-  item_size (structure h name shape fields) = suc (length fields)
-  item_size (inline_module h name items) = suc (size items)
+  item_size (plain h p) = suc (plain_size p)
+  item_size (holder h k is) = suc (size is)
 
   -- how many there are in nodes
   pub size : Items → ℕ
   size no_items = 0
   size (item i is) = item_size i + size is
 
+-- how many modules a kind without nodes nests: one, where it is a module
+abbrev pub plain_depth : Plain → ℕ
+plain_depth (import t) = 0
+plain_depth (extern_crate name alias) = 0
+plain_depth (function name body) = 0
+plain_depth (structure name shape fields) = 0
+plain_depth (union_structure name fields) = 0
+plain_depth (enumeration name variants) = 0
+plain_depth (constant name body) = 0
+plain_depth (static_item name body) = 0
+plain_depth (type_alias name) = 0
+plain_depth (outline_module name) = 1
+plain_depth (macro_call path) = 0
+plain_depth (macro_rules name definition) = 0
+plain_depth (macro_def name definition) = 0
+
+-- how deep modules nest in a node of this kind, if they nest so deep inside
+abbrev pub holder_depth : Holder → ℕ → ℕ
+holder_depth extern_block inside = inside
+holder_depth (trait_item name) inside = inside
+holder_depth (implementation of_trait) inside = inside
+holder_depth (inline_module name) inside = suc inside
+
 abbrev mutual
   -- how deep modules nest in a node
   pub item_depth : Item → ℕ
-  item_depth (import h tree) = 0
-  item_depth (function h name body) = 0
-  item_depth (structure h name shape fields) = 0
-  item_depth (inline_module h name items) = suc (depth items)
+  item_depth (plain h p) = plain_depth p
+  item_depth (holder h k is) = holder_depth k (depth is)
 
   -- how deep they nest in nodes
   pub depth : Items → ℕ
   depth no_items = 0
   depth (item i is) = max (item_depth i) (depth is)
+
+-- a use tree whose lists nest more than 24 deep
+abbrev pub is_deep_tree : UseTree → Bool
+is_deep_tree t = nat_lt 24 (tree_depth t)
+
+-- a kind with such a use tree
+abbrev pub has_deep_tree_in : Plain → Bool
+has_deep_tree_in (import t) = is_deep_tree t
+has_deep_tree_in (extern_crate name alias) = false
+has_deep_tree_in (function name body) = false
+has_deep_tree_in (structure name shape fields) = false
+has_deep_tree_in (union_structure name fields) = false
+has_deep_tree_in (enumeration name variants) = false
+has_deep_tree_in (constant name body) = false
+has_deep_tree_in (static_item name body) = false
+has_deep_tree_in (type_alias name) = false
+has_deep_tree_in (outline_module name) = false
+has_deep_tree_in (macro_call path) = false
+has_deep_tree_in (macro_rules name definition) = false
+has_deep_tree_in (macro_def name definition) = false
+
+abbrev mutual
+  -- a node with such a use tree in it
+  pub has_deep_tree : Item → Bool
+  has_deep_tree (plain h p) = has_deep_tree_in p
+  has_deep_tree (holder h k is) = have_deep_tree is
+
+  -- nodes with such a use tree in one of them
+  pub have_deep_tree : Items → Bool
+  have_deep_tree no_items = false
+  have_deep_tree (item i is) = has_deep_tree i || have_deep_tree is
+
+abbrev mutual
+  -- how deep `all`, `any` and `not` nest in a condition
+  pub cfg_depth : Cfg → ℕ
+  cfg_depth invalid = 0
+  cfg_depth (constant_cfg holds) = 0
+  cfg_depth (atom a) = 0
+  cfg_depth (all cs) = suc (cfgs_depth cs)
+  cfg_depth (any cs) = suc (cfgs_depth cs)
+  cfg_depth (unless c) = suc (cfg_depth c)
+
+  -- how deep they nest in conditions
+  pub cfgs_depth : Cfgs → ℕ
+  cfgs_depth no_cfgs = 0
+  cfgs_depth (next_cfg c cs) = max (cfg_depth c) (cfgs_depth cs)
+
+abbrev mutual
+  -- how deep conditions and `cfg_attr` nest in an attribute
+  pub attribute_depth : Attribute → ℕ
+  attribute_depth (meta m) = 0
+  attribute_depth (cfg c) = cfg_depth c
+  attribute_depth (cfg_attr c inner) = suc (max (cfg_depth c) (attributes_depth inner))
+
+  -- how deep they nest in attributes
+  pub attributes_depth : Attributes → ℕ
+  attributes_depth no_attributes = 0
+  attributes_depth (attribute a rest) = max (attribute_depth a) (attributes_depth rest)
+
+-- attributes in which they nest more than 16 deep
+abbrev pub are_deep : Attributes → Bool
+are_deep attributes = nat_lt 16 (attributes_depth attributes)
+
+-- a variant with such attributes
+abbrev pub is_deep_variant : VariantValue → Bool
+is_deep_variant v = are_deep v.attributes
+
+-- a kind with such attributes inside
+abbrev pub has_deep_variant : Plain → Bool
+has_deep_variant (import t) = false
+has_deep_variant (extern_crate name alias) = false
+has_deep_variant (function name body) = false
+has_deep_variant (structure name shape fields) = false
+has_deep_variant (union_structure name fields) = false
+has_deep_variant (enumeration name variants) = list_any is_deep_variant variants
+has_deep_variant (constant name body) = false
+has_deep_variant (static_item name body) = false
+has_deep_variant (type_alias name) = false
+has_deep_variant (outline_module name) = false
+has_deep_variant (macro_call path) = false
+has_deep_variant (macro_rules name definition) = false
+has_deep_variant (macro_def name definition) = false
+
+abbrev mutual
+  -- a node with such attributes in it
+  pub has_deep_cfg : Item → Bool
+  has_deep_cfg (plain h p) = are_deep h.attributes || has_deep_variant p
+  has_deep_cfg (holder h k is) = are_deep h.attributes || have_deep_cfg is
+
+  -- nodes with such attributes in one of them
+  pub have_deep_cfg : Items → Bool
+  have_deep_cfg no_items = false
+  have_deep_cfg (item i is) = has_deep_cfg i || have_deep_cfg is
 
 -- what is left when so much is taken from a number, if it is that much
 abbrev pub Spent : Option ℕ → (much from : ℕ) → Type 0

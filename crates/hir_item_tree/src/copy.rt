@@ -1,76 +1,119 @@
-//! Kept items again.
-ghost use Rattle.std.specs.Prelude.{◌≡◌, IfOk, map};
-ghost use Rattle.hir_item_tree.specs.ModItem.{mod_item, kept_use, kept_function, kept_struct};
+//! Rows again.
+ghost use Rattle.std.specs.Prelude.{◌≡◌, IfOk};
+ghost use Rattle.hir_item_tree.specs.Rows.{numbers_of, content_of, row_view, rows_view};
 
-use crate::items::{Function, ModItem, Struct, Use};
-use crate::raw_visibility::push_visibilities;
+use crate::lower::{copy_alias, copy_name, copy_names, copy_visibilities};
+use crate::rows::{ModItemId, Row, RowKind};
 use std::alloc::AllocError;
 
-/// The same item again.
-#[cycle(copy)]
-pub fn copy_item(item: &ModItem) -> Result<ModItem, AllocError>
-    ensures value { IfOk result (λ i. mod_item i ≡ mod_item item.now) }
+/// The same numbers again.
+pub fn copy_ids(ids: &Vec<ModItemId>) -> Result<Vec<ModItemId>, AllocError>
+    ensures value { IfOk result (λ is. numbers_of is.items ≡ numbers_of ids.now.items) }
 {
-    match item {
-        ModItem::Use(item) => Ok(ModItem::Use(copy_use(item)?)),
-        ModItem::Function(item) => Ok(ModItem::Function(copy_function(item)?)),
-        ModItem::Struct(item) => Ok(ModItem::Struct(copy_struct(item)?)),
-        ModItem::Mod {
-            id,
-            visibility,
-            name,
-            items,
-        } => Ok(ModItem::Mod {
-            id: *id,
-            visibility: visibility.clone()?,
-            name: name.clone()?,
-            items: copy_items(items)?,
-        }),
-    }
-}
-
-/// The same items again.
-#[cycle(copy)]
-pub fn copy_items(items: &Vec<ModItem>) -> Result<Vec<ModItem>, AllocError>
-    ensures value { IfOk result (λ is. map mod_item is.items ≡ map mod_item items.now.items) }
-{
-    let mut copies = Vec::new(*items.allocator());
-    for item in items {
-        copies.push(copy_item(item)?)?;
+    let mut copies = Vec::new(*ids.allocator());
+    for id in ids {
+        copies.push(*id)?;
     }
     Ok(copies)
 }
 
-fn copy_use(item: &Use) -> Result<Use, AllocError>
-    ensures value { IfOk result (λ i. kept_use i ≡ kept_use item.now) }
+fn copy_kind(kind: &RowKind) -> Result<RowKind, AllocError>
+    ensures value { IfOk result (λ k. content_of k ≡ content_of kind.now) }
 {
-    Ok(Use {
-        id: item.id,
-        visibility: item.visibility.clone()?,
-        use_tree: item.use_tree.clone()?,
+    Ok(match kind {
+        RowKind::Use { use_tree } => RowKind::Use {
+            use_tree: use_tree.clone()?,
+        },
+        RowKind::ExternCrate { name, alias } => RowKind::ExternCrate {
+            name: name.clone()?,
+            alias: copy_alias(alias)?,
+        },
+        RowKind::ExternBlock { children } => RowKind::ExternBlock {
+            children: copy_ids(children)?,
+        },
+        RowKind::Function { name } => RowKind::Function {
+            name: name.clone()?,
+        },
+        RowKind::Struct {
+            name,
+            shape,
+            fields,
+        } => RowKind::Struct {
+            name: name.clone()?,
+            shape: *shape,
+            fields: copy_visibilities(fields)?,
+        },
+        RowKind::Union { name, fields } => RowKind::Union {
+            name: name.clone()?,
+            fields: copy_visibilities(fields)?,
+        },
+        RowKind::Enum { name } => RowKind::Enum {
+            name: name.clone()?,
+        },
+        RowKind::Const { name } => RowKind::Const {
+            name: copy_name(name)?,
+        },
+        RowKind::Static { name } => RowKind::Static {
+            name: name.clone()?,
+        },
+        RowKind::Trait { name } => RowKind::Trait {
+            name: name.clone()?,
+        },
+        RowKind::Impl { of_trait } => RowKind::Impl {
+            of_trait: *of_trait,
+        },
+        RowKind::TypeAlias { name } => RowKind::TypeAlias {
+            name: name.clone()?,
+        },
+        RowKind::Mod { name, items } => RowKind::Mod {
+            name: name.clone()?,
+            items: copy_ids(items)?,
+        },
+        RowKind::OutlineMod { name } => RowKind::OutlineMod {
+            name: name.clone()?,
+        },
+        RowKind::MacroCall { path } => RowKind::MacroCall {
+            path: path.clone()?,
+        },
+        RowKind::MacroRules {
+            name,
+            expander,
+            helpers,
+        } => RowKind::MacroRules {
+            name: name.clone()?,
+            expander: *expander,
+            helpers: copy_names(helpers)?,
+        },
+        RowKind::Macro2 {
+            name,
+            expander,
+            helpers,
+        } => RowKind::Macro2 {
+            name: name.clone()?,
+            expander: *expander,
+            helpers: copy_names(helpers)?,
+        },
     })
 }
 
-fn copy_function(item: &Function) -> Result<Function, AllocError>
-    ensures value { IfOk result (λ i. kept_function i ≡ kept_function item.now) }
+fn copy_row(row: &Row) -> Result<Row, AllocError>
+    ensures value { IfOk result (λ r. row_view r ≡ row_view row.now) }
 {
-    Ok(Function {
-        id: item.id,
-        visibility: item.visibility.clone()?,
-        name: item.name.clone()?,
+    Ok(Row {
+        id: row.id,
+        visibility: row.visibility.clone()?,
+        attrs: row.attrs.clone()?,
+        kind: copy_kind(&row.kind)?,
     })
 }
 
-fn copy_struct(item: &Struct) -> Result<Struct, AllocError>
-    ensures value { IfOk result (λ i. kept_struct i ≡ kept_struct item.now) }
+/// The same rows again.
+pub fn copy_rows(rows: &Vec<Row>) -> Result<Vec<Row>, AllocError>
+    ensures value { IfOk result (λ rs. rows_view rs.items ≡ rows_view rows.now.items) }
 {
-    let mut constructor = Vec::new(*item.constructor.allocator());
-    push_visibilities(&mut constructor, &item.constructor)?;
-    Ok(Struct {
-        id: item.id,
-        visibility: item.visibility.clone()?,
-        name: item.name.clone()?,
-        shape: item.shape,
-        constructor,
-    })
+    let mut copies = Vec::new(*rows.allocator());
+    for row in rows {
+        copies.push(copy_row(row)?)?;
+    }
+    Ok(copies)
 }

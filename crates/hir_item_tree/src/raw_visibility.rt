@@ -1,5 +1,6 @@
 //! Visibilities as they are written, after rust-analyzer's `RawVisibility`.
-ghost use Rattle.std.specs.Prelude.{◌≡◌, ◌++◌, true, false, IfOk, OnOk};
+ghost use Rattle.std.specs.Prelude.{◌≡◌, ◌↔◌, ◌++◌, IsTrue, IfOk, OnOk};
+ghost use Rattle.hir_item_tree.specs.declared.raw_visibility.VisibilityExplicitness.TheVariants.{Explicit};
 
 use hir_base::mod_path::ModPath;
 use std::alloc::{AllocError, Global};
@@ -9,6 +10,18 @@ use std::alloc::{AllocError, Global};
 pub enum VisibilityExplicitness {
     Explicit,
     Implicit,
+}
+
+impl VisibilityExplicitness {
+    /// Whether it was written.
+    pub fn is_explicit(&self) -> bool
+        ensures value { IsTrue result ↔ (self.now ≡ Explicit) }
+    {
+        match self {
+            VisibilityExplicitness::Explicit => true,
+            VisibilityExplicitness::Implicit => false,
+        }
+    }
 }
 
 /// A visibility as it is written.

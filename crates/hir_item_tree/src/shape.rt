@@ -1,5 +1,6 @@
-//! Shapes of structs and variants, and aliases of imports.
+//! Shapes of structs and variants, aliases of imports, and names of extern crates.
 ghost use Rattle.std.specs.Prelude.{◌≡◌, true, false, IfOk};
+ghost use Rattle.hir_item_tree.specs.Shape.{has_constructor};
 
 use hir_base::name::Name;
 use std::alloc::AllocError;
@@ -10,6 +11,18 @@ pub enum FieldsShape {
     Record,
     Tuple,
     Unit,
+}
+
+impl FieldsShape {
+    /// Whether the name stands for a value too: a function, or the only value.
+    pub fn has_value_ns_ctor(self) -> bool
+        ensures value { result ≡ has_constructor self }
+    {
+        match self {
+            FieldsShape::Record => false,
+            FieldsShape::Tuple | FieldsShape::Unit => true,
+        }
+    }
 }
 
 /// The alias of an import.
@@ -28,6 +41,26 @@ impl ImportAlias {
         match self {
             ImportAlias::Underscore => Ok(ImportAlias::Underscore),
             ImportAlias::Alias(name) => Ok(ImportAlias::Alias(name.clone()?)),
+        }
+    }
+}
+
+/// What an `extern crate` names.
+#[derive(Drop)]
+pub enum ExternCrateName {
+    /// `extern crate self`.
+    SelfCrate,
+    Name(Name),
+}
+
+impl ExternCrateName {
+    /// The same name again.
+    pub fn clone(&self) -> Result<ExternCrateName, AllocError>
+        ensures value { IfOk result (λ n. n ≡ self.now) }
+    {
+        match self {
+            ExternCrateName::SelfCrate => Ok(ExternCrateName::SelfCrate),
+            ExternCrateName::Name(name) => Ok(ExternCrateName::Name(name.clone()?)),
         }
     }
 }

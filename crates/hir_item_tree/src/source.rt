@@ -3,10 +3,13 @@
 //! A node's kind has the name and the parts that the item has in the text. What another crate has to
 //! read, or nobody reads, as a body, is opaque text.
 
+use crate::raw_attr::RawAttr;
 use crate::raw_visibility::RawVisibility;
-use crate::shape::FieldsShape;
+use crate::shape::{ExternCrateName, FieldsShape, ImportAlias};
 use crate::use_tree::UseTree;
 use hir_base::ast_id::SyntaxId;
+use hir_base::macro_kind::MacroExpander;
+use hir_base::mod_path::ModPath;
 use hir_base::name::Name;
 
 /// A source: its syntax, or word that it can't be read.
@@ -16,9 +19,11 @@ pub enum Source {
     Broken,
 }
 
-/// The syntax of a file.
+/// The syntax of a file, a block or an expansion.
 #[derive(Drop)]
 pub struct Unit {
+    /// The attributes at its top.
+    pub attrs: Vec<RawAttr>,
     pub nodes: Vec<Node>,
 }
 
@@ -27,7 +32,11 @@ pub struct Unit {
 #[cycle(node)]
 pub struct Node {
     pub id: SyntaxId,
+    pub attrs: Vec<RawAttr>,
+    /// What is written; kinds that have no visibility leave it unread.
     pub vis: RawVisibility,
+    /// What attribute and derive calls on the item get, and a macro call itself.
+    pub input: String,
     pub kind: NodeKind,
 }
 
@@ -37,6 +46,13 @@ pub struct Node {
 pub enum NodeKind {
     Use {
         tree: UseTree,
+    },
+    ExternCrate {
+        name: ExternCrateName,
+        alias: Option<ImportAlias>,
+    },
+    ExternBlock {
+        nodes: Vec<Node>,
     },
     Fn {
         name: Name,
@@ -48,9 +64,68 @@ pub enum NodeKind {
         /// The fields' visibilities.
         fields: Vec<RawVisibility>,
     },
-    /// A module that is written where it is declared.
+    Union {
+        name: Name,
+        /// The fields' visibilities.
+        fields: Vec<RawVisibility>,
+    },
+    Enum {
+        name: Name,
+        variants: Vec<Variant>,
+    },
+    Const {
+        /// None for `const _`.
+        name: Option<Name>,
+        body: String,
+    },
+    Static {
+        name: Name,
+        body: String,
+    },
+    Trait {
+        name: Name,
+        items: Vec<Node>,
+    },
+    Impl {
+        /// Whether it is an impl of a trait.
+        of_trait: bool,
+        items: Vec<Node>,
+    },
+    TypeAlias {
+        name: Name,
+    },
     Module {
         name: Name,
-        nodes: Vec<Node>,
+        /// None for a module whose items are in a file of its own.
+        nodes: Option<Vec<Node>>,
     },
+    MacroCall {
+        path: ModPath,
+    },
+    MacroRules {
+        name: Name,
+        definition: MacroDefinition,
+    },
+    MacroDef {
+        name: Name,
+        definition: MacroDefinition,
+    },
+}
+
+/// What a macro is.
+#[derive(Drop)]
+pub struct MacroDefinition {
+    pub text: String,
+    pub expander: MacroExpander,
+    /// The helper attributes of a derive macro.
+    pub helpers: Vec<Name>,
+}
+
+/// A variant of an enum.
+#[derive(Drop)]
+pub struct Variant {
+    pub id: SyntaxId,
+    pub attrs: Vec<RawAttr>,
+    pub name: Name,
+    pub shape: FieldsShape,
 }

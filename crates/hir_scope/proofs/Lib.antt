@@ -4,7 +4,9 @@ pub mod Rewrites
 pub mod Prevails
 pub mod SlotLemmas
 pub mod PushesSlots
+pub mod RecordLemmas
 pub mod ImportChainLemmas
 pub mod MergeLemmas
+pub mod AscendingLemmas
 pub mod WalkLemmas
 pub mod AskLemmas

@@ -28,7 +28,8 @@ use Rattle.hir_scope.specs.GlobImports.{Place, GlobNames, place_cmp, has_place, 
 use Rattle.hir_scope.specs.ImportRecords.{with_entry}
 use Rattle.hir_scope.specs.ItemScope.{ScopeValue, item_at}
 use Rattle.hir_scope.specs.Pushes.{takes}
-use Rattle.hir_scope.specs.ScopePushes.{slot_at, taken, offered_items, offered_globs, slot_after_offer, PushesSlot, type_offer, value_offer, macro_offer, taken_type, taken_value, taken_macro, pushed_scope, pushed_globs, PushesType, PushesValue, PushesMacro}
+use Rattle.hir_scope.specs.Offers.{slot_at, taken, offered_items, offered_globs, type_offer, value_offer, macro_offer}
+use Rattle.hir_scope.specs.ScopePushes.{slot_after_offer, PushesSlot, taken_type, taken_value, taken_macro, pushed_scope, pushed_globs, PushesType, PushesValue, PushesMacro}
 use Rattle.hir_scope.proofs.Prevails.{offer_prevails}
 use Rattle.hir_scope.proofs.SlotLemmas.{lookup-with_entry, has_value-with_key, has_value-remove_key}
 

@@ -1,7 +1,5 @@
 -- Which definition does an import reach in the end?
 use Rattle.std.specs.Prelude.{ℕ, zero, suc, List, Option, None, Some}
-use Rattle.std.specs.BTreeMap.{is_at}
-use Rattle.std.specs.Map.{lookup}
 use Rattle.hir_base.specs.declared.ids.ModuleId.{ModuleId}
 use Rattle.hir_base.specs.declared.ids.ModuleDefId.{ModuleDefId}
 use Rattle.hir_base.specs.declared.ids.ModuleDefId.TheVariants as def
@@ -18,6 +16,7 @@ use Rattle.hir_scope.specs.declared.per_ns.Namespace.TheVariants.{Types, Values,
 use Rattle.hir_scope.specs.declared.per_ns.Item.{Item}
 use Rattle.hir_scope.specs.declared.per_ns.PerNs.{PerNs}
 use Rattle.hir_scope.specs.declared.visibility.Visibility.TheVariants.{Public}
+use Rattle.hir_scope.specs.ImportRecords.{value_at}
 use Rattle.hir_scope.specs.ItemScope.{ScopeValue}
 
 -- how many records of a chain are read at most
@@ -26,9 +25,9 @@ record_limit = 4096
 
 -- what an import reached in a namespace
 abbrev pub record_of : Namespace → ScopeValue → ImportId → Option ImportOrDef
-record_of Types scope import = lookup (is_at (import_or_extern_crate.ghosts.cmp (item.Import import))) scope.type_imports
-record_of Values scope import = lookup (is_at (import_or_glob.ghosts.cmp (value.Import import))) scope.value_imports
-record_of Macros scope import = lookup (is_at (import_or_extern_crate.ghosts.cmp (item.Import import))) scope.macro_imports
+record_of Types scope import = value_at import_or_extern_crate.ghosts.cmp scope.type_imports (item.Import import)
+record_of Values scope import = value_at import_or_glob.ghosts.cmp scope.value_imports (value.Import import)
+record_of Macros scope import = value_at import_or_extern_crate.ghosts.cmp scope.macro_imports (item.Import import)
 
 -- the rest of a chain, where the scope of the next import is there
 abbrev pub rest_in : (ScopeValue → ImportId → Option ModuleDefId) → ImportId → Option ScopeValue → Option ModuleDefId

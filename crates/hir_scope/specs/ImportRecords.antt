@@ -12,9 +12,13 @@ use Rattle.hir_scope.specs.declared.imports.ImportOrExternCrate.TheVariants as b
 use Rattle.hir_scope.specs.declared.imports.ImportOrGlob.{ImportOrGlob}
 use Rattle.hir_scope.specs.declared.imports.ImportOrGlob.TheVariants as brought_value
 
--- whether a key has a value in a list of entries
+-- the value at a key of a list of entries
+abbrev pub value_at : {K V : Type 0} → (K → K → Ordering) → List (K × V) → K → Option V
+value_at cmp entries key = lookup (is_at (cmp key)) entries
+
+-- whether a key has a value
 abbrev pub has_key : {K V : Type 0} → (K → K → Ordering) → List (K × V) → K → Bool
-has_key cmp entries key = is_some (lookup (is_at (cmp key)) entries)
+has_key cmp entries key = is_some (value_at cmp entries key)
 
 -- the entries with a value at a key: where the key is, it takes the value, and else it goes to its place in the order
 abbrev pub with_entry : {K V : Type 0} → (K → K → Ordering) → List (K × V) → K → V → List (K × V)
@@ -35,13 +39,6 @@ is_glob None = false
 is_glob (Some (brought.Glob id)) = true
 is_glob (Some (brought.Import id)) = false
 is_glob (Some (brought.ExternCrate id)) = false
-
--- what brings a value: an `extern crate` counts as nothing
-abbrev pub value_import : Option ImportOrExternCrate → Option ImportOrGlob
-value_import None = None
-value_import (Some (brought.Glob id)) = Some (brought_value.Glob id)
-value_import (Some (brought.Import id)) = Some (brought_value.Import id)
-value_import (Some (brought.ExternCrate id)) = None
 
 -- what an import reached, where that is a type or a macro: what had brought it, or else its definition
 abbrev pub reached_by : Option ImportOrExternCrate → ModuleDefId → ImportOrDef

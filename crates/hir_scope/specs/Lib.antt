@@ -6,7 +6,9 @@ pub mod GlobImports
 pub mod ItemScope
 pub mod ImportRecords
 pub mod Room
+pub mod Offers
 pub mod ScopePushes
+pub mod Recorded
 pub mod Updates
 pub mod MacroCalls
 pub mod Censored

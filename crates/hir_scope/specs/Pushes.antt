@@ -70,10 +70,6 @@ with_item_visibility vis item = record { def = item.def; vis = vis; import = ite
 abbrev pub with_item_definition : {D I : Type 0} → D → Visibility → Item D I → Item D I
 with_item_definition def vis item = record { def = def; vis = vis; import = item.import }
 
--- a slot after a definition and a visibility are written over what is bound there
-abbrev pub after_update : {D I : Type 0} → D → Visibility → Slot D I → Slot D I
-after_update def vis slot = record { bound = option_map (with_item_definition def vis) slot.bound; globbed = slot.globbed }
-
 -- what stands in a slot, as the one push from which its history goes on
 abbrev pub history_of : {D I : Type 0} → Slot D I → List (Push D I)
 history_of slot = option_to_list (option_map (λ (i : Item _ _). record { item = i; is_glob = slot.globbed }) slot.bound)

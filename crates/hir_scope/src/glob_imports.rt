@@ -38,24 +38,24 @@ impl PerNsGlobImports {
     }
 
     /// Whether a glob brought what the name stands for in the module's types.
-    pub fn contains_type(&self, module_id: ModuleId, name: Name) -> bool
-        ensures value { result ≡ has_place self.now.types (module_id, name) }
+    pub fn contains_type(&self, place: &(ModuleId, Name)) -> bool
+        ensures value { result ≡ has_place self.now.types place.now }
     {
-        self.types.contains(&(module_id, name))
+        self.types.contains(place)
     }
 
     /// Whether a glob brought what the name stands for in the module's values.
-    pub fn contains_value(&self, module_id: ModuleId, name: Name) -> bool
-        ensures value { result ≡ has_place self.now.values (module_id, name) }
+    pub fn contains_value(&self, place: &(ModuleId, Name)) -> bool
+        ensures value { result ≡ has_place self.now.values place.now }
     {
-        self.values.contains(&(module_id, name))
+        self.values.contains(place)
     }
 
     /// Whether a glob brought what the name stands for in the module's macros.
-    pub fn contains_macro(&self, module_id: ModuleId, name: Name) -> bool
-        ensures value { result ≡ has_place self.now.macros (module_id, name) }
+    pub fn contains_macro(&self, place: &(ModuleId, Name)) -> bool
+        ensures value { result ≡ has_place self.now.macros place.now }
     {
-        self.macros.contains(&(module_id, name))
+        self.macros.contains(place)
     }
 
     // Each name of a module is there once, since the sets are in order.
@@ -72,7 +72,7 @@ impl PerNsGlobImports {
 }
 
 // The keys of a set are in order, by an order that is total.
-fn keys_are_ordered<K: Ord>(keys: &BTreeSet<K>)
+pub(crate) fn keys_are_ordered<K: Ord>(keys: &BTreeSet<K>)
     ensures total { IsTotalOrder K.cmp }
     ensures ordered { IsStrictlySortedBy K.cmp keys.now.keys }
 {

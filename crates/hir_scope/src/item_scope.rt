@@ -2,6 +2,7 @@
 ghost use Rattle.std.specs.Prelude.{◌≡◌, []};
 ghost use Rattle.hir_scope.specs.ItemScope.{empty_scope, binding_of};
 
+mod ascending;
 pub mod ask_names;
 pub mod calls;
 pub mod censor;

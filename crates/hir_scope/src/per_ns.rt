@@ -266,7 +266,7 @@ fn item_seen_as<Def: Copy, Import: Copy>(
     }
 }
 
-fn value_import(import: Option<ImportOrExternCrate>) -> Option<ImportOrGlob>
+pub(crate) fn value_import(import: Option<ImportOrExternCrate>) -> Option<ImportOrGlob>
     ensures value { result ≡ value_import import }
 {
     match import {

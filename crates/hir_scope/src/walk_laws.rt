@@ -1,9 +1,10 @@
-//! The law of walks.
+//! The laws of walks.
 ghost use Rattle.std.specs.Prelude.{List};
 ghost use Rattle.std.specs.Option.{option_copied};
 ghost use Rattle.hir_scope.specs.PerNsItems.{items_left};
-ghost use Rattle.hir_scope.specs.WalkLaws.{GivesItsList};
+ghost use Rattle.hir_scope.specs.WalkLaws.{EntriesAscend, GivesItsList, ImportsAscend};
 
+use crate::item_scope::ItemScope;
 use crate::item_scope::calls::MacroCalls;
 use crate::item_scope::entries::{Entries, Resolutions};
 use crate::item_scope::impls::Impls;
@@ -23,3 +24,12 @@ pub fn walks_give_their_list()
     ensures resolutions { GivesItsList ⟦<Resolutions<'static> as Iterator>⟧.next_gives
         (λ entry. (option_copied entry.0, entry.1)) (λ (left : List _). left) }
 {}
+
+/// The names of a scope and its imports come in ascending order, each once.
+pub fn entries_and_imports_ascend(scope: &ItemScope)
+    ensures entries { EntriesAscend scope.now }
+    ensures imports { ImportsAscend scope.now }
+{
+    scope.names_ascend();
+    scope.imports_ascend();
+}

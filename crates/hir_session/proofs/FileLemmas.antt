@@ -31,20 +31,22 @@ is_there (of_tree l) = l.present
 abbrev seen_tree : Look → Tree
 seen_tree (of_tree l) = l.tree
 
--- a tree that is there shows itself
-tree_look-some : (o : Option Tree) (t : Tree) → of_tree (tree_look (Some t)) ≡ of_tree (tree_look o) → o ≡ Some t
-tree_look-some None t h = clash refl (ap is_there h)
-tree_look-some (Some u) t h = ap (λ (x : Tree). Some x) (sym (ap seen_tree h))
+-- what is seen tells what there is
+tree_look-same : (o p : Option Tree) → of_tree (tree_look o) ≡ of_tree (tree_look p) → o ≡ p
+tree_look-same None None h = refl
+tree_look-same None (Some u) h = clash (ap is_there h) refl
+tree_look-same (Some t) None h = clash refl (ap is_there h)
+tree_look-same (Some t) (Some u) h = ap (λ (x : Tree). Some x) (ap seen_tree h)
 
 -- what is seen of a file of this path, if of any
 abbrev seen : Files → Option (List ℕ) → Look
 seen files o = of_tree (tree_look (option_and_then (file_at files) o))
 
-module _ (F G : Files) (path : List ℕ) (tree : Tree) (updates : (q : List ℕ) → file_at G q ≡ cond (is_at (slice_cmp nat_cmp path) q) (Some tree) (file_at F q)) where
+module _ (F G : Files) (path : List ℕ) (there : Option Tree) (updates : (q : List ℕ) → file_at G q ≡ cond (is_at (slice_cmp nat_cmp path) q) there (file_at F q)) where
   pub at_other : (q : List ℕ) → is_at (slice_cmp nat_cmp path) q ≡ false → file_at G q ≡ file_at F q
   at_other q off = updates q ∙ rw off refl
 
-  pub at_path : (q : List ℕ) → is_at (slice_cmp nat_cmp path) q ≡ true → file_at G q ≡ Some tree
+  pub at_path : (q : List ℕ) → is_at (slice_cmp nat_cmp path) q ≡ true → file_at G q ≡ there
   at_path q on = updates q ∙ rw on refl
 
   pub seen-other : (o : Option (List ℕ)) → is_path path o ≡ false → seen G o ≡ seen F o
@@ -53,27 +55,26 @@ module _ (F G : Files) (path : List ℕ) (tree : Tree) (updates : (q : List ℕ)
       (λ on. clash ((bytes_decides q path).1 (sym (is_at-same path q on))) h)
       (λ off. ap (λ (x : Option Tree). of_tree (tree_look x)) (at_other q off))
 
-  pub seen-same : file_at F path ≡ Some tree → (o : Option (List ℕ)) → seen G o ≡ seen F o
+  pub seen-same : file_at F path ≡ there → (o : Option (List ℕ)) → seen G o ≡ seen F o
   seen-same was None = refl
   seen-same was (Some q) = on_bool (is_at (slice_cmp nat_cmp path) q)
       (λ on. ap (λ (x : Option Tree). of_tree (tree_look x))
-      (at_path q on ∙ sym (subst (λ (p : List ℕ). file_at F p ≡ Some tree) (is_at-same path q on) was)))
+      (at_path q on ∙ sym (subst (λ (p : List ℕ). file_at F p ≡ there) (is_at-same path q on) was)))
       (λ off. ap (λ (x : Option Tree). of_tree (tree_look x)) (at_other q off))
 
-  pub seen-differs : file_at F path ≢ Some tree → (o : Option (List ℕ)) → is_path path o ≡ true → seen G o ≢ seen F o
+  pub seen-differs : file_at F path ≢ there → (o : Option (List ℕ)) → is_path path o ≡ true → seen G o ≢ seen F o
   seen-differs was None h e = clash h refl
   seen-differs was (Some q) h e =
       let same : q ≡ path = (bytes_decides q path).0 h in
-      let now : file_at G q ≡ Some tree = at_path q (same-is_at path q (sym same)) in
-      let shown : of_tree (tree_look (Some tree)) ≡ of_tree (tree_look (file_at F q)) = sym (ap (λ (x : Option Tree). of_tree (tree_look x)) now) ∙ e in
-      was (subst (λ (p : List ℕ). file_at F p ≡ Some tree) same (tree_look-some (file_at F q) tree shown))
+      let now : file_at G q ≡ there = at_path q (same-is_at path q (sym same)) in
+      was (subst (λ (p : List ℕ). file_at F p ≡ there) same (sym (tree_look-same (file_at G q) (file_at F q) e) ∙ now))
 
--- what is set in the files is an edit of the workspace
-pub set_edits : (crates : List CrateValue) (paths : List (List ℕ)) (F G : Files) (path : List ℕ) (tree : Tree) (altered : Bool)
-    → ((q : List ℕ) → file_at G q ≡ cond (is_at (slice_cmp nat_cmp path) q) (Some tree) (file_at F q))
-    → (altered ≡ false → file_at F path ≡ Some tree) → (altered ≡ true → file_at F path ≢ Some tree)
+-- what becomes of one file is an edit of the workspace
+pub edits_file : (crates : List CrateValue) (paths : List (List ℕ)) (F G : Files) (path : List ℕ) (there : Option Tree) (altered : Bool)
+    → ((q : List ℕ) → file_at G q ≡ cond (is_at (slice_cmp nat_cmp path) q) there (file_at F q))
+    → (altered ≡ false → file_at F path ≡ there) → (altered ≡ true → file_at F path ≢ there)
     → IsEdited paths path (workspace_in crates paths F) (workspace_in crates paths G) altered
-set_edits crates paths F G path tree altered updates same other = record {
+edits_file crates paths F G path there altered updates same other = record {
   crates = refl;
   others = others;
   same = λ off. unaltered (same off);
@@ -81,14 +82,14 @@ set_edits crates paths F G path tree altered updates same other = record {
 }
   where
     others : (key : Key) → names_file paths path key ≡ false → look (workspace_in crates paths G) key ≡ look (workspace_in crates paths F) key
-    others (keys.Tree krate file) h = seen-other F G path tree updates (path_in paths file) h
+    others (keys.Tree krate file) h = seen-other F G path there updates (path_in paths file) h
 
-    unaltered : file_at F path ≡ Some tree → (key : Key) → look (workspace_in crates paths G) key ≡ look (workspace_in crates paths F) key
-    unaltered was (keys.Tree krate file) = seen-same F G path tree updates was (path_in paths file)
+    unaltered : file_at F path ≡ there → (key : Key) → look (workspace_in crates paths G) key ≡ look (workspace_in crates paths F) key
+    unaltered was (keys.Tree krate file) = seen-same F G path there updates was (path_in paths file)
 
-    changed : file_at F path ≢ Some tree → (key : Key) → names_file paths path key ≡ true
+    changed : file_at F path ≢ there → (key : Key) → names_file paths path key ≡ true
         → look (workspace_in crates paths G) key ≢ look (workspace_in crates paths F) key
-    changed was (keys.Tree krate file) h = seen-differs F G path tree updates was (path_in paths file) h
+    changed was (keys.Tree krate file) h = seen-differs F G path there updates was (path_in paths file) h
 
 -- an edit that was marked for has its effect
 pub becomes : (s : SessionState) (F : Files) (M : List Bool) (path : List ℕ) (altered : Bool) → IsSound s
@@ -104,19 +105,19 @@ becomes s F M path altered sound edit sp = record {
   current = (applied_sound s F M path altered sound edit sp).current;
 }
 
--- the same, for a path that is the file's
-pub set_sound : (s : SessionState) (F : Files) (M : List Bool) (path file : List ℕ) (tree : Tree) (altered : Bool) → path ≡ file → IsSound s
-    → ((q : List ℕ) → file_at F q ≡ cond (is_at (slice_cmp nat_cmp file) q) (Some tree) (file_at s.files q))
-    → (altered ≡ false → file_at s.files file ≡ Some tree) → (altered ≡ true → file_at s.files file ≢ Some tree)
+-- a session whose marks were spread from what became of one file is sound; the path is the file's
+pub edited_sound : (s : SessionState) (F : Files) (M : List Bool) (path file : List ℕ) (there : Option Tree) (altered : Bool) → path ≡ file → IsSound s
+    → ((q : List ℕ) → file_at F q ≡ cond (is_at (slice_cmp nat_cmp file) q) there (file_at s.files q))
+    → (altered ≡ false → file_at s.files file ≡ there) → (altered ≡ true → file_at s.files file ≢ there)
     → IsSpread s.crates (asked_altered s.paths path s.kept altered) s.marked M → IsSound (record s { files = F; marked = M })
-set_sound s F M path file tree altered is sound updates same other sp =
-    applied_sound s F M file altered sound (set_edits s.crates s.paths s.files F file tree altered updates same other)
+edited_sound s F M path file there altered is sound updates same other sp =
+    applied_sound s F M file altered sound (edits_file s.crates s.paths s.files F file there altered updates same other)
     (subst (λ (p : List ℕ). IsSpread s.crates (asked_altered s.paths p s.kept altered) s.marked M) is sp)
 
-pub set_becomes : (s : SessionState) (F : Files) (M : List Bool) (path file : List ℕ) (tree : Tree) (altered : Bool) → path ≡ file → IsSound s
-    → ((q : List ℕ) → file_at F q ≡ cond (is_at (slice_cmp nat_cmp file) q) (Some tree) (file_at s.files q))
-    → (altered ≡ false → file_at s.files file ≡ Some tree) → (altered ≡ true → file_at s.files file ≢ Some tree)
+pub edited_becomes : (s : SessionState) (F : Files) (M : List Bool) (path file : List ℕ) (there : Option Tree) (altered : Bool) → path ≡ file → IsSound s
+    → ((q : List ℕ) → file_at F q ≡ cond (is_at (slice_cmp nat_cmp file) q) there (file_at s.files q))
+    → (altered ≡ false → file_at s.files file ≡ there) → (altered ≡ true → file_at s.files file ≢ there)
     → IsSpread s.crates (asked_altered s.paths path s.kept altered) s.marked M → Becomes s F (record s { files = F; marked = M })
-set_becomes s F M path file tree altered is sound updates same other sp =
-    becomes s F M file altered sound (set_edits s.crates s.paths s.files F file tree altered updates same other)
+edited_becomes s F M path file there altered is sound updates same other sp =
+    becomes s F M file altered sound (edits_file s.crates s.paths s.files F file there altered updates same other)
     (subst (λ (p : List ℕ). IsSpread s.crates (asked_altered s.paths p s.kept altered) s.marked M) is sp)

@@ -3,7 +3,7 @@ use Rattle.hir_wire.specs.CommandValue.{CommandValue}
 use Rattle.hir_wire.specs.declared.reply.Reply.{Reply}
 use Rattle.hir_session.specs.SessionState.{SessionState}
 use Rattle.hir_session.specs.Machine.{MachineState, Moves, AnswersCommand, AnswersLine, Runs}
-use Rattle.hir_session.specs.Machine.Moves.{applies, refuses, refreshes, refreshes_partly, resolves, tells}
+use Rattle.hir_session.specs.Machine.Moves.{applies, refuses, refreshes, refreshes_partly, resolves, tells, shows, shows_none}
 use Rattle.hir_session.specs.Machine.AnswersCommand.{finds_no_memory, begins, refuses_session, comes_too_soon, comes_too_late, calls}
 use Rattle.hir_session.specs.Machine.AnswersLine.{finds_no_memory_for_line, reads_no_command, carries_out}
 use Rattle.hir_session.specs.Machine.Runs.{none as nothing_yet, more}
@@ -18,6 +18,8 @@ after_call h (refreshes done is_refresh is told) = refresh _ _ done h is.resolve
 after_call h (refreshes_partly why is_refresh is many told) = refresh _ _ is.done h is.resolves
 after_call {from} h (resolves at path shadow style is_resolve same told) = subst (λ (x : SessionState). History from x) (sym same) h
 after_call {from} h (tells at is_status same told) = subst (λ (x : SessionState). History from x) (sym same) h
+after_call {from} h (shows krate path text is_tree same found told) = subst (λ (x : SessionState). History from x) (sym same) h
+after_call {from} h (shows_none krate path why is_tree same refused told) = subst (λ (x : SessionState). History from x) (sym same) h
 
 -- a session is there, and its history goes on
 abbrev HasHistory : SessionState → MachineState → Type 0
@@ -33,7 +35,7 @@ no_session h = absurd (let wrong : ⊥ = cc in wrong)
 
 pub after_command : {from s : SessionState} {c : CommandValue} {answer : Reply} {new : MachineState} → History from s → AnswersCommand (Some s) c answer new → HasHistory from new
 after_command {s = s} h (finds_no_memory told same) = (s, same, h)
-after_command h (begins inputs t is_crates before made told same) = no_session before
+after_command h (begins inputs t is_crates before accepted made told same) = no_session before
 after_command h (refuses_session inputs why is_crates before refused told same) = no_session before
 after_command h (comes_too_soon other before told same) = no_session before
 after_command {from} {s = s} h (comes_too_late t makes before told same) = (t, same, subst (λ (x : SessionState). History from x) (one_value before) h)

@@ -3,6 +3,8 @@ pub mod Spreading
 pub mod Sound
 pub mod Start
 pub mod Due
+pub mod EntryLemmas
+pub mod OptionLemmas
 pub mod FileLemmas
 pub mod Differ
 pub mod Stand

@@ -1,11 +1,14 @@
-use Rattle.std.proofs.Common.{◌≡◌, ℕ, zero, suc, ◌+◌, ◌<◌, ◌≤◌, Bool, true, false, List, [], ◌∷◌, ◌++◌, length, map, replicate, Option, None, refl, sym, ◌∙◌, Contains, arith, nat_le}
+use Rattle.std.proofs.Common.{◌≡◌, ℕ, zero, suc, ◌+◌, ◌<◌, ◌≤◌, Bool, true, false, List, [], ◌∷◌, ◌++◌, length, map, replicate, drop, get_or, drop-cons, add-one, append_assoc, append-nil, drop_of_length-le, Option, None, refl, sym, ap, subst, ◌∙◌, Contains, arith, nat_le}
+use Rattle.std.proofs.lemmas.List.{length-map}
 use Rattle.std.proofs.lemmas.List.Folds.{list_any_at}
 use Rattle.hir_base.specs.declared.ids.Crate.{Crate}
+use Rattle.hir_wire.specs.CommandValue.{CrateInputValue, crate_input_view}
 use Rattle.hir_wire.specs.declared.command.CrateInput.{CrateInput}
 use Rattle.hir_session.specs.Crates.{CrateValue, dependencies_in}
 use Rattle.hir_session.specs.Files.{Files}
-use Rattle.hir_session.specs.SessionState.{Resolution, mark_in, IsSound}
-use Rattle.hir_session.specs.Refusals.{dependency_crates, has_late, first_out_of_order, crates_from, started}
+use Rattle.hir_session.specs.SessionState.{SessionState, Resolution, mark_in, is_marked, IsSound}
+use Rattle.hir_session.specs.Refusals.{dependency_crates, has_late, first_out_of_order}
+use Rattle.hir_session.specs.Beginning.{IsMade, AreMade, Begins}
 use Rattle.hir_session.proofs.Truth.{clash, on_bool}
 
 -- one more at the end
@@ -23,9 +26,33 @@ pub length-replicate : {A : Type 0} (n : ℕ) (x : A) → length (replicate n x)
 length-replicate zero x = refl
 length-replicate (suc n) x = let e : length (replicate n x) ≡ n = length-replicate n x in omega arith
 
-pub length-crates_from : (n : ℕ) (inputs : List CrateInput) → length (crates_from n inputs) ≡ length inputs
-length-crates_from n [] = refl
-length-crates_from n (c ∷ cs) = let e : length (crates_from (n + 1) cs) ≡ length cs = length-crates_from (n + 1) cs in omega arith
+-- as many crates are made as were handed in
+pub length-made : (n : ℕ) (inputs : List CrateInputValue) (crates : List CrateValue) → AreMade n inputs crates → length crates ≡ length inputs
+length-made n [] [] made = refl
+length-made n (i ∷ inputs) (c ∷ crates) made = let e : length crates ≡ length inputs = length-made (n + 1) inputs crates made.1 in omega arith
+length-made n [] (c ∷ crates) made = absurd made
+length-made n (i ∷ inputs) [] made = absurd made
+
+-- the crates so far, and such as are made of what is left, are made of all
+abbrev pub IsMaking : ℕ → List CrateInput → List CrateValue → Type 0
+IsMaking k inputs crates =
+    (rest : List CrateValue) → AreMade k (map crate_input_view (drop k inputs)) rest → AreMade 0 (map crate_input_view inputs) (crates ++ rest)
+
+-- one more crate is made
+pub making_more : (k : ℕ) (inputs : List CrateInput) (crates next : List CrateValue) (i other : CrateInput) (c : CrateValue) → k < length inputs
+    → i ≡ get_or inputs k other → IsMade k (crate_input_view i) c → next ≡ crates ++ c ∷ [] → IsMaking k inputs crates → IsMaking (k + 1) inputs next
+making_more k inputs crates next i other c within is made longer so_far rest h =
+    let here : drop k inputs ≡ i ∷ drop (k + 1) inputs = rw (add-one, drop-cons inputs k other, is) refl in
+    let from : AreMade k (map crate_input_view (drop k inputs)) (c ∷ rest) = rw here (made, h) in
+    subst (λ (cs : List CrateValue). AreMade 0 (map crate_input_view inputs) cs)
+    (sym (append_assoc crates (c ∷ []) rest) ∙ ap (λ (cs : List CrateValue). cs ++ rest) (sym longer)) (so_far (c ∷ rest) from)
+
+-- all crates are made
+pub making_end : (k : ℕ) (inputs : List CrateInput) (crates : List CrateValue) → length inputs ≤ k → IsMaking k inputs crates
+    → AreMade 0 (map crate_input_view inputs) crates
+making_end k inputs crates past so_far =
+    let none : drop k inputs ≡ [] = drop_of_length-le inputs past in
+    subst (λ (cs : List CrateValue). AreMade 0 (map crate_input_view inputs) cs) (append-nil crates) (so_far [] (rw none tt))
 
 -- a number that is not at most another is above it
 below_of : (a b : ℕ) → nat_le a b ≡ false → b < a
@@ -39,32 +66,45 @@ before_all n crates d none among =
     (λ early. below_of n d.0 early)
 
 -- where no crate is out of order, each dependency comes before its crate
-pub below_from : (n : ℕ) (inputs : List CrateInput) → first_out_of_order n inputs ≡ None → (k : ℕ) (d : Crate)
-    → Contains (dependencies_in (crates_from n inputs) k) d → d.0 < n + k
-below_from n [] none k d among = absurd (let h : among.0 < 0 = among.1 in omega arith)
-below_from n (c ∷ cs) none zero d among = on_bool (has_late n (dependency_crates c.deps))
+pub below_from : (n : ℕ) (inputs : List CrateInputValue) (crates : List CrateValue) → AreMade n inputs crates → first_out_of_order n inputs ≡ None
+    → (k : ℕ) (d : Crate) → Contains (dependencies_in crates k) d → d.0 < n + k
+below_from n [] [] made none k d among = absurd (let h : among.0 < 0 = among.1 in omega arith)
+below_from n [] (c ∷ cs) made none k d among = absurd made
+below_from n (i ∷ is) [] made none k d among = absurd made
+below_from n (i ∷ is) (c ∷ cs) made none zero d among = on_bool (has_late n (dependency_crates i.deps))
     (λ late. absurd (let wrong : ⊥ = cc (rw late at none) in wrong))
-    (λ early. let lower : d.0 < n = before_all n (dependency_crates c.deps) d early among in omega arith)
-below_from n (c ∷ cs) none (suc k) d among = on_bool (has_late n (dependency_crates c.deps))
+    (λ early. let lower : d.0 < n = before_all n (dependency_crates i.deps) d early
+    (subst (λ (ds : List Crate). Contains ds d) made.0.dependencies among) in omega arith)
+below_from n (i ∷ is) (c ∷ cs) made none (suc k) d among = on_bool (has_late n (dependency_crates i.deps))
     (λ late. absurd (let wrong : ⊥ = cc (rw late at none) in wrong))
-    (λ early. let lower : d.0 < n + 1 + k = below_from (n + 1) cs (rw early at none) k d among in omega arith)
+    (λ early. let lower : d.0 < n + 1 + k = below_from (n + 1) is cs made.1 (rw early at none) k d among in omega arith)
 
 -- a session is sound when it begins
-pub started_sound : (inputs : List CrateInput) → length inputs ≤ 10000 → first_out_of_order 0 inputs ≡ None → IsSound (started inputs)
-started_sound inputs few ordered =
-    let on : (k : ℕ) → mark_in (replicate (length inputs) true) k ≡ true = λ k. mark-replicate (length inputs) k in
-    let count : length (crates_from 0 inputs) ≡ length inputs = length-crates_from 0 inputs in
+pub begins_sound : (inputs : List CrateInputValue) (s : SessionState) → length inputs ≤ 10000 → first_out_of_order 0 inputs ≡ None → Begins inputs s → IsSound s
+begins_sound inputs s few ordered is =
+    let on : (k : ℕ) → is_marked s k ≡ true =
+    λ k. subst (λ (m : List Bool). mark_in m k ≡ true) (sym is.marked) (mark-replicate (length inputs) k) in
+    let count : length s.crates ≡ length inputs = length-made 0 inputs s.crates is.crates in
     record {
       few = omega arith;
-      kept_len = length-replicate (length inputs) None ∙ sym count;
-      marked_len = length-replicate (length inputs) true ∙ sym count;
-      below = λ k d among. let lower : d.0 < 0 + k = below_from 0 inputs ordered k d among in omega arith;
+      kept_len = ap (λ (xs : List (Option Resolution)). length xs) is.kept ∙ length-replicate (length inputs) None ∙ sym count;
+      marked_len = ap (λ (xs : List Bool). length xs) is.marked ∙ length-replicate (length inputs) true ∙ sym count;
+      below = λ k d among. let lower : d.0 < 0 + k = below_from 0 inputs s.crates is.crates ordered k d among in omega arith;
       closed = λ k d off among. clash (on k) off;
       current = λ k off. clash (on k) off;
     }
 
--- the parts of a session that begins are those of the definition
-pub started_is : (inputs : List CrateInput) (crates : List CrateValue) (paths : List (List ℕ)) (files : Files) (kept : List (Option Resolution)) (marked : List Bool) (n : ℕ)
-    → n ≡ length inputs → crates ≡ crates_from 0 inputs → paths ≡ map (λ c. c.root) inputs → files ≡ [] → kept ≡ replicate n None → marked ≡ replicate n true
-    → started inputs ≡ record { crates = crates; paths = paths; files = files; kept = kept; marked = marked }
-started_is inputs crates paths files kept marked n count is_crates is_paths is_files is_kept is_marked = rw (is_crates, is_paths, is_files, is_kept, is_marked, count) refl
+-- the parts of a session that begins
+pub begins_with : (inputs : List CrateInput) (crates : List CrateValue) (paths : List (List ℕ)) (files : Files) (kept : List (Option Resolution)) (marked : List Bool)
+    (n : ℕ) → n ≡ length inputs → AreMade 0 (map crate_input_view inputs) crates → paths ≡ map (λ c. c.root) (map crate_input_view inputs) → files ≡ []
+    → kept ≡ replicate n None → marked ≡ replicate n true
+    → Begins (map crate_input_view inputs) (record { crates = crates; paths = paths; files = files; kept = kept; marked = marked })
+begins_with inputs crates paths files kept marked n count made is_paths is_files is_kept is_marked =
+    let all : n ≡ length (map crate_input_view inputs) = count ∙ sym (length-map inputs crate_input_view) in
+    record {
+      crates = made;
+      paths = is_paths;
+      files = is_files;
+      kept = is_kept ∙ ap (λ (m : ℕ). replicate m None) all;
+      marked = is_marked ∙ ap (λ (m : ℕ). replicate m true) all;
+    }

@@ -1,5 +1,6 @@
 -- How are the values of a session stored?
 use Rattle.std.specs.Coded.{Coded, codes}
+use Rattle.hir_item_tree.specs.CollectedCodes.{coded_atom}
 use Rattle.hir_item_tree.specs.ItemTree.{coded_tree}
 use Rattle.hir_session.specs.Files.{Files}
 use Rattle.hir_session.specs.SessionState.{SessionState}
@@ -10,4 +11,4 @@ coded_files = hlevel (codes, coded_tree)
 
 -- a session is stored as its parts
 pub coded_session : Coded SessionState
-coded_session = hlevel (codes, coded_tree)
+coded_session = hlevel (codes, coded_tree, coded_atom)

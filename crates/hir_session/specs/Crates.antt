@@ -1,19 +1,21 @@
 -- What is a crate of a session?
 use Rattle.std.specs.Prelude.{ℕ, List, [], slice_index_or}
 use Rattle.hir_base.specs.declared.ast_id.EditionedFileId.{EditionedFileId}
+use Rattle.hir_base.specs.declared.cfg.CfgAtom.{CfgAtom}
 use Rattle.hir_base.specs.declared.edition.Edition.TheVariants.{Edition2024}
 use Rattle.hir_base.specs.declared.ids.Crate.{Crate}
 use Rattle.hir_def_collector.specs.Workspace.{CrateData}
 use Rattle.hir_def_collector.specs.declared.collector.Start.{Start}
 
--- its root file, in its edition, and the crates that it depends on
+-- its root file, in its edition, the crates that it depends on, and the options that are set
 pub record CrateValue : Type 0 where
   pub root : EditionedFileId
   pub dependencies : List Crate
+  pub options : List CfgAtom
 
 -- what stands for a crate that isn't there
 abbrev pub no_crate : CrateValue
-no_crate = record { root = record { file_id = record { 0 = 0 }; edition = Edition2024 }; dependencies = [] }
+no_crate = record { root = record { file_id = record { 0 = 0 }; edition = Edition2024 }; dependencies = []; options = [] }
 
 -- the crate of this number
 abbrev pub crate_in : List CrateValue → ℕ → CrateValue
@@ -22,6 +24,10 @@ crate_in crates k = slice_index_or crates k no_crate
 -- what it depends on
 abbrev pub dependencies_in : List CrateValue → ℕ → List Crate
 dependencies_in crates k = (crate_in crates k).dependencies
+
+-- the options under which files are read: those of the one crate; none where there is no crate
+abbrev pub file_options : List CrateValue → List CfgAtom
+file_options crates = (crate_in crates 0).options
 
 -- a crate as a run of the import rules sees it
 abbrev pub crate_data : CrateValue → CrateData

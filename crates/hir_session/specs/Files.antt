@@ -1,5 +1,5 @@
 -- What has a session of each file?
-use Rattle.std.specs.Prelude.{ℕ, List, Option, None, slice_get, map}
+use Rattle.std.specs.Prelude.{ℕ, not, List, filter, Option, None, slice_get, map}
 use Rattle.std.specs.Option.{option_and_then}
 use Rattle.std.specs.Ordering.{nat_cmp}
 use Rattle.std.specs.Cmp.Lexicographic.{slice_cmp}
@@ -22,6 +22,10 @@ file_at files path = lookup (is_at (slice_cmp nat_cmp path)) files
 -- the files with this one set
 abbrev pub with_file : Files → List ℕ → Tree → Files
 with_file files path tree = insert_entry (slice_cmp nat_cmp) files path tree
+
+-- the files without the one at this path
+abbrev pub without_file : Files → List ℕ → Files
+without_file files path = filter (λ f. not (is_at (slice_cmp nat_cmp path) f.0)) files
 
 -- the path of what holds syntax, where it is a file of the table
 abbrev pub path_in : List (List ℕ) → HirFileId → Option (List ℕ)

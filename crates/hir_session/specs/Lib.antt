@@ -8,11 +8,13 @@ pub mod Marking
 pub mod Due
 pub mod NotYet
 pub mod Refusals
+pub mod Beginning
 pub mod Changes
 pub mod Status
 pub mod SourceItems
 pub mod Answers
 pub mod AnswersStand
+pub mod TreeText
 pub mod Machine
 pub mod Histories
 pub mod MachineCodes

@@ -1,12 +1,13 @@
 -- How does a session answer commands and lines?
-use Rattle.std.specs.Prelude.{◌≡◌, ℕ, Bool, true, false, List, Option, None, Some, Result, Ok, Err}
+use Rattle.std.specs.Prelude.{◌≡◌, ℕ, Bool, true, false, List, Option, None, Some, Result, Ok, Err, String, string_bytes}
+use Rattle.std.specs.declared.alloc.Global.{Global}
 use Rattle.hir_base.specs.ModPath.{Path}
 use Rattle.hir_base.specs.Place.{PlaceValue}
+use Rattle.hir_base.specs.declared.ids.Crate.{Crate}
 use Rattle.hir_wire.specs.Edits.{EditValue}
-use Rattle.hir_wire.specs.CommandValue.{CommandValue, crates, edit, refresh, resolve, status}
+use Rattle.hir_wire.specs.CommandValue.{CommandValue, CrateInputValue, crates, edit, refresh, resolve, status, tree}
 use Rattle.hir_wire.specs.Commands.{reading_of}
 use Rattle.hir_wire.specs.declared.answer.Answer.{Answer}
-use Rattle.hir_wire.specs.declared.command.CrateInput.{CrateInput}
 use Rattle.hir_wire.specs.declared.command.Shadow.{Shadow}
 use Rattle.hir_wire.specs.declared.command.MacroStyle.{MacroStyle}
 use Rattle.hir_wire.specs.declared.read_error.ReadError.{ReadError}
@@ -21,12 +22,16 @@ use Rattle.hir_session.specs.declared.error.RefreshError.{RefreshError}
 use Rattle.hir_session.specs.declared.error.RefreshError.TheVariants as refresh_error
 use Rattle.hir_session.specs.declared.error.QueryError.{QueryError}
 use Rattle.hir_session.specs.declared.error.QueryError.TheVariants as query_error
+use Rattle.hir_session.specs.declared.error.TreeTextError.{TreeTextError}
+use Rattle.hir_session.specs.declared.error.TreeTextError.TheVariants as tree_text_error
 use Rattle.hir_session.specs.SessionState.{SessionState}
 use Rattle.hir_session.specs.Refusals.{verdict_of_new, verdict_of_apply}
+use Rattle.hir_session.specs.Beginning.{Begins}
 use Rattle.hir_session.specs.Due.{HasOverlongRun}
 use Rattle.hir_session.specs.Changes.{Applies, Refreshes, RefreshesPartly}
 use Rattle.hir_session.specs.Status.{status_of}
 use Rattle.hir_session.specs.Answers.{answer_of}
+use Rattle.hir_session.specs.TreeText.{tree_text_of}
 
 -- ---- replies
 
@@ -61,6 +66,11 @@ abbrev pub query_reply : Result Answer QueryError → Reply
 query_reply (Ok a) = reply.Answer a
 query_reply (Err why) = query_error_reply why
 
+-- what is told where there is no page
+abbrev pub tree_text_reply : TreeTextError → Reply
+tree_text_reply tree_text_error.UnknownCrate = reply.UnknownCrate
+tree_text_reply tree_text_error.Memory = reply.Memory
+
 -- what is told of a line that is no command
 abbrev pub read_reply : ReadError → Reply
 read_reply read_error.Json = reply.Json
@@ -86,6 +96,12 @@ pub data Moves (s : SessionState) (c : CommandValue) (answer : Reply) (t : Sessi
       → answer ≡ query_reply (answer_of s at path shadow style) → Moves s c answer t
   -- the status is told
   tells : (at : PlaceValue) → c ≡ status at → t ≡ s → answer ≡ reply.Status (status_of s at) → Moves s c answer t
+  -- the page of a file's tree is shown
+  shows : (krate : Crate) (path : List ℕ) (text : String Global) → c ≡ tree krate path → t ≡ s
+      → tree_text_of s krate path ≡ Ok (string_bytes text) → answer ≡ reply.Text text → Moves s c answer t
+  -- or there is none
+  shows_none : (krate : Crate) (path : List ℕ) (why : TreeTextError) → c ≡ tree krate path → t ≡ s
+      → tree_text_of s krate path ≡ Err why → answer ≡ tree_text_reply why → Moves s c answer t
 
 -- ---- commands, and lines
 
@@ -104,16 +120,17 @@ makes_session (edit e) = false
 makes_session refresh = false
 makes_session (resolve at path shadow style) = false
 makes_session (status at) = false
+makes_session (tree krate path) = false
 
 -- what a command does to the machine, and what is told of it
 pub data AnswersCommand (old : MachineState) (c : CommandValue) (answer : Reply) (new : MachineState) : Type 0 where
   -- memory ran out, and nothing changes
   finds_no_memory : answer ≡ reply.Memory → new ≡ old → AnswersCommand old c answer new
   -- a session begins
-  begins : (inputs : List CrateInput) (s : SessionState) → c ≡ crates inputs → old ≡ None → verdict_of_new inputs ≡ Ok s
-      → answer ≡ reply.Done → new ≡ Some s → AnswersCommand old c answer new
+  begins : (inputs : List CrateInputValue) (s : SessionState) → c ≡ crates inputs → old ≡ None → verdict_of_new inputs ≡ Ok tt
+      → Begins inputs s → answer ≡ reply.Done → new ≡ Some s → AnswersCommand old c answer new
   -- or it is refused
-  refuses_session : (inputs : List CrateInput) (why : NewSessionError) → c ≡ crates inputs → old ≡ None → verdict_of_new inputs ≡ Err why
+  refuses_session : (inputs : List CrateInputValue) (why : NewSessionError) → c ≡ crates inputs → old ≡ None → verdict_of_new inputs ≡ Err why
       → answer ≡ new_reply why → new ≡ None → AnswersCommand old c answer new
   -- a command before there is a session is none
   comes_too_soon : makes_session c ≡ false → old ≡ None → answer ≡ reply.Command → new ≡ None → AnswersCommand old c answer new

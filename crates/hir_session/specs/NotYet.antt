@@ -6,10 +6,14 @@ use Rattle.hir_item_tree.specs.declared.raw_visibility.RawVisibility.{RawVisibil
 use Rattle.hir_item_tree.specs.declared.raw_visibility.RawVisibility.TheVariants as visibility
 use Rattle.hir_item_tree.specs.declared.shape.ImportAlias.{ImportAlias}
 use Rattle.hir_item_tree.specs.declared.shape.ImportAlias.TheVariants as alias
-use Rattle.hir_item_tree.specs.UseTree.{UseTree, single}
-use Rattle.hir_item_tree.specs.Source.{Item, import, function, structure, inline_module, Items, no_items, item, SourceValue, broken, unit}
-use Rattle.hir_wire.specs.declared.command.CrateInput.{CrateInput}
+use Rattle.hir_item_tree.specs.Attributes.{Attribute, meta, cfg, cfg_attr, Attributes, no_attributes, attribute}
+use Rattle.hir_item_tree.specs.UseTree.{UseTree, single, glob, prefixed, UseTrees, no_trees, tree}
+use Rattle.hir_item_tree.specs.Source.{NodeHead, Plain, import, extern_crate, function, structure, union_structure, enumeration, constant, static_item, type_alias, outline_module, macro_call, macro_rules, macro_def, Item, plain, holder, Items, no_items, item, SourceValue, broken, unit}
+use Rattle.hir_def_collector.specs.BuiltinAttributes.{is_inert}
+use Rattle.hir_wire.specs.CommandValue.{CrateInputValue}
 use Rattle.hir_wire.specs.declared.command.Dependency.{Dependency}
+
+-- ---- crates
 
 -- all editions but the first
 abbrev pub is_edition_taken : Edition → Bool
@@ -23,9 +27,16 @@ abbrev pub has_none : List Dependency → Bool
 has_none [] = true
 has_none (d ∷ ds) = false
 
--- a crate of a later edition, without dependencies, that isn't a procedural macro's
-abbrev pub is_crate_taken : CrateInput → Bool
-is_crate_taken c = is_edition_taken c.edition && (has_none c.deps && not c.proc_macro)
+-- whether there are no attributes
+abbrev pub is_bare : Attributes → Bool
+is_bare no_attributes = true
+is_bare (attribute a rest) = false
+
+-- a crate of a later edition, without dependencies and attributes, that isn't a procedural macro's
+abbrev pub is_crate_taken : CrateInputValue → Bool
+is_crate_taken c = is_edition_taken c.edition && (has_none c.deps && (is_bare c.attributes && not c.proc_macro))
+
+-- ---- the parts of items
 
 -- all visibilities but those in a path
 abbrev pub is_visibility_taken : RawVisibility → Bool
@@ -34,10 +45,22 @@ is_visibility_taken (visibility.PubSelf written) = true
 is_visibility_taken visibility.PubCrate = true
 is_visibility_taken visibility.Public = true
 
--- all of them
+-- visibilities all of which are taken
 abbrev pub are_visibilities_taken : List RawVisibility → Bool
 are_visibilities_taken [] = true
 are_visibilities_taken (v ∷ vs) = is_visibility_taken v && are_visibilities_taken vs
+
+abbrev mutual
+  -- conditions and inert attributes, also those that a condition holds
+  pub is_attribute_taken : Attribute → Bool
+  is_attribute_taken (meta m) = is_inert m.path.kind m.path.segments
+  is_attribute_taken (cfg c) = true
+  is_attribute_taken (cfg_attr c inner) = are_attributes_taken inner
+
+  -- attributes all of which are taken
+  pub are_attributes_taken : Attributes → Bool
+  are_attributes_taken no_attributes = true
+  are_attributes_taken (attribute a rest) = is_attribute_taken a && are_attributes_taken rest
 
 -- all aliases but `_`
 abbrev pub is_alias_taken : Option ImportAlias → Bool
@@ -45,23 +68,52 @@ is_alias_taken None = true
 is_alias_taken (Some alias.Underscore) = false
 is_alias_taken (Some (alias.Alias name)) = true
 
-abbrev pub is_tree_taken : UseTree → Bool
-is_tree_taken (single path a) = is_alias_taken a
+abbrev mutual
+  -- paths and lists, without globs
+  pub is_tree_taken : UseTree → Bool
+  is_tree_taken (single path a) = is_alias_taken a
+  is_tree_taken (glob path) = false
+  is_tree_taken (prefixed path list) = are_trees_taken list
+
+  -- use trees all of which are taken
+  pub are_trees_taken : UseTrees → Bool
+  are_trees_taken no_trees = true
+  are_trees_taken (tree t ts) = is_tree_taken t && are_trees_taken ts
+
+-- what every item has
+abbrev pub is_head_taken : NodeHead → Bool
+is_head_taken h = is_visibility_taken h.visibility && are_attributes_taken h.attributes
+
+-- all kinds but enums, extern crates, modules in files of their own, and what has to do with macros
+abbrev pub is_kind_taken : Plain → Bool
+is_kind_taken (import written) = is_tree_taken written
+is_kind_taken (extern_crate name a) = false
+is_kind_taken (function name body) = true
+is_kind_taken (structure name shape fields) = are_visibilities_taken fields
+is_kind_taken (union_structure name fields) = are_visibilities_taken fields
+is_kind_taken (enumeration name variants) = false
+is_kind_taken (constant name body) = true
+is_kind_taken (static_item name body) = true
+is_kind_taken (type_alias name) = true
+is_kind_taken (outline_module name) = false
+is_kind_taken (macro_call path) = false
+is_kind_taken (macro_rules name makro) = false
+is_kind_taken (macro_def name makro) = false
+
+-- ---- items
 
 abbrev mutual
   -- an item all of whose parts are taken
   pub is_item_taken : Item → Bool
-  is_item_taken (import h tree) = is_visibility_taken h.visibility && is_tree_taken tree
-  is_item_taken (function h name body) = is_visibility_taken h.visibility
-  is_item_taken (structure h name shape fields) = is_visibility_taken h.visibility && are_visibilities_taken fields
-  is_item_taken (inline_module h name items) = is_visibility_taken h.visibility && are_items_taken items
+  is_item_taken (plain h kind) = is_head_taken h && is_kind_taken kind
+  is_item_taken (holder h kind items) = is_head_taken h && are_items_taken items
 
   -- items all of which are taken
   pub are_items_taken : Items → Bool
   are_items_taken no_items = true
   are_items_taken (item i is) = is_item_taken i && are_items_taken is
 
--- a source that can be read, all of whose items are taken
+-- a source all of whose attributes and items are taken; of one that can't be read there is nothing to take
 abbrev pub is_source_taken : SourceValue → Bool
-is_source_taken broken = false
-is_source_taken (unit items) = are_items_taken items
+is_source_taken broken = true
+is_source_taken (unit attributes items) = are_attributes_taken attributes && are_items_taken items

@@ -1,5 +1,5 @@
 -- What are a session and an edit refused for?
-use Rattle.std.specs.Prelude.{◌≡◌, ℕ, ◌+◌, Bool, true, not, nat_le, nat_lt, List, [], ◌∷◌, length, map, replicate, Option, Some, None, Result, Ok, Err, if◌then◌else◌}
+use Rattle.std.specs.Prelude.{◌≡◌, ℕ, ◌+◌, Bool, not, nat_le, nat_lt, List, [], ◌∷◌, length, map, Option, Some, None, Result, Ok, Err, if◌then◌else◌}
 use Rattle.std.specs.List.{list_any}
 use Rattle.hir_base.specs.declared.ids.Crate.{Crate}
 use Rattle.hir_base.specs.declared.limit.Limit.TheVariants as limit
@@ -9,9 +9,9 @@ use Rattle.hir_item_tree.specs.declared.check.CheckError.{CheckError}
 use Rattle.hir_item_tree.specs.declared.check.CheckError.TheVariants as check_error
 use Rattle.hir_def_collector.specs.declared.collector.CollectError.{CollectError}
 use Rattle.hir_def_collector.specs.declared.collector.CollectError.TheVariants as collect_error
-use Rattle.hir_wire.specs.declared.command.CrateInput.{CrateInput}
+use Rattle.hir_wire.specs.CommandValue.{CrateInputValue}
 use Rattle.hir_wire.specs.declared.command.Dependency.{Dependency}
-use Rattle.hir_wire.specs.Edits.{EditValue, set_file}
+use Rattle.hir_wire.specs.Edits.{EditValue, set_file, remove_file}
 use Rattle.hir_session.specs.declared.error.NewSessionError.{NewSessionError}
 use Rattle.hir_session.specs.declared.error.NewSessionError.TheVariants as new_error
 use Rattle.hir_session.specs.declared.error.EditError.{EditError}
@@ -20,8 +20,9 @@ use Rattle.hir_session.specs.declared.error.RefreshError.{RefreshError}
 use Rattle.hir_session.specs.declared.error.RefreshError.TheVariants as refresh_error
 use Rattle.hir_session.specs.declared.error.QueryError.{QueryError}
 use Rattle.hir_session.specs.declared.error.QueryError.TheVariants as query_error
-use Rattle.hir_session.specs.Crates.{CrateValue}
-use Rattle.hir_session.specs.SessionState.{SessionState, max_crates}
+use Rattle.hir_session.specs.declared.error.TreeTextError.{TreeTextError}
+use Rattle.hir_session.specs.declared.error.TreeTextError.TheVariants as tree_text_error
+use Rattle.hir_session.specs.SessionState.{max_crates}
 use Rattle.hir_session.specs.NotYet.{is_crate_taken, is_source_taken}
 
 -- memory ran out
@@ -35,6 +36,10 @@ IsEditMemory e = e ≡ edit_error.Memory
 -- memory ran out
 abbrev pub IsQueryMemory : QueryError → Type 0
 IsQueryMemory e = e ≡ query_error.Memory
+
+-- memory ran out
+abbrev pub IsTreeTextMemory : TreeTextError → Type 0
+IsTreeTextMemory e = e ≡ tree_text_error.Memory
 
 -- why a refresh ends early where a run was given up
 abbrev pub refresh_error_of : CollectError → RefreshError
@@ -50,34 +55,18 @@ abbrev pub has_late : ℕ → List Crate → Bool
 has_late k crates = list_any (λ d. nat_le k d.0) crates
 
 -- the first crate, from this number on, that has a dependency that doesn't come before it
-abbrev pub first_out_of_order : ℕ → List CrateInput → Option Crate
+abbrev pub first_out_of_order : ℕ → List CrateInputValue → Option Crate
 first_out_of_order k [] = None
 first_out_of_order k (c ∷ cs) =
     if has_late k (dependency_crates c.deps) then Some (record { 0 = k }) else first_out_of_order (k + 1) cs
 
--- the crates of a session, each with its root file's number, which is the crate's own
-abbrev pub crates_from : ℕ → List CrateInput → List CrateValue
-crates_from k [] = []
-crates_from k (c ∷ cs) =
-    record { root = record { file_id = record { 0 = k }; edition = c.edition }; dependencies = dependency_crates c.deps } ∷ crates_from (k + 1) cs
-
--- a session over these crates, without files, of which nothing is resolved
-abbrev pub started : List CrateInput → SessionState
-started inputs = record {
-  crates = crates_from 0 inputs;
-  paths = map (λ c. c.root) inputs;
-  files = [];
-  kept = replicate (length inputs) None;
-  marked = replicate (length inputs) true;
-}
-
 -- what is said of the order of the crates, and then of their number
-abbrev pub verdict_of_order : List CrateInput → Option Crate → Result SessionState NewSessionError
+abbrev pub verdict_of_order : List CrateInputValue → Option Crate → Result (Unit {0}) NewSessionError
 verdict_of_order inputs (Some krate) = Err (new_error.DependencyOrder krate)
-verdict_of_order inputs None = if nat_lt max_crates (length inputs) then Err (new_error.TooLarge limit.Crates) else Ok (started inputs)
+verdict_of_order inputs None = if nat_lt max_crates (length inputs) then Err (new_error.TooLarge limit.Crates) else Ok tt
 
--- the session over the crates, or the first thing for which it is refused
-abbrev pub verdict_of_new : List CrateInput → Result SessionState NewSessionError
+-- that a session over the crates is made, or the first thing for which it is refused
+abbrev pub verdict_of_new : List CrateInputValue → Result (Unit {0}) NewSessionError
 verdict_of_new inputs =
     if nat_lt 1 (length inputs) then Err new_error.NotYet else
     (if list_any (λ c. not (is_crate_taken c)) inputs then Err new_error.NotYet else
@@ -101,3 +90,4 @@ verdict_of_source source = if is_source_taken source then edit_result_of (verdic
 -- that the edit is accepted, or the first thing for which it is refused
 abbrev pub verdict_of_apply : EditValue → Result (Unit {0}) EditError
 verdict_of_apply (set_file path source) = verdict_of_source source
+verdict_of_apply (remove_file path) = Ok tt

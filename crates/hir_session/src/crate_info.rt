@@ -3,14 +3,16 @@ ghost use Rattle.std.specs.Prelude.{◌≡◌, List};
 ghost use Rattle.hir_session.specs.Crates.{crate_in, dependencies_in};
 
 use hir_base::ast_id::EditionedFileId;
+use hir_base::cfg_options::CfgOptions;
 use hir_base::ids::Crate;
 use std::marker::Model;
 
-/// A crate: its root file, in its edition, and the crates that it depends on.
+/// A crate: its root file, in its edition, the crates that it depends on, and the options that are set.
 #[derive(Drop)]
 pub struct CrateInfo {
     root: EditionedFileId,
     dependencies: Vec<Crate>,
+    options: CfgOptions,
 }
 
 impl Model for CrateInfo {
@@ -18,14 +20,18 @@ impl Model for CrateInfo {
 
     ghost Value = { CrateValue };
 
-    ghost view = { λ c. record { root = c.root; dependencies = c.dependencies.items } };
+    ghost view = { λ c. record { root = c.root; dependencies = c.dependencies.items; options = c.options } };
 }
 
 impl CrateInfo {
-    pub fn new(root: EditionedFileId, dependencies: Vec<Crate>) -> CrateInfo
-        ensures value { result ≡ record { root = root; dependencies = dependencies.items } }
+    pub fn new(root: EditionedFileId, dependencies: Vec<Crate>, options: CfgOptions) -> CrateInfo
+        ensures value { result ≡ record { root = root; dependencies = dependencies.items; options = options } }
     {
-        CrateInfo { root, dependencies }
+        CrateInfo {
+            root,
+            dependencies,
+            options,
+        }
     }
 
     /// Its root file.
@@ -40,6 +46,13 @@ impl CrateInfo {
         ensures value { result.now ≡ self.now.dependencies }
     {
         self.dependencies.as_slice()
+    }
+
+    /// The options that are set in it.
+    pub fn options(&self) -> &CfgOptions
+        ensures value { result.now ≡ self.now.options }
+    {
+        &self.options
     }
 }
 

@@ -63,6 +63,15 @@ pub enum QueryError {
     Memory,
 }
 
+/// Why the tree of a file isn't shown.
+#[derive(Clone, Copy, Debug, PartialEq, Eq, Drop, Error)]
+pub enum TreeTextError {
+    #[error("there is no such crate")]
+    UnknownCrate,
+    #[error("out of memory")]
+    Memory,
+}
+
 /// What a limit is on.
 fn measured(limit: Limit) -> &'static str {
     match limit {
@@ -74,7 +83,7 @@ fn measured(limit: Limit) -> &'static str {
         Limit::Nodes => "the number of nodes",
         Limit::Modules => "the depth of modules",
         Limit::UseTree => "the depth of a use tree",
-        Limit::Cfg => "the size of a condition",
+        Limit::Cfg => "the depth of a condition",
         Limit::Blocks => "the depth of blocks",
         Limit::Crates => "the number of crates",
     }
@@ -161,5 +170,16 @@ impl From<AllocError> for QueryError {
 
     fn from(_: AllocError) -> QueryError {
         QueryError::Memory
+    }
+}
+
+impl From<AllocError> for TreeTextError {
+    ghost use Rattle.std.specs.Prelude.{◌≡◌};
+    ghost use Rattle.hir_session.specs.declared.error.TreeTextError.TheVariants.{Memory};
+
+    ghost from_gives = { λ _ e. e ≡ Memory };
+
+    fn from(_: AllocError) -> TreeTextError {
+        TreeTextError::Memory
     }
 }

@@ -1,9 +1,9 @@
 //! The files of a session.
-ghost use Rattle.std.specs.Prelude.{◌≡◌, ◌≢◌, ◌↔◌, ℕ, List, [], true, false, Some, IsTrue, OnOk, OnErr, IfOk, option_map, cond};
+ghost use Rattle.std.specs.Prelude.{◌≡◌, ◌≢◌, ◌↔◌, ℕ, List, [], true, false, None, Some, IsTrue, OnOk, OnErr, IfOk, option_map, cond};
 ghost use Rattle.std.specs.Ordering.{nat_cmp};
 ghost use Rattle.std.specs.Cmp.Lexicographic.{slice_cmp};
 ghost use Rattle.std.specs.BTreeMap.{is_at};
-ghost use Rattle.hir_session.specs.Files.{file_at, with_file};
+ghost use Rattle.hir_session.specs.Files.{file_at, with_file, without_file};
 
 use hir_base::file_path::FilePath;
 use hir_item_tree::item_tree::ItemTree;
@@ -74,5 +74,16 @@ impl Files {
         let altered = self.differs(&path, &tree);
         self.by_path.insert(path, tree)?;
         Ok(altered)
+    }
+
+    /// Removes a file, and says whether that alters what is there.
+    pub fn remove(&mut self, path: &FilePath) -> bool
+        ensures value { self.new ≡ without_file self.old path.now }
+        ensures updates { (q : List ℕ)
+            → file_at self.new q ≡ cond (is_at (slice_cmp nat_cmp path.now) q) None (file_at self.old q) }
+        ensures same { result ≡ false → file_at self.old path.now ≡ None }
+        ensures other { result ≡ true → file_at self.old path.now ≢ None }
+    {
+        self.by_path.remove(path).is_some()
     }
 }

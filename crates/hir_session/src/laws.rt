@@ -1,6 +1,6 @@
 //! What holds of all that a session does; each function's contract is a law.
 ghost use Rattle.hir_session.specs.Histories.{DifferOnlyWhereAltered, RunsMakeHistories};
-ghost use Rattle.hir_session.specs.Laws.{BodyEditsMarkNothing, SetAbsentFileMarks};
+ghost use Rattle.hir_session.specs.Laws.{BodyEditsMarkNothing, SetAbsentFileMarks, RemovePresentFileMarks, RemoveAbsentFileMarksNothing};
 
 /// Two answers to one query differ only where an edit between them altered something that was asked for behind the first.
 pub fn answers_differ_only_where_altered()
@@ -20,4 +20,14 @@ pub fn body_edits_mark_nothing()
 /// A file that was looked for and wasn't there makes stale what looked for it, once it is set.
 pub fn set_absent_file_marks()
     ensures law { SetAbsentFileMarks }
+{}
+
+/// A file that was looked for and was there makes stale what looked for it, once it is removed.
+pub fn remove_present_file_marks()
+    ensures law { RemovePresentFileMarks }
+{}
+
+/// Removing a file that isn't there leaves every answer as it is.
+pub fn remove_absent_file_marks_nothing()
+    ensures law { RemoveAbsentFileMarksNothing }
 {}

@@ -2,8 +2,10 @@
 #![tactic(auto)]
 
 mod answers;
+mod beginning;
 mod crate_info;
 pub mod error;
+mod file_trees;
 mod files;
 pub mod laws;
 mod marks;
@@ -16,7 +18,7 @@ pub mod session;
 mod source_items;
 mod sources;
 
-pub use error::{EditError, NewSessionError, QueryError, RefreshError};
+pub use error::{EditError, NewSessionError, QueryError, RefreshError, TreeTextError};
 pub use open_line::LINE_LIMIT;
 pub use output::Fault;
 pub use server::{MOST_READS, run};

@@ -1,16 +1,20 @@
 //! What can't be taken yet.
-ghost use Rattle.std.specs.Prelude.{◌≡◌, not};
+ghost use Rattle.std.specs.Prelude.{◌≡◌, map, not};
 ghost use Rattle.std.specs.List.{list_any};
+ghost use Rattle.hir_item_tree.specs.Attributes.{attribute_view, attributes_view};
 ghost use Rattle.hir_item_tree.specs.Source.{node_view, nodes_view, source_view};
-ghost use Rattle.hir_item_tree.specs.UseTree.{use_tree_view};
-ghost use Rattle.hir_session.specs.NotYet.{is_edition_taken, is_crate_taken, has_none, is_visibility_taken, are_visibilities_taken, is_tree_taken, is_item_taken, are_items_taken, is_source_taken};
+ghost use Rattle.hir_item_tree.specs.UseTree.{use_tree_view, use_trees_view};
+ghost use Rattle.hir_wire.specs.CommandValue.{crate_input_view};
+ghost use Rattle.hir_session.specs.NotYet.{is_edition_taken, has_none, is_bare, is_crate_taken, is_visibility_taken, are_visibilities_taken, is_attribute_taken, are_attributes_taken, is_alias_taken, is_tree_taken, are_trees_taken, is_item_taken, are_items_taken, is_source_taken};
 
 use hir_base::edition::Edition;
+use hir_def_collector::builtin_attr::is_inert_by_name;
+use hir_item_tree::raw_attr::RawAttr;
 use hir_item_tree::raw_visibility::RawVisibility;
 use hir_item_tree::shape::ImportAlias;
 use hir_item_tree::source::{Node, NodeKind, Source};
-use hir_item_tree::use_tree::UseTree;
-use hir_wire::command::CrateInput;
+use hir_item_tree::use_tree::{UseTree, UseTreeKind};
+use hir_wire::command::{CrateInput, Dependency};
 
 fn is_edition_taken_now(edition: Edition) -> bool
     ensures value { result ≡ is_edition_taken edition }
@@ -21,20 +25,37 @@ fn is_edition_taken_now(edition: Edition) -> bool
     }
 }
 
-/// Whether the crate is of a later edition, has no dependencies and isn't a procedural macro's.
-fn is_taken(input: &CrateInput) -> bool
-    ensures value { result ≡ is_crate_taken input.now }
+fn has_none_now(dependencies: &[Dependency]) -> bool
+    ensures value { result ≡ has_none dependencies.now }
 {
-    let alone = match input.deps.as_slice() {
+    match dependencies {
         [] => true,
         [_, ..] => false,
-    };
-    is_edition_taken_now(input.edition) && alone && !input.proc_macro
+    }
+}
+
+fn is_bare_now(attrs: &Vec<RawAttr>) -> bool
+    ensures value { result ≡ is_bare (attributes_view attrs.now.items) }
+{
+    match attrs.as_slice() {
+        [] => true,
+        [_, ..] => false,
+    }
+}
+
+/// Whether the crate is of a later edition, has no dependencies and no attributes, and isn't a procedural macro's.
+fn is_taken(input: &CrateInput) -> bool
+    ensures value { result ≡ is_crate_taken (crate_input_view input.now) }
+{
+    is_edition_taken_now(input.edition)
+        && has_none_now(input.deps.as_slice())
+        && is_bare_now(&input.attrs)
+        && !input.proc_macro
 }
 
 /// Whether one of the crates can't be taken yet.
 pub fn is_any_untaken(inputs: &Vec<CrateInput>) -> bool
-    ensures value { result ≡ list_any (λ c. not (is_crate_taken c)) inputs.now.items }
+    ensures value { result ≡ list_any (λ c. not (is_crate_taken c)) (map crate_input_view inputs.now.items) }
 {
     for input in inputs {
         if !is_taken(input) {
@@ -64,29 +85,87 @@ fn are_taken(visibilities: &[RawVisibility]) -> bool
     true
 }
 
+#[cycle(attrs)]
+fn is_attr_taken(attr: &RawAttr) -> bool
+    ensures value { result ≡ is_attribute_taken (attribute_view attr.now) }
+{
+    match attr {
+        RawAttr::Meta(meta) => is_inert_by_name(&meta.path),
+        RawAttr::Cfg(_) => true,
+        RawAttr::CfgAttr { attrs, .. } => are_attrs_taken(attrs),
+    }
+}
+
+#[cycle(attrs)]
+fn are_attrs_taken(attrs: &Vec<RawAttr>) -> bool
+    ensures value { result ≡ are_attributes_taken (attributes_view attrs.now.items) }
+{
+    for attr in attrs {
+        if !is_attr_taken(attr) {
+            return false;
+        }
+    }
+    true
+}
+
+fn is_alias_taken_now(alias: &Option<ImportAlias>) -> bool
+    ensures value { result ≡ is_alias_taken alias.now }
+{
+    match alias {
+        Some(ImportAlias::Underscore) => false,
+        Some(ImportAlias::Alias(_)) | None => true,
+    }
+}
+
+#[cycle(trees)]
 fn is_tree_taken_now(tree: &UseTree) -> bool
     ensures value { result ≡ is_tree_taken (use_tree_view tree.now) }
 {
-    match tree {
-        UseTree::Single { alias, .. } => match alias {
-            Some(ImportAlias::Underscore) => false,
-            Some(ImportAlias::Alias(_)) => true,
-            None => true,
-        },
+    match &tree.kind {
+        UseTreeKind::Single { alias, .. } => is_alias_taken_now(alias),
+        UseTreeKind::Glob { .. } => false,
+        UseTreeKind::Prefixed { list, .. } => are_trees_taken_now(list),
     }
+}
+
+#[cycle(trees)]
+fn are_trees_taken_now(list: &Vec<UseTree>) -> bool
+    ensures value { result ≡ are_trees_taken (use_trees_view list.now.items) }
+{
+    for tree in list {
+        if !is_tree_taken_now(tree) {
+            return false;
+        }
+    }
+    true
 }
 
 #[cycle(taken)]
 fn is_node_taken(node: &Node) -> bool
     ensures value { result ≡ is_item_taken (node_view node.now) }
 {
-    is_visibility_taken_now(&node.vis)
-        && match &node.kind {
-            NodeKind::Use { tree } => is_tree_taken_now(tree),
-            NodeKind::Fn { .. } => true,
-            NodeKind::Struct { fields, .. } => are_taken(fields),
-            NodeKind::Module { nodes, .. } => are_nodes_taken(nodes),
-        }
+    if !is_visibility_taken_now(&node.vis) || !are_attrs_taken(&node.attrs) {
+        return false;
+    }
+    match &node.kind {
+        NodeKind::Use { tree } => is_tree_taken_now(tree),
+        NodeKind::Struct { fields, .. } | NodeKind::Union { fields, .. } => are_taken(fields),
+        NodeKind::Fn { .. }
+        | NodeKind::Const { .. }
+        | NodeKind::Static { .. }
+        | NodeKind::TypeAlias { .. } => true,
+        NodeKind::ExternBlock { nodes } => are_nodes_taken(nodes),
+        NodeKind::Trait { items, .. } | NodeKind::Impl { items, .. } => are_nodes_taken(items),
+        NodeKind::Module { nodes, .. } => match nodes {
+            Some(nodes) => are_nodes_taken(nodes),
+            None => false,
+        },
+        NodeKind::ExternCrate { .. }
+        | NodeKind::Enum { .. }
+        | NodeKind::MacroCall { .. }
+        | NodeKind::MacroRules { .. }
+        | NodeKind::MacroDef { .. } => false,
+    }
 }
 
 #[cycle(taken)]
@@ -101,12 +180,12 @@ fn are_nodes_taken(nodes: &Vec<Node>) -> bool
     true
 }
 
-/// Whether a source is readable, and all of it can be taken.
+/// Whether all of a source can be taken.
 pub fn is_source_taken_now(source: &Source) -> bool
     ensures value { result ≡ is_source_taken (source_view source.now) }
 {
     match source {
-        Source::Unit(unit) => are_nodes_taken(&unit.nodes),
-        Source::Broken => false,
+        Source::Unit(unit) => are_attrs_taken(&unit.attrs) && are_nodes_taken(&unit.nodes),
+        Source::Broken => true,
     }
 }

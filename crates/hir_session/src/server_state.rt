@@ -1,13 +1,15 @@
 //! What answers lines: a session, or none before the first that is made.
-ghost use Rattle.std.specs.Prelude.{◌≡◌, false, None, Some, Option};
-ghost use Rattle.hir_wire.specs.CommandValue.{command_view, crates as makes, edit as edits, refresh as refreshes, resolve as resolves, status as asks_status};
+ghost use Rattle.std.specs.Prelude.{◌≡◌, map, false, None, Some, Option};
+ghost use Rattle.hir_wire.specs.CommandValue.{command_view, crate_input_view, crates as makes, edit as edits, refresh as refreshes, resolve as resolves, tree as asks_for_tree};
 ghost use Rattle.hir_wire.specs.Edits.{edit_view};
 ghost use Rattle.hir_wire.specs.Replies.{is_fixed};
 ghost use Rattle.hir_wire.specs.declared.reply.Reply.TheVariants as reply;
-ghost use Rattle.hir_session.specs.Machine.{MachineState, first_state, new_reply, edit_reply, refresh_reply, query_error_reply, read_reply, Moves, AnswersCommand, AnswersLine};
+ghost use Rattle.hir_session.specs.Machine.{MachineState, first_state, new_reply, edit_reply, refresh_reply, query_error_reply, tree_text_reply, read_reply, AnswersCommand, AnswersLine};
 
-use crate::error::{EditError, NewSessionError, QueryError, RefreshError};
+use crate::error::{EditError, NewSessionError, QueryError, RefreshError, TreeTextError};
 use crate::session::Session;
+use hir_base::file_path::FilePath;
+use hir_base::ids::Crate;
 use hir_base::mod_path::ModPath;
 use hir_base::place::Place;
 use hir_wire::command::{Command, CrateInput, MacroStyle, Shadow};
@@ -77,6 +79,15 @@ fn reply_to_query(error: QueryError) -> Reply
     }
 }
 
+fn reply_to_tree(error: TreeTextError) -> Reply
+    ensures value { result ≡ tree_text_reply error }
+{
+    match error {
+        TreeTextError::UnknownCrate => Reply::UnknownCrate,
+        TreeTextError::Memory => Reply::Memory,
+    }
+}
+
 fn reply_to_line(error: ReadError) -> Reply
     ensures value { result ≡ read_reply error }
 {
@@ -129,6 +140,16 @@ fn answered(
     }
 }
 
+/// The page of a file's tree.
+fn shown(alloc: Global, session: &Session, krate: Crate, file: &FilePath) -> Reply
+    ensures step { AnswersCommand (Some session.now) (asks_for_tree krate file.now) result (Some session.now) }
+{
+    match session.tree_text(alloc, krate, file) {
+        Ok(text) => Reply::Text(text),
+        Err(error) => reply_to_tree(error),
+    }
+}
+
 /// What a command does to a session, and what is told of it.
 fn called(alloc: Global, session: &mut Session, command: Command) -> Reply
     ensures step { AnswersCommand (Some session.old) (command_view command) result (Some session.new) }
@@ -145,6 +166,7 @@ fn called(alloc: Global, session: &mut Session, command: Command) -> Reply
             shadow,
             sub,
         } => answered(alloc, session, &at, &path, shadow, sub),
+        Command::Tree { krate, file } => shown(alloc, session, krate, &file),
         Command::Status { at } => Reply::Status(session.status(&at)),
     }
 }
@@ -160,7 +182,7 @@ impl Machine {
     /// Begins a session.
     fn begin(&mut self, alloc: Global, inputs: Vec<CrateInput>) -> Reply
         requires before { self.old ≡ None }
-        ensures step { AnswersCommand self.old (makes inputs.items) result self.new }
+        ensures step { AnswersCommand self.old (makes (map crate_input_view inputs.items)) result self.new }
     {
         match Session::new(alloc, inputs) {
             Ok(session) => {

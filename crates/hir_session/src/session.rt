@@ -1,41 +1,37 @@
 //! The session: what is handed in, and what is kept of each crate that was resolved.
-ghost use Rattle.std.specs.Prelude.{◌≡◌, ℕ, ◌<◌, ◌+◌, ◌^◌, ◌++◌, ◌∷◌, [], map, replicate, true, false, length, None, IfOk, IsTrue, OnOk, OnErr, IfErr, ◌≤◌, ◌⊎◌, Ok, Err, option_map};
-ghost use Rattle.std.specs.List.{list_any};
+ghost use Rattle.std.specs.Prelude.{◌≡◌, ℕ, ◌<◌, ◌++◌, ◌∷◌, [], map, false, length, None, IfOk, OnOk, OnErr, IfErr, ◌≤◌, ◌⊎◌, Ok, Err, string_bytes};
 ghost use Rattle.hir_base.specs.Refusal.{Gives};
-ghost use Rattle.hir_base.specs.declared.ids.Crate.{Crate};
-ghost use Rattle.hir_item_tree.specs.ItemTree.{tree_of};
-ghost use Rattle.hir_item_tree.specs.Source.{source_view};
-ghost use Rattle.hir_wire.specs.Edits.{edit_view, set_file};
-ghost use Rattle.hir_session.specs.Crates.{start_in};
-ghost use Rattle.hir_session.specs.Files.{with_file, workspace_in};
+ghost use Rattle.hir_wire.specs.CommandValue.{crate_input_view};
+ghost use Rattle.hir_wire.specs.Edits.{edit_view};
+ghost use Rattle.hir_session.specs.Beginning.{Begins};
+ghost use Rattle.hir_session.specs.Files.{with_file, without_file};
 ghost use Rattle.hir_session.specs.SessionState.{SessionState, Resolution, workspace_of, start_of, kept_in, kept_of, is_marked, IsResolved, IsSound};
-ghost use Rattle.hir_session.specs.Due.{crate_place, resolved_at, IsOverlong, HasOverlongRun};
-ghost use Rattle.hir_session.specs.Refusals.{dependency_crates, has_late, first_out_of_order, crates_from, started, verdict_of_new, IsNewMemory, verdict_of_apply, verdict_of_source, IsEditMemory};
+ghost use Rattle.hir_session.specs.Due.{resolved_at, crate_place, IsOverlong, HasOverlongRun};
+ghost use Rattle.hir_session.specs.Refusals.{first_out_of_order, verdict_of_new, IsNewMemory, verdict_of_apply, IsEditMemory, IsQueryMemory, IsTreeTextMemory};
 ghost use Rattle.hir_session.specs.Status.{module_in_kept, module_of, status_of};
 ghost use Rattle.hir_session.specs.Answers.{answer_from, answer_of};
 ghost use Rattle.hir_session.specs.AnswersStand.{AnswersStand};
-ghost use Rattle.hir_session.specs.Refusals.{IsQueryMemory};
+ghost use Rattle.hir_session.specs.TreeText.{tree_text_of};
 ghost use Rattle.hir_session.specs.Changes.{Becomes, Applies, Refreshes, RefreshesPartly};
 
 use crate::answers::{answer_at, module_below_root};
+use crate::beginning::{all_marked, first_late, infos_of, nothing_kept, roots_of};
 use crate::crate_info::CrateInfo;
-use crate::error::{EditError, NewSessionError, QueryError, RefreshError};
+use crate::error::{EditError, NewSessionError, QueryError, RefreshError, TreeTextError};
+use crate::file_trees::{page_at, taken_tree};
 use crate::files::Files;
 use crate::marks::{is_marked_in, spread};
-use crate::not_yet::{is_any_untaken, is_source_taken_now};
+use crate::not_yet::is_any_untaken;
 use crate::sources::resolve_crate;
-use hir_base::ast_id::{EditionedFileId, FileId};
 use hir_base::file_path::FilePath;
 use hir_base::ids::{Crate, ModuleId};
 use hir_base::limit::Limit;
 use hir_base::mod_path::ModPath;
 use hir_base::place::{Place, PlaceElement};
 use hir_def_collector::collector::collected::Collected;
-use hir_item_tree::check::check;
-use hir_item_tree::item_tree::{ItemTree, file_item_tree};
-use hir_item_tree::source::Source;
+use hir_item_tree::item_tree::ItemTree;
 use hir_wire::answer::Answer;
-use hir_wire::command::{CrateInput, Dependency, MacroStyle, Shadow};
+use hir_wire::command::{CrateInput, MacroStyle, Shadow};
 use hir_wire::edit::Edit;
 use hir_wire::reply::Status;
 use std::alloc::{AllocError, Global};
@@ -67,97 +63,6 @@ impl Model for Session {
     ghost invariant = { λ s. IsSound (record { crates = s.crates.items; paths = s.paths.items; files = s.files; kept = s.kept.items; marked = s.marked.items }) };
 }
 
-/// The crates that dependencies name.
-fn named_crates(alloc: Global, dependencies: &[Dependency]) -> Result<Vec<Crate>, AllocError>
-    ensures value { IfOk result (λ v. v.items ≡ dependency_crates dependencies.now) }
-{
-    let mut crates = Vec::new(alloc);
-    for dependency in dependencies {
-        crates.push(dependency.krate)?;
-    }
-    Ok(crates)
-}
-
-/// Whether a dependency doesn't come before the crate.
-fn has_late_dependency(k: usize, dependencies: &[Dependency]) -> bool
-    ensures value { result ≡ has_late k (dependency_crates dependencies.now) }
-{
-    for dependency in dependencies {
-        if k <= dependency.krate.0 as usize {
-            return true;
-        }
-    }
-    false
-}
-
-/// The first crate with a dependency that doesn't come before it.
-fn first_late(inputs: &Vec<CrateInput>) -> Option<u32>
-    requires few { length inputs.now.items < 2 ^ 32 }
-    ensures value { result ≡ option_map (λ c. c.0) (first_out_of_order 0 inputs.now.items) }
-{
-    for k in 0..inputs.as_slice().len() {
-        if has_late_dependency(k, inputs[k].deps.as_slice()) {
-            return Some(k as u32);
-        }
-    }
-    None
-}
-
-/// The crates of a session, each with a root file of its own number.
-fn infos_of(alloc: Global, inputs: &Vec<CrateInput>) -> Result<Vec<CrateInfo>, AllocError>
-    requires few { length inputs.now.items < 2 ^ 32 }
-    ensures value { IfOk result (λ v. v.items ≡ crates_from 0 inputs.now.items) }
-{
-    let mut infos = Vec::new(alloc);
-    for k in 0..inputs.as_slice().len() {
-        let input = &inputs[k];
-        let root = EditionedFileId {
-            file_id: FileId(k as u32),
-            edition: input.edition,
-        };
-        let dependencies = named_crates(alloc, input.deps.as_slice())?;
-        infos.push(CrateInfo::new(root, dependencies))?;
-    }
-    Ok(infos)
-}
-
-/// The root files of the crates.
-fn roots_of(alloc: Global, inputs: &Vec<CrateInput>) -> Result<Vec<FilePath>, AllocError>
-    ensures value { IfOk result (λ v. v.items ≡ map (λ c. c.root) inputs.now.items) }
-{
-    let mut paths = Vec::new(alloc);
-    for input in inputs {
-        paths.push(input.root.clone()?)?;
-    }
-    Ok(paths)
-}
-
-/// So many crates of which nothing is kept.
-#[tactic(auto, using(crate::proofs::Start::replicate_more))]
-fn nothing_kept(alloc: Global, count: usize) -> Result<Vec<Option<Collected>>, AllocError>
-    ensures value { IfOk result (λ v. v.items ≡ replicate count None) }
-{
-    let mut kept = Vec::new(alloc);
-    for k in 0..count {
-        prove!(k < count);
-        kept.push(None)?;
-    }
-    Ok(kept)
-}
-
-/// So many marks.
-#[tactic(auto, using(crate::proofs::Start::replicate_more))]
-fn all_marked(alloc: Global, count: usize) -> Result<Vec<bool>, AllocError>
-    ensures value { IfOk result (λ v. v.items ≡ replicate count true) }
-{
-    let mut marked = Vec::new(alloc);
-    for k in 0..count {
-        prove!(k < count);
-        marked.push(true)?;
-    }
-    Ok(marked)
-}
-
 /// Puts the place of a crate's root at the end.
 fn note(alloc: Global, done: &mut Vec<Place>, k: u32) -> Result<(), AllocError>
     ensures ok { OnOk result (done.new.items ≡ done.old.items ++ crate_place k ∷ []) }
@@ -169,7 +74,9 @@ fn note(alloc: Global, done: &mut Vec<Place>, k: u32) -> Result<(), AllocError>
 impl Session {
     /// A session over these crates, numbered in this order, without files.
     pub fn new(alloc: Global, inputs: Vec<CrateInput>) -> Result<Session, NewSessionError>
-        ensures answer { Gives IsNewMemory result (verdict_of_new inputs.items) }
+        ensures begins { IfOk result (λ s. Begins (map crate_input_view inputs.items) s) }
+        ensures accepted { OnOk result (verdict_of_new (map crate_input_view inputs.items) ≡ Ok tt) }
+        ensures refused { IfErr result (λ e. IsNewMemory e ⊎ (verdict_of_new (map crate_input_view inputs.items) ≡ Err e)) }
     {
         let count = inputs.as_slice().len();
         if count > 1 {
@@ -213,15 +120,34 @@ impl Session {
         Ok(())
     }
 
+    /// Removes a file, and marks what that touches.
+    fn remove_tree(&mut self, file: &FilePath)
+        ensures ok { Becomes self.old (without_file self.old.files file.now) self.new }
+    {
+        let altered = self.files.remove(file);
+        spread(
+            &self.crates,
+            &self.paths,
+            &self.kept,
+            &mut self.marked,
+            file,
+            altered,
+        );
+    }
+
     /// Changes what is handed in, and marks what that touches. A refused edit is dropped.
     pub fn apply(&mut self, alloc: Global, edit: Edit) -> Result<(), EditError>
         ensures answer { Gives IsEditMemory result (verdict_of_apply (edit_view edit)) }
         ensures ok { OnOk result (Applies self.old (edit_view edit) self.new) }
         ensures err { OnErr result (self.new ≡ self.old) }
     {
-        let Edit::SetFile { file, source } = edit;
-        let tree = taken_tree(alloc, &source)?;
-        self.set_tree(file, tree)?;
+        match edit {
+            Edit::SetFile { file, source } => {
+                let tree = taken_tree(alloc, &self.crates, &source)?;
+                self.set_tree(file, tree)?;
+            }
+            Edit::RemoveFile { file } => self.remove_tree(&file),
+        }
         Ok(())
     }
 
@@ -337,6 +263,23 @@ impl Session {
             Status::Unknown => Err(QueryError::UnknownPlace),
         }
     }
+
+    /// The page of a file's tree, with names as the crate's edition writes them.
+    pub fn tree_text(
+        &self,
+        alloc: Global,
+        krate: Crate,
+        file: &FilePath,
+    ) -> Result<String, TreeTextError>
+        ensures page { IfOk result (λ text. tree_text_of self.now krate file.now ≡ Ok (string_bytes text)) }
+        ensures refused { IfErr result (λ e. IsTreeTextMemory e ⊎ (tree_text_of self.now krate file.now ≡ Err e)) }
+    {
+        let Some(info) = self.crates.get(krate.0 as usize) else {
+            return Err(TreeTextError::UnknownCrate);
+        };
+        let text = page_at(alloc, &self.files, file, info.root().edition)?;
+        Ok(text)
+    }
 }
 
 /// The module to which the steps lead in what is kept of a crate.
@@ -353,25 +296,11 @@ fn module_kept(
     }
 }
 
-/// The tree of a source that can be taken, within the limits, with each id once.
-fn taken_tree(alloc: Global, source: &Source) -> Result<ItemTree, EditError>
-    ensures tree { IfOk result (λ t. t ≡ tree_of (source_view source.now)) }
-    ensures accepted { OnOk result (verdict_of_source (source_view source.now) ≡ Ok tt) }
-    ensures refused { IfErr result (λ e. IsEditMemory e ⊎ (verdict_of_source (source_view source.now) ≡ Err e)) }
-{
-    if !is_source_taken_now(source) {
-        return Err(EditError::NotYet);
-    }
-    check(alloc, source)?;
-    let tree = file_item_tree(alloc, source)?;
-    Ok(tree)
-}
-
 /// A session over crates that can be taken, in order, and few enough.
 fn begin(alloc: Global, inputs: &Vec<CrateInput>) -> Result<Session, AllocError>
     requires few { length inputs.now.items ≤ 10000 }
-    requires ordered { first_out_of_order 0 inputs.now.items ≡ None }
-    ensures value { IfOk result (λ s. s ≡ started inputs.now.items) }
+    requires ordered { first_out_of_order 0 (map crate_input_view inputs.now.items) ≡ None }
+    ensures begins { IfOk result (λ s. Begins (map crate_input_view inputs.now.items) s) }
 {
     let count = inputs.as_slice().len();
     let crates = infos_of(alloc, inputs)?;

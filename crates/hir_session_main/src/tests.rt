@@ -2,6 +2,7 @@
 
 mod faults;
 mod imports;
+mod kinds;
 mod large;
 mod library;
 mod limits;
@@ -11,7 +12,10 @@ mod marks;
 mod names;
 mod paths;
 mod refusals;
+mod removals;
 mod streams;
+mod trees;
+mod use_lists;
 
 use hir_session::run;
 use std::alloc::Global;

@@ -1,9 +1,7 @@
--- Lists of a fixed length: an id has two numbers, and what isn't read yet no item.
-use Rattle.std.proofs.Common.{◌≡◌, ◌<◌, List, [], ◌∷◌, length, Option, None, Result, Ok, Err, refl, arith}
+-- An id has two numbers.
+use Rattle.std.proofs.Common.{◌≡◌, ◌<◌, List, [], ◌∷◌, length, None, refl, arith}
 use Rattle.serde_json.specs.View.{items_view}
 use Rattle.serde_json.specs.declared.value.Value.{Value}
-use Rattle.hir_wire.specs.declared.read_error.ReadError.TheVariants.{Command}
-use Rattle.hir_wire.specs.Nodes.{none_listed}
 use Rattle.hir_wire.specs.Paths.{id_of_items}
 
 pub id-short : (vs : List Value) → length vs < 2 → id_of_items (items_view vs) ≡ None
@@ -16,7 +14,3 @@ id-long [] h = absurd (omega arith)
 id-long (v ∷ []) h = absurd (omega arith)
 id-long (v ∷ w ∷ []) h = absurd (omega arith)
 id-long (v ∷ w ∷ x ∷ vs) h = refl
-
-pub none_listed-some : (vs : List Value) → 0 < length vs → none_listed (items_view vs) ≡ Err Command
-none_listed-some [] h = absurd (omega arith)
-none_listed-some (v ∷ vs) h = refl

@@ -1,5 +1,5 @@
 -- No reply has a float in it.
-use Rattle.std.proofs.Common.{◌≡◌, List, [], ◌∷◌, map, Bool, false, ◌||◌, Option, Some, None, Result, Ok, Err, IfOk, String, string_bytes, refl, sym, ap, ◌∙◌, subst}
+use Rattle.std.proofs.Common.{◌≡◌, List, [], ◌∷◌, map, Bool, false, ◌||◌, Option, Some, None, Result, Ok, Err, IfOk, String, string_bytes, refl, ap, ◌∙◌}
 use Rattle.std.specs.declared.alloc.AllocError.{AllocError}
 use Rattle.std.specs.declared.alloc.Global.{Global}
 use Rattle.serde_json.specs.Data.{Data}
@@ -25,7 +25,7 @@ use Rattle.hir_wire.specs.declared.answer.AnswerItem.{AnswerItem}
 use Rattle.hir_wire.specs.declared.answer.Answer.{Answer}
 use Rattle.hir_wire.specs.declared.reply.Reply.{Reply}
 use Rattle.hir_wire.specs.declared.reply.Reply.TheVariants as reply
-use Rattle.hir_wire.specs.Replies.{id_data, element_data, place_data, root_data, call_data, call_members, source_data, definition_data, origin_data, import_data, or_null, visibility_data, item_data, number_data, answer_data, reply_data}
+use Rattle.hir_wire.specs.Replies.{element_data, place_data, root_data, call_data, call_members, source_data, definition_data, origin_data, import_data, or_null, visibility_data, item_data, number_data, answer_data, reply_data}
 
 neither : (a b : Bool) → a ≡ false → b ≡ false → (a || b) ≡ false
 neither a b p q = ap (λ x. x || b) p ∙ q
@@ -100,6 +100,7 @@ plain_reply reply.Done = refl
 plain_reply (reply.Places places) = neither (items_have_float (items_of (map place_data places))) false (plain_places places) refl
 plain_reply (reply.Answer answer) = neither (has_float (answer_data answer)) false (plain_answer answer) refl
 plain_reply (reply.Status status) = refl
+plain_reply (reply.Text text) = refl
 plain_reply reply.Json = refl
 plain_reply reply.Command = refl
 plain_reply reply.Memory = refl

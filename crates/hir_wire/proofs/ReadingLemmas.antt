@@ -1,12 +1,11 @@
 -- Readings of parts, and what is told of two errors.
-use Rattle.std.proofs.Common.{◌≡◌, ◌≢◌, ◌<◌, ◌≤◌, ◌+◌, ℕ, List, [], ◌∷◌, ◌++◌, map, length, drop, slice_index_or, Bool, true, false, nat_lt, if◌then◌else◌, Option, Some, None, Result, Ok, Err, IfErr, Vec, refl, sym, ap, ◌∙◌, subst, append-nil, map-id, arith}
+use Rattle.std.proofs.Common.{◌≡◌, ◌≢◌, ◌<◌, ◌≤◌, ◌+◌, ℕ, List, [], ◌∷◌, ◌++◌, map, length, drop, slice_index_or, true, false, nat_lt, if◌then◌else◌, Result, Ok, Err, IfErr, Vec, refl, sym, ap, ◌∙◌, subst, append-nil, map-id, arith}
 use Rattle.std.proofs.lemmas.Bool.Decides.{nat_tests}
 use Rattle.std.proofs.lemmas.List.{drop_more, drop_all}
 use Rattle.std.specs.declared.alloc.Global.{Global}
 use Rattle.serde_json.specs.Data.{Data, Items, no_items, item}
 use Rattle.serde_json.specs.View.{view, items_view}
 use Rattle.serde_json.specs.declared.value.Value.{Value}
-use Rattle.hir_base.specs.declared.limit.Limit.{Limit}
 use Rattle.hir_base.specs.declared.limit.Limit.TheVariants as limit
 use Rattle.hir_wire.specs.declared.read_error.ReadError.{ReadError}
 use Rattle.hir_wire.specs.declared.read_error.ReadError.TheVariants.{Json, Command, TooLarge, Memory}

@@ -1,15 +1,16 @@
 -- Which command does a line mean?
-use Rattle.std.specs.Prelude.{ℕ, List, [], Bool, true, false, Option, Some, None, option_and_then, Result, Ok, Err, if◌then◌else◌, codes}
+use Rattle.std.specs.Prelude.{ℕ, List, [], Bool, true, false, Option, Some, None, option_and_then, Ok, Err, if◌then◌else◌, codes}
 use Rattle.std.specs.Str.{bytes_eq, is_utf8}
 use Rattle.serde_json.specs.Data.{Data, null, boolean, number, string, array, object, Members}
-use Rattle.serde_json.specs.Find.{as_bool, as_str}
+use Rattle.serde_json.specs.Find.{as_str}
 use Rattle.serde_json.specs.Read.{read}
 use Rattle.serde_json.specs.Written.{has_float}
 use Rattle.hir_base.specs.ModPath.{Path}
 use Rattle.hir_base.specs.Place.{PlaceValue}
+use Rattle.hir_base.specs.declared.cfg.CfgAtom.{CfgAtom}
 use Rattle.hir_base.specs.declared.edition.Edition.{Edition}
 use Rattle.hir_base.specs.declared.edition.Edition.TheVariants as edition
-use Rattle.hir_wire.specs.declared.command.CrateInput.{CrateInput}
+use Rattle.hir_item_tree.specs.Attributes.{Attributes, no_attributes}
 use Rattle.hir_wire.specs.declared.command.Dependency.{Dependency}
 use Rattle.hir_wire.specs.declared.command.MacroStyle.{MacroStyle}
 use Rattle.hir_wire.specs.declared.command.MacroStyle.TheVariants as style
@@ -18,15 +19,13 @@ use Rattle.hir_wire.specs.declared.command.Shadow.TheVariants as shadow
 use Rattle.hir_wire.specs.declared.read.line.Verb.{Verb}
 use Rattle.hir_wire.specs.declared.read.line.Verb.TheVariants as verb
 use Rattle.hir_wire.specs.declared.read_error.ReadError.TheVariants.{Json, Command}
-use Rattle.hir_wire.specs.CommandValue.{CommandValue, crates, edit, refresh, resolve, status}
-use Rattle.hir_wire.specs.Edits.{set_file}
-use Rattle.hir_wire.specs.Nodes.{list_of, empty_of, source_of}
-use Rattle.hir_wire.specs.Paths.{name_of, path_of, file_of, crate_of, place_of}
-use Rattle.hir_wire.specs.Reading.{Reading, made, paired, required, optional, formed}
-
--- a value as a truth value
-abbrev pub bool_of : Data → Reading Bool
-bool_of d = formed (as_bool d)
+use Rattle.hir_wire.specs.Attributes.{attributes_of}
+use Rattle.hir_wire.specs.CommandValue.{CommandValue, CrateInputValue, crates, edit, refresh, resolve, status, tree}
+use Rattle.hir_wire.specs.Conditions.{option_of}
+use Rattle.hir_wire.specs.Edits.{set_file, remove_file}
+use Rattle.hir_wire.specs.Nodes.{source_of}
+use Rattle.hir_wire.specs.Paths.{name_of, path_of, file_of, bool_of, crate_of, place_of}
+use Rattle.hir_wire.specs.Reading.{Reading, made, paired, required, optional, formed, list_of}
 
 -- the edition that a word stands for
 abbrev pub edition_of_word : List ℕ → Option Edition
@@ -65,21 +64,22 @@ crate_root_in ms = made (λ p. p) (paired (required edition_of (codes "edition")
 unfoldable pub crate_links_in : Members → Reading (List Dependency × Bool)
 crate_links_in ms = made (λ p. p) (paired (optional [] (list_of dependency_of) (codes "deps") ms) (optional false bool_of (codes "proc_macro") ms))
 
--- the attributes and options of a crate, of which there are none yet
-unfoldable pub crate_options_in : Members → Reading (Unit {0})
-crate_options_in ms = made (λ p. tt) (paired (optional tt empty_of (codes "attrs") ms) (optional tt empty_of (codes "cfg") ms))
+-- what a crate has besides its attributes and options
+unfoldable pub crate_base_in : Members → Reading ((Edition × List ℕ) × (List Dependency × Bool))
+crate_base_in ms = made (λ p. p) (paired (crate_root_in ms) (crate_links_in ms))
 
--- what a crate has besides its root
-unfoldable pub crate_rest_in : Members → Reading (List Dependency × Bool)
-crate_rest_in ms = made (λ p. p.0) (paired (crate_links_in ms) (crate_options_in ms))
+-- the attributes of a crate, and the options that are set in it
+unfoldable pub crate_options_in : Members → Reading (Attributes × List CfgAtom)
+crate_options_in ms = made (λ p. p) (paired (optional no_attributes attributes_of (codes "attrs") ms) (optional [] (list_of option_of) (codes "cfg") ms))
 
 -- a crate's members
-abbrev pub crate_input_in : Members → Reading CrateInput
+abbrev pub crate_input_in : Members → Reading CrateInputValue
 crate_input_in ms =
-    made (λ p. record { edition = p.0.0; root = p.0.1; deps = p.1.0; proc_macro = p.1.1 }) (paired (crate_root_in ms) (crate_rest_in ms))
+    made (λ p. record { edition = p.0.0.0; root = p.0.0.1; deps = p.0.1.0; proc_macro = p.0.1.1; attributes = p.1.0; options = p.1.1 })
+    (paired (crate_base_in ms) (crate_options_in ms))
 
 -- a value as a crate
-abbrev pub crate_input_of : Data → Reading CrateInput
+abbrev pub crate_input_of : Data → Reading CrateInputValue
 crate_input_of null = Err Command
 crate_input_of (boolean b) = Err Command
 crate_input_of (number n) = Err Command
@@ -112,9 +112,11 @@ abbrev pub verb_of_word : List ℕ → Option Verb
 verb_of_word word =
     if bytes_eq word (codes "crates") then Some verb.Crates else
     (if bytes_eq word (codes "set file") then Some verb.SetFile else
+    (if bytes_eq word (codes "remove file") then Some verb.RemoveFile else
     (if bytes_eq word (codes "refresh") then Some verb.Refresh else
     (if bytes_eq word (codes "resolve") then Some verb.Resolve else
-    (if bytes_eq word (codes "status") then Some verb.Status else None))))
+    (if bytes_eq word (codes "status") then Some verb.Status else
+    (if bytes_eq word (codes "tree") then Some verb.Tree else None))))))
 
 -- a value as the word of a command
 abbrev pub verb_of : Data → Reading Verb
@@ -123,6 +125,10 @@ verb_of d = formed (option_and_then verb_of_word (as_str d))
 -- the file and the source of an edit
 unfoldable pub set_file_in : Members → Reading CommandValue
 set_file_in ms = made (λ p. edit (set_file p.0 p.1)) (paired (required file_of (codes "file") ms) (required source_of (codes "unit") ms))
+
+-- the crate and the file of a page
+unfoldable pub tree_in : Members → Reading CommandValue
+tree_in ms = made (λ p. tree p.0 p.1) (paired (required crate_of (codes "crate") ms) (required file_of (codes "file") ms))
 
 -- the place and the path of a query
 unfoldable pub asked_in : Members → Reading (PlaceValue × Path)
@@ -140,9 +146,11 @@ resolve_in ms = made (λ p. resolve p.0.0 p.0.1 p.1.0 p.1.1) (paired (asked_in m
 abbrev pub fields_of : Verb → Members → Reading CommandValue
 fields_of verb.Crates ms = made crates (required (list_of crate_input_of) (codes "crates") ms)
 fields_of verb.SetFile ms = set_file_in ms
+fields_of verb.RemoveFile ms = made (λ file. edit (remove_file file)) (required file_of (codes "file") ms)
 fields_of verb.Refresh ms = Ok refresh
 fields_of verb.Resolve ms = resolve_in ms
 fields_of verb.Status ms = made status (required place_of (codes "at") ms)
+fields_of verb.Tree ms = tree_in ms
 
 -- a command, once its word is read
 abbrev pub command_with : Reading Verb → Members → Reading CommandValue

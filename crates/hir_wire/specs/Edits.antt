@@ -8,7 +8,10 @@ use Rattle.hir_wire.specs.declared.edit.Edit.TheVariants as edit
 pub data EditValue : Type 0 where
   -- a file, and its source
   set_file : List ℕ → SourceValue → EditValue
+  -- a file that is taken away
+  remove_file : List ℕ → EditValue
 
 -- the plain value of an edit
 abbrev pub edit_view : Edit → EditValue
 edit_view (edit.SetFile file source) = set_file file (source_view source)
+edit_view (edit.RemoveFile file) = remove_file file

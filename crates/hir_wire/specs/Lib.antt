@@ -1,6 +1,13 @@
 pub mod Reading
 pub mod Parts
 pub mod Paths
+pub mod Conditions
+pub mod Attributes
+pub mod Visibility
+pub mod UseTrees
+pub mod ItemParts
+pub mod Types
+pub mod Macros
 pub mod Nodes
 pub mod Edits
 pub mod CommandValue

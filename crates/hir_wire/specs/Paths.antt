@@ -1,7 +1,7 @@
 -- What does a JSON value mean as a name, a path, a file, an id or a place?
-use Rattle.std.specs.Prelude.{ℕ, ◌^◌, List, [], ◌∷◌, Bool, Option, Some, None, option_map, option_and_then, Result, Ok, Err, if◌then◌else◌, nat_lt, codes}
-use Rattle.serde_json.specs.Data.{Data, null, boolean, number, string, array, object, Items, no_items, item, Members}
-use Rattle.serde_json.specs.Find.{get_member, as_number, as_u64, as_array, as_str}
+use Rattle.std.specs.Prelude.{ℕ, ◌^◌, List, Bool, Option, Some, None, option_map, option_and_then, Result, Ok, Err, if◌then◌else◌, nat_lt, codes}
+use Rattle.serde_json.specs.Data.{Data, null, boolean, number, string, array, object, Items, no_items, item}
+use Rattle.serde_json.specs.Find.{as_bool, as_number, as_u64, as_array, as_str}
 use Rattle.hir_base.specs.ModPath.{Path}
 use Rattle.hir_base.specs.Name.{name_verdict}
 use Rattle.hir_base.specs.ParseFile.{folded_path}
@@ -65,6 +65,10 @@ file_of d = text_as file_meant (as_str d)
 -- a value as any text
 abbrev pub text_of : Data → Reading (List ℕ)
 text_of d = formed (as_str d)
+
+-- a value as a truth value
+abbrev pub bool_of : Data → Reading Bool
+bool_of d = formed (as_bool d)
 
 -- a number below 2 to the power of so many bits
 abbrev pub fits : ℕ → ℕ → Option ℕ

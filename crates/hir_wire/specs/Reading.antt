@@ -1,7 +1,7 @@
 -- What does reading a part of a line give?
-use Rattle.std.specs.Prelude.{◌≡◌, ℕ, List, [], ◌∷◌, Bool, Option, Some, None, Result, Ok, Err, if◌then◌else◌, nat_lt, ⊤}
+use Rattle.std.specs.Prelude.{◌≡◌, ℕ, List, [], ◌∷◌, Bool, Option, Some, None, is_some, Result, Ok, Err, if◌then◌else◌, nat_lt, ⊤}
 use Rattle.serde_json.specs.Data.{Data, Items, no_items, item, Members}
-use Rattle.serde_json.specs.Find.{get_member}
+use Rattle.serde_json.specs.Find.{get_member, as_array}
 use Rattle.hir_base.specs.declared.limit.Limit.TheVariants as limit
 use Rattle.hir_wire.specs.declared.read_error.ReadError.{ReadError}
 use Rattle.hir_wire.specs.declared.read_error.ReadError.TheVariants.{Json, Command, TooLarge, Memory}
@@ -51,6 +51,19 @@ listed first others = made (λ p. p.0 ∷ p.1) (paired first others)
 abbrev pub each_of : {A : Type 0} → (Data → Reading A) → Items → Reading (List A)
 each_of read no_items = Ok []
 each_of read (item d ds) = listed (read d) (each_of read ds)
+
+-- what the items of a list mean, if the value is a list
+abbrev pub items_as : {A : Type 0} → (Items → Reading A) → Option Items → Reading A
+items_as read None = Err Command
+items_as read (Some ds) = read ds
+
+-- a value as a list, of which each item has to mean something
+abbrev pub list_of : {A : Type 0} → (Data → Reading A) → Data → Reading (List A)
+list_of read d = items_as (each_of read) (as_array d)
+
+-- whether there is a member of this name
+unfoldable pub has_member : List ℕ → Members → Bool
+has_member name ms = is_some (get_member name ms)
 
 -- a part without which the whole means nothing
 abbrev pub if_there : {A : Type 0} → (Data → Reading A) → Option Data → Reading A

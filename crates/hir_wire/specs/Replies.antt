@@ -1,12 +1,12 @@
 -- Which text does a reply have?
-use Rattle.std.specs.Prelude.{ℕ, List, Bool, true, false, Option, Some, None, map, codes}
-use Rattle.serde_json.specs.Data.{Data, null, boolean, number, unsigned, string, array, object, Items, no_items, item, Members, no_members, member}
+use Rattle.std.specs.Prelude.{ℕ, List, Bool, true, false, Option, Some, None, map, codes, string_bytes}
+use Rattle.serde_json.specs.Data.{Data, null, boolean, number, unsigned, string, array, object, no_items, item, Members, no_members, member}
 use Rattle.serde_json.specs.View.{items_of}
 use Rattle.serde_json.specs.Written.{compact_text}
 use Rattle.hir_base.specs.BuiltinType.{builtin_text}
+use Rattle.hir_base.specs.Limit.{limit_text}
 use Rattle.hir_base.specs.Place.{PlaceValue}
 use Rattle.hir_base.specs.declared.ast_id.SyntaxId.{SyntaxId}
-use Rattle.hir_base.specs.declared.ids.Crate.{Crate}
 use Rattle.hir_base.specs.declared.place.PlaceElement.{PlaceElement}
 use Rattle.hir_base.specs.declared.place.PlaceElement.TheVariants as element
 use Rattle.hir_wire.specs.declared.answer.SourceRoot.{SourceRoot}
@@ -15,7 +15,6 @@ use Rattle.hir_wire.specs.declared.answer.SourceCallKind.{SourceCallKind}
 use Rattle.hir_wire.specs.declared.answer.SourceCallKind.TheVariants as call
 use Rattle.hir_wire.specs.declared.answer.SourceCall.{SourceCall}
 use Rattle.hir_wire.specs.declared.answer.ItemSource.{ItemSource}
-use Rattle.hir_wire.specs.declared.answer.SourceItem.{SourceItem}
 use Rattle.hir_wire.specs.declared.answer.Definition.{Definition}
 use Rattle.hir_wire.specs.declared.answer.Definition.TheVariants as definition
 use Rattle.hir_wire.specs.declared.answer.ImportOrigin.{ImportOrigin}
@@ -27,7 +26,7 @@ use Rattle.hir_wire.specs.declared.answer.AnswerItem.{AnswerItem}
 use Rattle.hir_wire.specs.declared.answer.Answer.{Answer}
 use Rattle.hir_wire.specs.declared.reply.Reply.{Reply}
 use Rattle.hir_wire.specs.declared.reply.Reply.TheVariants as reply
-use Rattle.hir_wire.specs.Words.{limit_word, kind_word, source_word, status_word}
+use Rattle.hir_wire.specs.Words.{kind_word, source_word, status_word}
 
 -- a number
 abbrev pub number_data : ℕ → Data
@@ -125,10 +124,11 @@ reply_data reply.Done = success null
 reply_data (reply.Places places) = success (array (items_of (map place_data places)))
 reply_data (reply.Answer answer) = success (answer_data answer)
 reply_data (reply.Status status) = success (string (status_word status))
+reply_data (reply.Text text) = success (string (string_bytes text))
 reply_data reply.Json = refusal (codes "json") no_members
 reply_data reply.Command = refusal (codes "command") no_members
 reply_data reply.Memory = refusal (codes "memory") no_members
-reply_data (reply.TooLarge limit) = refusal (codes "too large") (member (codes "what") (string (limit_word limit)) no_members)
+reply_data (reply.TooLarge limit) = refusal (codes "too large") (member (codes "what") (string (limit_text limit)) no_members)
 reply_data reply.TooMany = refusal (codes "too many") no_members
 reply_data (reply.DependencyOrder krate) =
     object (member (codes "crate") (number_data krate.0) (member (codes "error") (string (codes "dependency order")) no_members))
@@ -150,6 +150,7 @@ is_fixed reply.Done = true
 is_fixed (reply.Places places) = false
 is_fixed (reply.Answer answer) = false
 is_fixed (reply.Status status) = true
+is_fixed (reply.Text text) = false
 is_fixed reply.Json = true
 is_fixed reply.Command = true
 is_fixed reply.Memory = true

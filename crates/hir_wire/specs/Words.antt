@@ -1,27 +1,11 @@
--- Which words stand for limits, kinds and statuses?
+-- Which words stand for kinds and statuses?
 use Rattle.std.specs.Prelude.{ℕ, List, codes}
 use Rattle.hir_base.specs.declared.ast_id.AstKind.{AstKind}
 use Rattle.hir_base.specs.declared.ast_id.AstKind.TheVariants as kind
-use Rattle.hir_base.specs.declared.limit.Limit.{Limit}
-use Rattle.hir_base.specs.declared.limit.Limit.TheVariants as limit
 use Rattle.hir_wire.specs.declared.answer.SourceKind.{SourceKind}
 use Rattle.hir_wire.specs.declared.answer.SourceKind.TheVariants as source
 use Rattle.hir_wire.specs.declared.reply.Status.{Status}
 use Rattle.hir_wire.specs.declared.reply.Status.TheVariants as status
-
--- the word of a limit
-abbrev pub limit_word : Limit → List ℕ
-limit_word limit.Line = codes "line"
-limit_word limit.Name = codes "name"
-limit_word limit.Path = codes "path"
-limit_word limit.File = codes "file"
-limit_word limit.Index = codes "index"
-limit_word limit.Nodes = codes "nodes"
-limit_word limit.Modules = codes "modules"
-limit_word limit.UseTree = codes "use tree"
-limit_word limit.Cfg = codes "cfg"
-limit_word limit.Blocks = codes "blocks"
-limit_word limit.Crates = codes "crates"
 
 -- the word of a node's kind
 abbrev pub kind_word : AstKind → List ℕ

@@ -2,12 +2,14 @@
 ghost use Rattle.std.specs.Prelude.{◌≡◌};
 
 use crate::edit::Edit;
+use hir_base::cfg::CfgAtom;
 use hir_base::edition::Edition;
 use hir_base::file_path::FilePath;
 use hir_base::ids::Crate;
 use hir_base::mod_path::ModPath;
 use hir_base::name::Name;
 use hir_base::place::Place;
+use hir_item_tree::raw_attr::RawAttr;
 use std::marker::Model;
 
 /// A crate that another stands on.
@@ -55,6 +57,10 @@ pub struct CrateInput {
     pub edition: Edition,
     /// The file of the crate's root module.
     pub root: FilePath,
+    /// The attributes at the crate's top that its root file doesn't write.
+    pub attrs: Vec<RawAttr>,
+    /// The options that are set.
+    pub cfg: Vec<CfgAtom>,
     pub deps: Dependencies,
     pub proc_macro: bool,
 }
@@ -88,5 +94,10 @@ pub enum Command {
     },
     Status {
         at: Place,
+    },
+    /// The page of a file's tree in a crate.
+    Tree {
+        krate: Crate,
+        file: FilePath,
     },
 }

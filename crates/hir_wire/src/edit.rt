@@ -8,4 +8,6 @@ use hir_item_tree::source::Source;
 pub enum Edit {
     /// Hands in a file, in place of one that was there.
     SetFile { file: FilePath, source: Source },
+    /// Takes a file away, if there is one.
+    RemoveFile { file: FilePath },
 }

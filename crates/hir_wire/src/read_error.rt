@@ -2,7 +2,6 @@
 ghost use Rattle.std.specs.Prelude.{◌≡◌};
 ghost use Rattle.hir_wire.specs.Reading.{gravity, graver, paired};
 
-use crate::write::limit_word;
 use hir_base::limit::Limit;
 use std::alloc::{AllocError, AllocFailed};
 use std::error::Error;
@@ -47,10 +46,7 @@ impl Display for ReadError {
         match *self {
             ReadError::Json => f.write_str("the line is no JSON"),
             ReadError::Command => f.write_str("the line is no command"),
-            ReadError::TooLarge(limit) => {
-                let word = limit_word(limit);
-                write!(f, "the line passes a limit: {word}")
-            }
+            ReadError::TooLarge(limit) => { write!(f, "the line passes a limit: {limit}") }
             ReadError::Memory => f.write_str("out of memory"),
         }
     }

@@ -53,6 +53,8 @@ pub enum Reply {
     Places(Places),
     Answer(Answer),
     Status(Status),
+    /// A page.
+    Text(String),
     /// The line is no JSON.
     Json,
     /// The line is no command, or none that can be taken here.

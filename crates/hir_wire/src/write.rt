@@ -3,7 +3,7 @@ ghost use Rattle.std.specs.Prelude.{◌≡◌, IfOk, IfSome, is_some, string_byt
 ghost use Rattle.serde_json.specs.Data.{object, array, member, no_members};
 ghost use Rattle.serde_json.specs.View.{view, items_of};
 ghost use Rattle.hir_wire.specs.Replies.{text_of, reply_data, is_fixed, refusal, success, place_data};
-ghost use Rattle.hir_wire.specs.Words.{limit_word, status_word};
+ghost use Rattle.hir_wire.specs.Words.{status_word};
 
 pub mod answer;
 pub mod definition;
@@ -91,6 +91,7 @@ fn reply_value(alloc: Global, reply: &Reply) -> Result<Value, AllocError>
         }
         Reply::Answer(answer) => success(alloc, answer_value(alloc, answer)?),
         Reply::Status(status) => success(alloc, Value::try_from_str(alloc, status_word(*status))?),
+        Reply::Text(text) => success(alloc, Value::try_from_str(alloc, text.as_str())?),
         Reply::Json => refusal(alloc, "json"),
         Reply::Command => refusal(alloc, "command"),
         Reply::Memory => refusal(alloc, "memory"),
@@ -123,7 +124,7 @@ fn refusal(alloc: Global, why: &str) -> Result<Value, AllocError>
 fn too_large(alloc: Global, limit: Limit) -> Result<Value, AllocError>
     ensures value { IfOk result (λ v. view v ≡ reply_data (Reply.TooLarge limit)) }
 {
-    json!(in alloc; {"error": "too large", "what": limit_word(limit)})
+    json!(in alloc; {"error": "too large", "what": limit.as_str()})
 }
 
 fn dependency_order(alloc: Global, krate: Crate) -> Result<Value, AllocError>
@@ -147,25 +148,6 @@ fn places_list(alloc: Global, places: &[Place]) -> Result<Vec<Value>, AllocError
         values.push(place_value(alloc, place)?)?;
     }
     Ok(values)
-}
-
-/// The word of a limit.
-pub fn limit_word(limit: Limit) -> &'static str
-    ensures value { result.now ≡ limit_word limit }
-{
-    match limit {
-        Limit::Line => "line",
-        Limit::Name => "name",
-        Limit::Path => "path",
-        Limit::File => "file",
-        Limit::Index => "index",
-        Limit::Nodes => "nodes",
-        Limit::Modules => "modules",
-        Limit::UseTree => "use tree",
-        Limit::Cfg => "cfg",
-        Limit::Blocks => "blocks",
-        Limit::Crates => "crates",
-    }
 }
 
 fn status_word(status: Status) -> &'static str

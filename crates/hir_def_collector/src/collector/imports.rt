@@ -1,6 +1,6 @@
 //! Imports that a run has come upon, and what they bring.
 ghost use Rattle.std.specs.Prelude.{◌≡◌, IfOk, option_map};
-ghost use Rattle.hir_def_collector.specs.Imports.{brought, both_of, goes_beyond, imported, is_empty, name_of, namespaces_of, reached_in};
+ghost use Rattle.hir_def_collector.specs.Imports.{brought, both_of, goes_beyond, imported, is_empty, kept_by_kind, name_of, namespaces_of, reached_in};
 ghost use Rattle.hir_def_collector.specs.Items.{lesser_in};
 
 use hir_base::ids::ModuleId;
@@ -8,7 +8,7 @@ use hir_base::mod_path::ModPath;
 use hir_base::name::Name;
 use hir_def_map::nameres::DefMap;
 use hir_item_tree::raw_visibility::RawVisibility;
-use hir_item_tree::shape::ImportAlias;
+use hir_item_tree::shape::{ImportAlias, ImportKind};
 use hir_scope::imports::ImportId;
 use hir_scope::per_ns::{Item, PerNs};
 use hir_scope::visibility::Visibility;
@@ -22,6 +22,7 @@ pub struct ReachedImport {
     pub id: ImportId,
     pub visibility: RawVisibility,
     pub path: ModPath,
+    pub kind: ImportKind,
     pub alias: Option<ImportAlias>,
 }
 
@@ -116,6 +117,20 @@ pub fn reached(map: &DefMap, at: ModuleId, path: &ModPath) -> PerNs
     ensures value { result ≡ reached_in map.now at path.now }
 {
     map.reached_items(at, path)
+}
+
+/// What an import of this kind keeps of what it reaches.
+pub fn kept(kind: ImportKind, items: PerNs) -> PerNs
+    ensures value { result ≡ kept_by_kind kind items }
+{
+    match kind {
+        ImportKind::Plain | ImportKind::Glob => items,
+        ImportKind::TypeOnly => PerNs {
+            types: items.types,
+            values: None,
+            macros: None,
+        },
+    }
 }
 
 /// An item as an import of this visibility offers it.

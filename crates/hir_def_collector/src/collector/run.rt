@@ -1,22 +1,29 @@
 //! Where a run stands, and what each change leaves.
 ghost use Rattle.std.specs.Prelude.{◌≡◌, ◌<◌, ◌≤◌, length, OnOk, IfOk};
-ghost use Rattle.hir_def_map.specs.State.{with_module, new_id};
-ghost use Rattle.hir_def_collector.specs.State.{with_map, with_import, with_taken, counted};
-ghost use Rattle.hir_def_collector.specs.Items.{module_id};
+ghost use Rattle.std.specs.Prelude.{◌∷◌, []};
+ghost use Rattle.hir_def_map.specs.State.{with_module, new_id, with_declared, with_use, with_impl, with_extern_block, with_unnamed_const};
+ghost use Rattle.hir_def_collector.specs.State.{with_map, with_imports, with_taken, counted};
+ghost use Rattle.hir_def_collector.specs.ItemIds.{container_of, module_id};
+ghost use Rattle.hir_def_collector.specs.Items.{own_visibility};
+ghost use Rattle.hir_def_collector.specs.TreeReads.{head_of};
 ghost use Rattle.hir_def_collector.specs.Imports.{bound_as, bound_in, pushing, reached_by, taking_at};
 ghost use Rattle.hir_def_collector.specs.Start.{start_core};
 ghost use Rattle.hir_def_collector.specs.Derivation.{leftover_among};
 
 use crate::collector::collected::Collected;
-use crate::collector::imports::{Namespaces, ReachedImport, Taking, imported, reached};
+use crate::collector::imports::{Namespaces, ReachedImport, Taking, imported, kept, reached};
 use crate::collector::leftovers::untaken;
+use crate::collector::site::{ItemHead, Site};
 use crate::collector::{CollectError, STEP_LIMIT, Start};
 use crate::source_database::Key;
 use hir_base::ast_id::HirFileId;
-use hir_base::ids::{MapId, ModuleId};
+use hir_base::ids::{
+    ConstId, ExternBlockId, ImplId, ItemContainerId, MapId, ModuleDefId, ModuleId, UseId,
+};
 use hir_base::name::Name;
 use hir_def_map::nameres::DefMap;
 use hir_def_map::nameres::origin::ModuleOrigin;
+use hir_item_tree::shape::ImportKind;
 use hir_scope::glob_imports::PerNsGlobImports;
 use hir_scope::imports::{ImportId, ImportOrExternCrate};
 use hir_scope::per_ns::PerNs;
@@ -101,6 +108,28 @@ impl Run {
         }
     }
 
+    /// What holds the items of a site.
+    pub fn container(&self, site: Site) -> ItemContainerId
+        ensures value { result ≡ container_of self.now.map site }
+    {
+        match site.extern_block {
+            Some(block) => ItemContainerId::ExternBlockId(block),
+            None => ItemContainerId::ModuleId(self.module_id(site.home)),
+        }
+    }
+
+    /// The visibility of an item at a site.
+    pub fn visibility(&self, site: Site, head: ItemHead<'_>) -> Visibility
+        ensures value { result ≡ own_visibility self.now.map site (head_of head.entry) }
+    {
+        Visibility::of_raw(self.module_id(site.home), head.visibility)
+    }
+
+    /// Where the run takes its memory.
+    pub fn allocator(&self) -> Global {
+        *self.reached.allocator()
+    }
+
     /// How many steps were taken.
     pub fn count(&self) -> u32
         ensures value { result ≡ self.now.count }
@@ -179,9 +208,49 @@ impl Run {
         Ok(id)
     }
 
+    /// Lists a definition in a module.
+    pub fn declare(&mut self, home: u32, def: ModuleDefId) -> Result<(), AllocError>
+        ensures ok { OnOk result (self.new ≡ with_map self.old (with_declared self.old.map home def)) }
+    {
+        self.map.declare(home, def)?;
+        Ok(())
+    }
+
+    /// Lists a `use` item in a module.
+    pub fn list_use(&mut self, home: u32, use_: UseId) -> Result<(), AllocError>
+        ensures ok { OnOk result (self.new ≡ with_map self.old (with_use self.old.map home use_)) }
+    {
+        self.map.define_use(home, use_)?;
+        Ok(())
+    }
+
+    /// Lists an impl in a module.
+    pub fn list_impl(&mut self, home: u32, id: ImplId, of_trait: bool) -> Result<(), AllocError>
+        ensures ok { OnOk result (self.new ≡ with_map self.old (with_impl self.old.map home id of_trait)) }
+    {
+        self.map.define_impl(home, id, of_trait)?;
+        Ok(())
+    }
+
+    /// Lists an extern block in a module.
+    pub fn list_extern_block(&mut self, home: u32, id: ExternBlockId) -> Result<(), AllocError>
+        ensures ok { OnOk result (self.new ≡ with_map self.old (with_extern_block self.old.map home id)) }
+    {
+        self.map.define_extern_block(home, id)?;
+        Ok(())
+    }
+
+    /// Lists a constant without a name in a module.
+    pub fn list_unnamed_const(&mut self, home: u32, id: ConstId) -> Result<(), AllocError>
+        ensures ok { OnOk result (self.new ≡ with_map self.old (with_unnamed_const self.old.map home id)) }
+    {
+        self.map.define_unnamed_const(home, id)?;
+        Ok(())
+    }
+
     /// Notes an import that was come upon.
     pub fn reach(&mut self, import: ReachedImport) -> Result<(), AllocError>
-        ensures ok { OnOk result (self.new ≡ with_import self.old import) }
+        ensures ok { OnOk result (self.new ≡ with_imports self.old (import ∷ [])) }
     {
         self.reached.push(import)?;
         self.taken.push(Namespaces {
@@ -201,12 +270,15 @@ impl Run {
         }
     }
 
-    /// What the path of an import reaches now.
+    /// What an import reaches now.
     fn reached_by(&self, import: &ReachedImport) -> PerNs
         ensures value { result ≡ reached_by self.now.map import.now }
     {
         let at = self.module_id(import.home);
-        reached(&self.map, at, &import.path)
+        match import.kind {
+            ImportKind::Plain | ImportKind::TypeOnly => reached(&self.map, at, &import.path),
+            ImportKind::Glob => PerNs::none(),
+        }
     }
 
     /// The taking that is due of the import at the place: where its path reaches a namespace that no
@@ -229,7 +301,7 @@ impl Run {
         Ok(Some(Taking {
             home: import.home,
             name: import.name()?,
-            items: imported(&self.map, own, items),
+            items: imported(&self.map, own, kept(import.kind, items)),
             import: import.id,
             namespaces: before.or(namespaces),
         }))

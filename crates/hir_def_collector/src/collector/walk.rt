@@ -1,297 +1,289 @@
-//! The walk over the items of a file.
-ghost use Rattle.std.specs.Prelude.{◌≡◌, ◌<◌, ◌≤◌, List, [], ◌∷◌, ◌++◌, map, length, Some, None, OnOk, IfOk};
-ghost use Rattle.hir_item_tree.specs.KeptForest.{leaf, function, structure, import};
-ghost use Rattle.hir_item_tree.specs.ModItem.{mod_item, forest_of};
-ghost use Rattle.hir_item_tree.specs.UseTree.{use_tree_view};
-ghost use Rattle.hir_scope.specs.Visibility.{visibility_of};
-ghost use Rattle.hir_def_map.specs.State.{new_id};
-ghost use Rattle.hir_def_collector.specs.Workspace.{Workspace};
-ghost use Rattle.hir_def_collector.specs.State.{Visit, joined, visits, with_map, counted};
-ghost use Rattle.hir_def_collector.specs.Items.{constructor_of, declared_struct, inline_origin, module_id, meet_of};
-ghost use Rattle.hir_item_tree.specs.Imports.{imports_of};
-ghost use Rattle.hir_def_collector.specs.Imports.{bound_in, reached_import};
-ghost use Rattle.hir_def_collector.specs.Steps.{Step, Steps, with_bound_module};
-ghost use Rattle.hir_def_collector.specs.Derivation.{IsFull, IsSpent};
+//! The walk over the items of a tree.
+ghost use Rattle.std.specs.Prelude.{◌≡◌, ◌<◌, ◌≤◌, true, ◌∷◌, [], List, length, slice_get, OnOk, IfOk, IfSome};
+ghost use Rattle.std.specs.List.{All};
+ghost use Rattle.hir_item_tree.specs.Collected.{is_enabled};
+ghost use Rattle.hir_item_tree.specs.KeptForest.{KeptItem, Leaf, KeptForest, all_items, leaf, holder, constant, implementation, extern_block, inline_module};
+ghost use Rattle.hir_item_tree.specs.Kinds.{kind_content};
+ghost use Rattle.hir_item_tree.specs.Rows.{held_numbers, item_of, items_at, numbers_of};
+ghost use Rattle.hir_def_collector.specs.State.{visits};
+ghost use Rattle.hir_def_collector.specs.Steps.{visit};
+ghost use Rattle.hir_def_collector.specs.TreeReads.{head_of, visits_at};
+ghost use Rattle.hir_def_collector.specs.Derivation.{IsFull};
+ghost use Rattle.hir_def_collector.specs.Moves.{Handles, Walks, WalksTooFar};
 
-use crate::collector::imports::{ReachedImport, lesser};
+use crate::collector::declaration::Declaration;
+use crate::collector::declare::{
+    declare, declare_const, declare_function, declare_static, declare_struct, declare_trait,
+    declare_type_alias, declare_union,
+};
+use crate::collector::reach::reach_use;
 use crate::collector::run::Run;
+use crate::collector::site::{ItemHead, Site, head_at};
 use crate::collector::{CollectError, STEP_LIMIT};
-use hir_base::ast_id::{AstId, AstKind, HirFileId, SyntaxId};
-use hir_base::ids::{AdtId, FunctionId, ItemContainerId, ModuleDefId, ModuleId, StructId, UseId};
+use hir_base::ast_id::{AstId, AstKind};
+use hir_base::ids::{ConstId, ExternBlockId, ImplId, ModuleDefId};
 use hir_base::name::Name;
-use hir_def_map::nameres::DefMap;
 use hir_def_map::nameres::origin::ModuleOrigin;
-use hir_item_tree::items::{Function, ModItem, Struct, Use};
-use hir_item_tree::raw_visibility::RawVisibility;
-use hir_item_tree::shape::{FieldsShape, ImportAlias};
-use hir_item_tree::use_tree::UseTree;
-use hir_scope::imports::ImportId;
-use hir_scope::per_ns::{Item, PerNs};
-use hir_scope::visibility::Visibility;
-use std::alloc::AllocError;
+use hir_item_tree::item_tree::ItemTree;
+use hir_item_tree::kinds::{Mod, ModItemKind, ModKind};
+use hir_item_tree::rows::ModItemId;
+use hir_scope::per_ns::PerNs;
 
-/// Binds what is declared under a name.
-fn declare(run: &mut Run, home: u32, name: Name, items: PerNs) -> Result<(), CollectError>
-    ensures ok { OnOk result (run.new ≡ counted (with_map run.old (bound_in run.old.map home name items None))) }
-    ensures grows { OnOk result (length run.old.map.modules ≤ length run.new.map.modules) }
+/// Items of a tree that are visited next, and where they are written.
+#[derive(Clone, Copy)]
+struct Inside<'a> {
+    site: Site,
+    ids: &'a [ModItemId],
+}
+
+/// Lists a constant that has no name.
+fn list_const(run: &mut Run, site: Site, head: ItemHead<'_>) -> Result<(), CollectError>
+    requires enabled { is_enabled (head_of head).attributes ≡ true }
+    ensures ok { OnOk result (Handles run.old run.new (visit site (leaf (head_of head.entry) (constant None))) []) }
     ensures many { result ≡ Err CollectError.TooMany → STEP_LIMIT ≤ run.old.count }
 {
-    run.bind(home, name, items, None)?;
+    let id = ConstId {
+        container: run.container(site),
+        file_id: site.file,
+        block: None,
+        id: head.id,
+    };
+    run.list_unnamed_const(site.home, id)?;
     run.tick()?;
     Ok(())
 }
 
-/// Binds a function, as a value.
-fn declare_function(
+/// Handles a constant.
+fn visit_const(
     run: &mut Run,
-    home: u32,
-    file: HirFileId,
-    item: &Function,
+    site: Site,
+    head: ItemHead<'_>,
+    name: &Option<Name>,
 ) -> Result<(), CollectError>
-    ensures ok { OnOk result ((w : Workspace) (rest : List Visit) → Step w
-        (joined run.old (record { home = home; file = file; item = leaf (record { id = item.now.id; visibility = item.now.visibility }) (function item.now.name) } ∷ rest))
-        (joined run.new rest)) }
-    ensures grows { OnOk result (length run.old.map.modules ≤ length run.new.map.modules) }
+    requires enabled { is_enabled (head_of head).attributes ≡ true }
+    ensures ok { OnOk result (Handles run.old run.new (visit site (leaf (head_of head.entry) (constant name.now))) []) }
     ensures many { result ≡ Err CollectError.TooMany → STEP_LIMIT ≤ run.old.count }
 {
-    let at = run.module_id(home);
-    let id = FunctionId {
-        container: ItemContainerId::ModuleId(at),
-        file_id: file,
-        block: None,
-        id: item.id,
-    };
-    let items = PerNs {
-        types: None,
-        values: Some(Item {
-            def: ModuleDefId::FunctionId(id),
-            vis: Visibility::of_raw(at, &item.visibility),
-            import: None,
-        }),
-        macros: None,
-    };
-    declare(run, home, item.name.clone()?, items)?;
+    match name {
+        Some(name) => declare_const(run, site, head, name)?,
+        None => list_const(run, site, head)?,
+    }
     Ok(())
 }
 
-/// The meet of visibilities, if none of them are unrelated.
-fn meet(
-    defs: &DefMap,
-    at: ModuleId,
-    own: Visibility,
-    others: &[RawVisibility],
-) -> Option<Visibility>
-    ensures value { result ≡ meet_of defs.now own (map (visibility_of at) others.now) }
-{
-    let mut least = own;
-    for other in others {
-        least = lesser(defs, least, Visibility::of_raw(at, other))?;
-    }
-    Some(least)
-}
-
-/// The visibility of a struct's constructor, if its shape has one.
-fn constructor(defs: &DefMap, at: ModuleId, own: Visibility, item: &Struct) -> Option<Visibility>
-    ensures value { result ≡ constructor_of defs.now own item.now.shape (map (visibility_of at) item.now.constructor.items) }
-{
-    match item.shape {
-        FieldsShape::Record => None,
-        FieldsShape::Tuple => match meet(defs, at, own, &item.constructor) {
-            Some(least) => Some(least),
-            None => Some(own),
-        },
-        FieldsShape::Unit => Some(own),
-    }
-}
-
-/// What a struct's name stands for: a type, and a value where there is a constructor.
-fn struct_items(def: ModuleDefId, own: Visibility, constructor: Option<Visibility>) -> PerNs
-    ensures value { result ≡ declared_struct def own constructor }
-{
-    let types = Some(Item {
-        def,
-        vis: own,
-        import: None,
-    });
-    let values = match constructor {
-        Some(vis) => Some(Item {
-            def,
-            vis,
-            import: None,
-        }),
-        None => None,
-    };
-    PerNs {
-        types,
-        values,
-        macros: None,
-    }
-}
-
-/// Binds a struct, as a type and by its shape as a value.
-fn declare_struct(
+/// Lists an impl.
+fn list_impl(
     run: &mut Run,
-    home: u32,
-    file: HirFileId,
-    item: &Struct,
+    site: Site,
+    head: ItemHead<'_>,
+    of_trait: bool,
 ) -> Result<(), CollectError>
-    ensures ok { OnOk result ((w : Workspace) (rest : List Visit) → Step w
-        (joined run.old (record { home = home; file = file; item = leaf (record { id = item.now.id; visibility = item.now.visibility }) (structure item.now.name item.now.shape item.now.constructor.items) } ∷ rest))
-        (joined run.new rest)) }
-    ensures grows { OnOk result (length run.old.map.modules ≤ length run.new.map.modules) }
+    requires enabled { is_enabled (head_of head).attributes ≡ true }
+    ensures ok { OnOk result (Handles run.old run.new (visit site (leaf (head_of head.entry) (implementation of_trait))) []) }
     ensures many { result ≡ Err CollectError.TooMany → STEP_LIMIT ≤ run.old.count }
 {
-    let at = run.module_id(home);
-    let def = ModuleDefId::AdtId(AdtId::StructId(StructId {
-        container: at,
-        file_id: file,
+    let id = ImplId {
+        container: run.module_id(site.home),
+        file_id: site.file,
         block: None,
-        id: item.id,
-    }));
-    let own = Visibility::of_raw(at, &item.visibility);
-    let constructor = constructor(run.map(), at, own, item);
-    declare(
-        run,
-        home,
-        item.name.clone()?,
-        struct_items(def, own, constructor),
-    )?;
-    Ok(())
-}
-
-/// The alias of an import again.
-fn copied_alias(alias: &Option<ImportAlias>) -> Result<Option<ImportAlias>, AllocError>
-    ensures value { IfOk result (λ copy. copy ≡ alias.now) }
-{
-    match alias {
-        Some(alias) => Ok(Some(alias.clone()?)),
-        None => Ok(None),
-    }
-}
-
-/// The import of a use tree.
-fn import_of(
-    home: u32,
-    use_: UseId,
-    visibility: &RawVisibility,
-    tree: &UseTree,
-) -> Result<ReachedImport, AllocError>
-    ensures value { IfOk result (λ i. map (reached_import home use_ visibility.now) (imports_of (use_tree_view tree.now)) ≡ i ∷ []) }
-{
-    match tree {
-        UseTree::Single { path, alias } => Ok(ReachedImport {
-            home,
-            id: ImportId { use_, idx: 0 },
-            visibility: visibility.clone()?,
-            path: path.clone()?,
-            alias: copied_alias(alias)?,
-        }),
-    }
-}
-
-/// Notes the imports of a `use` item.
-fn reach_use(run: &mut Run, home: u32, file: HirFileId, item: &Use) -> Result<(), CollectError>
-    ensures ok { OnOk result ((w : Workspace) (rest : List Visit) → Step w
-        (joined run.old (record { home = home; file = file; item = leaf (record { id = item.now.id; visibility = item.now.visibility }) (import (use_tree_view item.now.use_tree)) } ∷ rest))
-        (joined run.new rest)) }
-    ensures grows { OnOk result (length run.old.map.modules ≤ length run.new.map.modules) }
-    ensures many { result ≡ Err CollectError.TooMany → STEP_LIMIT ≤ run.old.count }
-{
-    let use_ = UseId {
-        container: run.module_id(home),
-        file_id: file,
-        block: None,
-        id: item.id,
+        id: head.id,
     };
-    let import = import_of(home, use_, &item.visibility, &item.use_tree)?;
-    run.reach(import)?;
+    run.list_impl(site.home, id, of_trait)?;
     run.tick()?;
     Ok(())
 }
 
-/// Makes a module that is written where it is declared, and binds it.
-fn open(
-    run: &mut Run,
-    home: u32,
-    file: HirFileId,
-    id: SyntaxId,
-    visibility: &RawVisibility,
-    name: &Name,
-) -> Result<u32, CollectError>
-    requires in_range { home < length run.old.map.modules }
-    ensures made { IfOk result (λ made. made ≡ length run.old.map.modules) }
-    ensures ok { OnOk result (run.new ≡ counted (with_map run.old (with_bound_module run.old.map home file (record { id = id; visibility = visibility.now }) name.now))) }
-    ensures inside { IfOk result (λ made. made < length run.new.map.modules) }
-    ensures grows { OnOk result (length run.old.map.modules ≤ length run.new.map.modules) }
+/// Makes a module that is written where it is declared, lists it and binds it; where its items are written.
+fn open(run: &mut Run, site: Site, head: ItemHead<'_>, name: &Name) -> Result<Site, CollectError>
+    requires in_range { site.home < length run.old.map.modules }
+    requires enabled { is_enabled (head_of head).attributes ≡ true }
+    ensures ok { IfOk result (λ inside. (items : KeptForest) → Handles run.old run.new
+        (visit site (holder (head_of head.entry) (inline_module name.now) items)) (visits inside items)) }
+    ensures in_range { IfOk result (λ inside. inside.home < length run.new.map.modules) }
     ensures many { result ≡ Err CollectError.TooMany → IsFull run.old.count run.old.map }
 {
     let origin = ModuleOrigin::Inline {
-        definition_tree_id: file,
+        definition_tree_id: site.file,
         definition: AstId {
-            file_id: file,
+            file_id: site.file,
             kind: AstKind::Module,
-            id,
+            id: head.id,
         },
     };
-    let vis = Visibility::of_raw(run.module_id(home), visibility);
-    let made = run.open(home, name.clone()?, origin, vis)?;
-    let items = PerNs {
-        types: Some(Item {
-            def: ModuleDefId::ModuleId(made),
-            vis,
-            import: None,
-        }),
-        values: None,
-        macros: None,
+    let vis = run.visibility(site, head);
+    let made = run.open(site.home, name.clone()?, origin, vis)?;
+    let def = ModuleDefId::ModuleId(made);
+    let declaration = Declaration {
+        name: name.clone()?,
+        def,
+        items: PerNs::types(def, vis, None),
     };
-    declare(run, home, name.clone()?, items)?;
-    Ok(made.index)
+    declare(run, site.home, declaration)?;
+    Ok(Site {
+        home: made.index,
+        file: site.file,
+        extern_block: None,
+    })
+}
+
+/// Lists an extern block; where its items are written.
+fn enter(run: &mut Run, site: Site, head: ItemHead<'_>) -> Result<Site, CollectError>
+    requires in_range { site.home < length run.old.map.modules }
+    requires enabled { is_enabled (head_of head).attributes ≡ true }
+    ensures ok { IfOk result (λ inside. (items : KeptForest) → Handles run.old run.new
+        (visit site (holder (head_of head.entry) extern_block items)) (visits inside items)) }
+    ensures in_range { IfOk result (λ inside. inside.home < length run.new.map.modules) }
+    ensures many { result ≡ Err CollectError.TooMany → STEP_LIMIT ≤ run.old.count }
+{
+    let id = ExternBlockId {
+        container: run.module_id(site.home),
+        file_id: site.file,
+        block: None,
+        id: head.id,
+    };
+    run.list_extern_block(site.home, id)?;
+    run.tick()?;
+    Ok(Site {
+        home: site.home,
+        file: site.file,
+        extern_block: Some(id),
+    })
+}
+
+/// Handles a module; which items are visited next.
+fn visit_mod<'a>(
+    run: &mut Run,
+    site: Site,
+    head: ItemHead<'_>,
+    item: Mod<'a>,
+) -> Result<Inside<'a>, CollectError>
+    requires in_range { site.home < length run.old.map.modules }
+    requires enabled { is_enabled (head_of head).attributes ≡ true }
+    ensures ok { IfOk result (λ inside. (items : List KeptItem) → Handles run.old run.new
+        (visit site (item_of items (head_of head.entry) (kind_content (ModItemKind.Mod item.entry))))
+        (visits inside.site (items_at items (numbers_of inside.ids.now)))) }
+    ensures numbers { IfOk result (λ inside. numbers_of inside.ids.now ≡ held_numbers (kind_content (ModItemKind.Mod item.entry))) }
+    ensures in_range { IfOk result (λ inside. inside.site.home < length run.new.map.modules) }
+    ensures many { result ≡ Err CollectError.TooMany → IsFull run.old.count run.old.map }
+{
+    match item.kind {
+        ModKind::Inline { items } => {
+            let site = open(run, site, head, item.name)?;
+            Ok(Inside { site, ids: items })
+        }
+        ModKind::Outline => {
+            run.tick()?;
+            Ok(Inside { site, ids: &[] })
+        }
+    }
+}
+
+/// Handles an item that isn't disabled; which items are visited next: those that it holds.
+fn visit_item<'a>(
+    run: &mut Run,
+    site: Site,
+    head: ItemHead<'_>,
+    item: ModItemKind<'a>,
+) -> Result<Inside<'a>, CollectError>
+    requires in_range { site.home < length run.old.map.modules }
+    requires enabled { is_enabled (head_of head).attributes ≡ true }
+    ensures ok { IfOk result (λ inside. (items : List KeptItem) → Handles run.old run.new
+        (visit site (item_of items (head_of head.entry) (kind_content item.entry)))
+        (visits inside.site (items_at items (numbers_of inside.ids.now)))) }
+    ensures numbers { IfOk result (λ inside. numbers_of inside.ids.now ≡ held_numbers (kind_content item.entry)) }
+    ensures in_range { IfOk result (λ inside. inside.site.home < length run.new.map.modules) }
+    ensures many { result ≡ Err CollectError.TooMany → IsFull run.old.count run.old.map }
+{
+    let nothing = Inside { site, ids: &[] };
+    match item {
+        ModItemKind::Mod(item) => visit_mod(run, site, head, item),
+        ModItemKind::ExternBlock(item) => {
+            let site = enter(run, site, head)?;
+            Ok(Inside {
+                site,
+                ids: item.children,
+            })
+        }
+        ModItemKind::Use(item) => {
+            reach_use(run, site, head, item.use_tree)?;
+            Ok(nothing)
+        }
+        ModItemKind::Function(item) => {
+            declare_function(run, site, head, item.name)?;
+            Ok(nothing)
+        }
+        ModItemKind::Struct(item) => {
+            declare_struct(run, site, head, item)?;
+            Ok(nothing)
+        }
+        ModItemKind::Union(item) => {
+            declare_union(run, site, head, item.name)?;
+            Ok(nothing)
+        }
+        ModItemKind::Const(item) => {
+            visit_const(run, site, head, item.name)?;
+            Ok(nothing)
+        }
+        ModItemKind::Static(item) => {
+            declare_static(run, site, head, item.name)?;
+            Ok(nothing)
+        }
+        ModItemKind::Trait(item) => {
+            declare_trait(run, site, head, item.name)?;
+            Ok(nothing)
+        }
+        ModItemKind::Impl(item) => {
+            list_impl(run, site, head, item.of_trait)?;
+            Ok(nothing)
+        }
+        ModItemKind::TypeAlias(item) => {
+            declare_type_alias(run, site, head, item.name)?;
+            Ok(nothing)
+        }
+        ModItemKind::ExternCrate(_)
+        | ModItemKind::Enum(_)
+        | ModItemKind::MacroCall(_)
+        | ModItemKind::MacroRules(_)
+        | ModItemKind::Macro2(_) => {
+            run.tick()?;
+            Ok(nothing)
+        }
+    }
 }
 
 /// Handles an item, and all that is in it.
 #[cycle(walk)]
-fn walk_item(run: &mut Run, home: u32, file: HirFileId, item: &ModItem) -> Result<(), CollectError>
-    requires in_range { home < length run.old.map.modules }
-    ensures ok { OnOk result ((w : Workspace) (rest : List Visit) → Steps w
-        (joined run.old (record { home = home; file = file; item = mod_item item.now } ∷ rest)) (joined run.new rest)) }
-    ensures grows { OnOk result (length run.old.map.modules ≤ length run.new.map.modules) }
-    ensures many { result ≡ Err CollectError.TooMany → (w : Workspace) (rest : List Visit) → IsSpent w
-        (joined run.old (record { home = home; file = file; item = mod_item item.now } ∷ rest)) }
+fn walk_item(run: &mut Run, tree: &ItemTree, site: Site, id: ModItemId) -> Result<(), CollectError>
+    requires in_range { site.home < length run.old.map.modules }
+    requires there { id.0 < length (all_items tree.now.items) }
+    ensures ok { OnOk result (Walks run.old run.new (visits_at tree.now site (id.0 ∷ []))) }
+    ensures many { result ≡ Err CollectError.TooMany → WalksTooFar run.old (visits_at tree.now site (id.0 ∷ [])) }
 {
-    match item {
-        ModItem::Function(item) => declare_function(run, home, file, item)?,
-        ModItem::Struct(item) => declare_struct(run, home, file, item)?,
-        ModItem::Use(item) => reach_use(run, home, file, item)?,
-        ModItem::Mod {
-            id,
-            visibility,
-            name,
-            items,
-        } => {
-            let made = open(run, home, file, *id, visibility, name)?;
-            walk_all(run, made, file, items)?;
-        }
+    let head = head_at(tree, id);
+    if !head.attrs.is_enabled() {
+        run.tick()?;
+        return Ok(());
     }
+    let inside = visit_item(run, site, head, tree.index(id))?;
+    walk_all(run, tree, inside.site, inside.ids)?;
     Ok(())
 }
 
-/// Handles the items of a module, one after another, each with all that is in it.
+/// Handles items of a tree that are written at a site, one after another, each with all that is in it.
 #[cycle(walk)]
 pub fn walk_all(
     run: &mut Run,
-    home: u32,
-    file: HirFileId,
-    items: &[ModItem],
+    tree: &ItemTree,
+    site: Site,
+    ids: &[ModItemId],
 ) -> Result<(), CollectError>
-    requires in_range { home < length run.old.map.modules }
-    ensures ok { OnOk result ((w : Workspace) (rest : List Visit) → Steps w
-        (joined run.old (visits home file (forest_of items.now) ++ rest)) (joined run.new rest)) }
-    ensures grows { OnOk result (length run.old.map.modules ≤ length run.new.map.modules) }
-    ensures many { result ≡ Err CollectError.TooMany → (w : Workspace) (rest : List Visit) → IsSpent w
-        (joined run.old (visits home file (forest_of items.now) ++ rest)) }
+    requires in_range { site.home < length run.old.map.modules }
+    requires there { All (λ n. n < length (all_items tree.now.items)) (numbers_of ids.now) }
+    ensures ok { OnOk result (Walks run.old run.new (visits_at tree.now site (numbers_of ids.now))) }
+    ensures many { result ≡ Err CollectError.TooMany → WalksTooFar run.old (visits_at tree.now site (numbers_of ids.now)) }
 {
-    for item in items {
-        walk_item(run, home, file, item)?;
+    for id in ids {
+        walk_item(run, tree, site, *id)?;
     }
     Ok(())
 }

@@ -2,8 +2,10 @@
 ghost use Rattle.std.specs.Prelude.{◌≡◌, [], None, IfOk, OnOk, OnErr};
 ghost use Rattle.hir_scope.specs.ItemScope.{binding_of, empty_scope};
 ghost use Rattle.hir_scope.specs.ScopePushes.{pushed_globs, push_changes};
-ghost use Rattle.hir_def_map.specs.State.{at_name, pushed_module, with_child};
+ghost use Rattle.hir_def_map.specs.Declaration.{listed};
+ghost use Rattle.hir_def_map.specs.State.{at_name, pushed_module, with_child, with_module_scope};
 
+use crate::nameres::declaration::Declaration;
 use crate::nameres::origin::ModuleOrigin;
 use hir_base::ids::ModuleId;
 use hir_base::name::Name;
@@ -125,5 +127,19 @@ impl ModuleData {
     {
         self.scope
             .push_res_with_import(glob_imports, place, items, import)
+    }
+
+    /// Lists what it declares in its scope.
+    pub fn list(&mut self, declaration: Declaration) -> Result<(), AllocError>
+        ensures ok { OnOk result (self.new ≡ with_module_scope (listed declaration) self.old) }
+        ensures err { OnErr result (self.new ≡ self.old) }
+    {
+        match declaration {
+            Declaration::Def(def) => self.scope.declare(def),
+            Declaration::Use(use_) => self.scope.define_use(use_),
+            Declaration::Impl(imp, is_trait_impl) => self.scope.define_impl(imp, is_trait_impl),
+            Declaration::ExternBlock(extern_block) => self.scope.define_extern_block(extern_block),
+            Declaration::UnnamedConst(konst) => self.scope.define_unnamed_const(konst),
+        }
     }
 }

@@ -1,7 +1,11 @@
 use super::*;
+use crate::raw_attr::RawAttr;
+use crate::raw_visibility::{RawVisibility, VisibilityExplicitness};
 use crate::shape::FieldsShape;
-use crate::source::Unit;
-use hir_base::mod_path::PathKind;
+use crate::source::{Node, NodeKind, Unit, Variant};
+use crate::use_tree::{UseTree, UseTreeKind};
+use hir_base::cfg::CfgExpr;
+use hir_base::mod_path::{ModPath, PathKind};
 use hir_base::name::Name;
 use smallvec::SmallVec;
 use std::test::Fail;
@@ -10,15 +14,22 @@ fn id(index: u16) -> SyntaxId {
     SyntaxId { hash: 1, index }
 }
 
-fn function(alloc: Global, index: u16) -> Result<Node, Fail> {
-    Ok(Node {
+fn node(alloc: Global, index: u16, kind: NodeKind) -> Node {
+    Node {
         id: id(index),
+        attrs: Vec::new(alloc),
         vis: RawVisibility::Public,
-        kind: NodeKind::Fn {
-            name: Name::new(alloc, "f")?,
-            body: String::new(alloc),
-        },
-    })
+        input: String::new(alloc),
+        kind,
+    }
+}
+
+fn function(alloc: Global, index: u16) -> Result<Node, Fail> {
+    let kind = NodeKind::Fn {
+        name: Name::new(alloc, "f")?,
+        body: String::new(alloc),
+    };
+    Ok(node(alloc, index, kind))
 }
 
 fn structure(alloc: Global, index: u16, fields: u32) -> Result<Node, Fail> {
@@ -26,15 +37,75 @@ fn structure(alloc: Global, index: u16, fields: u32) -> Result<Node, Fail> {
     for _ in 0..fields {
         all.push(RawVisibility::Public)?;
     }
-    Ok(Node {
-        id: id(index),
-        vis: RawVisibility::Public,
-        kind: NodeKind::Struct {
-            name: Name::new(alloc, "S")?,
-            shape: FieldsShape::Tuple,
-            fields: all,
+    let kind = NodeKind::Struct {
+        name: Name::new(alloc, "S")?,
+        shape: FieldsShape::Tuple,
+        fields: all,
+    };
+    Ok(node(alloc, index, kind))
+}
+
+/// `enum E { A, A, .. }`, with these indexes.
+fn enumeration(alloc: Global, index: u16, first: u16, second: u16) -> Result<Node, Fail> {
+    let mut variants = Vec::new(alloc);
+    for index in [first, second] {
+        variants.push(Variant {
+            id: id(index),
+            attrs: Vec::new(alloc),
+            name: Name::new(alloc, "A")?,
+            shape: FieldsShape::Unit,
+        })?;
+    }
+    let kind = NodeKind::Enum {
+        name: Name::new(alloc, "E")?,
+        variants,
+    };
+    Ok(node(alloc, index, kind))
+}
+
+/// `impl { fn f() {} }`.
+fn implementation(alloc: Global, index: u16, inside: u16) -> Result<Node, Fail> {
+    let mut items = Vec::new(alloc);
+    items.push(function(alloc, inside)?)?;
+    let kind = NodeKind::Impl {
+        of_trait: false,
+        items,
+    };
+    Ok(node(alloc, index, kind))
+}
+
+/// `use {{{ .. a .. }}};`.
+fn import(alloc: Global, index: u16, lists: u32) -> Result<Node, Fail> {
+    let mut tree = UseTree {
+        kind: UseTreeKind::Single {
+            path: ModPath::parse(alloc, "a")?,
+            alias: None,
         },
-    })
+    };
+    for _ in 0..lists {
+        let mut list = Vec::new(alloc);
+        list.push(tree)?;
+        tree = UseTree {
+            kind: UseTreeKind::Prefixed { prefix: None, list },
+        };
+    }
+    Ok(node(alloc, index, NodeKind::Use { tree }))
+}
+
+/// `#[cfg_attr(true, cfg_attr(true, .. cfg(true)))] fn f() {}`.
+fn conditional(alloc: Global, index: u16, levels: u32) -> Result<Node, Fail> {
+    let mut attr = RawAttr::Cfg(CfgExpr::Const(true));
+    for _ in 0..levels {
+        let mut attrs = Vec::new(alloc);
+        attrs.push(attr)?;
+        attr = RawAttr::CfgAttr {
+            cfg: CfgExpr::Const(true),
+            attrs,
+        };
+    }
+    let mut function = function(alloc, index)?;
+    function.attrs.push(attr)?;
+    Ok(function)
 }
 
 /// `pub(in a::a:: ..) fn f() {}`.
@@ -46,7 +117,7 @@ fn function_in(alloc: Global, index: u16, segments: u32) -> Result<Node, Fail> {
     }
     node.vis = RawVisibility::Module(
         ModPath::from_segments(PathKind::Crate, path),
-        crate::raw_visibility::VisibilityExplicitness::Explicit,
+        VisibilityExplicitness::Explicit,
     );
     Ok(node)
 }
@@ -55,14 +126,11 @@ fn function_in(alloc: Global, index: u16, segments: u32) -> Result<Node, Fail> {
 fn nested(alloc: Global, depth: u16) -> Result<Vec<Node>, Fail> {
     let mut nodes = Vec::new(alloc);
     for index in 0..depth {
-        let module = Node {
-            id: id(index),
-            vis: RawVisibility::Public,
-            kind: NodeKind::Module {
-                name: Name::new(alloc, "m")?,
-                nodes,
-            },
+        let kind = NodeKind::Module {
+            name: Name::new(alloc, "m")?,
+            nodes: Some(nodes),
         };
+        let module = node(alloc, index, kind);
         nodes = Vec::new(alloc);
         nodes.push(module)?;
     }
@@ -82,6 +150,10 @@ enum Beside {
     Function(u16),
     FunctionIn(u16, u32),
     Struct(u16, u32),
+    Enum(u16, u16, u16),
+    Impl(u16, u16),
+    Use(u16, u32),
+    Conditional(u16, u32),
     Modules(u16),
 }
 
@@ -98,9 +170,28 @@ fn handed(alloc: Global, beside: Beside) -> Result<Source, Fail> {
             function(alloc, 0)?,
             structure(alloc, index, fields)?,
         )?,
+        Beside::Enum(index, a, b) => {
+            both(alloc, function(alloc, 0)?, enumeration(alloc, index, a, b)?)?
+        }
+        Beside::Impl(index, inside) => both(
+            alloc,
+            function(alloc, 0)?,
+            implementation(alloc, index, inside)?,
+        )?,
+        Beside::Use(index, lists) => {
+            both(alloc, function(alloc, 0)?, import(alloc, index, lists)?)?
+        }
+        Beside::Conditional(index, levels) => both(
+            alloc,
+            function(alloc, 0)?,
+            conditional(alloc, index, levels)?,
+        )?,
         Beside::Modules(depth) => nested(alloc, depth)?,
     };
-    Ok(Source::Unit(Unit { nodes }))
+    Ok(Source::Unit(Unit {
+        attrs: Vec::new(alloc),
+        nodes,
+    }))
 }
 
 #[derive(Clone, Copy, Debug, PartialEq)]
@@ -163,9 +254,46 @@ fn refusals(rt: HostRuntime) -> Result<(), Fail> {
             Answer::Good,
         ),
         (
+            "variant_ids_are_distinct",
+            Beside::Enum(0, 7, 7),
+            Answer::Twice(AstKind::Variant, 7),
+        ),
+        ("other variants", Beside::Enum(0, 7, 8), Answer::Good),
+        (
+            "a function in an impl",
+            Beside::Impl(0, 0),
+            Answer::Twice(AstKind::Fn, 0),
+        ),
+        ("24 lists", Beside::Use(0, 24), Answer::Good),
+        (
+            "25 lists",
+            Beside::Use(0, 25),
+            Answer::Large(Limit::UseTree),
+        ),
+        (
+            "16 levels of cfg_attr",
+            Beside::Conditional(1, 16),
+            Answer::Good,
+        ),
+        (
+            "17 levels of cfg_attr",
+            Beside::Conditional(1, 17),
+            Answer::Large(Limit::Cfg),
+        ),
+        (
             "a path before an index",
             Beside::FunctionIn(2048, 65),
             Answer::Large(Limit::Path),
+        ),
+        (
+            "an index before lists",
+            Beside::Use(2048, 25),
+            Answer::Large(Limit::Index),
+        ),
+        (
+            "an index before a condition",
+            Beside::Conditional(2048, 17),
+            Answer::Large(Limit::Index),
         ),
         (
             "a limit before a duplicate",
@@ -182,37 +310,5 @@ fn refusals(rt: HostRuntime) -> Result<(), Fail> {
         Answer::Good,
         "broken"
     );
-    Ok(())
-}
-
-#[test]
-fn refusals_as_they_are_told(rt: HostRuntime) -> Result<(), Fail> {
-    let kind = AstKind::Struct;
-    let rows = [
-        (
-            CheckError::TooLarge(Limit::Path),
-            "a path has more than 64 segments",
-        ),
-        (
-            CheckError::TooLarge(Limit::Index),
-            "the index of an id is above 2047",
-        ),
-        (
-            CheckError::TooLarge(Limit::Nodes),
-            "there are more than 1000000 nodes, fields and use trees",
-        ),
-        (
-            CheckError::TooLarge(Limit::Modules),
-            "modules nest more than 32 deep",
-        ),
-        (
-            CheckError::DuplicateId { kind, id: id(7) },
-            "two Struct nodes have the id [1, 7]",
-        ),
-        (CheckError::Memory, "out of memory"),
-    ];
-    for (error, text) in rows {
-        assert_eq!(rt; error.to_string(rt.alloc())?.as_str(), text);
-    }
     Ok(())
 }

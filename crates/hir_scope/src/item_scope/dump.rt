@@ -16,7 +16,7 @@ use hir_base::edition::Edition;
 use hir_base::ids::ModuleDefId;
 use hir_base::macro_kind::{MacroId, macro_styles_from_id};
 use hir_base::name::Name;
-use std::alloc::{AllocError, Global};
+use std::alloc::AllocError;
 use std::collections::BTreeSet;
 use std::fmt::{Display, Formatter, Write};
 
@@ -195,12 +195,12 @@ impl Display for LegacyLine<'_> {
 impl ItemScope {
     /// Writes the scope at the end of a text: a line for each trait that is imported without a name, for each name with what
     /// it stands for, and for each name of macros in textual scope.
-    pub fn dump(&self, alloc: Global, buf: &mut String) -> Result<(), AllocError>
+    pub fn dump(&self, buf: &mut String) -> Result<(), AllocError>
         ensures ok { OnOk result (string_bytes buf.new ≡ string_bytes buf.old ++ dump_of self.now) }
     {
         self.dump_unnamed(buf)?;
         self.dump_entries(buf)?;
-        let names = self.legacy_names(alloc)?;
+        let names = self.legacy_names()?;
         self.dump_legacy(&names, buf)
     }
 
@@ -230,10 +230,10 @@ impl ItemScope {
     }
 
     /// The names of macros in textual scope, in order.
-    fn legacy_names(&self, alloc: Global) -> Result<BTreeSet<Name>, AllocError>
+    fn legacy_names(&self) -> Result<BTreeSet<Name>, AllocError>
         ensures ok { IfOk result (λ names. names.keys ≡ in_order [] (keys_of self.now.legacy_macros)) }
     {
-        let mut sorted = BTreeSet::new(alloc);
+        let mut sorted = BTreeSet::new(self.alloc);
         let mut left = self.legacy_macros.keys();
         'names: while let Some(name) = left.next() {
             sorted.insert(name.clone()?)?;

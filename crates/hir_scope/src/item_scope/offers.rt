@@ -7,7 +7,7 @@ ghost use Rattle.hir_scope.specs.Room.{IsRoomFor, IsKeyFor};
 ghost use Rattle.hir_scope.specs.declared.imports.ImportOrDef.{ImportOrDef};
 ghost use Rattle.hir_scope.specs.declared.per_ns.Item.{Item};
 ghost use Rattle.hir_scope.specs.Pushes.{gives_way, takes};
-ghost use Rattle.hir_scope.specs.ScopePushes.{taken, item_entry, is_globs, record_entry, offered_items, offered_globs, offered_records};
+ghost use Rattle.hir_scope.specs.Offers.{taken, item_entry, is_globs, record_entry, offered_items, offered_globs, offered_records};
 
 use crate::imports::{ImportOrDef, ImportOrExternCrate, ImportOrGlob};
 use crate::item_scope::room::{

@@ -1,13 +1,15 @@
 //! Binding names in a scope, after rust-analyzer's `push_res_with_import`.
 ghost use Rattle.std.specs.Prelude.{◌≡◌, not, OnOk, OnErr, IfOk};
-ghost use Rattle.hir_scope.specs.ImportRecords.{is_glob, value_import, reached_by, value_reached_by};
-ghost use Rattle.hir_scope.specs.ScopePushes.{type_offer, value_offer, macro_offer, taken_type, taken_value, taken_macro, offered_globs, with_macro, with_value, offered_scope, offered_names, is_some_offer, is_nothing, is_unresolved, with_unresolved, pushed_scope, pushed_globs, push_changes, PushesType, PushesValue, PushesMacro};
+ghost use Rattle.hir_scope.specs.ImportRecords.{is_glob, reached_by, value_reached_by};
+ghost use Rattle.hir_scope.specs.Offers.{type_offer, value_offer, macro_offer, offered_globs};
+ghost use Rattle.hir_scope.specs.ScopePushes.{taken_type, taken_value, taken_macro, with_macro, with_value, offered_scope, offered_names, is_some_offer, is_unresolved, with_unresolved, pushed_scope, pushed_globs, push_changes, PushesType, PushesValue, PushesMacro};
+ghost use Rattle.hir_scope.specs.Recorded.{RecordsType, RecordsValue, RecordsMacro};
 
 use crate::glob_imports::PerNsGlobImports;
 use crate::imports::{ImportOrDef, ImportOrExternCrate, ImportOrGlob};
 use crate::item_scope::ItemScope;
 use crate::item_scope::offers::{Offer, Offers, give_back, make_room, taken, write_offer};
-use crate::per_ns::{Item, MacrosItem, PerNs, TypesItem, ValuesItem};
+use crate::per_ns::{Item, MacrosItem, PerNs, TypesItem, ValuesItem, value_import};
 use crate::push::Push;
 use hir_base::ids::{ModuleDefId, ModuleId};
 use hir_base::macro_kind::MacroId;
@@ -18,17 +20,6 @@ fn is_glob(import: Option<ImportOrExternCrate>) -> bool
     ensures value { result ≡ is_glob import }
 {
     matches!(import, Some(ImportOrExternCrate::Glob(_)))
-}
-
-/// What brings a value: an `extern crate` counts as nothing.
-fn value_import(import: Option<ImportOrExternCrate>) -> Option<ImportOrGlob>
-    ensures value { result ≡ value_import import }
-{
-    match import {
-        Some(ImportOrExternCrate::Glob(id)) => Some(ImportOrGlob::Glob(id)),
-        Some(ImportOrExternCrate::Import(id)) => Some(ImportOrGlob::Import(id)),
-        _ => None,
-    }
 }
 
 /// What had brought a type or a macro that an import reaches, or else its definition.
@@ -132,6 +123,11 @@ impl ItemScope {
         ensures values { OnOk result (PushesValue lookup def import self.old glob_imports.old self.new glob_imports.new) }
         ensures macros { OnOk result (PushesMacro lookup def import self.old glob_imports.old self.new glob_imports.new) }
 
+        // And the import's record is what it reached, in each namespace that the push changes.
+        ensures type_records { OnOk result (RecordsType lookup def import self.old glob_imports.old self.new) }
+        ensures value_records { OnOk result (RecordsValue lookup def import self.old glob_imports.old self.new) }
+        ensures macro_records { OnOk result (RecordsMacro lookup def import self.old glob_imports.old self.new) }
+
         // Room is made before anything is written.
         ensures err { OnErr result (self.new ≡ self.old) }
         ensures err_globs { OnErr result (glob_imports.new ≡ glob_imports.old) }
@@ -153,7 +149,7 @@ impl ItemScope {
         ensures err { OnErr result (self.new ≡ self.old) }
         ensures err_globs { OnErr result (glob_imports.new ≡ glob_imports.old) }
     {
-        if def.types.is_none() && def.values.is_none() && def.macros.is_none() {
+        if def.is_none() {
             return self.push_unresolved(lookup.1);
         }
         let offers = Offers {

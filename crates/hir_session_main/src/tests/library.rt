@@ -10,7 +10,9 @@ use hir_base::name::Name;
 use hir_base::place::Place;
 use hir_item_tree::raw_visibility::RawVisibility;
 use hir_item_tree::source::{Node, NodeKind, Source, Unit};
-use hir_session::{EditError, Fault, NewSessionError, QueryError, RefreshError, Session};
+use hir_session::{
+    EditError, Fault, NewSessionError, QueryError, RefreshError, Session, TreeTextError,
+};
 use hir_wire::{CrateInput, Dependencies, Edit, Shadow};
 use std::alloc::Global;
 use std::fmt::Display;
@@ -25,6 +27,8 @@ fn a_function_is_found(rt: HostRuntime) -> Result<(), Fail> {
     let krate = CrateInput {
         edition: Edition::Edition2021,
         root: file.clone()?,
+        attrs: Vec::new(alloc),
+        cfg: Vec::new(alloc),
         deps: Dependencies::new(Vec::new(alloc)),
         proc_macro: false,
     };
@@ -33,16 +37,22 @@ fn a_function_is_found(rt: HostRuntime) -> Result<(), Fail> {
     let name = Name::new(alloc, "area")?;
     let area = Node {
         id: SyntaxId { hash: 1, index: 0 },
+        attrs: Vec::new(alloc),
         vis: RawVisibility::Public,
+        input: String::new(alloc),
         kind: NodeKind::Fn {
             name,
             body: String::new(alloc),
         },
     };
     let source = Source::Unit(Unit {
+        attrs: Vec::new(alloc),
         nodes: vec![in alloc; area]?,
     });
+    let page = file.clone()?;
     session.apply(alloc, Edit::SetFile { file, source })?;
+    let text = session.tree_text(alloc, Crate(0), &page)?;
+    assert_eq!(rt; text.as_str(), "// AstId: Fn[0001, 0]\npub fn area;\n");
     let resolved = session.refresh(alloc)?;
     assert_eq!(rt; resolved.len(), 1);
 
@@ -96,6 +106,8 @@ fn errors_have_texts(rt: HostRuntime) -> Result<(), Fail> {
         "there is no such crate or module",
     )?;
     says(&rt, alloc, &QueryError::Memory, "out of memory")?;
+    let absent = "there is no such crate";
+    says(&rt, alloc, &TreeTextError::UnknownCrate, absent)?;
     says(&rt, alloc, &Fault::WriteFault, "write fault")?;
     Ok(())
 }

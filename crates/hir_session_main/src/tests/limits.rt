@@ -67,6 +67,27 @@ fn limits_hold(rt: HostRuntime) -> Result<(), Fail> {
 "#,
         ),
         (
+            "use_trees_and_conditions",
+            r#"{"do":"crates","crates":[{"edition":"2021","root":"lib.rs"}]}
+{"do":"set file","file":"lib.rs","unit":{"nodes":[{"kind":"Use","id":[1,0],"tree":{"list":[{"list":[{"list":[{"list":[{"list":[{"list":[{"list":[{"list":[{"list":[{"list":[{"list":[{"list":[{"list":[{"list":[{"list":[{"list":[{"list":[{"list":[{"list":[{"list":[{"list":[{"list":[{"list":[{"list":[{"single":"a"}]}]}]}]}]}]}]}]}]}]}]}]}]}]}]}]}]}]}]}]}]}]}]}]}}]}}
+{"do":"set file","file":"lib.rs","unit":{"nodes":[{"kind":"Use","id":[1,0],"tree":{"list":[{"list":[{"list":[{"list":[{"list":[{"list":[{"list":[{"list":[{"list":[{"list":[{"list":[{"list":[{"list":[{"list":[{"list":[{"list":[{"list":[{"list":[{"list":[{"list":[{"list":[{"list":[{"list":[{"list":[{"list":[{"single":"a"}]}]}]}]}]}]}]}]}]}]}]}]}]}]}]}]}]}]}]}]}]}]}]}]}]}}]}}
+{"do":"set file","file":"lib.rs","unit":{"nodes":[{"kind":"Fn","id":[1,0],"name":"f","attrs":[{"path":"cfg","cfg":{"not":{"not":{"not":{"not":{"not":{"not":{"not":{"not":{"not":{"not":{"not":{"not":{"not":{"not":{"not":{"not":"x"}}}}}}}}}}}}}}}}}]}]}}
+{"do":"set file","file":"lib.rs","unit":{"nodes":[{"kind":"Fn","id":[1,0],"name":"f","attrs":[{"path":"cfg","cfg":{"not":{"not":{"not":{"not":{"not":{"not":{"not":{"not":{"not":{"not":{"not":{"not":{"not":{"not":{"not":{"not":{"not":"x"}}}}}}}}}}}}}}}}}}]}]}}
+{"do":"set file","file":"lib.rs","unit":{"nodes":[{"kind":"Fn","id":[1,0],"name":"f","attrs":[{"path":"cfg_attr","cfg":"x","attrs":[{"path":"cfg_attr","cfg":"x","attrs":[{"path":"cfg_attr","cfg":"x","attrs":[{"path":"cfg_attr","cfg":"x","attrs":[{"path":"cfg_attr","cfg":"x","attrs":[{"path":"cfg_attr","cfg":"x","attrs":[{"path":"cfg_attr","cfg":"x","attrs":[{"path":"cfg_attr","cfg":"x","attrs":[{"path":"cfg_attr","cfg":"x","attrs":[{"path":"cfg_attr","cfg":"x","attrs":[{"path":"cfg_attr","cfg":"x","attrs":[{"path":"cfg_attr","cfg":"x","attrs":[{"path":"cfg_attr","cfg":"x","attrs":[{"path":"cfg_attr","cfg":"x","attrs":[{"path":"cfg_attr","cfg":"x","attrs":[{"path":"cfg_attr","cfg":"x","attrs":[{"path":"inline"}]}]}]}]}]}]}]}]}]}]}]}]}]}]}]}]}]}]}}
+{"do":"set file","file":"lib.rs","unit":{"nodes":[{"kind":"Fn","id":[1,0],"name":"f","attrs":[{"path":"cfg_attr","cfg":"x","attrs":[{"path":"cfg_attr","cfg":"x","attrs":[{"path":"cfg_attr","cfg":"x","attrs":[{"path":"cfg_attr","cfg":"x","attrs":[{"path":"cfg_attr","cfg":"x","attrs":[{"path":"cfg_attr","cfg":"x","attrs":[{"path":"cfg_attr","cfg":"x","attrs":[{"path":"cfg_attr","cfg":"x","attrs":[{"path":"cfg_attr","cfg":"x","attrs":[{"path":"cfg_attr","cfg":"x","attrs":[{"path":"cfg_attr","cfg":"x","attrs":[{"path":"cfg_attr","cfg":"x","attrs":[{"path":"cfg_attr","cfg":"x","attrs":[{"path":"cfg_attr","cfg":"x","attrs":[{"path":"cfg_attr","cfg":"x","attrs":[{"path":"cfg_attr","cfg":"x","attrs":[{"path":"cfg_attr","cfg":"x","attrs":[{"path":"inline"}]}]}]}]}]}]}]}]}]}]}]}]}]}]}]}]}]}]}]}}
+{"do":"tree","crate":0,"file":"lib.rs"}
+"#,
+            r#"{"ok":null}
+{"ok":null}
+{"error":"too large","what":"use tree"}
+{"ok":null}
+{"error":"too large","what":"cfg"}
+{"ok":null}
+{"error":"too large","what":"cfg"}
+{"ok":"// AstId: Fn[0001, 0]\npub(self) fn f;\n"}
+"#,
+        ),
+        (
             "the_first_limit_and_then_repeated_ids",
             r#"{"do":"crates","crates":[{"edition":"2021","root":"lib.rs"}]}
 {"do":"set file","file":"lib.rs","unit":{"nodes":[{"kind":"Module","id":[1,0],"name":"m","nodes":[{"kind":"Module","id":[2,0],"name":"m","nodes":[{"kind":"Module","id":[3,0],"name":"m","nodes":[{"kind":"Module","id":[4,0],"name":"m","nodes":[{"kind":"Module","id":[5,0],"name":"m","nodes":[{"kind":"Module","id":[6,0],"name":"m","nodes":[{"kind":"Module","id":[7,0],"name":"m","nodes":[{"kind":"Module","id":[8,0],"name":"m","nodes":[{"kind":"Module","id":[9,0],"name":"m","nodes":[{"kind":"Module","id":[10,0],"name":"m","nodes":[{"kind":"Module","id":[11,0],"name":"m","nodes":[{"kind":"Module","id":[12,0],"name":"m","nodes":[{"kind":"Module","id":[13,0],"name":"m","nodes":[{"kind":"Module","id":[14,0],"name":"m","nodes":[{"kind":"Module","id":[15,0],"name":"m","nodes":[{"kind":"Module","id":[16,0],"name":"m","nodes":[{"kind":"Module","id":[17,0],"name":"m","nodes":[{"kind":"Module","id":[18,0],"name":"m","nodes":[{"kind":"Module","id":[19,0],"name":"m","nodes":[{"kind":"Module","id":[20,0],"name":"m","nodes":[{"kind":"Module","id":[21,0],"name":"m","nodes":[{"kind":"Module","id":[22,0],"name":"m","nodes":[{"kind":"Module","id":[23,0],"name":"m","nodes":[{"kind":"Module","id":[24,0],"name":"m","nodes":[{"kind":"Module","id":[25,0],"name":"m","nodes":[{"kind":"Module","id":[26,0],"name":"m","nodes":[{"kind":"Module","id":[27,0],"name":"m","nodes":[{"kind":"Module","id":[28,0],"name":"m","nodes":[{"kind":"Module","id":[29,0],"name":"m","nodes":[{"kind":"Module","id":[30,0],"name":"m","nodes":[{"kind":"Module","id":[31,0],"name":"m","nodes":[{"kind":"Module","id":[32,0],"name":"m","nodes":[{"kind":"Module","id":[33,0],"name":"m","nodes":[]}]}]}]}]}]}]}]}]}]}]}]}]}]}]}]}]}]}]}]}]}]}]}]}]}]}]}]}]}]}]}]}]},{"kind":"Fn","id":[40,0],"name":"f"},{"kind":"Fn","id":[40,0],"name":"g"}]}}

@@ -1,30 +1,26 @@
 //! Crates.
-ghost use Rattle.std.specs.Prelude.{◌≡◌, [], false, true, codes};
+ghost use Rattle.std.specs.Prelude.{◌≡◌, [], map, false, true, codes};
 ghost use Rattle.serde_json.specs.Data.{Data};
 ghost use Rattle.serde_json.specs.View.{view, members_view, items_view};
-ghost use Rattle.hir_wire.specs.Reading.{Reads, required, optional, each_of};
-ghost use Rattle.hir_wire.specs.Nodes.{list_of};
-ghost use Rattle.hir_wire.specs.Commands.{bool_of, edition_of_word, edition_of, dependency_name_in, dependency_in, dependency_of, crate_root_in, crate_links_in, crate_options_in, crate_rest_in, crate_input_in, crate_input_of};
+ghost use Rattle.hir_item_tree.specs.Attributes.{attributes_view};
+ghost use Rattle.hir_wire.specs.CommandValue.{crate_input_view};
+ghost use Rattle.hir_wire.specs.Paths.{bool_of};
+ghost use Rattle.hir_wire.specs.Reading.{Reads, required, optional, each_of, list_of};
+ghost use Rattle.hir_wire.specs.Commands.{edition_of_word, edition_of, dependency_name_in, dependency_in, dependency_of, crate_root_in, crate_links_in, crate_base_in, crate_options_in, crate_input_in, crate_input_of};
 
 use crate::command::{CrateInput, Dependencies, Dependency};
-use crate::read::field::{crate_field, field, file_field, name_field};
-use crate::read::node::empty_field;
+use crate::read::attribute::attrs_field;
+use crate::read::condition::options_field;
+use crate::read::field::{crate_field, field, file_field, name_field, read_bool};
 use crate::read::parts::Parts;
 use crate::read_error::{ReadError, both};
+use hir_base::cfg::CfgAtom;
 use hir_base::edition::Edition;
 use hir_base::file_path::FilePath;
 use hir_base::name::Name;
+use hir_item_tree::raw_attr::RawAttr;
 use serde_json::{Map, Value};
 use std::alloc::Global;
-
-fn read_bool(value: &Value) -> Result<bool, ReadError>
-    ensures value { Reads (λ b. b) (bool_of (view value.now)) result }
-{
-    match value.as_bool() {
-        Some(truth) => Ok(truth),
-        None => Err(ReadError::Command),
-    }
-}
 
 #[tactic(auto, unfolding(crate::specs::Reading::optional))]
 fn bool_field(members: &Map<String, Value>, name: &str, absent: bool) -> Result<bool, ReadError>
@@ -184,43 +180,50 @@ fn read_crate_links(
     }
 }
 
-#[tactic(auto, unfolding(crate::specs::Commands::crate_options_in))]
-fn read_crate_options(members: &Map<String, Value>) -> Result<(), ReadError>
-    ensures value { Reads (λ u. u) (crate_options_in (members_view members.now.entries)) result }
+#[tactic(auto, unfolding(crate::specs::Commands::crate_base_in))]
+fn read_crate_base(
+    alloc: Global,
+    members: &Map<String, Value>,
+) -> Result<((Edition, FilePath), (Dependencies, bool)), ReadError>
+    ensures value { Reads (λ p. ((p.0.0, p.0.1), (p.1.0, p.1.1)))
+        (crate_base_in (members_view members.now.entries)) result }
 {
-    match both(empty_field(members, "attrs"), empty_field(members, "cfg")) {
-        Ok(_) => Ok(()),
+    match both(
+        read_crate_root(alloc, members),
+        read_crate_links(alloc, members),
+    ) {
+        Ok(base) => Ok(base),
         Err(error) => Err(error),
     }
 }
 
-#[tactic(auto, unfolding(crate::specs::Commands::crate_rest_in))]
-fn read_crate_rest(
+#[tactic(auto, unfolding(crate::specs::Commands::crate_options_in))]
+fn read_crate_options(
     alloc: Global,
     members: &Map<String, Value>,
-) -> Result<(Dependencies, bool), ReadError>
-    ensures value { Reads (λ p. (p.0, p.1))
-        (crate_rest_in (members_view members.now.entries)) result }
+) -> Result<(Vec<RawAttr>, Vec<CfgAtom>), ReadError>
+    ensures value { Reads (λ p. (attributes_view p.0.items, p.1.items))
+        (crate_options_in (members_view members.now.entries)) result }
 {
-    match both(
-        read_crate_links(alloc, members),
-        read_crate_options(members),
-    ) {
-        Ok((links, _)) => Ok(links),
+    match both(attrs_field(alloc, members), options_field(alloc, members)) {
+        Ok(options) => Ok(options),
         Err(error) => Err(error),
     }
 }
 
 fn read_crate_members(alloc: Global, members: &Map<String, Value>) -> Result<CrateInput, ReadError>
-    ensures value { Reads (λ k. k) (crate_input_in (members_view members.now.entries)) result }
+    ensures value { Reads crate_input_view
+        (crate_input_in (members_view members.now.entries)) result }
 {
     match both(
-        read_crate_root(alloc, members),
-        read_crate_rest(alloc, members),
+        read_crate_base(alloc, members),
+        read_crate_options(alloc, members),
     ) {
-        Ok(((edition, root), (deps, proc_macro))) => Ok(CrateInput {
+        Ok((((edition, root), (deps, proc_macro)), (attrs, cfg))) => Ok(CrateInput {
             edition,
             root,
+            attrs,
+            cfg,
             deps,
             proc_macro,
         }),
@@ -229,7 +232,7 @@ fn read_crate_members(alloc: Global, members: &Map<String, Value>) -> Result<Cra
 }
 
 fn read_crate_input(alloc: Global, value: &Value) -> Result<CrateInput, ReadError>
-    ensures value { Reads (λ k. k) (crate_input_of (view value.now)) result }
+    ensures value { Reads crate_input_view (crate_input_of (view value.now)) result }
 {
     match value {
         Value::Object(members) => read_crate_members(alloc, members),
@@ -238,7 +241,8 @@ fn read_crate_input(alloc: Global, value: &Value) -> Result<CrateInput, ReadErro
 }
 
 fn read_crate_items(alloc: Global, items: &[Value]) -> Result<Vec<CrateInput>, ReadError>
-    ensures value { Reads (λ v. v.items) (each_of crate_input_of (items_view items.now)) result }
+    ensures value { Reads (λ v. map crate_input_view v.items)
+        (each_of crate_input_of (items_view items.now)) result }
 {
     let mut parts = Parts::new(alloc);
     for item in items {
@@ -248,7 +252,8 @@ fn read_crate_items(alloc: Global, items: &[Value]) -> Result<Vec<CrateInput>, R
 }
 
 fn read_crates(alloc: Global, value: &Value) -> Result<Vec<CrateInput>, ReadError>
-    ensures value { Reads (λ v. v.items) (list_of crate_input_of (view value.now)) result }
+    ensures value { Reads (λ v. map crate_input_view v.items)
+        (list_of crate_input_of (view value.now)) result }
 {
     match value {
         Value::Array(items) => read_crate_items(alloc, items.as_slice()),
@@ -261,7 +266,8 @@ pub fn crates_field(
     alloc: Global,
     members: &Map<String, Value>,
 ) -> Result<Vec<CrateInput>, ReadError>
-    ensures value { Reads (λ v. v.items) (required (list_of crate_input_of) (codes "crates")
+    ensures value { Reads (λ v. map crate_input_view v.items)
+        (required (list_of crate_input_of) (codes "crates")
         (members_view members.now.entries)) result }
 {
     match field(members, "crates") {

@@ -1,11 +1,11 @@
 //! Members of objects, and the texts and numbers in them.
-ghost use Rattle.std.specs.Prelude.{◌≡◌, option_map, IfSome};
+ghost use Rattle.std.specs.Prelude.{◌≡◌, [], option_map, IfSome, string_bytes};
 ghost use Rattle.std.specs.BTreeMap.{values};
 ghost use Rattle.std.specs.List.{IsAmong};
 ghost use Rattle.serde_json.specs.Find.{get_member};
 ghost use Rattle.serde_json.specs.View.{view, members_view, items_view};
-ghost use Rattle.hir_wire.specs.Reading.{Reads, required};
-ghost use Rattle.hir_wire.specs.Paths.{name_meant, path_meant, file_meant, name_of, path_of, file_of, natural_of, id_of, id_of_items, id_meant, crate_of};
+ghost use Rattle.hir_wire.specs.Reading.{Reads, required, optional, has_member};
+ghost use Rattle.hir_wire.specs.Paths.{name_meant, path_meant, file_meant, name_of, path_of, file_of, text_of, bool_of, natural_of, id_of, id_of_items, id_meant, crate_of};
 
 use crate::read_error::ReadError;
 use hir_base::ast_id::SyntaxId;
@@ -24,6 +24,14 @@ pub fn field<'v>(members: &'v Map<String, Value>, name: &str) -> Option<&'v Valu
     ensures member { IfSome result (λ v. IsAmong (values members.now) v.now) }
 {
     members.get(name)
+}
+
+/// Whether there is a member of this name.
+#[tactic(auto, unfolding(crate::specs::Reading::has_member))]
+pub fn has_member(members: &Map<String, Value>, name: &str) -> bool
+    ensures value { result ≡ has_member name.now (members_view members.now.entries) }
+{
+    field(members, name).is_some()
 }
 
 #[tactic(auto, unfolding(crate::specs::Paths::name_meant))]
@@ -85,6 +93,24 @@ pub fn read_file(alloc: Global, value: &Value) -> Result<FilePath, ReadError>
 {
     match value.as_str() {
         Some(text) => file_of_text(alloc, text),
+        None => Err(ReadError::Command),
+    }
+}
+
+pub fn read_text(alloc: Global, value: &Value) -> Result<String, ReadError>
+    ensures value { Reads (λ s. string_bytes s) (text_of (view value.now)) result }
+{
+    match value.as_str() {
+        Some(text) => Ok(String::from_str(alloc, text)?),
+        None => Err(ReadError::Command),
+    }
+}
+
+pub fn read_bool(value: &Value) -> Result<bool, ReadError>
+    ensures value { Reads (λ b. b) (bool_of (view value.now)) result }
+{
+    match value.as_bool() {
+        Some(truth) => Ok(truth),
         None => Err(ReadError::Command),
     }
 }
@@ -165,6 +191,37 @@ pub fn path_field(
     match field(members, name) {
         Some(value) => read_path(alloc, value),
         None => Err(ReadError::Command),
+    }
+}
+
+#[tactic(auto, unfolding(crate::specs::Reading::required))]
+pub fn text_field(
+    alloc: Global,
+    members: &Map<String, Value>,
+    name: &str,
+) -> Result<String, ReadError>
+    ensures value { Reads (λ s. string_bytes s)
+        (required text_of name.now (members_view members.now.entries)) result }
+{
+    match field(members, name) {
+        Some(value) => read_text(alloc, value),
+        None => Err(ReadError::Command),
+    }
+}
+
+/// The text of this name, empty where it is absent.
+#[tactic(auto, unfolding(crate::specs::Reading::optional))]
+pub fn text_or_empty(
+    alloc: Global,
+    members: &Map<String, Value>,
+    name: &str,
+) -> Result<String, ReadError>
+    ensures value { Reads (λ s. string_bytes s)
+        (optional [] text_of name.now (members_view members.now.entries)) result }
+{
+    match field(members, name) {
+        Some(text) => read_text(alloc, text),
+        None => Ok(String::new(alloc)),
     }
 }
 

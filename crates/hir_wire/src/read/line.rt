@@ -3,12 +3,12 @@ ghost use Rattle.std.specs.Prelude.{◌≡◌, ◌≢◌, MatchResult, codes};
 ghost use Rattle.serde_json.specs.View.{view, members_view};
 ghost use Rattle.hir_wire.specs.CommandValue.{command_view};
 ghost use Rattle.hir_wire.specs.Reading.{Reads, required, optional};
-ghost use Rattle.hir_wire.specs.Commands.{shadow_of_word, shadow_of, style_of_word, style_of, verb_of_word, verb_of, set_file_in, asked_in, modes_in, resolve_in, fields_of, command_with, command_of, data_of, reading_of};
+ghost use Rattle.hir_wire.specs.Commands.{shadow_of_word, shadow_of, style_of_word, style_of, verb_of_word, verb_of, set_file_in, asked_in, modes_in, resolve_in, tree_in, fields_of, command_with, command_of, data_of, reading_of};
 
 use crate::command::{Command, MacroStyle, Shadow};
 use crate::edit::Edit;
 use crate::read::crates::crates_field;
-use crate::read::field::{field, file_field, path_field};
+use crate::read::field::{crate_field, field, file_field, path_field};
 use crate::read::node::source_field;
 use crate::read::place::place_field;
 use crate::read::value::holds_float;
@@ -23,9 +23,11 @@ use std::alloc::Global;
 pub enum Verb {
     Crates,
     SetFile,
+    RemoveFile,
     Refresh,
     Resolve,
     Status,
+    Tree,
 }
 
 fn verb_of_word(word: &str) -> Option<Verb>
@@ -34,9 +36,11 @@ fn verb_of_word(word: &str) -> Option<Verb>
     match word {
         "crates" => Some(Verb::Crates),
         "set file" => Some(Verb::SetFile),
+        "remove file" => Some(Verb::RemoveFile),
         "refresh" => Some(Verb::Refresh),
         "resolve" => Some(Verb::Resolve),
         "status" => Some(Verb::Status),
+        "tree" => Some(Verb::Tree),
         _ => None,
     }
 }
@@ -143,6 +147,16 @@ fn read_set_file(alloc: Global, members: &Map<String, Value>) -> Result<Command,
     }
 }
 
+fn read_remove_file(alloc: Global, members: &Map<String, Value>) -> Result<Command, ReadError>
+    ensures value { Reads command_view
+        (fields_of Verb.RemoveFile (members_view members.now.entries)) result }
+{
+    match file_field(alloc, members, "file") {
+        Ok(file) => Ok(Command::Edit(Edit::RemoveFile { file })),
+        Err(error) => Err(error),
+    }
+}
+
 #[tactic(auto, unfolding(crate::specs::Commands::asked_in))]
 fn read_asked(alloc: Global, members: &Map<String, Value>) -> Result<(Place, ModPath), ReadError>
     ensures value { Reads (λ p. (p.0, p.1)) (asked_in (members_view members.now.entries)) result }
@@ -201,6 +215,19 @@ fn read_status(alloc: Global, members: &Map<String, Value>) -> Result<Command, R
     }
 }
 
+#[tactic(auto, unfolding(crate::specs::Commands::tree_in))]
+fn read_tree(alloc: Global, members: &Map<String, Value>) -> Result<Command, ReadError>
+    ensures value { Reads command_view (tree_in (members_view members.now.entries)) result }
+{
+    match both(
+        crate_field(members, "crate"),
+        file_field(alloc, members, "file"),
+    ) {
+        Ok((krate, file)) => Ok(Command::Tree { krate, file }),
+        Err(error) => Err(error),
+    }
+}
+
 fn read_verb_fields(
     alloc: Global,
     verb: Verb,
@@ -212,9 +239,11 @@ fn read_verb_fields(
     match verb {
         Verb::Crates => read_begin(alloc, members),
         Verb::SetFile => read_set_file(alloc, members),
+        Verb::RemoveFile => read_remove_file(alloc, members),
         Verb::Refresh => Ok(Command::Refresh),
         Verb::Resolve => read_resolve(alloc, members),
         Verb::Status => read_status(alloc, members),
+        Verb::Tree => read_tree(alloc, members),
     }
 }
 

@@ -21,5 +21,8 @@ returns-in-Refresh-clause-or_memory c = rw c.in-Refresh.is c.refreshed.ensures.o
 pub returns-in-Resolve-clause-step : goal.returns-in-Resolve-clause-step
 returns-in-Resolve-clause-step c = rw c.in-Resolve.is c.answered.ensures.step
 
+pub returns-in-Tree-clause-step : goal.returns-in-Tree-clause-step
+returns-in-Tree-clause-step c = rw c.in-Tree.is c.shown.ensures.step
+
 pub returns-clause-step : goal.returns-clause-step
 returns-clause-step c = rw c.in-Status.is (calls _ _ refl (tells _ refl refl (ap (λ (s : Status). reply.Status s) c.status.ensures.value)) refl)

@@ -1,59 +1,75 @@
-use Rattle.std.proofs.Common.{rules, inl, arith}
-use Rattle.hir_def_collector.proofs.KeptKinds.{function_item, struct_item, use_item, module_item}
-use Rattle.hir_def_collector.specs.Steps.{none}
-use Rattle.hir_def_collector.proofs.Moves.{Steps-one, Steps-first, spent_after}
-use Rattle.hir_def_collector.proofs.Walked.{opens, walked_next, walked_all, walked_spent}
+use Rattle.std.proofs.Common.{rules, ◌+◌, ◌*◌, ◌<◌, ◌≤◌, [], ◌∷◌, length, inl, arith, slice_index_or}
+use Rattle.hir_item_tree.specs.KeptForest.{all_items}
+use Rattle.hir_item_tree.specs.Kinds.{kind_content}
+use Rattle.hir_item_tree.specs.Rows.{numbers_of, held_numbers}
+use Rattle.hir_def_collector.specs.TreeReads.{head_of, visits_at, above}
+use Rattle.hir_def_collector.proofs.Walked.{at_place, above_least, above_each, at_each, All-same_numbers, All-below, WalksTo-none, WalksTo-next, Walks-all, WalksTooFar-next, WalksTooFar-here, WalksTooFar-inside, Walks-first, Walks-dropped, visits_one, longer_after}
 use Rattle.hir_def_collector.proofs.collector.walk.+walk.Goals as goal
 
-pub walk_item-returns-in_ok-declare_function-in-Function-clause-ok : goal.walk_item-returns-in_ok-declare_function-in-Function-clause-ok
-walk_item-returns-in_ok-declare_function-in-Function-clause-ok t c = λ w rest. rw (function_item _ _ c.in-Function.is) (Steps-one (c.in_ok-declare_function-in-Function.ensures.ok w rest))
+pub walk_all-loop-id-init : goal.walk_all-loop-id-init
+walk_all-loop-id-init t c = record { walked = WalksTo-none c.args.tree.now c.args.site c.args.ids.now c.args.run.now; in_range = c.requires.in_range }
 
-pub walk_item-returns-in_err-declare_function-in-Function-clause-many : goal.walk_item-returns-in_err-declare_function-in-Function-clause-many
-walk_item-returns-in_err-declare_function-in-Function-clause-many t c h = λ w rest. record { at = _; steps = none; full = inl (c.in_err-declare_function-in-Function.ensures.many (search rules)) }
+pub walk_all-walk_item-requires : goal.walk_all-walk_item-requires
+walk_all-walk_item-requires t c =
+    let ids = c.args.ids.now in
+    let i = c.loop-id.id-index in
+    let within : i < length ids = c.loop-id-test.true in
+    let e = at_place ids i (record { 0 = 0 }) within in
+    let below = above_each ids i _ within e in
+    let there = at_each (length (all_items c.args.tree.now.items)) ids i _ c.requires.there within e in
+    (let falls : 2 * (slice_index_or ids i (record { 0 = 0 })).0 + 1 < t = omega (arith, below) in falls, (c.loop-id.invariant.in_range, there))
 
-pub walk_item-returns-in_ok-declare_struct-in-Struct-clause-ok : goal.walk_item-returns-in_ok-declare_struct-in-Struct-clause-ok
-walk_item-returns-in_ok-declare_struct-in-Struct-clause-ok t c = λ w rest. rw (struct_item _ _ c.in-Struct.is) (Steps-one (c.in_ok-declare_struct-in-Struct.ensures.ok w rest))
-
-pub walk_item-returns-in_err-declare_struct-in-Struct-clause-many : goal.walk_item-returns-in_err-declare_struct-in-Struct-clause-many
-walk_item-returns-in_err-declare_struct-in-Struct-clause-many t c h = λ w rest. record { at = _; steps = none; full = inl (c.in_err-declare_struct-in-Struct.ensures.many (search rules)) }
-
-pub walk_item-returns-in_ok-reach_use-in-Use-clause-ok : goal.walk_item-returns-in_ok-reach_use-in-Use-clause-ok
-walk_item-returns-in_ok-reach_use-in-Use-clause-ok t c = λ w rest. rw (use_item _ _ c.in-Use.is) (Steps-one (c.in_ok-reach_use-in-Use.ensures.ok w rest))
-
-pub walk_item-returns-in_err-reach_use-in-Use-clause-many : goal.walk_item-returns-in_err-reach_use-in-Use-clause-many
-walk_item-returns-in_err-reach_use-in-Use-clause-many t c h = λ w rest. record { at = _; steps = none; full = inl (c.in_err-reach_use-in-Use.ensures.many (search rules)) }
-
-pub walk_item-returns-in_err-made-in-Mod-clause-many : goal.walk_item-returns-in_err-made-in-Mod-clause-many
-walk_item-returns-in_err-made-in-Mod-clause-many t c h = λ w rest. record { at = _; steps = none; full = c.in_err-made-in-Mod.ensures.many (search rules) }
-
-pub walk_item-returns-in_ok-walk_all-in-Mod-clause-ok : goal.walk_item-returns-in_ok-walk_all-in-Mod-clause-ok
-walk_item-returns-in_ok-walk_all-in-Mod-clause-ok t c = λ w rest.
-    Steps-first (opens c.args.run.now c.open.new.run c.args.home c.in_ok-made-in-Mod.made c.args.file c.in-Mod.id c.in-Mod.visibility c.in-Mod.name c.in-Mod.items.items c.deref.result.now _ rest
-    (module_item _ _ _ _ _ c.in-Mod.is) c.deref.ensures.value c.in_ok-made-in-Mod.ensures.made c.in_ok-made-in-Mod.ensures.ok)
-    (c.in_ok-walk_all-in-Mod.ensures.ok w rest)
-
-pub walk_item-returns-in_err-walk_all-in-Mod-clause-many : goal.walk_item-returns-in_err-walk_all-in-Mod-clause-many
-walk_item-returns-in_err-walk_all-in-Mod-clause-many t c h = λ w rest.
-    spent_after (Steps-one (opens c.args.run.now c.open.new.run c.args.home c.in_ok-made-in-Mod.made c.args.file c.in-Mod.id c.in-Mod.visibility c.in-Mod.name c.in-Mod.items.items c.deref.result.now _ rest
-    (module_item _ _ _ _ _ c.in-Mod.is) c.deref.ensures.value c.in_ok-made-in-Mod.ensures.made c.in_ok-made-in-Mod.ensures.ok))
-    (c.in_err-walk_all-in-Mod.ensures.many (search rules) w rest)
-
-pub walk_all-loop-item-init : goal.walk_all-loop-item-init
-walk_all-loop-item-init t c = record { steps = λ w rest. none; in_range = c.requires.in_range; grows = omega arith }
-
-pub walk_all-loop-item-preserved : goal.walk_all-loop-item-preserved
-walk_all-loop-item-preserved t c = record {
-  steps = λ w rest.
-      walked_next c.args.home c.args.file c.args.items.now rest c.loop-item.run c.walk_item.new.run c.loop-item.item-index c.item-item.result c.loop-item-test.true c.item-item.is
-      (c.loop-item.invariant.steps w rest) (c.in_ok-walk_item.ensures.ok w);
-  in_range = omega (arith, c.in_ok-walk_item.ensures.grows, c.loop-item.invariant.in_range);
-  grows = omega (arith, c.in_ok-walk_item.ensures.grows, c.loop-item.invariant.grows);
-}
-
-pub walk_all-returns-clause-ok : goal.walk_all-returns-clause-ok
-walk_all-returns-clause-ok t c = λ w rest. walked_all c.args.home c.args.file c.args.items.now rest c.loop-item.run c.loop-item.item-index c.loop-item-test.false (c.loop-item.invariant.steps w rest)
+pub walk_all-loop-id-preserved : goal.walk_all-loop-id-preserved
+walk_all-loop-id-preserved t c =
+    let ids = c.args.ids.now in
+    let i = c.loop-id.id-index in
+    let within : i < length ids = c.loop-id-test.true in
+    let longer = longer_after c.loop-id.run c.walk_item.new.run _ c.in_ok-walk_item.ensures.ok in
+    record {
+      walked = WalksTo-next c.args.tree.now c.args.site ids c.args.run.now c.loop-id.run c.walk_item.new.run i _ within (at_place ids i (record { 0 = 0 }) within) c.loop-id.invariant.walked c.in_ok-walk_item.ensures.ok;
+      in_range = omega (arith, longer, c.loop-id.invariant.in_range);
+    }
 
 pub walk_all-returns-in_err-walk_item-clause-many : goal.walk_all-returns-in_err-walk_item-clause-many
-walk_all-returns-in_err-walk_item-clause-many t c h = λ w rest.
-    walked_spent c.args.home c.args.file c.args.items.now rest c.loop-item.run c.loop-item.item-index c.item-item.result c.loop-item-test.true c.item-item.is
-    (c.loop-item.invariant.steps w rest) (c.in_err-walk_item.ensures.many (search rules) w)
+walk_all-returns-in_err-walk_item-clause-many t c h =
+    let ids = c.args.ids.now in
+    let i = c.loop-id.id-index in
+    let within : i < length ids = c.loop-id-test.true in
+    WalksTooFar-next c.args.tree.now c.args.site ids c.args.run.now c.loop-id.run i _ within (at_place ids i (record { 0 = 0 }) within) c.loop-id.invariant.walked (c.in_err-walk_item.ensures.many (search rules))
+
+pub walk_all-returns-clause-ok : goal.walk_all-returns-clause-ok
+walk_all-returns-clause-ok t c = Walks-all c.args.tree.now c.args.site c.args.ids.now c.args.run.now c.loop-id.run c.loop-id.id-index c.loop-id-test.false c.loop-id.invariant.walked
+
+pub walk_item-returns-in_err-tick-clause-many : goal.walk_item-returns-in_err-tick-clause-many
+walk_item-returns-in_err-tick-clause-many t c h = WalksTooFar-here c.args.run.now _ (inl (c.in_err-tick.ensures.many (search rules)))
+
+pub walk_item-returns-then-not-is_enabled-clause-ok : goal.walk_item-returns-then-not-is_enabled-clause-ok
+walk_item-returns-then-not-is_enabled-clause-ok t c =
+    Walks-dropped c.args.tree.now c.args.site c.args.id.0 (head_of c.head_at-head.result) c.args.run.now c.tick.new.self c.requires.there c.head_at-head.ensures.value (first_of (search rules, grind arith, cc)) c.in_ok-tick.ensures.ok
+
+pub walk_item-returns-in_err-inside-clause-many : goal.walk_item-returns-in_err-inside-clause-many
+walk_item-returns-in_err-inside-clause-many t c h = WalksTooFar-here c.args.run.now _ (c.in_err-inside.ensures.many (search rules))
+
+pub walk_item-walk_all-requires : goal.walk_item-walk_all-requires
+walk_item-walk_all-requires t c =
+    let ns = numbers_of c.in_ok-inside.inside.ids.now in
+    let n = c.args.id.0 in
+    let size = length (all_items c.args.tree.now.items) in
+    let below = All-same_numbers (λ m. m < n) ns (held_numbers (kind_content c.index.result)) c.in_ok-inside.ensures.numbers c.index.ensures.below in
+    let least : above ns ≤ n = above_least n ns below in
+    let there : n < size = c.requires.there in
+    (let falls : 2 * above ns < t = omega (arith, least) in falls, (c.in_ok-inside.ensures.in_range, All-below n size ns (omega (arith, there)) below))
+
+pub walk_item-returns-in_err-walk_all-clause-many : goal.walk_item-returns-in_err-walk_all-clause-many
+walk_item-returns-in_err-walk_all-clause-many t c h =
+    let tree = c.args.tree.now in
+    WalksTooFar-inside c.args.run.now c.visit_item.new.run _ (visits_at tree c.args.site (c.args.id.0 ∷ [])) _
+    (visits_one tree c.args.site c.args.id.0 (head_of c.head_at-head.result) (kind_content c.index.result) c.requires.there c.head_at-head.ensures.value c.index.ensures.value)
+    (c.in_ok-inside.ensures.ok (all_items tree.items)) (c.in_err-walk_all.ensures.many (search rules))
+
+pub walk_item-returns-clause-ok : goal.walk_item-returns-clause-ok
+walk_item-returns-clause-ok t c =
+    let tree = c.args.tree.now in
+    Walks-first c.args.run.now c.visit_item.new.run c.walk_all.new.run _ (visits_at tree c.args.site (c.args.id.0 ∷ [])) _
+    (visits_one tree c.args.site c.args.id.0 (head_of c.head_at-head.result) (kind_content c.index.result) c.requires.there c.head_at-head.ensures.value c.index.ensures.value)
+    (c.in_ok-inside.ensures.ok (all_items tree.items)) c.in_ok-walk_all.ensures.ok

@@ -1,13 +1,18 @@
-use Rattle.std.proofs.Common.{◌<◌, ◌≤◌, length, List}
-use Rattle.hir_def_collector.specs.Workspace.{Workspace}
-use Rattle.hir_def_collector.specs.State.{Visit, joined}
-use Rattle.hir_def_collector.specs.Steps.{Steps}
-use Rattle.hir_def_collector.proofs.Walked.{left}
+use Rattle.std.proofs.Common.{◌<◌, ◌+◌, ◌*◌, length}
+use Rattle.hir_item_tree.specs.Rows.{numbers_of}
+use Rattle.hir_def_collector.specs.TreeReads.{above}
+use Rattle.hir_def_collector.proofs.Walked.{WalksTo}
 use Rattle.hir_def_collector.proofs.collector.walk.+walk.Given as goal
 
-abbrev pub invariant-walk_all-loop-item : goal.invariant-walk_all-loop-item
-invariant-walk_all-loop-item l = record {
-  steps : (w : Workspace) (rest : List Visit) → Steps w (joined l.initial.run (left l.home l.file l.items rest 0)) (joined l.run (left l.home l.file l.items rest l.item-index));
-  in_range : l.home < length l.run.map.modules;
-  grows : length l.initial.run.map.modules ≤ length l.run.map.modules;
+abbrev pub invariant-walk_all-loop-id : goal.invariant-walk_all-loop-id
+invariant-walk_all-loop-id l = record {
+  walked : WalksTo l.tree l.site l.ids l.initial.run l.run l.id-index;
+  in_range : l.site.home < length l.run.map.modules;
 }
+
+-- what an item holds has lower numbers
+abbrev pub decreases-walk_item : goal.decreases-walk_item
+decreases-walk_item l = 2 * l.id.0 + 1
+
+abbrev pub decreases-walk_all : goal.decreases-walk_all
+decreases-walk_all l = 2 * above (numbers_of l.ids.now)

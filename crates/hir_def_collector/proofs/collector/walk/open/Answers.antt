@@ -1,19 +1,26 @@
-use Rattle.std.proofs.Common.{rules, ◌≡◌, ap, subst, sym, ◌<◌, ℕ, length, arith}
+use Rattle.std.proofs.Common.{rules, ◌≡◌, ◌<◌, ℕ, length, refl, ap, subst, sym}
 use Rattle.hir_base.specs.declared.ids.ModuleId.{ModuleId}
 use Rattle.hir_def_collector.specs.State.{counted, with_map}
-use Rattle.hir_def_collector.specs.Steps.{with_bound_module}
-use Rattle.hir_def_collector.proofs.Bound.{grows_open}
+use Rattle.hir_def_collector.specs.TreeReads.{head_of}
+use Rattle.hir_def_collector.specs.Steps.{opens_module, with_bound_module}
+use Rattle.hir_def_collector.proofs.Grows.{longer_by_module}
 use Rattle.hir_def_collector.proofs.collector.walk.open.Goals as goal
 
-pub returns-clause-inside : goal.returns-clause-inside
-returns-clause-inside c =
-    let is : c.declare.new.run ≡ counted (with_map c.args.run.now (with_bound_module c.args.run.now.map c.args.home c.args.file (record { id = c.args.id; visibility = c.args.visibility.now }) c.args.name.now)) = search rules in
-    let longer : length c.args.run.now.map.modules < length c.declare.new.run.map.modules = grows_open c.args.run.now c.declare.new.run c.args.home c.args.file (record { id = c.args.id; visibility = c.args.visibility.now }) c.args.name.now is in
-    let number : c.in_ok-made.made.index ≡ length c.args.run.now.map.modules = ap (λ (x : ModuleId). x.index) c.in_ok-made.ensures.made in
-    subst (λ (n : ℕ). n < length c.declare.new.run.map.modules) (sym number) longer
+-- the run has the module, listed and bound
+pub returns-clause-ok : goal.returns-clause-ok
+returns-clause-ok c = λ items.
+    let opened : c.declare.new.run ≡ counted (with_map c.args.run.now (with_bound_module c.args.run.now.map c.args.site (head_of c.args.head) c.args.name.now)) =
+    search rules in
+    record {
+      step = λ w rest.
+          opens_module c.args.site (head_of c.args.head) c.args.name.now items rest (record { next = refl; enabled = c.requires.enabled })
+          (rw (opened, c.in_ok-made.ensures.made) refl);
+    }
 
-pub returns-clause-grows : goal.returns-clause-grows
-returns-clause-grows c =
-    let is : c.declare.new.run ≡ counted (with_map c.args.run.now (with_bound_module c.args.run.now.map c.args.home c.args.file (record { id = c.args.id; visibility = c.args.visibility.now }) c.args.name.now)) = search rules in
-    let longer : length c.args.run.now.map.modules < length c.declare.new.run.map.modules = grows_open c.args.run.now c.declare.new.run c.args.home c.args.file (record { id = c.args.id; visibility = c.args.visibility.now }) c.args.name.now is in
-    omega arith
+pub returns-clause-in_range : goal.returns-clause-in_range
+returns-clause-in_range c =
+    let opened : c.declare.new.run ≡ counted (with_map c.args.run.now (with_bound_module c.args.run.now.map c.args.site (head_of c.args.head) c.args.name.now)) =
+    search rules in
+    let number : c.in_ok-made.made.index ≡ length c.args.run.now.map.modules = ap (λ (x : ModuleId). x.index) c.in_ok-made.ensures.made in
+    subst (λ (n : ℕ). n < length c.declare.new.run.map.modules) (sym number)
+    (longer_by_module c.args.run.now c.declare.new.run c.args.site (head_of c.args.head) c.args.name.now opened)

@@ -1,5 +1,9 @@
+use Rattle.hir_scope.specs.contracts.imports.ImportOrExternCrateOrd.TheImpl.Laws.{total-law as import_or_extern_crate_total}
+use Rattle.hir_scope.specs.contracts.imports.ImportOrGlobOrd.TheImpl.Laws.{total-law as import_or_glob_total}
+use Rattle.hir_scope.specs.Recorded.{RecordsType, RecordsValue, RecordsMacro}
 use Rattle.hir_scope.specs.ScopePushes.{pushed_scope, pushed_globs, PushesType, PushesValue, PushesMacro}
 use Rattle.hir_scope.proofs.PushesSlots.{type_pushed, value_pushed, macro_pushed, on_ok_of}
+use Rattle.hir_scope.proofs.RecordLemmas.{type_recorded, value_recorded, macro_recorded, on_ok}
 use Rattle.hir_scope.proofs.item_scope.ItemScope.push_res_with_import.Goals as goal
 
 -- scope and glob table are what the push makes of them, and that writes the name's slots
@@ -23,3 +27,21 @@ returns-clause-macros c =
     (pushed_scope c.args.glob_imports.now c.args.lookup c.args.def c.args.import c.args.self.now) c.push.new.self
     (pushed_globs c.args.self.now c.args.lookup c.args.def c.args.import c.args.glob_imports.now) c.push.new.glob_imports c.push.ensures.ok c.push.ensures.globs
     (macro_pushed c.args.self.now c.args.glob_imports.now c.args.lookup c.args.import c.is_ordered.ensures.total c.args.def c.is_ordered.ensures.macros)
+
+pub returns-clause-type_records : goal.returns-clause-type_records
+returns-clause-type_records c =
+    on_ok (λ scope. RecordsType c.args.lookup c.args.def c.args.import c.args.self.now c.args.glob_imports.now scope) c.push.result
+    (pushed_scope c.args.glob_imports.now c.args.lookup c.args.def c.args.import c.args.self.now) c.push.new.self c.push.ensures.ok
+    (type_recorded c.args.self.now c.args.glob_imports.now c.args.lookup c.args.import import_or_extern_crate_total c.args.def)
+
+pub returns-clause-value_records : goal.returns-clause-value_records
+returns-clause-value_records c =
+    on_ok (λ scope. RecordsValue c.args.lookup c.args.def c.args.import c.args.self.now c.args.glob_imports.now scope) c.push.result
+    (pushed_scope c.args.glob_imports.now c.args.lookup c.args.def c.args.import c.args.self.now) c.push.new.self c.push.ensures.ok
+    (value_recorded c.args.self.now c.args.glob_imports.now c.args.lookup c.args.import import_or_glob_total c.args.def)
+
+pub returns-clause-macro_records : goal.returns-clause-macro_records
+returns-clause-macro_records c =
+    on_ok (λ scope. RecordsMacro c.args.lookup c.args.def c.args.import c.args.self.now c.args.glob_imports.now scope) c.push.result
+    (pushed_scope c.args.glob_imports.now c.args.lookup c.args.def c.args.import c.args.self.now) c.push.new.self c.push.ensures.ok
+    (macro_recorded c.args.self.now c.args.glob_imports.now c.args.lookup c.args.import import_or_extern_crate_total c.args.def)

@@ -1,4 +1,4 @@
-use Rattle.hir_scope.specs.ScopePushes.{is_globs}
+use Rattle.hir_scope.specs.Offers.{is_globs}
 use Rattle.hir_scope.proofs.item_scope.offers.give_back.Goals as goal
 
 pub returns-in-Some-import-clause-globs : goal.returns-in-Some-import-clause-globs

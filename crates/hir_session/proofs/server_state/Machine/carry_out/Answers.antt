@@ -1,6 +1,6 @@
 -- With a session the command is called on it, and without one it begins one or is none.
-use Rattle.std.proofs.Common.{sym, subst, ◌∙◌, Some, ◌≡◌, false}
-use Rattle.hir_wire.specs.CommandValue.{command_view, crates}
+use Rattle.std.proofs.Common.{sym, subst, ◌∙◌, Some, ◌≡◌, false, map}
+use Rattle.hir_wire.specs.CommandValue.{command_view, crate_input_view, crates}
 use Rattle.hir_wire.specs.Replies.{is_fixed}
 use Rattle.hir_wire.specs.declared.reply.Reply.TheVariants as reply
 use Rattle.hir_session.specs.Machine.{MachineState, AnswersCommand}
@@ -18,5 +18,5 @@ returns-in-Some-clause-or_memory c =
 
 pub returns-in-Crates-clause-step : goal.returns-in-Crates-clause-step
 returns-in-Crates-clause-step c = rw c.in-Crates.is
-    (subst (λ (o : MachineState). AnswersCommand o (crates c.in-Crates.inputs.items) c.begin.result c.begin.new.self)
+    (subst (λ (o : MachineState). AnswersCommand o (crates (map crate_input_view c.in-Crates.inputs.items)) c.begin.result c.begin.new.self)
     (c.take.ensures.after ∙ (sym c.in-None.is ∙ c.take.ensures.value) ∙ c.self.view_is) c.begin.ensures.step)

@@ -3,14 +3,14 @@ use Rattle.std.proofs.Common.{subst}
 use Rattle.hir_session.specs.Files.{Files, with_file}
 use Rattle.hir_session.specs.SessionState.{SessionState}
 use Rattle.hir_session.specs.Changes.{Becomes}
-use Rattle.hir_session.proofs.FileLemmas.{set_sound, set_becomes}
+use Rattle.hir_session.proofs.FileLemmas.{edited_sound, edited_becomes}
 use Rattle.hir_session.proofs.session.Session.set_tree.Goals as goal
 
 pub spread-requires-clause-below : goal.spread-requires-clause-below
 spread-requires-clause-below c = c.self.invariant.below
 
 pub invariant_of-self-2 : goal.invariant_of-self-2
-invariant_of-self-2 c = set_sound _ _ _ _ _ _ _ c.in_ok-path.ensures.value c.self.invariant
+invariant_of-self-2 c = edited_sound _ _ _ _ _ _ _ c.in_ok-path.ensures.value c.self.invariant
     c.in_ok-altered.ensures.updates c.in_ok-altered.ensures.same c.in_ok-altered.ensures.other c.spread.ensures.spread
 
 pub returns-clause-ok : goal.returns-clause-ok
@@ -23,7 +23,7 @@ returns-clause-ok c =
       marked = c.self.inside.marked.items;
     } in
     let new : SessionState = record old { files = c.set.new.self; marked = c.spread.new.marked.items } in
-    let same : Becomes old c.set.new.self new = set_becomes old _ _ _ _ _ _ c.in_ok-path.ensures.value c.self.invariant
+    let same : Becomes old c.set.new.self new = edited_becomes old _ _ _ _ _ _ c.in_ok-path.ensures.value c.self.invariant
     c.in_ok-altered.ensures.updates c.in_ok-altered.ensures.same c.in_ok-altered.ensures.other c.spread.ensures.spread in
     subst (λ (s : SessionState). Becomes s (with_file s.files c.args.file c.args.tree) new) c.self.view_is
     (subst (λ (files : Files). Becomes old files new) c.in_ok-altered.ensures.ok same)

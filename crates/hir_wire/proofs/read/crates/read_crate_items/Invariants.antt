@@ -1,6 +1,7 @@
 use Rattle.std.proofs.Common.{drop}
 use Rattle.serde_json.specs.View.{items_view}
 use Rattle.hir_wire.specs.Parts.{read_so_far}
+use Rattle.hir_wire.specs.CommandValue.{crate_input_view}
 use Rattle.hir_wire.specs.Commands.{crate_input_of}
 use Rattle.hir_wire.specs.Reading.{each_of}
 use Rattle.hir_wire.proofs.ReadingLemmas.{Follows}
@@ -9,4 +10,4 @@ use Rattle.hir_wire.proofs.read.crates.read_crate_items.Given as goal
 -- the crates so far, and those of what is left, are those of all
 abbrev pub invariant-loop-item : goal.invariant-loop-item
 invariant-loop-item l =
-    Follows (λ x. x) (each_of crate_input_of (items_view l.items)) (each_of crate_input_of (items_view (drop l.item-index l.items))) (read_so_far l.parts)
+    Follows crate_input_view (each_of crate_input_of (items_view l.items)) (each_of crate_input_of (items_view (drop l.item-index l.items))) (read_so_far l.parts)

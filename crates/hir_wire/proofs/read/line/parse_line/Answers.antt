@@ -1,4 +1,4 @@
-use Rattle.std.proofs.Common.{◌≡◌, ◌≢◌, true, false, refl}
+use Rattle.std.proofs.Common.{◌≡◌, true, false, refl}
 use Rattle.serde_json.specs.Errors.{IsMemory}
 use Rattle.hir_wire.proofs.LineLemmas.{data_of-some, data_of-none}
 use Rattle.hir_wire.proofs.read.line.parse_line.Goals as goal

@@ -1,6 +1,6 @@
 use Rattle.std.proofs.Common.{arith}
 use Rattle.hir_wire.specs.Paths.{element_of}
-use Rattle.hir_wire.proofs.ReadingLemmas.{each_next, each_end_as_is}
+use Rattle.hir_wire.proofs.ReadingLemmas.{each_next}
 use Rattle.hir_wire.proofs.read.place.read_elements.Goals as goal
 
 -- one more element was read

@@ -1,0 +1,213 @@
+-- What holds of each state that steps lead to.
+use Rattle.std.proofs.Common.{◌≡◌, ◌∙◌, ℕ, zero, suc, ◌<◌, ◌≤◌, Bool, true, false, List, [], ◌∷◌, ◌++◌, length, map, slice_get, slice_set, Some, inl, inr, refl, sym, ap, subst, arith}
+use Rattle.std.proofs.lemmas.Bool.{cases_lt}
+use Rattle.hir_base.specs.declared.ids.UseId.{UseId}
+use Rattle.hir_item_tree.specs.Collected.{is_enabled}
+use Rattle.hir_item_tree.specs.declared.expand.Import.{Import}
+use Rattle.hir_item_tree.specs.ItemTree.{Tree}
+use Rattle.hir_item_tree.specs.KeptForest.{KeptForest, no_items, item}
+use Rattle.hir_item_tree.specs.declared.raw_visibility.RawVisibility.{RawVisibility}
+use Rattle.hir_def_map.specs.State.{Map, entry_at, with_use, with_impl, with_unnamed_const, with_extern_block}
+use Rattle.hir_def_map.specs.Listed.{KeepsNames-listed}
+use Rattle.hir_def_map.specs.declared.nameres.declaration.Declaration.TheVariants as declaration
+use Rattle.hir_def_collector.specs.declared.collector.Start.{Start}
+use Rattle.hir_def_collector.specs.declared.collector.imports.ReachedImport.{ReachedImport}
+use Rattle.hir_def_collector.specs.declared.collector.imports.Namespaces.{Namespaces}
+use Rattle.hir_def_collector.specs.declared.collector.site.Site.{Site}
+use Rattle.hir_def_collector.specs.Workspace.{Workspace}
+use Rattle.hir_def_collector.specs.State.{Visit, State, visits, ticked, no_namespaces, not_taken}
+use Rattle.hir_def_collector.specs.ItemIds.{const_id, impl_id, extern_block_id, use_id}
+use Rattle.hir_def_collector.specs.Imports.{AreAmong, namespaces_of, both_of, name_of, reached_by, kept_by, reached_import, imports_by, after_import, bound_as, offered_by}
+use Rattle.hir_def_collector.specs.Start.{start_of, root_site, root_file, tree_visits}
+use Rattle.hir_def_collector.specs.Steps.{Step, Steps, none, more, drops_item, passes_over, declares_item, lists_constant, lists_impl, opens_module, enters_block, reaches_imports, takes_import, after_take, CanTake, with_declaration, with_bound_module, inside_module, inside_block}
+use Rattle.hir_def_collector.proofs.Lists.{get_left, get_right, get_inside, get_set_same, get_set_other, length_set, length_both, length_mapped, get_same}
+use Rattle.hir_def_collector.proofs.Bound.{AreAmong-trans, AreAmong-both, AreAmong-nothing, number_same_or_not, kept-bound_as, length-bound_as, namespaces_of-imported, taken-bound_in}
+use Rattle.hir_def_collector.proofs.Kept.{kept_namespaces, kept_namespaces-both, kept_namespaces-none, namespaces_of-kept}
+use Rattle.hir_def_collector.proofs.Grows.{Grows, Grows-same, Grows-KeepsNames, Grows-with_declaration, Grows-with_bound_module, longer_by_one}
+
+-- each item to be visited is in one of so many modules
+abbrev pub AllIn : ℕ → List Visit → Type 0
+AllIn n [] = Unit {0}
+AllIn n (v ∷ vs) = (v.site.home < n) × AllIn n vs
+
+-- the namespaces that an import keeps of those that its takings reached are bound under its name
+pub record Holds (s : State) : Type 0 where
+  pub paired : length s.taken ≡ length s.reached
+  pub visiting : AllIn (length s.map.modules) s.agenda
+  pub homes : (i : ℕ) (r : ReachedImport) → slice_get s.reached i ≡ Some r → r.home < length s.map.modules
+  pub bound : (i : ℕ) (r : ReachedImport) (t : Namespaces) (name : List ℕ) → slice_get s.reached i ≡ Some r → slice_get s.taken i ≡ Some t → name_of r ≡ Some name
+      → AreAmong (kept_namespaces r.kind t) (namespaces_of (entry_at s.map r.home name))
+
+-- ---- visits
+
+AllIn-more : (n m : ℕ) (vs : List Visit) → n ≤ m → AllIn n vs → AllIn m vs
+AllIn-more n m [] h all = tt
+AllIn-more n m (v ∷ vs) h all = (omega (arith, all.0), AllIn-more n m vs h all.1)
+
+AllIn-append : (n : ℕ) (vs ws : List Visit) → AllIn n vs → AllIn n ws → AllIn n (vs ++ ws)
+AllIn-append n [] ws p q = q
+AllIn-append n (v ∷ vs) ws p q = (p.0, AllIn-append n vs ws p.1 q)
+
+AllIn-visits : (n : ℕ) (site : Site) (forest : KeptForest) → site.home < n → AllIn n (visits site forest)
+AllIn-visits n site no_items h = tt
+AllIn-visits n site (item i is) h = (h, AllIn-visits n site is h)
+
+AllIn-rest : (n : ℕ) (agenda : List Visit) (v : Visit) (rest : List Visit) → agenda ≡ v ∷ rest → AllIn n agenda → (v.site.home < n) × AllIn n rest
+AllIn-rest n agenda v rest e all = let both : AllIn n (v ∷ rest) = subst (AllIn n) e all in both
+
+-- the next item was handled: the map may have grown, and items inside come next
+Holds-visit : (s : State) (m : Map) (v : Visit) (inside rest : List Visit) → s.agenda ≡ v ∷ rest → Grows s.map m
+    → (v.site.home < length m.modules → AllIn (length m.modules) inside) → Holds s → Holds (ticked (record s { map = m; agenda = inside ++ rest }))
+Holds-visit s m v inside rest next grows all h =
+    let here = AllIn-rest (length s.map.modules) s.agenda v rest next h.visiting in
+    let longer : length s.map.modules ≤ length m.modules = grows.longer in
+    let home : v.site.home < length m.modules = omega (arith, here.0) in
+    record {
+      paired = h.paired;
+      visiting = AllIn-append (length m.modules) inside rest (all home) (AllIn-more (length s.map.modules) (length m.modules) rest longer here.1);
+      homes = λ i r at. omega (arith, h.homes i r at);
+      bound = λ i r t name at before gives. AreAmong-trans (h.bound i r t name at before gives) (grows.kept r.home name);
+    }
+
+-- the same where nothing is inside
+Holds-leave : (s : State) (m : Map) (v : Visit) (rest : List Visit) → s.agenda ≡ v ∷ rest → Grows s.map m → Holds s → Holds (ticked (record s { map = m; agenda = rest }))
+Holds-leave s m v rest next grows h = Holds-visit s m v [] rest next grows (λ _. tt) h
+
+-- ---- imports
+
+home_of : (home : ℕ) (by : UseId) (visibility : RawVisibility) (is : List Import) (k : ℕ) (r : ReachedImport) → slice_get (map (reached_import home by visibility) is) k ≡ Some r → home ≡ r.home
+home_of home by visibility [] k r h = absurd (let no : ⊥ = cc in no)
+home_of home by visibility (i ∷ is) zero r h = let same : reached_import home by visibility i ≡ r = cc in ap (λ (x : ReachedImport). x.home) same
+home_of home by visibility (i ∷ is) (suc k) r h = home_of home by visibility is k r h
+
+AreAmong-none : (k : _) (t c : Namespaces) → no_namespaces ≡ t → AreAmong (kept_namespaces k t) c
+AreAmong-none k t c e =
+    subst (λ (x : Namespaces). AreAmong x c) (sym (ap (kept_namespaces k) (sym e) ∙ kept_namespaces-none k)) (AreAmong-nothing c)
+
+-- imports of one of the modules were reached, none of them taken
+Holds-reach : (s : State) (home : ℕ) (imports : List ReachedImport) → home < length s.map.modules
+    → ((k : ℕ) (r : ReachedImport) → slice_get imports k ≡ Some r → home ≡ r.home) → Holds s
+    → Holds (record s { reached = s.reached ++ imports; taken = s.taken ++ not_taken imports })
+Holds-reach s home imports here each h =
+    let fresh : List Namespaces = not_taken imports in
+    let as_long : length fresh ≡ length imports = length_mapped (λ _. no_namespaces) imports in
+    let pairs : length s.taken ≡ length s.reached = h.paired in
+    record {
+      paired = length_both s.taken fresh ∙ (omega arith) ∙ sym (length_both s.reached imports);
+      visiting = h.visiting;
+      homes = λ i r at. elim (cases_lt i (length s.reached)) [
+        | inl inside ↦ h.homes i r (sym (get_left s.reached imports i inside) ∙ at)
+        | inr past ↦
+            let right = get_right s.reached imports i (omega arith) in
+            let same : home ≡ r.home = each right.0 r (sym right.1 ∙ at) in
+            omega arith
+      ];
+      bound = λ i r t name at before gives. elim (cases_lt i (length s.reached)) [
+        | inl inside ↦ h.bound i r t name (sym (get_left s.reached imports i inside) ∙ at) (sym (get_left s.taken fresh i (omega arith)) ∙ before) gives
+        | inr past ↦
+            let right = get_right s.taken fresh i (omega arith) in
+            AreAmong-none r.kind t (namespaces_of (entry_at s.map r.home name)) (get_same no_namespaces imports right.0 t (sym right.1 ∙ before))
+      ];
+    }
+
+-- ---- takings
+
+-- what is kept of what a taking reached is bound under the name that it gives
+bound_taken : (m : Map) (r : ReachedImport) (name : List ℕ) → name_of r ≡ Some name → r.home < length m.modules
+    → AreAmong (namespaces_of (kept_by m r)) (namespaces_of (entry_at (after_import m r) r.home name))
+bound_taken m r name gives inside =
+    rw gives (
+    subst (λ (x : Namespaces). AreAmong x (namespaces_of (entry_at (bound_as m r.home (Some name) (offered_by m r) r.id) r.home name)))
+    (namespaces_of-imported m _ (kept_by m r))
+    (taken-bound_in m r.home name (offered_by m r) (Some r.id) inside)
+    )
+
+Holds-take : (s : State) (i : ℕ) (r : ReachedImport) (t : Namespaces) → CanTake s i r t → Holds s → Holds (after_take s i r t)
+Holds-take s i r t can h =
+    let same : length (after_import s.map r).modules ≡ length s.map.modules = length-bound_as s.map r.home (name_of r) (offered_by s.map r) r.id in
+    let gain : Namespaces = namespaces_of (reached_by s.map r) in
+    let now : Namespaces = both_of t gain in
+    let as_long : length (slice_set s.taken i now) ≡ length s.taken = length_set s.taken i now in
+    let pairs : length s.taken ≡ length s.reached = h.paired in
+    record {
+      paired = as_long ∙ pairs;
+      visiting = AllIn-more (length s.map.modules) _ s.agenda (omega arith) h.visiting;
+      homes = λ j q at. omega (arith, h.homes j q at);
+      bound = λ j q u name at before gives. elim (number_same_or_not j i) [
+        | inr ne ↦ AreAmong-trans (h.bound j q u name at (sym (get_set_other s.taken i j now ne) ∙ before) gives) (kept-bound_as s.map r.home (name_of r) (offered_by s.map r) r.id q.home name)
+        | inl here ↦
+            let at_i : slice_get s.reached i ≡ Some q = subst (λ (k : ℕ). slice_get s.reached k ≡ Some q) here at in
+            let r_at : slice_get s.reached i ≡ Some r = can.import in
+            let one : r ≡ q = cc in
+            let inside : i < length s.taken = omega (arith, get_inside s.reached i r can.import) in
+            let set_at : slice_get (slice_set s.taken i now) i ≡ Some now = get_set_same s.taken i now inside in
+            let u_at : slice_get (slice_set s.taken i now) i ≡ Some u = subst (λ (k : ℕ). slice_get (slice_set s.taken i now) k ≡ Some u) here before in
+            let two : now ≡ u = cc in
+            let named : name_of r ≡ Some name = subst (λ (x : ReachedImport). name_of x ≡ Some name) (sym one) gives in
+            let entry : Namespaces = namespaces_of (entry_at (after_import s.map r) r.home name) in
+            let gained : AreAmong (kept_namespaces r.kind gain) entry =
+            subst (λ (x : Namespaces). AreAmong x entry) (namespaces_of-kept r.kind (reached_by s.map r)) (bound_taken s.map r name named (h.homes i r can.import)) in
+            let had : AreAmong (kept_namespaces r.kind t) entry =
+            AreAmong-trans (h.bound i r t name can.import can.before named) (kept-bound_as s.map r.home (name_of r) (offered_by s.map r) r.id r.home name) in
+            let both : AreAmong (kept_namespaces r.kind now) entry =
+            subst (λ (x : Namespaces). AreAmong x entry) (sym (kept_namespaces-both r.kind t gain)) (AreAmong-both had gained) in
+            subst (λ (x : ReachedImport). AreAmong (kept_namespaces x.kind u) (namespaces_of (entry_at (after_import s.map r) x.home name))) one
+            (subst (λ (x : Namespaces). AreAmong (kept_namespaces r.kind x) entry) two both)
+      ];
+    }
+
+-- ---- steps
+
+Holds-Step : {w : Workspace} {old new : State} → Step w old new → Holds old → Holds new
+Holds-Step {old = old} (drops_item v rest next off is) h = subst Holds (sym is) (Holds-leave old old.map v rest next (Grows-same old.map) h)
+Holds-Step {old = old} (passes_over site head l rest next pass is) h = subst Holds (sym is) (Holds-leave old old.map _ rest next.next (Grows-same old.map) h)
+Holds-Step {old = old} (declares_item v d rest next declares is) h =
+    subst Holds (sym is) (Holds-leave old (with_declaration old.map v.site.home d) v rest next.next (Grows-with_declaration old.map v.site.home d) h)
+Holds-Step {old = old} (lists_constant site head rest next is) h =
+    let id = const_id old.map site head.id in
+    subst Holds (sym is) (Holds-leave old (with_unnamed_const old.map site.home id) _ rest next.next
+    (Grows-KeepsNames old.map (with_unnamed_const old.map site.home id) (KeepsNames-listed old.map site.home (declaration.UnnamedConst id))) h)
+Holds-Step {old = old} (lists_impl site head of_trait rest next is) h =
+    let id = impl_id old.map site head.id in
+    subst Holds (sym is) (Holds-leave old (with_impl old.map site.home id of_trait) _ rest next.next
+    (Grows-KeepsNames old.map (with_impl old.map site.home id of_trait) (KeepsNames-listed old.map site.home (declaration.Impl id of_trait))) h)
+Holds-Step {old = old} (opens_module site head name items rest next is) h =
+    let map : Map = with_bound_module old.map site head name in
+    subst Holds (sym is) (Holds-visit old map _ (visits (inside_module old.map site) items) rest next.next (Grows-with_bound_module old.map site head name)
+    (λ _. AllIn-visits (length map.modules) (inside_module old.map site) items (longer_by_one old.map site head name)) h)
+Holds-Step {old = old} (enters_block site head items rest next is) h =
+    let id = extern_block_id old.map site head.id in
+    let map : Map = with_extern_block old.map site.home id in
+    subst Holds (sym is) (Holds-visit old map _ (visits (inside_block old.map site head) items) rest next.next
+    (Grows-KeepsNames old.map map (KeepsNames-listed old.map site.home (declaration.ExternBlock id)))
+    (λ here. AllIn-visits (length map.modules) (inside_block old.map site head) items here) h)
+Holds-Step {old = old} (reaches_imports site head tree rest next is) h =
+    let id = use_id old.map site head.id in
+    let map : Map = with_use old.map site.home id in
+    let grows : Grows old.map map = Grows-KeepsNames old.map map (KeepsNames-listed old.map site.home (declaration.Use id)) in
+    let longer : length old.map.modules ≤ length map.modules = grows.longer in
+    let here : site.home < length old.map.modules = (AllIn-rest (length old.map.modules) old.agenda _ rest next.next h.visiting).0 in
+    subst Holds (sym is) (Holds-reach (ticked (record old { map = map; agenda = rest })) site.home (imports_by old.map site head tree) (omega arith)
+    (λ k r at. home_of site.home id head.visibility _ k r at) (Holds-leave old map _ rest next.next grows h))
+Holds-Step {old = old} (takes_import i r t can is) h = subst Holds (sym is) (Holds-take old i r t can h)
+
+pub Holds-Steps : {w : Workspace} {from to : State} → Steps w from to → Holds from → Holds to
+Holds-Steps none h = h
+Holds-Steps (more old new before step) h = Holds-Step step (Holds-Steps before h)
+
+-- ---- the start
+
+AllIn-tree : (n : ℕ) (site : Site) (tree : Tree) → site.home < n → AllIn n (tree_visits site tree)
+AllIn-tree n site tree h = go (is_enabled tree.attributes) refl
+  where
+    go : (b : Bool) → is_enabled tree.attributes ≡ b → AllIn n (tree_visits site tree)
+    go true e = rw e (AllIn-visits n site tree.items h)
+    go false e = rw e tt
+
+pub Holds-start : (w : Workspace) (start : Start) → Holds (start_of w start)
+Holds-start w start = record {
+  paired = refl;
+  visiting = AllIn-tree 1 (root_site start) (w.tree start.krate (root_file start)).tree (omega arith);
+  homes = λ i r at. absurd (let no : ⊥ = cc in no);
+  bound = λ i r t name at before gives. absurd (let no : ⊥ = cc in no);
+}

@@ -1,8 +1,0 @@
-use Rattle.std.proofs.Common.{refl}
-use Rattle.hir_def_collector.specs.Steps.{declares_item}
-use Rattle.hir_def_collector.proofs.collector.walk.declare_struct.Goals as goal
-
-pub returns-clause-ok : goal.returns-clause-ok
-returns-clause-ok c = λ w rest.
-    declares_item _ _ rest (record { next = refl; declares = refl })
-    (rw (c.in_ok-declare.ensures.ok, c.struct_items.ensures.value, c.constructor-constructor.ensures.value, c.of_raw-own.ensures.value, c.map.ensures.value, c.module_id-at.ensures.value, c.in_ok-clone.ensures.value) refl)

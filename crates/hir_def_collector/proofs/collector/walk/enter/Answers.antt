@@ -1,0 +1,21 @@
+use Rattle.std.proofs.Common.{◌≡◌, refl}
+use Rattle.hir_def_map.specs.State.{with_extern_block}
+use Rattle.hir_def_collector.specs.ItemIds.{extern_block_id}
+use Rattle.hir_def_collector.specs.State.{counted, with_map}
+use Rattle.hir_def_collector.specs.TreeReads.{head_of}
+use Rattle.hir_def_collector.specs.Steps.{enters_block}
+use Rattle.hir_def_collector.proofs.Grows.{longer_by_block}
+use Rattle.hir_def_collector.proofs.collector.walk.enter.Goals as goal
+
+pub returns-clause-ok : goal.returns-clause-ok
+returns-clause-ok c = λ items. record {
+  step = λ w rest.
+      enters_block c.args.site (head_of c.args.head) items rest (record { next = refl; enabled = c.requires.enabled })
+      (rw (c.in_ok-tick.ensures.ok, c.in_ok-list_extern_block.ensures.ok, c.module_id.ensures.value) refl);
+}
+
+pub returns-clause-in_range : goal.returns-clause-in_range
+returns-clause-in_range c =
+    let listed : c.tick.new.self ≡ counted (with_map c.args.run.now (with_extern_block c.args.run.now.map c.args.site.home (extern_block_id c.args.run.now.map c.args.site c.args.head.id))) =
+    rw (c.in_ok-tick.ensures.ok, c.in_ok-list_extern_block.ensures.ok, c.module_id.ensures.value) refl in
+    longer_by_block c.args.run.now c.tick.new.self c.args.site.home (extern_block_id c.args.run.now.map c.args.site c.args.head.id) listed c.requires.in_range

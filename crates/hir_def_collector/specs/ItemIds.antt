@@ -1,0 +1,63 @@
+-- Which definition is an item of a file?
+use Rattle.std.specs.Prelude.{ℕ, Option, None, Some}
+use Rattle.hir_base.specs.declared.ast_id.SyntaxId.{SyntaxId}
+use Rattle.hir_base.specs.declared.ids.ConstId.{ConstId}
+use Rattle.hir_base.specs.declared.ids.ExternBlockId.{ExternBlockId}
+use Rattle.hir_base.specs.declared.ids.FunctionId.{FunctionId}
+use Rattle.hir_base.specs.declared.ids.ImplId.{ImplId}
+use Rattle.hir_base.specs.declared.ids.ItemContainerId.{ItemContainerId}
+use Rattle.hir_base.specs.declared.ids.ItemContainerId.TheVariants as containers
+use Rattle.hir_base.specs.declared.ids.ModuleId.{ModuleId}
+use Rattle.hir_base.specs.declared.ids.StaticId.{StaticId}
+use Rattle.hir_base.specs.declared.ids.StructId.{StructId}
+use Rattle.hir_base.specs.declared.ids.TraitId.{TraitId}
+use Rattle.hir_base.specs.declared.ids.TypeAliasId.{TypeAliasId}
+use Rattle.hir_base.specs.declared.ids.UnionId.{UnionId}
+use Rattle.hir_base.specs.declared.ids.UseId.{UseId}
+use Rattle.hir_def_map.specs.State.{Map, numbered}
+use Rattle.hir_def_collector.specs.declared.collector.site.Site.{Site}
+
+-- the module of a number
+abbrev pub module_id : Map → ℕ → ModuleId
+module_id m home = numbered m.id home
+
+-- what holds an item: an extern block, or else a module
+abbrev pub container_by : ModuleId → Option ExternBlockId → ItemContainerId
+container_by at None = containers.ModuleId at
+container_by at (Some block) = containers.ExternBlockId block
+
+-- what holds the items of a site
+abbrev pub container_of : Map → Site → ItemContainerId
+container_of m s = container_by (module_id m s.home) s.extern_block
+
+-- the function, constant, static or type alias of a site that a node writes
+abbrev pub function_id : Map → Site → SyntaxId → FunctionId
+function_id m s id = record { container = container_of m s; file_id = s.file; block = None; id = id }
+
+abbrev pub const_id : Map → Site → SyntaxId → ConstId
+const_id m s id = record { container = container_of m s; file_id = s.file; block = None; id = id }
+
+abbrev pub static_id : Map → Site → SyntaxId → StaticId
+static_id m s id = record { container = container_of m s; file_id = s.file; block = None; id = id }
+
+abbrev pub type_alias_id : Map → Site → SyntaxId → TypeAliasId
+type_alias_id m s id = record { container = container_of m s; file_id = s.file; block = None; id = id }
+
+-- the struct, union, trait, impl, extern block or `use` item of a site's module that a node writes
+abbrev pub struct_id : Map → Site → SyntaxId → StructId
+struct_id m s id = record { container = module_id m s.home; file_id = s.file; block = None; id = id }
+
+abbrev pub union_id : Map → Site → SyntaxId → UnionId
+union_id m s id = record { container = module_id m s.home; file_id = s.file; block = None; id = id }
+
+abbrev pub trait_id : Map → Site → SyntaxId → TraitId
+trait_id m s id = record { container = module_id m s.home; file_id = s.file; block = None; id = id }
+
+abbrev pub impl_id : Map → Site → SyntaxId → ImplId
+impl_id m s id = record { container = module_id m s.home; file_id = s.file; block = None; id = id }
+
+abbrev pub extern_block_id : Map → Site → SyntaxId → ExternBlockId
+extern_block_id m s id = record { container = module_id m s.home; file_id = s.file; block = None; id = id }
+
+abbrev pub use_id : Map → Site → SyntaxId → UseId
+use_id m s id = record { container = module_id m s.home; file_id = s.file; block = None; id = id }

@@ -1,0 +1,299 @@
+//! Items that bind their names, modules aside.
+ghost use Rattle.std.specs.Prelude.{◌≡◌, ◌≤◌, true, [], map, OnOk};
+ghost use Rattle.hir_item_tree.specs.Collected.{is_enabled};
+ghost use Rattle.hir_item_tree.specs.KeptForest.{leaf, function, structure, union_structure, constant, static_item, trait_item, type_alias};
+ghost use Rattle.hir_scope.specs.Visibility.{visibility_of};
+ghost use Rattle.hir_def_collector.specs.State.{with_map, counted};
+ghost use Rattle.hir_def_collector.specs.ItemIds.{module_id};
+ghost use Rattle.hir_def_collector.specs.Items.{constructor_of, declared_struct, meet_of, own_visibility, type_declaration, value_declaration};
+ghost use Rattle.hir_def_collector.specs.TreeReads.{head_of};
+ghost use Rattle.hir_def_collector.specs.Steps.{visit, with_declaration};
+ghost use Rattle.hir_def_collector.specs.Moves.{Handles};
+
+use crate::collector::declaration::Declaration;
+use crate::collector::imports::lesser;
+use crate::collector::run::Run;
+use crate::collector::site::{ItemHead, Site};
+use crate::collector::{CollectError, STEP_LIMIT};
+use hir_base::ids::{
+    AdtId, ConstId, FunctionId, ModuleDefId, ModuleId, StaticId, StructId, TraitId, TypeAliasId,
+    UnionId,
+};
+use hir_base::name::Name;
+use hir_def_map::nameres::DefMap;
+use hir_item_tree::kinds::Struct;
+use hir_item_tree::raw_visibility::RawVisibility;
+use hir_item_tree::shape::FieldsShape;
+use hir_scope::per_ns::{Item, PerNs};
+use hir_scope::visibility::Visibility;
+
+/// Lists a definition in its module, and binds its name there.
+pub fn declare(run: &mut Run, home: u32, declaration: Declaration) -> Result<(), CollectError>
+    ensures ok { OnOk result (run.new ≡ counted (with_map run.old (with_declaration run.old.map home declaration))) }
+    ensures many { result ≡ Err CollectError.TooMany → STEP_LIMIT ≤ run.old.count }
+{
+    let Declaration { name, def, items } = declaration;
+    run.declare(home, def)?;
+    run.bind(home, name, items, None)?;
+    run.tick()?;
+    Ok(())
+}
+
+/// Declares what an item's name stands for as a type.
+fn declare_type(
+    run: &mut Run,
+    site: Site,
+    head: ItemHead<'_>,
+    name: &Name,
+    def: ModuleDefId,
+) -> Result<(), CollectError>
+    ensures ok { OnOk result (run.new ≡ counted (with_map run.old (with_declaration run.old.map site.home
+        (type_declaration name.now def (own_visibility run.old.map site (head_of head.entry)))))) }
+    ensures many { result ≡ Err CollectError.TooMany → STEP_LIMIT ≤ run.old.count }
+{
+    let vis = run.visibility(site, head);
+    let declaration = Declaration {
+        name: name.clone()?,
+        def,
+        items: PerNs::types(def, vis, None),
+    };
+    declare(run, site.home, declaration)?;
+    Ok(())
+}
+
+/// Declares what an item's name stands for as a value.
+fn declare_value(
+    run: &mut Run,
+    site: Site,
+    head: ItemHead<'_>,
+    name: &Name,
+    def: ModuleDefId,
+) -> Result<(), CollectError>
+    ensures ok { OnOk result (run.new ≡ counted (with_map run.old (with_declaration run.old.map site.home
+        (value_declaration name.now def (own_visibility run.old.map site (head_of head.entry)))))) }
+    ensures many { result ≡ Err CollectError.TooMany → STEP_LIMIT ≤ run.old.count }
+{
+    let vis = run.visibility(site, head);
+    let declaration = Declaration {
+        name: name.clone()?,
+        def,
+        items: PerNs::values(def, vis, None),
+    };
+    declare(run, site.home, declaration)?;
+    Ok(())
+}
+
+/// Declares a function.
+pub fn declare_function(
+    run: &mut Run,
+    site: Site,
+    head: ItemHead<'_>,
+    name: &Name,
+) -> Result<(), CollectError>
+    requires enabled { is_enabled (head_of head).attributes ≡ true }
+    ensures ok { OnOk result (Handles run.old run.new (visit site (leaf (head_of head.entry) (function name.now))) []) }
+    ensures many { result ≡ Err CollectError.TooMany → STEP_LIMIT ≤ run.old.count }
+{
+    let def = ModuleDefId::FunctionId(FunctionId {
+        container: run.container(site),
+        file_id: site.file,
+        block: None,
+        id: head.id,
+    });
+    declare_value(run, site, head, name, def)?;
+    Ok(())
+}
+
+/// Declares a constant that has a name.
+pub fn declare_const(
+    run: &mut Run,
+    site: Site,
+    head: ItemHead<'_>,
+    name: &Name,
+) -> Result<(), CollectError>
+    requires enabled { is_enabled (head_of head).attributes ≡ true }
+    ensures ok { OnOk result (Handles run.old run.new (visit site (leaf (head_of head.entry) (constant (Some name.now)))) []) }
+    ensures many { result ≡ Err CollectError.TooMany → STEP_LIMIT ≤ run.old.count }
+{
+    let def = ModuleDefId::ConstId(ConstId {
+        container: run.container(site),
+        file_id: site.file,
+        block: None,
+        id: head.id,
+    });
+    declare_value(run, site, head, name, def)?;
+    Ok(())
+}
+
+/// Declares a static.
+pub fn declare_static(
+    run: &mut Run,
+    site: Site,
+    head: ItemHead<'_>,
+    name: &Name,
+) -> Result<(), CollectError>
+    requires enabled { is_enabled (head_of head).attributes ≡ true }
+    ensures ok { OnOk result (Handles run.old run.new (visit site (leaf (head_of head.entry) (static_item name.now))) []) }
+    ensures many { result ≡ Err CollectError.TooMany → STEP_LIMIT ≤ run.old.count }
+{
+    let def = ModuleDefId::StaticId(StaticId {
+        container: run.container(site),
+        file_id: site.file,
+        block: None,
+        id: head.id,
+    });
+    declare_value(run, site, head, name, def)?;
+    Ok(())
+}
+
+/// Declares a type alias.
+pub fn declare_type_alias(
+    run: &mut Run,
+    site: Site,
+    head: ItemHead<'_>,
+    name: &Name,
+) -> Result<(), CollectError>
+    requires enabled { is_enabled (head_of head).attributes ≡ true }
+    ensures ok { OnOk result (Handles run.old run.new (visit site (leaf (head_of head.entry) (type_alias name.now))) []) }
+    ensures many { result ≡ Err CollectError.TooMany → STEP_LIMIT ≤ run.old.count }
+{
+    let def = ModuleDefId::TypeAliasId(TypeAliasId {
+        container: run.container(site),
+        file_id: site.file,
+        block: None,
+        id: head.id,
+    });
+    declare_type(run, site, head, name, def)?;
+    Ok(())
+}
+
+/// Declares a trait.
+pub fn declare_trait(
+    run: &mut Run,
+    site: Site,
+    head: ItemHead<'_>,
+    name: &Name,
+) -> Result<(), CollectError>
+    requires enabled { is_enabled (head_of head).attributes ≡ true }
+    ensures ok { OnOk result (Handles run.old run.new (visit site (leaf (head_of head.entry) (trait_item name.now))) []) }
+    ensures many { result ≡ Err CollectError.TooMany → STEP_LIMIT ≤ run.old.count }
+{
+    let def = ModuleDefId::TraitId(TraitId {
+        container: run.module_id(site.home),
+        file_id: site.file,
+        block: None,
+        id: head.id,
+    });
+    declare_type(run, site, head, name, def)?;
+    Ok(())
+}
+
+/// Declares a union.
+pub fn declare_union(
+    run: &mut Run,
+    site: Site,
+    head: ItemHead<'_>,
+    name: &Name,
+) -> Result<(), CollectError>
+    requires enabled { is_enabled (head_of head).attributes ≡ true }
+    ensures ok { OnOk result ((fields : _) → Handles run.old run.new (visit site (leaf (head_of head.entry) (union_structure name.now fields))) []) }
+    ensures many { result ≡ Err CollectError.TooMany → STEP_LIMIT ≤ run.old.count }
+{
+    let def = ModuleDefId::AdtId(AdtId::UnionId(UnionId {
+        container: run.module_id(site.home),
+        file_id: site.file,
+        block: None,
+        id: head.id,
+    }));
+    declare_type(run, site, head, name, def)?;
+    Ok(())
+}
+
+/// The meet of visibilities, if none of them are unrelated.
+fn meet(
+    defs: &DefMap,
+    at: ModuleId,
+    own: Visibility,
+    others: &[RawVisibility],
+) -> Option<Visibility>
+    ensures value { result ≡ meet_of defs.now own (map (visibility_of at) others.now) }
+{
+    let mut least = own;
+    for other in others {
+        least = lesser(defs, least, Visibility::of_raw(at, other))?;
+    }
+    Some(least)
+}
+
+/// The visibility of a struct's constructor, if its shape has one.
+fn constructor(
+    defs: &DefMap,
+    at: ModuleId,
+    own: Visibility,
+    shape: FieldsShape,
+    fields: &[RawVisibility],
+) -> Option<Visibility>
+    ensures value { result ≡ constructor_of defs.now own shape (map (visibility_of at) fields.now) }
+{
+    match shape {
+        FieldsShape::Record => None,
+        FieldsShape::Tuple => match meet(defs, at, own, fields) {
+            Some(least) => Some(least),
+            None => Some(own),
+        },
+        FieldsShape::Unit => Some(own),
+    }
+}
+
+/// What a struct's name stands for: a type, and a value where there is a constructor.
+fn struct_items(def: ModuleDefId, own: Visibility, constructor: Option<Visibility>) -> PerNs
+    ensures value { result ≡ declared_struct def own constructor }
+{
+    let types = Some(Item {
+        def,
+        vis: own,
+        import: None,
+    });
+    let values = match constructor {
+        Some(vis) => Some(Item {
+            def,
+            vis,
+            import: None,
+        }),
+        None => None,
+    };
+    PerNs {
+        types,
+        values,
+        macros: None,
+    }
+}
+
+/// Declares a struct: a type, and by its shape a value.
+pub fn declare_struct(
+    run: &mut Run,
+    site: Site,
+    head: ItemHead<'_>,
+    item: Struct<'_>,
+) -> Result<(), CollectError>
+    requires enabled { is_enabled (head_of head).attributes ≡ true }
+    ensures ok { OnOk result (Handles run.old run.new (visit site (leaf (head_of head.entry) (structure item.entry.name.now item.entry.shape item.entry.fields.now))) []) }
+    ensures many { result ≡ Err CollectError.TooMany → STEP_LIMIT ≤ run.old.count }
+{
+    let at = run.module_id(site.home);
+    let def = ModuleDefId::AdtId(AdtId::StructId(StructId {
+        container: at,
+        file_id: site.file,
+        block: None,
+        id: head.id,
+    }));
+    let own = run.visibility(site, head);
+    let constructor = constructor(run.map(), at, own, item.shape, item.fields);
+    let declaration = Declaration {
+        name: item.name.clone()?,
+        def,
+        items: struct_items(def, own, constructor),
+    };
+    declare(run, site.home, declaration)?;
+    Ok(())
+}

@@ -1,0 +1,43 @@
+//! Where items are written, and what each has.
+ghost use Rattle.std.specs.Prelude.{◌≡◌, ◌<◌, IfSome, length, slice_get};
+ghost use Rattle.hir_item_tree.specs.KeptForest.{all_items};
+ghost use Rattle.hir_item_tree.specs.Kinds.{item_head};
+ghost use Rattle.hir_def_collector.specs.TreeReads.{head_of};
+
+use hir_base::ast_id::{HirFileId, SyntaxId};
+use hir_base::ids::ExternBlockId;
+use hir_item_tree::attrs::AttrsOrCfg;
+use hir_item_tree::item_tree::ItemTree;
+use hir_item_tree::kinds::RawVisibilityId;
+use hir_item_tree::raw_visibility::RawVisibility;
+use hir_item_tree::rows::ModItemId;
+
+/// Where an item is written.
+#[derive(Clone, Copy)]
+pub struct Site {
+    /// The number of the module that declares it.
+    pub home: u32,
+    pub file: HirFileId,
+    /// The extern block that holds it, if one does.
+    pub extern_block: Option<ExternBlockId>,
+}
+
+/// What every item has.
+#[derive(Clone, Copy)]
+pub struct ItemHead<'a> {
+    pub id: SyntaxId,
+    pub visibility: &'a RawVisibility,
+    pub attrs: &'a AttrsOrCfg,
+}
+
+/// What an item of a tree has.
+pub fn head_at(tree: &ItemTree, id: ModItemId) -> ItemHead<'_>
+    requires there { id.0 < length (all_items tree.now.items) }
+    ensures value { IfSome (slice_get (all_items tree.now.items) id.0) (λ i. head_of result ≡ item_head i) }
+{
+    ItemHead {
+        id: tree.syntax_id(id),
+        visibility: &tree[RawVisibilityId(id.0)],
+        attrs: tree.attrs(id),
+    }
+}

@@ -1,0 +1,43 @@
+-- Which laws hold of kept forests?
+use Rattle.std.specs.Prelude.{◌≡◌, Bool, []}
+use Rattle.hir_base.specs.declared.cfg.CfgAtom.{CfgAtom}
+use Rattle.hir_item_tree.specs.Source.{Plain, import, extern_crate, function, structure, union_structure, enumeration, constant, static_item, type_alias, outline_module, macro_call, macro_rules, macro_def, Item, plain, holder, Items, no_items, item, SourceValue, broken, unit}
+use Rattle.hir_item_tree.specs.Attributes.{Attributes}
+use Rattle.hir_item_tree.specs.ItemTree.{tree_of}
+
+-- a kind without the text of its body
+abbrev pub plain_without_body : Plain → Plain
+plain_without_body (import t) = import t
+plain_without_body (extern_crate name alias) = extern_crate name alias
+plain_without_body (function name body) = function name []
+plain_without_body (structure name shape fields) = structure name shape fields
+plain_without_body (union_structure name fields) = union_structure name fields
+plain_without_body (enumeration name variants) = enumeration name variants
+plain_without_body (constant name body) = constant name []
+plain_without_body (static_item name body) = static_item name []
+plain_without_body (type_alias name) = type_alias name
+plain_without_body (outline_module name) = outline_module name
+plain_without_body (macro_call path) = macro_call path
+plain_without_body (macro_rules name definition) = macro_rules name definition
+plain_without_body (macro_def name definition) = macro_def name definition
+
+abbrev mutual
+  -- a node without the texts of bodies
+  pub without_body : Item → Item
+  without_body (plain h p) = plain h (plain_without_body p)
+  without_body (holder h k is) = holder h k (without_bodies is)
+
+  -- nodes without the texts of bodies
+  pub without_bodies : Items → Items
+  without_bodies no_items = no_items
+  without_bodies (item i is) = item (without_body i) (without_bodies is)
+
+-- a source without the texts of bodies
+abbrev pub source_without_bodies : SourceValue → SourceValue
+source_without_bodies broken = broken
+source_without_bodies (unit written items) = unit written (without_bodies items)
+
+-- sources that differ in the texts of bodies alone have equal trees
+abbrev pub BodyTextsLeaveTheTree : Type 0
+BodyTextsLeaveTheTree = (set : CfgAtom → Bool) (front : Attributes) (a b : SourceValue) → source_without_bodies a ≡ source_without_bodies b
+    → tree_of set front a ≡ tree_of set front b

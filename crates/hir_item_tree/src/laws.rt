@@ -1,0 +1,43 @@
+//! Laws of attributes, use trees and kept forests, over what the contracts say.
+ghost use Rattle.hir_item_tree.specs.BodyTexts.{BodyTextsLeaveTheTree};
+ghost use Rattle.hir_item_tree.specs.Walks.{WalksAreDetermined, EachRowIsMetOnce};
+ghost use Rattle.hir_item_tree.specs.Sources.{UnreadSourcesKeepNoItems, OtherUnreadSourcesAreEmpty};
+ghost use Rattle.hir_item_tree.specs.Laws.{MergeIsAssociative, EmptyIsNeutralInFront, EmptyIsNeutralBehind, JoinedListsCollectAsMerged, PlaceHoldsItsLeaf};
+
+/// Of three merged, it doesn't matter which two are merged first.
+pub fn merge_is_associative()
+    ensures always { MergeIsAssociative }
+{}
+
+/// Merging with nothing changes nothing.
+pub fn empty_is_neutral()
+    ensures in_front { EmptyIsNeutralInFront }
+    ensures behind { EmptyIsNeutralBehind }
+{}
+
+/// Numbers aside, two lists of attributes that are joined leave what they leave merged.
+pub fn joined_lists_collect_as_merged()
+    ensures always { JoinedListsCollectAsMerged }
+{}
+
+/// An import's place holds the leaf that wrote it.
+pub fn place_holds_its_leaf()
+    ensures always { PlaceHoldsItsLeaf }
+{}
+
+/// Sources that differ in the texts of bodies alone have equal trees.
+pub fn body_texts_leave_the_tree()
+    ensures law { BodyTextsLeaveTheTree }
+{}
+
+/// A source that is absent, or can't be read, has no items, and attributes only of a crate whose root it is.
+pub fn unread_sources_keep_no_items()
+    ensures at_a_root { UnreadSourcesKeepNoItems }
+    ensures elsewhere { OtherUnreadSourcesAreEmpty }
+{}
+
+/// The walk from the top of a tree ends, and meets each of its rows once.
+pub fn each_row_is_met_once()
+    ensures one_walk { WalksAreDetermined }
+    ensures each_once { EachRowIsMetOnce }
+{}

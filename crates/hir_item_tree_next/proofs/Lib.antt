@@ -1,9 +1,0 @@
-pub mod Repeats
-pub mod Shown
-pub mod UseTreeLemmas
-pub mod Walked
-pub mod Bodies
-pub mod Associated
-pub mod AttributeLemmas
-pub mod UseTreePlaces
-pub mod CallLemmas

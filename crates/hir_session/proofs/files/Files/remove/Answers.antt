@@ -1,0 +1,15 @@
+-- After the call no entry has the path, so the one that went was the only one.
+use Rattle.std.proofs.Common.{◌∙◌, ap}
+use Rattle.std.specs.Ordering.{nat_cmp}
+use Rattle.std.specs.Cmp.Lexicographic.{slice_cmp}
+use Rattle.std.specs.BTreeMap.{is_at}
+use Rattle.hir_session.specs.Files.{Files, without_file}
+use Rattle.hir_session.proofs.EntryLemmas.{remove_entry-filter}
+use Rattle.hir_session.proofs.files.Files.remove.Goals as goal
+
+pub returns-clause-value : goal.returns-clause-value
+returns-clause-value c =
+    let left = c.remove.ensures.updates.1 in
+    c.remove.ensures.entries
+    ∙ remove_entry-filter (is_at (slice_cmp nat_cmp c.args.path.now)) c.self.inside.by_path.entries (rw c.remove.ensures.entries at left)
+    ∙ ap (λ (files : Files). without_file files c.args.path.now) c.self.view_is

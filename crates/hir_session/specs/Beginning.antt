@@ -1,0 +1,28 @@
+-- How does a session begin?
+use Rattle.std.specs.Prelude.{◌≡◌, ℕ, ◌+◌, true, List, [], ◌∷◌, length, map, replicate, None}
+use Rattle.hir_base.specs.CfgOptions.{SetAlike}
+use Rattle.hir_wire.specs.CommandValue.{CrateInputValue}
+use Rattle.hir_session.specs.Crates.{CrateValue}
+use Rattle.hir_session.specs.SessionState.{SessionState}
+use Rattle.hir_session.specs.Refusals.{dependency_crates}
+
+-- the crate is as it was handed in: its root file has its number, and its options are a set
+pub record IsMade (k : ℕ) (input : CrateInputValue) (c : CrateValue) : Type 0 where
+  pub root : c.root ≡ record { file_id = record { 0 = k }; edition = input.edition }
+  pub dependencies : c.dependencies ≡ dependency_crates input.deps
+  pub options : SetAlike c.options input.options
+
+-- the crates are as they were handed in, numbered from this number on
+abbrev pub AreMade : ℕ → List CrateInputValue → List CrateValue → Type 0
+AreMade k [] [] = Unit {0}
+AreMade k (input ∷ inputs) (c ∷ cs) = IsMade k input c × AreMade (k + 1) inputs cs
+AreMade k [] (c ∷ cs) = ⊥
+AreMade k (input ∷ inputs) [] = ⊥
+
+-- the session is over these crates, without files, and nothing of it is resolved
+pub record Begins (inputs : List CrateInputValue) (s : SessionState) : Type 0 where
+  pub crates : AreMade 0 inputs s.crates
+  pub paths : s.paths ≡ map (λ c. c.root) inputs
+  pub files : s.files ≡ []
+  pub kept : s.kept ≡ replicate (length inputs) None
+  pub marked : s.marked ≡ replicate (length inputs) true

@@ -1,0 +1,125 @@
+//! What a session begins with.
+ghost use Rattle.std.specs.Prelude.{◌≡◌, ◌<◌, ◌^◌, map, replicate, true, length, None, IfOk, option_map};
+ghost use Rattle.hir_base.specs.CfgOptions.{SetAlike};
+ghost use Rattle.hir_wire.specs.CommandValue.{crate_input_view};
+ghost use Rattle.hir_session.specs.Refusals.{dependency_crates, has_late, first_out_of_order};
+ghost use Rattle.hir_session.specs.Beginning.{IsMade, AreMade};
+
+use crate::crate_info::CrateInfo;
+use hir_base::ast_id::{EditionedFileId, FileId};
+use hir_base::cfg::CfgAtom;
+use hir_base::cfg_options::CfgOptions;
+use hir_base::file_path::FilePath;
+use hir_base::ids::Crate;
+use hir_def_collector::collector::collected::Collected;
+use hir_wire::command::{CrateInput, Dependency};
+use std::alloc::{AllocError, Global};
+
+/// The crates that dependencies name.
+fn named_crates(alloc: Global, dependencies: &[Dependency]) -> Result<Vec<Crate>, AllocError>
+    ensures value { IfOk result (λ v. v.items ≡ dependency_crates dependencies.now) }
+{
+    let mut crates = Vec::new(alloc);
+    for dependency in dependencies {
+        crates.push(dependency.krate)?;
+    }
+    Ok(crates)
+}
+
+/// Whether a dependency doesn't come before the crate.
+fn has_late_dependency(k: usize, dependencies: &[Dependency]) -> bool
+    ensures value { result ≡ has_late k (dependency_crates dependencies.now) }
+{
+    for dependency in dependencies {
+        if k <= dependency.krate.0 as usize {
+            return true;
+        }
+    }
+    false
+}
+
+/// The first crate with a dependency that doesn't come before it.
+pub fn first_late(inputs: &Vec<CrateInput>) -> Option<u32>
+    requires few { length inputs.now.items < 2 ^ 32 }
+    ensures value { result ≡ option_map (λ c. c.0) (first_out_of_order 0 (map crate_input_view inputs.now.items)) }
+{
+    for k in 0..inputs.as_slice().len() {
+        if has_late_dependency(k, inputs[k].deps.as_slice()) {
+            return Some(k as u32);
+        }
+    }
+    None
+}
+
+/// The options that are set.
+fn options_of(alloc: Global, atoms: &Vec<CfgAtom>) -> Result<CfgOptions, AllocError>
+    ensures value { IfOk result (λ options. SetAlike options atoms.now.items) }
+{
+    let mut options = CfgOptions::new(alloc);
+    for atom in atoms {
+        options.insert(atom.clone()?)?;
+    }
+    Ok(options)
+}
+
+/// A crate of this number, with a root file of the same.
+fn info_of(alloc: Global, k: u32, input: &CrateInput) -> Result<CrateInfo, AllocError>
+    ensures made { IfOk result (λ c. IsMade k (crate_input_view input.now) c) }
+{
+    let root = EditionedFileId {
+        file_id: FileId(k),
+        edition: input.edition,
+    };
+    let dependencies = named_crates(alloc, input.deps.as_slice())?;
+    let options = options_of(alloc, &input.cfg)?;
+    Ok(CrateInfo::new(root, dependencies, options))
+}
+
+/// The crates of a session.
+pub fn infos_of(alloc: Global, inputs: &Vec<CrateInput>) -> Result<Vec<CrateInfo>, AllocError>
+    requires few { length inputs.now.items < 2 ^ 32 }
+    ensures made { IfOk result (λ v. AreMade 0 (map crate_input_view inputs.now.items) v.items) }
+{
+    let mut infos = Vec::new(alloc);
+    for k in 0..inputs.as_slice().len() {
+        infos.push(info_of(alloc, k as u32, &inputs[k])?)?;
+    }
+    Ok(infos)
+}
+
+/// The root files of the crates.
+pub fn roots_of(alloc: Global, inputs: &Vec<CrateInput>) -> Result<Vec<FilePath>, AllocError>
+    ensures value { IfOk result (λ v. v.items ≡ map (λ c. c.root) (map crate_input_view inputs.now.items)) }
+{
+    let mut paths = Vec::new(alloc);
+    for input in inputs {
+        paths.push(input.root.clone()?)?;
+    }
+    Ok(paths)
+}
+
+/// So many crates of which nothing is kept.
+#[tactic(auto, using(crate::proofs::Start::replicate_more))]
+pub fn nothing_kept(alloc: Global, count: usize) -> Result<Vec<Option<Collected>>, AllocError>
+    ensures value { IfOk result (λ v. v.items ≡ replicate count None) }
+{
+    let mut kept = Vec::new(alloc);
+    for k in 0..count {
+        prove!(k < count);
+        kept.push(None)?;
+    }
+    Ok(kept)
+}
+
+/// So many marks.
+#[tactic(auto, using(crate::proofs::Start::replicate_more))]
+pub fn all_marked(alloc: Global, count: usize) -> Result<Vec<bool>, AllocError>
+    ensures value { IfOk result (λ v. v.items ≡ replicate count true) }
+{
+    let mut marked = Vec::new(alloc);
+    for k in 0..count {
+        prove!(k < count);
+        marked.push(true)?;
+    }
+    Ok(marked)
+}
