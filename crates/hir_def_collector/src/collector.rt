@@ -114,6 +114,3 @@ fn begin<D: SourceDatabase>(alloc: Global, db: &D, start: Start) -> Result<Run, 
     walk_all(&mut run, &tree, site, tree.top_level_items())?;
     Ok(run)
 }
-
-#[cfg(test)]
-mod tests;

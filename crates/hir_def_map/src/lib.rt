@@ -4,5 +4,3 @@
 pub mod laws;
 pub mod nameres;
 mod resolve_visibility;
-#[cfg(test)]
-mod tests;

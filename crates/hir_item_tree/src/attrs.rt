@@ -179,6 +179,3 @@ fn collect_all(
     }
     Ok(())
 }
-
-#[cfg(test)]
-mod tests;

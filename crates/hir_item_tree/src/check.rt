@@ -109,6 +109,3 @@ fn check_unit(alloc: Global, unit: &Unit) -> Result<(), CheckError>
         None => Ok(()),
     }
 }
-
-#[cfg(test)]
-mod tests;

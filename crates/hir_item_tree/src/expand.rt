@@ -191,6 +191,3 @@ fn push_joined_glob(
         }
     }
 }
-
-#[cfg(test)]
-mod tests;

@@ -270,6 +270,3 @@ impl Eq for ItemTree {
 
     ghost laws = { same_by_equiv coded_tree };
 }
-
-#[cfg(test)]
-mod tests;

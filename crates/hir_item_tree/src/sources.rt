@@ -30,6 +30,3 @@ pub trait Sources {
     fn options(&self, krate: Crate) -> Option<&CfgOptions>
         ensures value { option_map (λ options. is_set options.now) result ≡ (sources self.now).options krate };
 }
-
-#[cfg(test)]
-mod tests;

@@ -157,6 +157,3 @@ impl TreeId {
         trees.get(TreeKey { krate, id: self })
     }
 }
-
-#[cfg(test)]
-mod tests;

@@ -13,7 +13,5 @@ pub mod per_ns;
 pub mod per_ns_items;
 pub mod push;
 pub mod scopes;
-#[cfg(test)]
-mod tests;
 pub mod visibility;
 pub mod walk_laws;

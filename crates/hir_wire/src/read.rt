@@ -11,8 +11,6 @@ pub mod macros;
 pub mod node;
 pub mod parts;
 pub mod place;
-#[cfg(test)]
-mod tests;
 pub mod types;
 pub mod use_tree;
 pub mod value;

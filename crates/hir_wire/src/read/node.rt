@@ -261,6 +261,3 @@ pub fn source_field(
         None => Err(ReadError::Command),
     }
 }
-
-#[cfg(test)]
-mod tests;

@@ -1,0 +1,75 @@
+//! Modules by number and by name.
+use super::{MAP, are_items, inline, is_module, module, only, sample};
+use hir_base::edition::Edition;
+use hir_base::ids::{Crate, MapId, ModuleId};
+use hir_base::name::Name;
+use hir_def_map::nameres::DefMap;
+use hir_scope::per_ns::PerNs;
+use std::alloc::Global;
+use std::process::Abort;
+use std::test::Fail;
+
+/// Adds a second module `a`.
+fn add_second(rt: &impl Abort, map: &mut DefMap, a: Name) -> Result<(), Fail> {
+    assert_eq!(rt; map.module_count(), 4);
+    let second = map.add_module(0, a, inline(20), only(0))?;
+    is_module(rt, Some(second), Some(module(4)), "the next number");
+    Ok(())
+}
+
+fn children(rt: &impl Abort, map: &DefMap, a: &Name, b: &Name) {
+    is_module(rt, map.child(0, a), Some(module(1)), "the first of a name");
+    is_module(rt, map.child(1, b), Some(module(2)), "another's child");
+    is_module(rt, map.child(0, b), None, "no child");
+}
+
+fn parents(rt: &impl Abort, map: &DefMap) {
+    is_module(rt, map.parent(4), Some(module(0)), "the root above");
+    is_module(rt, map.parent(0), None, "above the root");
+    is_module(rt, map.parent_in(module(2)), Some(module(1)), "by id");
+}
+
+fn origins(rt: &impl Abort, map: &DefMap) {
+    assert_eq!(rt; map.origin(4), Some(inline(20)));
+    assert_eq!(rt; map.origin(5), None);
+}
+
+fn rest(rt: &impl Abort, map: &DefMap) {
+    assert_eq!(rt; map.visibility(4), Some(only(0)));
+    assert_eq!(rt; map.edition(), Edition::Edition2021);
+    assert_eq!(rt; map.id(), MAP);
+}
+
+fn elsewhere(rt: &impl Abort, map: &DefMap, a: &Name) {
+    let elsewhere = ModuleId {
+        map: MapId {
+            krate: Crate(1),
+            block: None,
+        },
+        index: 0,
+    };
+    are_items(rt, map.entry_in(elsewhere, a), PerNs::none(), "another map");
+    is_module(rt, map.parent_in(elsewhere), None, "another map");
+}
+
+fn read_modules(rt: &impl Abort, map: &mut DefMap, a: &Name, b: &Name) -> Result<(), Fail> {
+    add_second(rt, map, a.clone()?)?;
+    children(rt, map, a, b);
+    parents(rt, map);
+    origins(rt, map);
+    rest(rt, map);
+    elsewhere(rt, map, a);
+    Ok(())
+}
+
+fn modules_in(rt: &impl Abort, alloc: Global, map: &mut DefMap) -> Result<(), Fail> {
+    let a = Name::new(alloc, "a")?;
+    let b = Name::new(alloc, "b")?;
+    read_modules(rt, map, &a, &b)
+}
+
+#[test]
+fn modules(rt: HostRuntime) -> Result<(), Fail> {
+    let mut map = sample(rt.alloc())?;
+    modules_in(&rt, rt.alloc(), &mut map)
+}

@@ -1,0 +1,19 @@
+//! Tests of `hir_item_tree`, over what it makes public; apart from it, so that it is proved once.
+#![tactic(auto)]
+
+#[cfg(test)]
+mod attributes;
+#[cfg(test)]
+mod item_tree;
+#[cfg(test)]
+mod limits;
+#[cfg(test)]
+mod pages;
+#[cfg(test)]
+mod sources;
+#[cfg(test)]
+mod trees;
+#[cfg(test)]
+mod units;
+#[cfg(test)]
+mod use_trees;

@@ -1,0 +1,13 @@
+//! Tests of `hir_wire`, over what it makes public; apart from it, so that it is proved once.
+#![tactic(auto)]
+
+#[cfg(test)]
+mod answers;
+#[cfg(test)]
+mod lines;
+#[cfg(test)]
+mod nodes;
+#[cfg(test)]
+mod refused_lines;
+#[cfg(test)]
+mod replies;
