@@ -16,7 +16,7 @@ use Rattle.hir_scope.specs.declared.imports.ImportOrExternCrate.{ImportOrExternC
 use Rattle.hir_scope.specs.declared.per_ns.Item.{Item}
 use Rattle.hir_scope.specs.declared.per_ns.PerNs.{PerNs}
 use Rattle.hir_scope.specs.declared.visibility.Visibility.{Visibility}
-use Rattle.hir_def_map.specs.State.{Map, ModuleValue, changed_at, module_at, entry_at, no_globs, with_module}
+use Rattle.hir_def_map.specs.State.{Map, Maps, ModuleValue, changed_at, module_at, entry_at, no_globs, with_module}
 use Rattle.hir_def_map.specs.Grown.{items_by, entry_at-pushed, entry_at-pushed_other, entry_at-pushed_elsewhere}
 use Rattle.hir_def_collector.specs.declared.collector.imports.Namespaces.{Namespaces}
 use Rattle.hir_def_collector.specs.Imports.{AreAmong, namespaces_of, both_of, brought, imported, bound_as, bound_in, pushing}
@@ -142,14 +142,14 @@ pub length-bound_in : (m : Map) (at : ℕ) (name : List ℕ) (items : PerNs) (im
     → length (bound_in m at name items import).modules ≡ length m.modules
 length-bound_in m at name items import = length-changed_at m.modules at _
 
-pub length-with_module : (m : Map) (at : ℕ) (name : List ℕ) (origin : _) (visibility : Visibility) → length (with_module m at name origin visibility).modules ≡ suc (length m.modules)
-length-with_module m at name origin visibility = length-one_more (changed_at m.modules at _) _ ∙ ap suc (length-changed_at m.modules at _)
+pub length-with_module : (m : Map) (at : ℕ) (name : List ℕ) (new : ModuleValue) → length (with_module m at name new).modules ≡ suc (length m.modules)
+length-with_module m at name new = length-one_more (changed_at m.modules at _) _ ∙ ap suc (length-changed_at m.modules at _)
 
 -- ---- what a taking leaves bound
 
-pub namespaces_of-imported : (m : Map) (own : Visibility) (items : PerNs) → namespaces_of (imported m own items) ≡ namespaces_of items
-namespaces_of-imported m own items =
-    rw (some_offered (brought m own) items.types, some_offered (brought m own) items.values, some_offered (brought m own) items.macros) refl
+pub namespaces_of-imported : (finished : Maps) (m : Map) (own : Visibility) (items : PerNs) → namespaces_of (imported finished m own items) ≡ namespaces_of items
+namespaces_of-imported finished m own items =
+    rw (some_offered (brought finished m own) items.types, some_offered (brought finished m own) items.values, some_offered (brought finished m own) items.macros) refl
 
 pub kept-bound_as : (m : Map) (at : ℕ) (name : Option (List ℕ)) (items : PerNs) (import : ImportId) (k : ℕ) (other : List ℕ)
     → AreAmong (namespaces_of (entry_at m k other)) (namespaces_of (entry_at (bound_as m at name items import) k other))

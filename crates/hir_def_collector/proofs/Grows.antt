@@ -1,12 +1,13 @@
 -- No step takes a module or a binding away.
-use Rattle.std.proofs.Common.{◌≡◌, ℕ, suc, ◌<◌, ◌≤◌, List, length, Option, None, sym, ap, subst, arith}
+use Rattle.std.proofs.Common.{◌≡◌, ℕ, suc, ◌<◌, ◌≤◌, List, length, Option, None, Some, sym, ap, subst, arith}
 use Rattle.hir_base.specs.declared.ids.ExternBlockId.{ExternBlockId}
 use Rattle.hir_base.specs.declared.ids.ModuleDefId.TheVariants as definitions
+use Rattle.hir_base.specs.declared.ids.ModuleId.{ModuleId}
 use Rattle.hir_item_tree.specs.KeptForest.{Head}
 use Rattle.hir_scope.specs.declared.imports.ImportId.{ImportId}
 use Rattle.hir_scope.specs.declared.per_ns.PerNs.{PerNs}
 use Rattle.hir_scope.specs.declared.visibility.Visibility.{Visibility}
-use Rattle.hir_def_map.specs.State.{Map, entry_at, new_id, with_module, with_declared, with_extern_block}
+use Rattle.hir_def_map.specs.State.{Map, Maps, ModuleValue, entry_at, new_id, new_module, with_module, with_declared, with_extern_block}
 use Rattle.hir_def_map.specs.Grown.{entry_at-with_module}
 use Rattle.hir_def_map.specs.Listed.{KeepsNames, KeepsNames-listed}
 use Rattle.hir_def_map.specs.declared.nameres.declaration.Declaration.TheVariants as declaration
@@ -16,7 +17,7 @@ use Rattle.hir_def_collector.specs.declared.collector.imports.ReachedImport.{Rea
 use Rattle.hir_def_collector.specs.declared.collector.site.Site.{Site}
 use Rattle.hir_def_collector.specs.Workspace.{Workspace}
 use Rattle.hir_def_collector.specs.State.{Core, State, counted, with_map}
-use Rattle.hir_def_collector.specs.ItemIds.{const_id, impl_id, extern_block_id, use_id}
+use Rattle.hir_def_collector.specs.ItemIds.{module_id, const_id, impl_id, extern_block_id, use_id}
 use Rattle.hir_def_collector.specs.Items.{declared_module, inline_origin, own_visibility}
 use Rattle.hir_def_collector.specs.Imports.{AreAmong, namespaces_of, bound_as, bound_in, name_of, offered_by, after_import}
 use Rattle.hir_def_collector.specs.Steps.{Step, Steps, none, more, drops_item, passes_over, declares_item, lists_constant, lists_impl, opens_module, enters_block, reaches_imports, takes_import, with_declaration, with_bound_module}
@@ -55,10 +56,10 @@ Grows-bound_as m home name items import = record {
   kept = λ at other. kept-bound_as m home name items import at other;
 }
 
-pub Grows-with_module : (m : Map) (home : ℕ) (name : List ℕ) (origin : ModuleOrigin) (vis : Visibility) → Grows m (with_module m home name origin vis)
-Grows-with_module m home name origin vis = record {
-  longer = let more : length (with_module m home name origin vis).modules ≡ suc (length m.modules) = length-with_module m home name origin vis in omega arith;
-  kept = λ at other. AreAmong-by (ap namespaces_of (sym (entry_at-with_module m home name origin vis at other))) (AreAmong-same (namespaces_of (entry_at m at other)));
+pub Grows-with_module : (m : Map) (home : ℕ) (name : List ℕ) (origin : ModuleOrigin) (vis : Visibility) (above : Option ModuleId) → Grows m (with_module m home name (new_module origin vis above))
+Grows-with_module m home name origin vis above = record {
+  longer = let more : length (with_module m home name (new_module origin vis above)).modules ≡ suc (length m.modules) = length-with_module m home name (new_module origin vis above) in omega arith;
+  kept = λ at other. AreAmong-by (ap namespaces_of (sym (entry_at-with_module m home name origin vis above at other))) (AreAmong-same (namespaces_of (entry_at m at other)));
 }
 
 -- ---- what a step makes of the map
@@ -68,9 +69,13 @@ Grows-with_declaration m home d =
     Grows-trans (Grows-KeepsNames m (with_declared m home d.def) (KeepsNames-listed m home (declaration.Def d.def)))
     (Grows-bound_in (with_declared m home d.def) home d.name d.items None)
 
--- the map with one more module, before that is bound
+-- a module that is made
+abbrev made : Map → Site → Head → ModuleValue
+made m s head = new_module (inline_origin s.file head.id) (own_visibility m s head) (Some (module_id m s.home))
+
+-- the map with it, before it is bound
 abbrev with_made : Map → Site → Head → List ℕ → Map
-with_made m s head name = with_module m s.home name (inline_origin s.file head.id) (own_visibility m s head)
+with_made m s head name = with_module m s.home name (made m s head)
 
 -- and once it is listed
 abbrev with_listed : Map → Site → Head → List ℕ → Map
@@ -83,12 +88,12 @@ module _ (m : Map) (s : Site) (head : Head) (name : List ℕ) where
       (Grows-bound_in (with_listed m s head name) s.home name (declared_module m (own_visibility m s head)) None)
 
   pub Grows-with_bound_module : Grows m (with_bound_module m s head name)
-  Grows-with_bound_module = Grows-trans (Grows-with_module m s.home name (inline_origin s.file head.id) (own_visibility m s head)) Grows-made
+  Grows-with_bound_module = Grows-trans (Grows-with_module m s.home name (inline_origin s.file head.id) (own_visibility m s head) (Some (module_id m s.home))) Grows-made
 
   -- a module that is made adds one
   pub longer_by_one : length m.modules < length (with_bound_module m s head name).modules
   longer_by_one =
-      let more : length (with_made m s head name).modules ≡ suc (length m.modules) = length-with_module m s.home name (inline_origin s.file head.id) (own_visibility m s head) in
+      let more : length (with_made m s head name).modules ≡ suc (length m.modules) = length-with_module m s.home name (made m s head) in
       let rest : length (with_made m s head name).modules ≤ length (with_bound_module m s head name).modules = Grows-made.longer in
       omega arith
 
@@ -104,14 +109,14 @@ longer_by_block old new home id is h =
     let same : length (with_extern_block old.map home id).modules ≡ length old.map.modules = (KeepsNames-listed old.map home (declaration.ExternBlock id)).count in
     rw is (omega arith)
 
-pub Grows-after_import : (m : Map) (r : ReachedImport) → Grows m (after_import m r)
-Grows-after_import m r = Grows-bound_as m r.home (name_of r) (offered_by m r) r.id
+pub Grows-after_import : (finished : Maps) (m : Map) (r : ReachedImport) → Grows m (after_import finished m r)
+Grows-after_import finished m r = Grows-bound_as m r.home (name_of r) (offered_by finished m r) r.id
 
 Grows-by : (s new : State) (m : Map) → new.map ≡ m → Grows s.map m → Grows s.map new.map
 Grows-by s new m e g = subst (Grows s.map) (sym e) g
 
 -- a step leaves the modules and the bindings
-pub Grows-Step : {w : Workspace} {old new : State} → Step w old new → Grows old.map new.map
+pub Grows-Step : {w : Workspace} {finished : Maps} {old new : State} → Step w finished old new → Grows old.map new.map
 Grows-Step {old = old} {new = new} (drops_item v rest next off is) = Grows-by old new _ (ap (λ (s : State). s.map) is) (Grows-same old.map)
 Grows-Step {old = old} {new = new} (passes_over site head l rest next pass is) = Grows-by old new _ (ap (λ (s : State). s.map) is) (Grows-same old.map)
 Grows-Step {old = old} {new = new} (declares_item v d rest next declares is) =
@@ -130,8 +135,8 @@ Grows-Step {old = old} {new = new} (enters_block site head items rest next is) =
 Grows-Step {old = old} {new = new} (reaches_imports site head tree rest next is) =
     Grows-by old new _ (ap (λ (s : State). s.map) is)
     (Grows-KeepsNames old.map _ (KeepsNames-listed old.map site.home (declaration.Use (use_id old.map site head.id))))
-Grows-Step {old = old} {new = new} (takes_import i r t can is) = Grows-by old new _ (ap (λ (s : State). s.map) is) (Grows-after_import old.map r)
+Grows-Step {finished = finished} {old = old} {new = new} (takes_import i r t can is) = Grows-by old new _ (ap (λ (s : State). s.map) is) (Grows-after_import finished old.map r)
 
-pub Grows-Steps : {w : Workspace} {from to : State} → Steps w from to → Grows from.map to.map
+pub Grows-Steps : {w : Workspace} {finished : Maps} {from to : State} → Steps w finished from to → Grows from.map to.map
 Grows-Steps {from = from} none = Grows-same from.map
 Grows-Steps (more old new before step) = Grows-trans (Grows-Steps before) (Grows-Step step)

@@ -7,7 +7,7 @@ use Rattle.hir_item_tree.specs.declared.expand.Import.{Import}
 use Rattle.hir_item_tree.specs.ItemTree.{Tree}
 use Rattle.hir_item_tree.specs.KeptForest.{KeptForest, no_items, item}
 use Rattle.hir_item_tree.specs.declared.raw_visibility.RawVisibility.{RawVisibility}
-use Rattle.hir_def_map.specs.State.{Map, entry_at, with_use, with_impl, with_unnamed_const, with_extern_block}
+use Rattle.hir_def_map.specs.State.{Map, Maps, entry_at, with_use, with_impl, with_unnamed_const, with_extern_block}
 use Rattle.hir_def_map.specs.Listed.{KeepsNames-listed}
 use Rattle.hir_def_map.specs.declared.nameres.declaration.Declaration.TheVariants as declaration
 use Rattle.hir_def_collector.specs.declared.collector.Start.{Start}
@@ -113,19 +113,19 @@ Holds-reach s home imports here each h =
 -- ---- takings
 
 -- what is kept of what a taking reached is bound under the name that it gives
-bound_taken : (m : Map) (r : ReachedImport) (name : List ℕ) → name_of r ≡ Some name → r.home < length m.modules
-    → AreAmong (namespaces_of (kept_by m r)) (namespaces_of (entry_at (after_import m r) r.home name))
-bound_taken m r name gives inside =
+bound_taken : (finished : Maps) (m : Map) (r : ReachedImport) (name : List ℕ) → name_of r ≡ Some name → r.home < length m.modules
+    → AreAmong (namespaces_of (kept_by finished m r)) (namespaces_of (entry_at (after_import finished m r) r.home name))
+bound_taken finished m r name gives inside =
     rw gives (
-    subst (λ (x : Namespaces). AreAmong x (namespaces_of (entry_at (bound_as m r.home (Some name) (offered_by m r) r.id) r.home name)))
-    (namespaces_of-imported m _ (kept_by m r))
-    (taken-bound_in m r.home name (offered_by m r) (Some r.id) inside)
+    subst (λ (x : Namespaces). AreAmong x (namespaces_of (entry_at (bound_as m r.home (Some name) (offered_by finished m r) r.id) r.home name)))
+    (namespaces_of-imported finished m _ (kept_by finished m r))
+    (taken-bound_in m r.home name (offered_by finished m r) (Some r.id) inside)
     )
 
-Holds-take : (s : State) (i : ℕ) (r : ReachedImport) (t : Namespaces) → CanTake s i r t → Holds s → Holds (after_take s i r t)
-Holds-take s i r t can h =
-    let same : length (after_import s.map r).modules ≡ length s.map.modules = length-bound_as s.map r.home (name_of r) (offered_by s.map r) r.id in
-    let gain : Namespaces = namespaces_of (reached_by s.map r) in
+Holds-take : (finished : Maps) (s : State) (i : ℕ) (r : ReachedImport) (t : Namespaces) → CanTake finished s i r t → Holds s → Holds (after_take finished s i r t)
+Holds-take finished s i r t can h =
+    let same : length (after_import finished s.map r).modules ≡ length s.map.modules = length-bound_as s.map r.home (name_of r) (offered_by finished s.map r) r.id in
+    let gain : Namespaces = namespaces_of (reached_by finished s.map r) in
     let now : Namespaces = both_of t gain in
     let as_long : length (slice_set s.taken i now) ≡ length s.taken = length_set s.taken i now in
     let pairs : length s.taken ≡ length s.reached = h.paired in
@@ -134,7 +134,7 @@ Holds-take s i r t can h =
       visiting = AllIn-more (length s.map.modules) _ s.agenda (omega arith) h.visiting;
       homes = λ j q at. omega (arith, h.homes j q at);
       bound = λ j q u name at before gives. elim (number_same_or_not j i) [
-        | inr ne ↦ AreAmong-trans (h.bound j q u name at (sym (get_set_other s.taken i j now ne) ∙ before) gives) (kept-bound_as s.map r.home (name_of r) (offered_by s.map r) r.id q.home name)
+        | inr ne ↦ AreAmong-trans (h.bound j q u name at (sym (get_set_other s.taken i j now ne) ∙ before) gives) (kept-bound_as s.map r.home (name_of r) (offered_by finished s.map r) r.id q.home name)
         | inl here ↦
             let at_i : slice_get s.reached i ≡ Some q = subst (λ (k : ℕ). slice_get s.reached k ≡ Some q) here at in
             let r_at : slice_get s.reached i ≡ Some r = can.import in
@@ -144,21 +144,21 @@ Holds-take s i r t can h =
             let u_at : slice_get (slice_set s.taken i now) i ≡ Some u = subst (λ (k : ℕ). slice_get (slice_set s.taken i now) k ≡ Some u) here before in
             let two : now ≡ u = cc in
             let named : name_of r ≡ Some name = subst (λ (x : ReachedImport). name_of x ≡ Some name) (sym one) gives in
-            let entry : Namespaces = namespaces_of (entry_at (after_import s.map r) r.home name) in
+            let entry : Namespaces = namespaces_of (entry_at (after_import finished s.map r) r.home name) in
             let gained : AreAmong (kept_namespaces r.kind gain) entry =
-            subst (λ (x : Namespaces). AreAmong x entry) (namespaces_of-kept r.kind (reached_by s.map r)) (bound_taken s.map r name named (h.homes i r can.import)) in
+            subst (λ (x : Namespaces). AreAmong x entry) (namespaces_of-kept r.kind (reached_by finished s.map r)) (bound_taken finished s.map r name named (h.homes i r can.import)) in
             let had : AreAmong (kept_namespaces r.kind t) entry =
-            AreAmong-trans (h.bound i r t name can.import can.before named) (kept-bound_as s.map r.home (name_of r) (offered_by s.map r) r.id r.home name) in
+            AreAmong-trans (h.bound i r t name can.import can.before named) (kept-bound_as s.map r.home (name_of r) (offered_by finished s.map r) r.id r.home name) in
             let both : AreAmong (kept_namespaces r.kind now) entry =
             subst (λ (x : Namespaces). AreAmong x entry) (sym (kept_namespaces-both r.kind t gain)) (AreAmong-both had gained) in
-            subst (λ (x : ReachedImport). AreAmong (kept_namespaces x.kind u) (namespaces_of (entry_at (after_import s.map r) x.home name))) one
+            subst (λ (x : ReachedImport). AreAmong (kept_namespaces x.kind u) (namespaces_of (entry_at (after_import finished s.map r) x.home name))) one
             (subst (λ (x : Namespaces). AreAmong (kept_namespaces r.kind x) entry) two both)
       ];
     }
 
 -- ---- steps
 
-Holds-Step : {w : Workspace} {old new : State} → Step w old new → Holds old → Holds new
+Holds-Step : {w : Workspace} {finished : Maps} {old new : State} → Step w finished old new → Holds old → Holds new
 Holds-Step {old = old} (drops_item v rest next off is) h = subst Holds (sym is) (Holds-leave old old.map v rest next (Grows-same old.map) h)
 Holds-Step {old = old} (passes_over site head l rest next pass is) h = subst Holds (sym is) (Holds-leave old old.map _ rest next.next (Grows-same old.map) h)
 Holds-Step {old = old} (declares_item v d rest next declares is) h =
@@ -189,9 +189,9 @@ Holds-Step {old = old} (reaches_imports site head tree rest next is) h =
     let here : site.home < length old.map.modules = (AllIn-rest (length old.map.modules) old.agenda _ rest next.next h.visiting).0 in
     subst Holds (sym is) (Holds-reach (ticked (record old { map = map; agenda = rest })) site.home (imports_by old.map site head tree) (omega arith)
     (λ k r at. home_of site.home id head.visibility _ k r at) (Holds-leave old map _ rest next.next grows h))
-Holds-Step {old = old} (takes_import i r t can is) h = subst Holds (sym is) (Holds-take old i r t can h)
+Holds-Step {finished = finished} {old = old} (takes_import i r t can is) h = subst Holds (sym is) (Holds-take finished old i r t can h)
 
-pub Holds-Steps : {w : Workspace} {from to : State} → Steps w from to → Holds from → Holds to
+pub Holds-Steps : {w : Workspace} {finished : Maps} {from to : State} → Steps w finished from to → Holds from → Holds to
 Holds-Steps none h = h
 Holds-Steps (more old new before step) h = Holds-Step step (Holds-Steps before h)
 

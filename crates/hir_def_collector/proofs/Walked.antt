@@ -13,7 +13,7 @@ use Rattle.hir_item_tree.specs.declared.rows.ModItemId.{ModItemId}
 use Rattle.hir_base.specs.declared.ids.ModuleId.{ModuleId}
 use Rattle.hir_scope.specs.Visibility.{visibility_of}
 use Rattle.hir_scope.specs.declared.visibility.Visibility.{Visibility}
-use Rattle.hir_def_map.specs.State.{Map}
+use Rattle.hir_def_map.specs.State.{Map, Maps}
 use Rattle.hir_def_collector.specs.declared.collector.Start.{Start}
 use Rattle.hir_def_collector.specs.declared.collector.site.Site.{Site}
 use Rattle.hir_def_collector.specs.Workspace.{Workspace, TreeLook, tree_look}
@@ -33,15 +33,15 @@ abbrev pub no_workspace : Workspace
 no_workspace = record { crates = []; tree = λ krate file. tree_look None }
 
 -- a meet goes on from the lesser of the next
-pub meet_next : (m : Map) (at : ModuleId) (least next : Visibility) (raws : List RawVisibility) (i : ℕ) (raw : RawVisibility) → i < length raws → raw ≡ get_or raws i raw
-    → lesser_in m least (visibility_of at raw) ≡ Some next
-    → meet_of m least (map (visibility_of at) (drop i raws)) ≡ meet_of m next (map (visibility_of at) (drop (i + 1) raws))
-meet_next m at least next raws i raw h e found = rw (drop_at raws i raw h e, found) refl
+pub meet_next : (finished : Maps) (m : Map) (at : ModuleId) (least next : Visibility) (raws : List RawVisibility) (i : ℕ) (raw : RawVisibility) → i < length raws → raw ≡ get_or raws i raw
+    → lesser_in finished m least (visibility_of at raw) ≡ Some next
+    → meet_of finished m least (map (visibility_of at) (drop i raws)) ≡ meet_of finished m next (map (visibility_of at) (drop (i + 1) raws))
+meet_next finished m at least next raws i raw h e found = rw (drop_at raws i raw h e, found) refl
 
 -- and ends where there is none
-pub meet_stop : (m : Map) (at : ModuleId) (least : Visibility) (raws : List RawVisibility) (i : ℕ) (raw : RawVisibility) → i < length raws → raw ≡ get_or raws i raw
-    → lesser_in m least (visibility_of at raw) ≡ None → meet_of m least (map (visibility_of at) (drop i raws)) ≡ None
-meet_stop m at least raws i raw h e found = rw (drop_at raws i raw h e, found) refl
+pub meet_stop : (finished : Maps) (m : Map) (at : ModuleId) (least : Visibility) (raws : List RawVisibility) (i : ℕ) (raw : RawVisibility) → i < length raws → raw ≡ get_or raws i raw
+    → lesser_in finished m least (visibility_of at raw) ≡ None → meet_of finished m least (map (visibility_of at) (drop i raws)) ≡ None
+meet_stop finished m at least raws i raw h e found = rw (drop_at raws i raw h e, found) refl
 
 -- ---- numbers
 
@@ -101,42 +101,42 @@ module _ (tree : Tree) (site : Site) where
       drop_past (x ∷ xs) zero h = absurd (omega arith)
       drop_past (x ∷ xs) (suc i) h = drop_past xs i (omega arith)
 
-  module _ (ids : List ModItemId) (old : Core) where
+  module _ (finished : Maps) (ids : List ModItemId) (old : Core) where
     -- steps through those before a place
     pub record WalksTo (c : Core) (i : ℕ) : Type 0 where
-      pub steps : (w : Workspace) (rest : List Visit) → Steps w (joined old (visits_at tree site (numbers_of ids) ++ rest)) (joined c (visits_at tree site (numbers_of (drop i ids)) ++ rest))
+      pub steps : (w : Workspace) (rest : List Visit) → Steps w finished (joined old (visits_at tree site (numbers_of ids) ++ rest)) (joined c (visits_at tree site (numbers_of (drop i ids)) ++ rest))
 
     pub WalksTo-none : WalksTo old 0
     WalksTo-none = record { steps = λ w rest. none }
 
     steps_to : (c : Core) (i : ℕ) (x : ModItemId) → i < length ids → x ≡ get_or ids i x → WalksTo c i → (w : Workspace) (rest : List Visit)
-        → Steps w (joined old (visits_at tree site (numbers_of ids) ++ rest)) (joined c (visits_at tree site (x.0 ∷ []) ++ (visits_at tree site (numbers_of (drop (i + 1) ids)) ++ rest)))
+        → Steps w finished (joined old (visits_at tree site (numbers_of ids) ++ rest)) (joined c (visits_at tree site (x.0 ∷ []) ++ (visits_at tree site (numbers_of (drop (i + 1) ids)) ++ rest)))
     steps_to c i x h e before w rest =
-        subst (λ (agenda : List Visit). Steps w (joined old (visits_at tree site (numbers_of ids) ++ rest)) (joined c agenda)) (left_next ids i x rest h e) (before.steps w rest)
+        subst (λ (agenda : List Visit). Steps w finished (joined old (visits_at tree site (numbers_of ids) ++ rest)) (joined c agenda)) (left_next ids i x rest h e) (before.steps w rest)
 
-    pub WalksTo-next : (c d : Core) (i : ℕ) (x : ModItemId) → i < length ids → x ≡ get_or ids i x → WalksTo c i → Walks c d (visits_at tree site (x.0 ∷ [])) → WalksTo d (i + 1)
+    pub WalksTo-next : (c d : Core) (i : ℕ) (x : ModItemId) → i < length ids → x ≡ get_or ids i x → WalksTo c i → Walks finished c d (visits_at tree site (x.0 ∷ [])) → WalksTo d (i + 1)
     WalksTo-next c d i x h e before step = record {
       steps = λ w rest. Steps-append (steps_to c i x h e before w rest) (step.steps w (visits_at tree site (numbers_of (drop (i + 1) ids)) ++ rest));
     }
 
-    pub Walks-all : (c : Core) (i : ℕ) → length ids ≤ i → WalksTo c i → Walks old c (visits_at tree site (numbers_of ids))
+    pub Walks-all : (c : Core) (i : ℕ) → length ids ≤ i → WalksTo c i → Walks finished old c (visits_at tree site (numbers_of ids))
     Walks-all c i h before = record {
       steps = λ w rest.
-          subst (λ (vs : List Visit). Steps w (joined old (visits_at tree site (numbers_of ids) ++ rest)) (joined c (vs ++ rest))) (left_past ids i h) (before.steps w rest);
+          subst (λ (vs : List Visit). Steps w finished (joined old (visits_at tree site (numbers_of ids) ++ rest)) (joined c (vs ++ rest))) (left_past ids i h) (before.steps w rest);
     }
 
-    pub WalksTooFar-next : (c : Core) (i : ℕ) (x : ModItemId) → i < length ids → x ≡ get_or ids i x → WalksTo c i → WalksTooFar c (visits_at tree site (x.0 ∷ []))
-        → WalksTooFar old (visits_at tree site (numbers_of ids))
+    pub WalksTooFar-next : (c : Core) (i : ℕ) (x : ModItemId) → i < length ids → x ≡ get_or ids i x → WalksTo c i → WalksTooFar finished c (visits_at tree site (x.0 ∷ []))
+        → WalksTooFar finished old (visits_at tree site (numbers_of ids))
     WalksTooFar-next c i x h e before far = record {
       spent = λ w rest. spent_after (steps_to c i x h e before w rest) (far.spent w (visits_at tree site (numbers_of (drop (i + 1) ids)) ++ rest));
     }
 
 -- steps take no module away
-pub longer_after : (old new : Core) (vs : List Visit) → Walks old new vs → length old.map.modules ≤ length new.map.modules
+pub longer_after : {finished : Maps} (old new : Core) (vs : List Visit) → Walks finished old new vs → length old.map.modules ≤ length new.map.modules
 longer_after old new vs walks = (Grows-Steps (walks.steps no_workspace [])).longer
 
 -- nor does one step
-pub still_there : (old new : Core) (v : Visit) (inside : List Visit) (n : ℕ) → Handles old new v inside → n < length old.map.modules → n < length new.map.modules
+pub still_there : {finished : Maps} (old new : Core) (v : Visit) (inside : List Visit) (n : ℕ) → Handles finished old new v inside → n < length old.map.modules → n < length new.map.modules
 still_there old new v inside n handles h =
     let longer : length old.map.modules ≤ length new.map.modules = (Grows-Step (handles.step no_workspace [])).longer in
     omega arith
@@ -168,36 +168,36 @@ module _ (tree : Tree) (site : Site) (n : ℕ) (h : Head) (c : Content) where
       ap (λ (o : Option KeptItem). visits site (and_found o no_items)) i.1 ∙ ap (λ (x : KeptItem). visit site x ∷ []) (sym whole)
 
 -- a step handles the item, and then those inside are walked
-pub Walks-first : (old mid new : Core) (v : Visit) (vs inside : List Visit) → vs ≡ v ∷ [] → Handles old mid v inside → Walks mid new inside → Walks old new vs
-Walks-first old mid new v vs inside e handles walks = record {
+pub Walks-first : {finished : Maps} (old mid new : Core) (v : Visit) (vs inside : List Visit) → vs ≡ v ∷ [] → Handles finished old mid v inside → Walks finished mid new inside → Walks finished old new vs
+Walks-first {finished} old mid new v vs inside e handles walks = record {
   steps = λ w rest.
-      subst (λ (us : List Visit). Steps w (joined old (us ++ rest)) (joined new rest)) (sym e)
+      subst (λ (us : List Visit). Steps w finished (joined old (us ++ rest)) (joined new rest)) (sym e)
       (Steps-first (handles.step w rest) (walks.steps w rest));
 }
 
 -- steps through those inside lead too far
-pub WalksTooFar-inside : (old mid : Core) (v : Visit) (vs inside : List Visit) → vs ≡ v ∷ [] → Handles old mid v inside → WalksTooFar mid inside → WalksTooFar old vs
-WalksTooFar-inside old mid v vs inside e handles far = record {
+pub WalksTooFar-inside : {finished : Maps} (old mid : Core) (v : Visit) (vs inside : List Visit) → vs ≡ v ∷ [] → Handles finished old mid v inside → WalksTooFar finished mid inside → WalksTooFar finished old vs
+WalksTooFar-inside {finished} old mid v vs inside e handles far = record {
   spent = λ w rest.
-      subst (λ (us : List Visit). IsSpent w (joined old (us ++ rest))) (sym e)
+      subst (λ (us : List Visit). IsSpent w finished (joined old (us ++ rest))) (sym e)
       (spent_after (Steps-one (handles.step w rest)) (far.spent w rest));
 }
 
 -- as many as are counted were taken already
-pub WalksTooFar-here : (old : Core) (vs : List Visit) → IsFull old.count old.map → WalksTooFar old vs
+pub WalksTooFar-here : {finished : Maps} (old : Core) (vs : List Visit) → IsFull old.count old.map → WalksTooFar finished old vs
 WalksTooFar-here old vs full = record { spent = λ w rest. record { at = joined old (vs ++ rest); steps = none; full = full } }
 
 -- an item of which the rules don't speak yet is passed over
-pub passed : (site : Site) (h : Head) (l : Leaf) (old new : Core) → is_enabled h.attributes ≡ true → is_passed_over l ≡ true → new ≡ counted old
-    → Handles old new (visit site (leaf h l)) []
+pub passed : {finished : Maps} (site : Site) (h : Head) (l : Leaf) (old new : Core) → is_enabled h.attributes ≡ true → is_passed_over l ≡ true → new ≡ counted old
+    → Handles finished old new (visit site (leaf h l)) []
 passed site h l old new enabled over is = record {
   step = λ w rest. passes_over site h l rest (record { next = refl; enabled = enabled }) over (rw is refl);
 }
 
 -- a disabled item is dropped
-pub Walks-dropped : (tree : Tree) (site : Site) (n : ℕ) (h : Head) (old new : Core) → n < length (all_items tree.items) → IfSome (slice_get (all_items tree.items) n) (λ i. h ≡ item_head i)
-    → is_enabled h.attributes ≡ false → new ≡ counted old → Walks old new (visits_at tree site (n ∷ []))
-Walks-dropped tree site n h old new there head disabled is =
+pub Walks-dropped : {finished : Maps} (tree : Tree) (site : Site) (n : ℕ) (h : Head) (old new : Core) → n < length (all_items tree.items) → IfSome (slice_get (all_items tree.items) n) (λ i. h ≡ item_head i)
+    → is_enabled h.attributes ≡ false → new ≡ counted old → Walks finished old new (visits_at tree site (n ∷ []))
+Walks-dropped {finished} tree site n h old new there head disabled is =
     let items = all_items tree.items in
     let i = there_at items n there in
     let same_head : h ≡ item_head i.0 = found (slice_get items n) i.0 (λ i. h ≡ item_head i) i.1 head in
@@ -205,7 +205,7 @@ Walks-dropped tree site n h old new there head disabled is =
     let one : visits_at tree site (n ∷ []) ≡ visit site i.0 ∷ [] = ap (λ (o : Option KeptItem). visits site (and_found o no_items)) i.1 in
     record {
       steps = λ w rest.
-          subst (λ (us : List Visit). Steps w (joined old (us ++ rest)) (joined new rest)) (sym one)
+          subst (λ (us : List Visit). Steps w finished (joined old (us ++ rest)) (joined new rest)) (sym one)
           (Steps-one (drops_item (visit site i.0) rest refl off (rw is refl)));
     }
 
@@ -216,17 +216,17 @@ append_nil [] = refl
 append_nil (v ∷ vs) = ap (λ (us : List Visit). v ∷ us) (append_nil vs)
 
 -- a run that has nothing to visit begins at rest
-pub begins_empty : (w : Workspace) (start : Start) (run : Core) (found : Option Tree) → run ≡ start_core start → tree_look found ≡ w.tree start.krate (root_file start)
-    → tree_visits (root_site start) (tree_look found).tree ≡ [] → Steps w (start_of w start) (at_rest run)
-begins_empty w start run found is seen nothing =
+pub begins_empty : (w : Workspace) {finished : Maps} (start : Start) (run : Core) (found : Option Tree) → run ≡ start_core start → tree_look found ≡ w.tree start.krate (root_file start)
+    → tree_visits (root_site start) (tree_look found).tree ≡ [] → Steps w finished (start_of w start) (at_rest run)
+begins_empty w {finished} start run found is seen nothing =
     let begin : start_of w start ≡ joined (start_core start) (tree_visits (root_site start) (tree_look found).tree)
     = ap (λ (t : TreeLook). joined (start_core start) (tree_visits (root_site start) t.tree)) (sym seen) in
     let same : start_of w start ≡ at_rest run = begin ∙ ap (joined (start_core start)) nothing ∙ ap at_rest (sym is) in
-    subst (λ (s : State). Steps w s (at_rest run)) (sym same) none
+    subst (λ (s : State). Steps w finished s (at_rest run)) (sym same) none
 
 -- a file that is absent has no items
-pub begins_absent : (w : Workspace) (start : Start) (run : Core) (found : Option Tree) → run ≡ start_core start → tree_look found ≡ w.tree start.krate (root_file start) → found ≡ None
-    → Steps w (start_of w start) (at_rest run)
+pub begins_absent : (w : Workspace) {finished : Maps} (start : Start) (run : Core) (found : Option Tree) → run ≡ start_core start → tree_look found ≡ w.tree start.krate (root_file start) → found ≡ None
+    → Steps w finished (start_of w start) (at_rest run)
 begins_absent w start run found is seen absent =
     begins_empty w start run found is seen (ap (λ (o : Option Tree). tree_visits (root_site start) (tree_look o).tree) absent)
 
@@ -237,14 +237,14 @@ enabled_visits : (site : Site) (tree : Tree) → is_enabled tree.attributes ≡ 
 enabled_visits site tree e = rw e refl
 
 -- one that is disabled at its top declares nothing
-pub begins_disabled : (w : Workspace) (start : Start) (run : Core) (found : Option Tree) (tree : Tree) → run ≡ start_core start → tree_look found ≡ w.tree start.krate (root_file start)
-    → found ≡ Some tree → is_enabled tree.attributes ≡ false → Steps w (start_of w start) (at_rest run)
+pub begins_disabled : (w : Workspace) {finished : Maps} (start : Start) (run : Core) (found : Option Tree) (tree : Tree) → run ≡ start_core start → tree_look found ≡ w.tree start.krate (root_file start)
+    → found ≡ Some tree → is_enabled tree.attributes ≡ false → Steps w finished (start_of w start) (at_rest run)
 begins_disabled w start run found tree is seen there disabled =
     begins_empty w start run found is seen
     (ap (λ (o : Option Tree). tree_visits (root_site start) (tree_look o).tree) there ∙ disabled_visits (root_site start) tree disabled)
 
 -- another has the items of its tree
-module _ (w : Workspace) (start : Start) (run : Core) (found : Option Tree) (tree : Tree) (ids : List ModItemId) (is : run ≡ start_core start)
+module _ (w : Workspace) (finished : Maps) (start : Start) (run : Core) (found : Option Tree) (tree : Tree) (ids : List ModItemId) (is : run ≡ start_core start)
     (seen : tree_look found ≡ w.tree start.krate (root_file start)) (there : found ≡ Some tree) (enabled : is_enabled tree.attributes ≡ true)
     (all : items_at (all_items tree.items) (numbers_of ids) ≡ tree.items) where
   present_start : joined run (visits_at tree (root_site start) (numbers_of ids) ++ []) ≡ start_of w start
@@ -254,8 +254,8 @@ module _ (w : Workspace) (start : Start) (run : Core) (found : Option Tree) (tre
       ∙ ap (λ (c : Core). joined c (tree_visits (root_site start) tree)) is
       ∙ ap (λ (t : TreeLook). joined (start_core start) (tree_visits (root_site start) t.tree)) look
 
-  pub begins_present : (new : Core) → Walks run new (visits_at tree (root_site start) (numbers_of ids)) → Steps w (start_of w start) (at_rest new)
-  begins_present new walks = subst (λ (s : State). Steps w s (at_rest new)) present_start (walks.steps w [])
+  pub begins_present : (new : Core) → Walks finished run new (visits_at tree (root_site start) (numbers_of ids)) → Steps w finished (start_of w start) (at_rest new)
+  begins_present new walks = subst (λ (s : State). Steps w finished s (at_rest new)) present_start (walks.steps w [])
 
-  pub begins_spent : WalksTooFar run (visits_at tree (root_site start) (numbers_of ids)) → IsSpent w (start_of w start)
-  begins_spent far = subst (λ (s : State). IsSpent w s) present_start (far.spent w [])
+  pub begins_spent : WalksTooFar finished run (visits_at tree (root_site start) (numbers_of ids)) → IsSpent w finished (start_of w start)
+  begins_spent far = subst (λ (s : State). IsSpent w finished s) present_start (far.spent w [])

@@ -22,12 +22,12 @@ use Rattle.hir_scope.specs.declared.per_ns.Item.{Item}
 use Rattle.hir_scope.specs.declared.per_ns.PerNs.{PerNs}
 use Rattle.hir_scope.specs.declared.visibility.Visibility.{Visibility}
 use Rattle.hir_def_map.specs.Reaches.{reached_items}
-use Rattle.hir_def_map.specs.State.{Map, alone, no_globs, pushed}
+use Rattle.hir_def_map.specs.State.{Map, Maps, beside, no_globs, pushed}
 use Rattle.hir_def_collector.specs.declared.collector.imports.ReachedImport.{ReachedImport}
 use Rattle.hir_def_collector.specs.declared.collector.imports.Namespaces.{Namespaces}
 use Rattle.hir_def_collector.specs.declared.collector.imports.Taking.{Taking}
 use Rattle.hir_def_collector.specs.declared.collector.site.Site.{Site}
-use Rattle.hir_def_collector.specs.State.{Core}
+use Rattle.hir_def_collector.specs.State.{Core, no_crates}
 use Rattle.hir_def_collector.specs.ItemIds.{module_id, use_id}
 use Rattle.hir_def_collector.specs.Items.{lesser_in}
 
@@ -60,8 +60,8 @@ abbrev pub name_of : ReachedImport → Option (List ℕ)
 name_of i = name_by i.alias i.path.segments
 
 -- what a path reaches that an import of the module names
-unfoldable pub reached_in : Map → ModuleId → Path → PerNs
-reached_in m at path = reached_items (alone m) at path
+unfoldable pub reached_in : Maps → Map → ModuleId → Path → PerNs
+reached_in finished m at path = reached_items (beside finished m) no_crates at path
 
 -- what an import of this kind reaches, where its path reaches these items: a glob reaches nothing yet
 abbrev pub reached_by_kind : ImportKind → PerNs → PerNs
@@ -70,8 +70,8 @@ reached_by_kind kinds.TypeOnly items = items
 reached_by_kind kinds.Glob items = nothing
 
 -- what an import reaches
-abbrev pub reached_by : Map → ReachedImport → PerNs
-reached_by m i = reached_by_kind i.kind (reached_in m (module_id m i.home) i.path)
+abbrev pub reached_by : Maps → Map → ReachedImport → PerNs
+reached_by finished m i = reached_by_kind i.kind (reached_in finished m (module_id m i.home) i.path)
 
 -- what an import of this kind keeps of what it reaches: `self` in a list keeps types alone
 abbrev pub kept_by_kind : ImportKind → PerNs → PerNs
@@ -80,8 +80,8 @@ kept_by_kind kinds.TypeOnly items = record { types = items.types; values = None;
 kept_by_kind kinds.Glob items = items
 
 -- what an import keeps of what it reaches
-abbrev pub kept_by : Map → ReachedImport → PerNs
-kept_by m i = kept_by_kind i.kind (reached_by m i)
+abbrev pub kept_by : Maps → Map → ReachedImport → PerNs
+kept_by finished m i = kept_by_kind i.kind (reached_by finished m i)
 
 -- the namespaces in which something is bound
 abbrev pub namespaces_of : PerNs → Namespaces
@@ -106,15 +106,15 @@ abbrev pub goes_beyond : Namespaces → Namespaces → Bool
 goes_beyond some all = ((some.types && not all.types) || (some.values && not all.values)) || (some.macros && not all.macros)
 
 -- an item as an import offers it: with the lesser of its own visibility and the reached one, and with its own where they are unrelated
-abbrev pub brought : {D I : Type 0} → Map → Visibility → Item D I → Item D I
-brought m own i = record { def = i.def; vis = unwrap_or (lesser_in m own i.vis) own; import = i.import }
+abbrev pub brought : {D I : Type 0} → Maps → Map → Visibility → Item D I → Item D I
+brought finished m own i = record { def = i.def; vis = unwrap_or (lesser_in finished m own i.vis) own; import = i.import }
 
 -- what an import of this visibility offers of what it reaches, each item with what had brought it
-abbrev pub imported : Map → Visibility → PerNs → PerNs
-imported m own items = record {
-  types = option_map (brought m own) items.types;
-  values = option_map (brought m own) items.values;
-  macros = option_map (brought m own) items.macros;
+abbrev pub imported : Maps → Map → Visibility → PerNs → PerNs
+imported finished m own items = record {
+  types = option_map (brought finished m own) items.types;
+  values = option_map (brought finished m own) items.values;
+  macros = option_map (brought finished m own) items.macros;
 }
 
 -- what pushes: an import, or a declaration
@@ -131,23 +131,23 @@ bound_as m home None items import = m
 bound_as m home (Some name) items import = bound_in m home name items (Some import)
 
 -- what an import offers
-abbrev pub offered_by : Map → ReachedImport → PerNs
-offered_by m i = imported m (visibility_of (module_id m i.home) i.visibility) (kept_by m i)
+abbrev pub offered_by : Maps → Map → ReachedImport → PerNs
+offered_by finished m i = imported finished m (visibility_of (module_id m i.home) i.visibility) (kept_by finished m i)
 
 -- the map once the import is taken
-abbrev pub after_import : Map → ReachedImport → Map
-after_import m i = bound_as m i.home (name_of i) (offered_by m i) i.id
+abbrev pub after_import : Maps → Map → ReachedImport → Map
+after_import finished m i = bound_as m i.home (name_of i) (offered_by finished m i) i.id
 
 -- the taking of an import of which these namespaces were reached before, where it reaches another
-abbrev pub taking_of : Map → ReachedImport → Namespaces → Option Taking
-taking_of m r t = cond (goes_beyond (namespaces_of (reached_by m r)) t) (Some (record {
+abbrev pub taking_of : Maps → Map → ReachedImport → Namespaces → Option Taking
+taking_of finished m r t = cond (goes_beyond (namespaces_of (reached_by finished m r)) t) (Some (record {
   home = r.home;
   name = name_of r;
-  items = offered_by m r;
+  items = offered_by finished m r;
   import = r.id;
-  namespaces = both_of t (namespaces_of (reached_by m r));
+  namespaces = both_of t (namespaces_of (reached_by finished m r));
 })) None
 
 -- the taking that is due of the import at the place, if one is
-abbrev pub taking_at : Core → ℕ → Option Taking
-taking_at c i = option_and_then (λ r. option_and_then (λ t. taking_of c.map r t) (slice_get c.taken i)) (slice_get c.reached i)
+abbrev pub taking_at : Maps → Core → ℕ → Option Taking
+taking_at finished c i = option_and_then (λ r. option_and_then (λ t. taking_of finished c.map r t) (slice_get c.taken i)) (slice_get c.reached i)

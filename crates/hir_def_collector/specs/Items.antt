@@ -14,7 +14,7 @@ use Rattle.hir_scope.specs.Visibility.{visibility_of, lesser_of}
 use Rattle.hir_scope.specs.declared.per_ns.PerNs.{PerNs}
 use Rattle.hir_scope.specs.declared.visibility.Visibility.{Visibility}
 use Rattle.hir_def_map.specs.Chains.{above_in}
-use Rattle.hir_def_map.specs.State.{Map, alone, new_id}
+use Rattle.hir_def_map.specs.State.{Map, Maps, beside, new_id}
 use Rattle.hir_def_map.specs.declared.nameres.origin.ModuleOrigin.{ModuleOrigin}
 use Rattle.hir_def_map.specs.declared.nameres.origin.ModuleOrigin.TheVariants as origins
 use Rattle.hir_def_collector.specs.declared.collector.declaration.Declaration.{Declaration}
@@ -51,21 +51,21 @@ declared_struct def vis (Some constructor) = record {
 abbrev pub own_visibility : Map → Site → Head → Visibility
 own_visibility m s head = visibility_of (module_id m s.home) head.visibility
 
--- the lesser of two visibilities in the map, none where they are unrelated
-unfoldable pub lesser_in : Map → Visibility → Visibility → Option Visibility
-lesser_in m a b = lesser_of (above_in (alone m)) m.id a b
+-- the lesser of two visibilities in the map beside finished ones, none where they are unrelated
+unfoldable pub lesser_in : Maps → Map → Visibility → Visibility → Option Visibility
+lesser_in finished m a b = lesser_of (above_in (beside finished m)) m.id a b
 
 -- the meet of visibilities, none where it comes upon two that are unrelated
-abbrev pub meet_of : Map → Visibility → List Visibility → Option Visibility
-meet_of m least [] = Some least
-meet_of m least (v ∷ vs) = option_and_then (λ next. meet_of m next vs) (lesser_in m least v)
+abbrev pub meet_of : Maps → Map → Visibility → List Visibility → Option Visibility
+meet_of finished m least [] = Some least
+meet_of finished m least (v ∷ vs) = option_and_then (λ next. meet_of finished m next vs) (lesser_in finished m least v)
 
 -- the visibility of a struct's constructor, if its shape has one: a tuple's is the meet of those that
 -- it has to meet, and the struct's own where two are unrelated
-abbrev pub constructor_of : Map → Visibility → FieldsShape → List Visibility → Option Visibility
-constructor_of m own Record vs = None
-constructor_of m own Tuple vs = Some (unwrap_or (meet_of m own vs) own)
-constructor_of m own UnitShape vs = Some own
+abbrev pub constructor_of : Maps → Map → Visibility → FieldsShape → List Visibility → Option Visibility
+constructor_of finished m own Record vs = None
+constructor_of finished m own Tuple vs = Some (unwrap_or (meet_of finished m own vs) own)
+constructor_of finished m own UnitShape vs = Some own
 
 -- ---- what an item binds
 
@@ -78,46 +78,46 @@ abbrev pub value_declaration : List ℕ → ModuleDefId → Visibility → Decla
 value_declaration name def vis = record { name = name; def = def; items = declared_value def vis }
 
 -- a struct, with the visibilities that its constructor has to meet
-abbrev pub struct_declaration : Map → Site → Head → List ℕ → FieldsShape → List Visibility → Declaration
-struct_declaration m s head name shape fields =
+abbrev pub struct_declaration : Maps → Map → Site → Head → List ℕ → FieldsShape → List Visibility → Declaration
+struct_declaration finished m s head name shape fields =
     let def = definitions.AdtId (adts.StructId (struct_id m s head.id)) in
     let own = own_visibility m s head in
-    record { name = name; def = def; items = declared_struct def own (constructor_of m own shape fields) }
+    record { name = name; def = def; items = declared_struct def own (constructor_of finished m own shape fields) }
 
 -- what an item that holds no others declares under its name
-abbrev pub declared_by_leaf : Map → Site → Head → Leaf → Option Declaration
-declared_by_leaf m s h (import tree) = None
-declared_by_leaf m s h (extern_crate name alias) = None
-declared_by_leaf m s h (function name) =
+abbrev pub declared_by_leaf : Maps → Map → Site → Head → Leaf → Option Declaration
+declared_by_leaf finished m s h (import tree) = None
+declared_by_leaf finished m s h (extern_crate name alias) = None
+declared_by_leaf finished m s h (function name) =
     Some (value_declaration name (definitions.FunctionId (function_id m s h.id)) (own_visibility m s h))
-declared_by_leaf m s h (structure name shape fields) =
-    Some (struct_declaration m s h name shape (map (visibility_of (module_id m s.home)) fields))
-declared_by_leaf m s h (union_structure name fields) =
+declared_by_leaf finished m s h (structure name shape fields) =
+    Some (struct_declaration finished m s h name shape (map (visibility_of (module_id m s.home)) fields))
+declared_by_leaf finished m s h (union_structure name fields) =
     Some (type_declaration name (definitions.AdtId (adts.UnionId (union_id m s h.id))) (own_visibility m s h))
-declared_by_leaf m s h (enumeration name) = None
-declared_by_leaf m s h (constant None) = None
-declared_by_leaf m s h (constant (Some name)) =
+declared_by_leaf finished m s h (enumeration name) = None
+declared_by_leaf finished m s h (constant None) = None
+declared_by_leaf finished m s h (constant (Some name)) =
     Some (value_declaration name (definitions.ConstId (const_id m s h.id)) (own_visibility m s h))
-declared_by_leaf m s h (static_item name) =
+declared_by_leaf finished m s h (static_item name) =
     Some (value_declaration name (definitions.StaticId (static_id m s h.id)) (own_visibility m s h))
-declared_by_leaf m s h (trait_item name) =
+declared_by_leaf finished m s h (trait_item name) =
     Some (type_declaration name (definitions.TraitId (trait_id m s h.id)) (own_visibility m s h))
-declared_by_leaf m s h (implementation of_trait) = None
-declared_by_leaf m s h (type_alias name) =
+declared_by_leaf finished m s h (implementation of_trait) = None
+declared_by_leaf finished m s h (type_alias name) =
     Some (type_declaration name (definitions.TypeAliasId (type_alias_id m s h.id)) (own_visibility m s h))
-declared_by_leaf m s h (outline_module name) = None
-declared_by_leaf m s h (macro_call path) = None
-declared_by_leaf m s h (macro_rules name expander helpers) = None
-declared_by_leaf m s h (macro_def name expander helpers) = None
+declared_by_leaf finished m s h (outline_module name) = None
+declared_by_leaf finished m s h (macro_call path) = None
+declared_by_leaf finished m s h (macro_rules name expander helpers) = None
+declared_by_leaf finished m s h (macro_def name expander helpers) = None
 
 -- what an item of a site declares under its name, modules aside
-abbrev pub declared_by : Map → Site → KeptItem → Option Declaration
-declared_by m s (leaf head l) = declared_by_leaf m s head l
-declared_by m s (holder head k items) = None
+abbrev pub declared_by : Maps → Map → Site → KeptItem → Option Declaration
+declared_by finished m s (leaf head l) = declared_by_leaf finished m s head l
+declared_by finished m s (holder head k items) = None
 
 -- what the visited item declares
-abbrev pub declaration_of : Map → Visit → Option Declaration
-declaration_of m v = declared_by m v.site v.item
+abbrev pub declaration_of : Maps → Map → Visit → Option Declaration
+declaration_of finished m v = declared_by finished m v.site v.item
 
 -- the origin of a module that is written where it is declared
 abbrev pub inline_origin : HirFileId → SyntaxId → ModuleOrigin

@@ -1,5 +1,6 @@
 -- What a part of a run does.
 use Rattle.std.specs.Prelude.{◌≡◌, ◌<◌, Bool, true, false, List, ◌∷◌, ◌++◌}
+use Rattle.hir_def_map.specs.State.{Maps}
 use Rattle.hir_def_map.specs.declared.nameres.AddModuleError.{AddModuleError}
 use Rattle.hir_def_map.specs.declared.nameres.AddModuleError.TheVariants as refusals
 use Rattle.hir_def_collector.specs.declared.collector.CollectError.{CollectError}
@@ -10,23 +11,23 @@ use Rattle.hir_def_collector.specs.Steps.{Step, Steps}
 use Rattle.hir_def_collector.specs.Derivation.{IsSpent}
 
 -- a part of a run takes steps, at least one where it says that it moved; else none, at a state of which P holds
-pub record Moves (w : Workspace) (old new : State) (moved : Bool) (P : State → Type 0) : Type 0 where
-  pub steps : Steps w old new
+pub record Moves (w : Workspace) (finished : Maps) (old new : State) (moved : Bool) (P : State → Type 0) : Type 0 where
+  pub steps : Steps w finished old new
   pub rises : moved ≡ true → old.count < new.count
   pub same : moved ≡ false → new ≡ old
   pub rests : moved ≡ false → P old
 
 -- one step handles the visit, and these visits come next
-pub record Handles (old new : Core) (v : Visit) (inside : List Visit) : Type 0 where
-  pub step : (w : Workspace) (rest : List Visit) → Step w (joined old (v ∷ rest)) (joined new (inside ++ rest))
+pub record Handles (finished : Maps) (old new : Core) (v : Visit) (inside : List Visit) : Type 0 where
+  pub step : (w : Workspace) (rest : List Visit) → Step w finished (joined old (v ∷ rest)) (joined new (inside ++ rest))
 
 -- steps handle the visits, one after another
-pub record Walks (old new : Core) (vs : List Visit) : Type 0 where
-  pub steps : (w : Workspace) (rest : List Visit) → Steps w (joined old (vs ++ rest)) (joined new rest)
+pub record Walks (finished : Maps) (old new : Core) (vs : List Visit) : Type 0 where
+  pub steps : (w : Workspace) (rest : List Visit) → Steps w finished (joined old (vs ++ rest)) (joined new rest)
 
 -- steps that handle the visits lead to as many as are counted
-pub record WalksTooFar (old : Core) (vs : List Visit) : Type 0 where
-  pub spent : (w : Workspace) (rest : List Visit) → IsSpent w (joined old (vs ++ rest))
+pub record WalksTooFar (finished : Maps) (old : Core) (vs : List Visit) : Type 0 where
+  pub spent : (w : Workspace) (rest : List Visit) → IsSpent w finished (joined old (vs ++ rest))
 
 -- why a run is given up where a module can't be added
 abbrev pub refusal_of : AddModuleError → CollectError

@@ -5,7 +5,7 @@ use Rattle.hir_base.specs.declared.ast_id.HirFileId.TheVariants.{File}
 use Rattle.hir_item_tree.specs.Collected.{is_enabled}
 use Rattle.hir_item_tree.specs.ItemTree.{Tree}
 use Rattle.hir_scope.specs.declared.visibility.Visibility.TheVariants as visibilities
-use Rattle.hir_def_map.specs.State.{Map, root_map as map_with_root}
+use Rattle.hir_def_map.specs.State.{Map, empty_map, new_data, new_module}
 use Rattle.hir_def_map.specs.declared.nameres.origin.ModuleOrigin.TheVariants as origins
 use Rattle.hir_def_collector.specs.declared.collector.Start.{Start}
 use Rattle.hir_def_collector.specs.declared.collector.site.Site.{Site}
@@ -28,7 +28,7 @@ root_key start = TreeKey start.krate (root_file start)
 
 -- the map of the crate with its root module alone
 abbrev pub root_map : Start → Map
-root_map start = map_with_root (record { krate = start.krate; block = None }) start.root.edition (origins.CrateRoot start.root) visibilities.Public
+root_map start = empty_map start.krate (new_data start.root.edition) (new_module (origins.CrateRoot start.root) visibilities.Public None) None
 
 -- nothing but the root module, its tree asked for
 abbrev pub start_core : Start → Core

@@ -1,7 +1,7 @@
 -- Where a run stands.
 use Rattle.std.specs.Prelude.{ℕ, ◌+◌, false, List, [], ◌∷◌, ◌++◌, map, slice_set}
 use Rattle.hir_item_tree.specs.KeptForest.{KeptItem, KeptForest, no_items, item}
-use Rattle.hir_def_map.specs.State.{Map}
+use Rattle.hir_def_map.specs.State.{Local, Map}
 use Rattle.hir_def_collector.specs.declared.collector.imports.ReachedImport.{ReachedImport}
 use Rattle.hir_def_collector.specs.declared.collector.imports.Namespaces.{Namespaces}
 use Rattle.hir_def_collector.specs.declared.collector.site.Site.{Site}
@@ -34,6 +34,10 @@ pub record Core : Type 0 where
   pub taken : List Namespaces
   pub asked : List Key
   pub count : ℕ
+
+-- the crates that paths may begin with; there are none yet
+abbrev pub no_crates : Local
+no_crates = []
 
 -- no namespace
 abbrev pub no_namespaces : Namespaces

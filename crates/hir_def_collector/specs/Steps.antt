@@ -5,14 +5,14 @@ use Rattle.hir_item_tree.specs.Collected.{is_enabled}
 use Rattle.hir_item_tree.specs.Kinds.{item_head}
 use Rattle.hir_item_tree.specs.KeptForest.{Head, Leaf, KeptItem, KeptForest, leaf, import, constant, implementation, holder, extern_block, inline_module}
 use Rattle.hir_item_tree.specs.UseTree.{UseTree}
-use Rattle.hir_def_map.specs.State.{Map, new_id, with_module, with_declared, with_use, with_impl, with_extern_block, with_unnamed_const}
+use Rattle.hir_def_map.specs.State.{Map, Maps, new_id, new_module, with_module, with_declared, with_use, with_impl, with_extern_block, with_unnamed_const}
 use Rattle.hir_def_collector.specs.declared.collector.declaration.Declaration.{Declaration}
 use Rattle.hir_def_collector.specs.declared.collector.imports.ReachedImport.{ReachedImport}
 use Rattle.hir_def_collector.specs.declared.collector.imports.Namespaces.{Namespaces}
 use Rattle.hir_def_collector.specs.declared.collector.site.Site.{Site}
 use Rattle.hir_def_collector.specs.Workspace.{Workspace}
 use Rattle.hir_def_collector.specs.State.{Visit, State, visits, ticked, not_taken}
-use Rattle.hir_def_collector.specs.ItemIds.{const_id, impl_id, extern_block_id, use_id}
+use Rattle.hir_def_collector.specs.ItemIds.{module_id, const_id, impl_id, extern_block_id, use_id}
 use Rattle.hir_def_collector.specs.Items.{declaration_of, declared_module, inline_origin, is_passed_over, own_visibility}
 use Rattle.hir_def_collector.specs.Imports.{bound_in, imports_by, reached_by, namespaces_of, both_of, goes_beyond, after_import}
 
@@ -43,7 +43,7 @@ after_list_impl s site head of_trait rest =
 abbrev pub with_bound_module : Map → Site → Head → List ℕ → Map
 with_bound_module m s head name =
     let vis = own_visibility m s head in
-    let made = with_module m s.home name (inline_origin s.file head.id) vis in
+    let made = with_module m s.home name (new_module (inline_origin s.file head.id) vis (Some (module_id m s.home))) in
     bound_in (with_declared made s.home (definitions.ModuleId (new_id m))) s.home name (declared_module m vis) None
 
 -- where the items of the next module of a map are written
@@ -78,8 +78,11 @@ after_reach s site head imports rest = ticked (record s {
 })
 
 -- the import at the place is bound, and what it reached is noted
-abbrev pub after_take : State → ℕ → ReachedImport → Namespaces → State
-after_take s i r t = ticked (record s { map = after_import s.map r; taken = slice_set s.taken i (both_of t (namespaces_of (reached_by s.map r))) })
+abbrev pub after_take : Maps → State → ℕ → ReachedImport → Namespaces → State
+after_take finished s i r t = ticked (record s {
+  map = after_import finished s.map r;
+  taken = slice_set s.taken i (both_of t (namespaces_of (reached_by finished s.map r)));
+})
 
 -- ---- when a step may be taken
 
@@ -89,47 +92,47 @@ pub record IsNext (s : State) (v : Visit) (rest : List Visit) : Type 0 where
   pub enabled : is_enabled (item_head v.item).attributes ≡ true
 
 -- the import at the place reaches a namespace that none of its takings reached
-pub record CanTake (s : State) (i : ℕ) (r : ReachedImport) (t : Namespaces) : Type 0 where
+pub record CanTake (finished : Maps) (s : State) (i : ℕ) (r : ReachedImport) (t : Namespaces) : Type 0 where
   pub import : slice_get s.reached i ≡ Some r
   pub before : slice_get s.taken i ≡ Some t
-  pub gains : goes_beyond (namespaces_of (reached_by s.map r)) t ≡ true
+  pub gains : goes_beyond (namespaces_of (reached_by finished s.map r)) t ≡ true
 
 -- an item that is written at a site
 abbrev pub visit : Site → KeptItem → Visit
 visit site i = record { site = site; item = i }
 
--- one step
-pub data Step (w : Workspace) (old new : State) : Type 0 where
+-- one step, beside finished maps
+pub data Step (w : Workspace) (finished : Maps) (old new : State) : Type 0 where
   -- the next item is disabled, and is dropped with all in it
   drops_item : (v : Visit) (rest : List Visit) → old.agenda ≡ v ∷ rest → is_enabled (item_head v.item).attributes ≡ false
-      → new ≡ after_leave old rest → Step w old new
+      → new ≡ after_leave old rest → Step w finished old new
   -- the next item is of a kind of which the rules don't speak yet
   passes_over : (site : Site) (head : Head) (l : Leaf) (rest : List Visit) → IsNext old (visit site (leaf head l)) rest → is_passed_over l ≡ true
-      → new ≡ after_leave old rest → Step w old new
+      → new ≡ after_leave old rest → Step w finished old new
   -- the next item binds its name
-  declares_item : (v : Visit) (d : Declaration) (rest : List Visit) → IsNext old v rest → declaration_of old.map v ≡ Some d
-      → new ≡ after_declare old v.site.home d rest → Step w old new
+  declares_item : (v : Visit) (d : Declaration) (rest : List Visit) → IsNext old v rest → declaration_of finished old.map v ≡ Some d
+      → new ≡ after_declare old v.site.home d rest → Step w finished old new
   -- the next item is a constant without a name
   lists_constant : (site : Site) (head : Head) (rest : List Visit) → IsNext old (visit site (leaf head (constant None))) rest
-      → new ≡ after_list_constant old site head rest → Step w old new
+      → new ≡ after_list_constant old site head rest → Step w finished old new
   -- the next item is an impl
   lists_impl : (site : Site) (head : Head) (of_trait : Bool) (rest : List Visit) → IsNext old (visit site (leaf head (implementation of_trait))) rest
-      → new ≡ after_list_impl old site head of_trait rest → Step w old new
+      → new ≡ after_list_impl old site head of_trait rest → Step w finished old new
   -- the next item is a module that is written where it is declared
   opens_module : (site : Site) (head : Head) (name : List ℕ) (items : KeptForest) (rest : List Visit)
       → IsNext old (visit site (holder head (inline_module name) items)) rest
-      → new ≡ after_open old site head name items rest → Step w old new
+      → new ≡ after_open old site head name items rest → Step w finished old new
   -- the next item is an extern block
   enters_block : (site : Site) (head : Head) (items : KeptForest) (rest : List Visit) → IsNext old (visit site (holder head extern_block items)) rest
-      → new ≡ after_enter old site head items rest → Step w old new
+      → new ≡ after_enter old site head items rest → Step w finished old new
   -- the next item is a `use`
   reaches_imports : (site : Site) (head : Head) (tree : UseTree) (rest : List Visit) → IsNext old (visit site (leaf head (import tree))) rest
-      → new ≡ after_reach old site head (imports_by old.map site head tree) rest → Step w old new
+      → new ≡ after_reach old site head (imports_by old.map site head tree) rest → Step w finished old new
   -- an import binds what it reaches now
-  takes_import : (i : ℕ) (r : ReachedImport) (t : Namespaces) → CanTake old i r t
-      → new ≡ after_take old i r t → Step w old new
+  takes_import : (i : ℕ) (r : ReachedImport) (t : Namespaces) → CanTake finished old i r t
+      → new ≡ after_take finished old i r t → Step w finished old new
 
 -- steps one after another
-pub data Steps (w : Workspace) (from : State) : State → Type 0 where
-  none : Steps w from from
-  more : (old new : State) → Steps w from old → Step w old new → Steps w from new
+pub data Steps (w : Workspace) (finished : Maps) (from : State) : State → Type 0 where
+  none : Steps w finished from from
+  more : (old new : State) → Steps w finished from old → Step w finished old new → Steps w finished from new

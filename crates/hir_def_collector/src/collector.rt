@@ -1,5 +1,6 @@
 //! Runs of the import rules, after rust-analyzer's `DefCollector`.
 ghost use Rattle.std.specs.Prelude.{◌≡◌, IfOk};
+ghost use Rattle.hir_def_map.specs.World.{finished_in};
 ghost use Rattle.hir_def_collector.specs.Workspace.{Workspace};
 ghost use Rattle.hir_def_collector.specs.Keys.{AgreeOn};
 ghost use Rattle.hir_def_collector.specs.Start.{start_of};
@@ -23,6 +24,7 @@ use collected::Collected;
 use hir_base::ast_id::{EditionedFileId, HirFileId};
 use hir_base::ids::Crate;
 use hir_def_map::nameres::AddModuleError;
+use hir_def_map::world::World;
 use passes::settle;
 use run::Run;
 use site::Site;
@@ -72,7 +74,7 @@ impl From<AddModuleError> for CollectError {
     }
 }
 
-/// Finds what the names of a crate's modules stand for.
+/// Finds what the names of a crate's modules stand for, beside the finished maps.
 ///
 /// A crate of one file: its items of all kinds but enums, `extern crate` items, modules in files of their
 /// own, macro calls and macros, which are passed over, and its imports but globs, which are left over. After
@@ -80,23 +82,29 @@ impl From<AddModuleError> for CollectError {
 pub fn collect_defs<D: SourceDatabase>(
     alloc: Global,
     db: &D,
+    world: &World,
     start: Start,
 ) -> Result<Collected, CollectError>
     // The answer is the end of a derivation over each workspace that agrees on what was asked for.
-    ensures ends { IfOk result (λ c. (w : Workspace) → AgreeOn c.asked (D.workspace db.now) w → Ends w start c) }
+    ensures ends { IfOk result (λ c. (w : Workspace) → AgreeOn c.asked (D.workspace db.now) w → Ends w (finished_in world.now.maps) start c) }
     // Steps lead on from the start to as many as are counted.
-    ensures many { result ≡ Err CollectError.TooMany → IsSpent (D.workspace db.now) (start_of (D.workspace db.now) start) }
+    ensures many { result ≡ Err CollectError.TooMany → IsSpent (D.workspace db.now) (finished_in world.now.maps) (start_of (D.workspace db.now) start) }
 {
-    let mut run = begin(alloc, db, start)?;
-    settle(&mut run)?;
+    let mut run = begin(alloc, db, world, start)?;
+    settle(&mut run, world)?;
     let leftover = run.leftover(alloc)?;
     Ok(run.finish(leftover))
 }
 
 /// The root module, with all items of its file handled.
-fn begin<D: SourceDatabase>(alloc: Global, db: &D, start: Start) -> Result<Run, CollectError>
-    ensures ok { IfOk result (λ run. Steps (D.workspace db.now) (start_of (D.workspace db.now) start) (at_rest run)) }
-    ensures many { result ≡ Err CollectError.TooMany → IsSpent (D.workspace db.now) (start_of (D.workspace db.now) start) }
+fn begin<D: SourceDatabase>(
+    alloc: Global,
+    db: &D,
+    world: &World,
+    start: Start,
+) -> Result<Run, CollectError>
+    ensures ok { IfOk result (λ run. Steps (D.workspace db.now) (finished_in world.now.maps) (start_of (D.workspace db.now) start) (at_rest run)) }
+    ensures many { result ≡ Err CollectError.TooMany → IsSpent (D.workspace db.now) (finished_in world.now.maps) (start_of (D.workspace db.now) start) }
 {
     let mut run = Run::start(alloc, start)?;
     let file = HirFileId::File(start.root);
@@ -111,6 +119,6 @@ fn begin<D: SourceDatabase>(alloc: Global, db: &D, start: Start) -> Result<Run, 
         file,
         extern_block: None,
     };
-    walk_all(&mut run, &tree, site, tree.top_level_items())?;
+    walk_all(&mut run, world, &tree, site, tree.top_level_items())?;
     Ok(run)
 }

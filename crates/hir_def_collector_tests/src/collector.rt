@@ -8,6 +8,7 @@ use hir_def_collector::collector::collected::Collected;
 use hir_def_collector::collector::{Start, collect_defs};
 use hir_def_collector::source_database::SourceDatabase;
 use hir_def_map::nameres::DefMap;
+use hir_def_map::world::World;
 use hir_item_tree::item_tree::{ItemTree, source_tree};
 use hir_item_tree::source::Source;
 use hir_scope::imports::ImportOrGlob;
@@ -84,7 +85,7 @@ fn collected(alloc: Global) -> Result<Collected, Fail> {
             edition: Edition::Edition2021,
         },
     };
-    Ok(collect_defs(alloc, &db, start)?)
+    Ok(collect_defs(alloc, &db, &World::new(alloc), start)?)
 }
 
 /// Asserts what the names of a module stand for.

@@ -1,4 +1,12 @@
-pub mod Modules
+pub mod Blocks
 pub mod Climb
+pub mod Modules
+pub mod SeenSegments
+pub mod JoinedSegments
+pub mod Steps
 pub mod Agreement
 pub mod LastSegment
+pub mod LookUps
+pub mod Gaining
+pub mod Joined
+pub mod Falling

@@ -1,12 +1,11 @@
 -- Lists of modules in which one is changed, or one more stands behind the others.
-use Rattle.std.proofs.Common.{◌≡◌, ◌∙◌, ap, sym, subst, refl, ℕ, zero, suc, ◌<◌, ◌≤◌, ◌++◌, List, [], ◌∷◌, length, Option, None, Some, slice_get, slice_set, ◌⊎◌, inl, inr, arith}
+use Rattle.std.proofs.Common.{◌≡◌, ◌∙◌, ap, sym, subst, refl, ℕ, zero, suc, ◌<◌, ◌≤◌, ◌++◌, List, [], ◌∷◌, length, Some, slice_get, slice_set, ◌⊎◌, inl, inr, arith}
 use Rattle.std.specs.Option.{option_map}
 use Rattle.std.specs.Prelude.{Result, Ok, Err, OnOk, OnErr}
 use Rattle.std.proofs.Common.{get_or}
 use Rattle.std.proofs.lemmas.Option.{slice_get_read}
-use Rattle.hir_base.specs.declared.ids.MapId.{MapId}
 use Rattle.hir_base.specs.declared.ids.ModuleId.{ModuleId}
-use Rattle.hir_def_map.specs.State.{ModuleValue, changed_at, with_child, IsBefore, IsRooted}
+use Rattle.hir_def_map.specs.State.{ModuleValue, changed_at, with_child, IsNumbered}
 
 -- a fact of the state after a call that may fail
 pub OnOk-map : {T E : Type 0} (r : Result T E) (P Q : Type 0) → (P → Q) → OnOk r P → OnOk r Q
@@ -65,29 +64,17 @@ module _ {A : Type 0} where
   slice_get-append_left (x ∷ xs) ys zero h = refl
   slice_get-append_left (x ∷ xs) ys (suc k) h = slice_get-append_left xs ys k (omega arith)
 
--- a change that leaves the parent leaves the modules rooted
-pub IsRooted-changed_at : (id : MapId) (ms : List ModuleValue) (at : ℕ) (change : ModuleValue → ModuleValue) → ((m : ModuleValue) → (change m).parent ≡ m.parent) → IsRooted id ms → IsRooted id (changed_at ms at change)
-IsRooted-changed_at id ms at change keeps rooted = record {
-  root = let e : length (changed_at ms at change) ≡ length ms = length-changed_at ms at change in let r : 0 < length ms = rooted.root in omega arith;
-  parents = λ k n e. go k n e (slice_get ms k) refl;
-  numbers = let e : length (changed_at ms at change) ≡ length ms = length-changed_at ms at change in let r : length ms ≤ 2147483647 = rooted.numbers in omega arith;
+-- a change of one module leaves the modules numbered
+pub IsNumbered-changed_at : (ms : List ModuleValue) (at : ℕ) (change : ModuleValue → ModuleValue) → IsNumbered ms → IsNumbered (changed_at ms at change)
+IsNumbered-changed_at ms at change numbered = record {
+  root = let e : length (changed_at ms at change) ≡ length ms = length-changed_at ms at change in let r : 0 < length ms = numbered.root in omega arith;
+  numbers = let e : length (changed_at ms at change) ≡ length ms = length-changed_at ms at change in let r : length ms ≤ 2147483647 = numbered.numbers in omega arith;
 }
-  where
-    go : (k : ℕ) (n : ModuleValue) → slice_get (changed_at ms at change) k ≡ Some n → (o : Option ModuleValue) → slice_get ms k ≡ o → IsBefore id k n.parent
-    go k n e o f = on o f (ap (option_map (λ (m : ModuleValue). m.parent)) (sym e) ∙ kept-changed_at (λ (m : ModuleValue). m.parent) ms at change keeps k ∙ ap (option_map (λ (m : ModuleValue). m.parent)) f)
-      where
-        on : (o : Option ModuleValue) → slice_get ms k ≡ o → Some n.parent ≡ option_map (λ (m : ModuleValue). m.parent) o → IsBefore id k n.parent
-        on None f g = absurd cc
-        on (Some m) f g = let same : m.parent ≡ n.parent = cc in subst (λ (p : Option ModuleId). IsBefore id k p) same (rooted.parents k m f)
 
--- and so does one more module with a parent among the others
-pub IsRooted-append : (id : MapId) (ms : List ModuleValue) (m : ModuleValue) → IsBefore id (length ms) m.parent → length ms < 2147483647 → IsRooted id ms → IsRooted id (ms ++ m ∷ [])
-IsRooted-append id ms m before room rooted = record {
-  root = longer 0 rooted.root;
-  parents = λ k n e. elim (slice_get-append_one ms m n k e) [
-    | inl p ↦ rooted.parents k n p
-    | inr p ↦ subst (λ (j : ℕ). IsBefore id j n.parent) (sym p.0) (subst (λ (x : ModuleValue). IsBefore id (length ms) x.parent) (sym p.1) before)
-  ];
+-- and so does one more module
+pub IsNumbered-append : (ms : List ModuleValue) (m : ModuleValue) → length ms < 2147483647 → IsNumbered ms → IsNumbered (ms ++ m ∷ [])
+IsNumbered-append ms m room numbered = record {
+  root = rw (length-one ms m) (omega arith);
   numbers = rw (length-one ms m) (omega arith);
 }
   where
@@ -95,21 +82,17 @@ IsRooted-append id ms m before room rooted = record {
     length-one [] y = refl
     length-one (x ∷ xs) y = ap suc (length-one xs y)
 
-    longer : (k : ℕ) → k < length ms → k < length (ms ++ m ∷ [])
-    longer k h = rw (length-one ms m) (omega arith)
-
 -- after a call that leaves the list as it was where it fails, what holds of both outcomes holds
 pub either_way : {T E : Type 0} (P : List ModuleValue → Type 0) (r : Result T E) (now before after : List ModuleValue) → OnOk r (now ≡ after) → OnErr r (now ≡ before) → P before → P after → P now
 either_way P (Ok x) now before after ok err p q = subst P (sym ok) q
 either_way P (Err e) now before after ok err p q = subst P (sym err) p
 
--- one more module behind the others, a child of one of them, leaves them rooted; so does the call that fails
-pub IsRooted-inserted : {T E : Type 0} (r : Result T E) (id : MapId) (others now : List ModuleValue) (parent : ℕ) (name : List ℕ) (new : ModuleId) (m : ModuleValue)
-    → IsBefore id (length others) m.parent → length others < 2147483647
-    → OnOk r (now ≡ changed_at others parent (with_child name new) ++ m ∷ []) → OnErr r (now ≡ others) → IsRooted id others → IsRooted id now
-IsRooted-inserted r id others now parent name new m before room ok err rooted =
+-- one more module behind the others, a child of one of them, leaves them numbered; so does the call that fails
+pub IsNumbered-inserted : {T E : Type 0} (r : Result T E) (others now : List ModuleValue) (parent : ℕ) (name : List ℕ) (new : ModuleId) (m : ModuleValue)
+    → length others < 2147483647
+    → OnOk r (now ≡ changed_at others parent (with_child name new) ++ m ∷ []) → OnErr r (now ≡ others) → IsNumbered others → IsNumbered now
+IsNumbered-inserted r others now parent name new m room ok err numbered =
     let child : ModuleValue → ModuleValue = with_child name new in
     let count : length (changed_at others parent child) ≡ length others = length-changed_at others parent child in
-    either_way (λ ms. IsRooted id ms) r now others (changed_at others parent child ++ m ∷ []) ok err rooted
-    (IsRooted-append id (changed_at others parent child) m (subst (λ (n : ℕ). IsBefore id n m.parent) (sym count) before) (omega arith)
-    (IsRooted-changed_at id others parent child (λ m. refl) rooted))
+    either_way (λ ms. IsNumbered ms) r now others (changed_at others parent child ++ m ∷ []) ok err numbered
+    (IsNumbered-append (changed_at others parent child) m (omega arith) (IsNumbered-changed_at others parent child numbered))

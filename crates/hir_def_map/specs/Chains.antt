@@ -1,133 +1,141 @@
 -- Which modules lie above a module?
-use Rattle.std.specs.Prelude.{◌≡◌, ℕ, zero, suc, ◌<◌, ◌≤◌, Bool, true, false, Option, None, Some, List, [], ◌∷◌, cond, nat_lt, All}
-use Rattle.std.proofs.Common.{refl, ap, sym, ◌∙◌, arith}
-use Rattle.std.proofs.lemmas.Grind.{common_steps}
-use Rattle.std.proofs.lemmas.List.Elements.{All-cons, All-nil}
+use Rattle.std.specs.Prelude.{◌≡◌, ℕ, zero, suc, ◌+◌, ◌++◌, Bool, true, ◌||◌, not, is_some, Option, None, Some, List, [], ◌∷◌, map, length, cond, nat_lt, slice_get, option_and_then, option_map}
 use Rattle.hir_base.specs.declared.ids.MapId.{MapId}
 use Rattle.hir_base.specs.declared.ids.ModuleId.{ModuleId}
-use Rattle.hir_scope.specs.PerNs.{first_of}
-use Rattle.hir_scope.specs.ModuleTree.{chain_from, up_of, IsInOneCrate}
-use Rattle.hir_def_map.specs.State.{Maps, numbered, parent_in}
+use Rattle.hir_base.specs.contracts.ids.MapIdPartialEq.TheImpl as map_id
+use Rattle.hir_def_map.specs.State.{Map, Maps, ModuleValue, Placed, numbered}
 
--- a parent in the module's own map that comes before it, as each does in a def map
-abbrev pub earlier : ModuleId → Option ModuleId → Option ModuleId
-earlier m None = None
-earlier m (Some p) = cond (nat_lt p.index m.index) (Some (numbered m.map p.index)) None
+-- a map without its names: what each module is in, by number, and the modules that hold the map
+pub record Frame : Type 0 where
+  pub id : MapId
+  pub parents : List (Option ModuleId)
+  pub holders : List ModuleId
 
--- one step up
-abbrev pub up_in : Maps → ModuleId → Option ModuleId
-up_in maps m = earlier m (parent_in maps m)
+abbrev pub frame_of : Placed → Frame
+frame_of placed = record {
+  id = placed.map.id;
+  parents = map (λ (m : ModuleValue). m.parent) placed.map.modules;
+  holders = placed.holders;
+}
 
--- the module that holds a map's block; no map is a block's yet
-abbrev pub holder_in : Maps → ModuleId → Option ModuleId
-holder_in maps m = None
+-- the frame of a map by itself
+abbrev pub own_frame : Map → Frame
+own_frame map = frame_of (record { map = map; holders = [] })
 
--- the holder of a module's map, that one's holder, and so on
-abbrev pub holders_in : Maps → ModuleId → List ModuleId
-holders_in maps m = []
+abbrev pub Frames : Type 0
+Frames = MapId → Option Frame
 
--- at most so many steps up from a module
-abbrev pub steps_up : (ModuleId → Option ModuleId) → ℕ → ModuleId → List ModuleId
-steps_up up zero m = []
-steps_up up (suc n) m = chain_from (steps_up up n) (up m)
+unfoldable pub frames_of : Maps → Frames
+frames_of maps id = option_map frame_of (maps id)
+
+-- ---- in one map, by numbers
+
+-- the number of a parent, where that is a module of the same map
+abbrev pub number_in : MapId → Option ModuleId → Option ℕ
+number_in id None = None
+number_in id (Some p) = cond (map_id.ghosts.eq p.map id) (Some p.index) None
+
+-- what a module is in
+abbrev pub parent_number : Frame → ℕ → Option ℕ
+parent_number frame at = number_in frame.id (option_and_then (λ (p : Option ModuleId). p) (slice_get frame.parents at))
+
+-- whether a chain comes to its end from the next of it on
+abbrev pub ends_from : (ℕ → Bool) → Option ℕ → Bool
+ends_from ends None = true
+ends_from ends (Some p) = ends p
+
+-- whether steps come to an end within so many
+abbrev pub ends_within : (ℕ → Option ℕ) → ℕ → ℕ → Bool
+ends_within up zero at = not (is_some (up at))
+ends_within up (suc n) at = ends_from (ends_within up n) (up at)
+
+-- whether parents lead from a module to a root
+unfoldable pub leads_to_root : Frame → ℕ → Bool
+leads_to_root frame at = ends_within (parent_number frame) (length frame.parents) at
+
+-- one step up leads to the parent; where parents lead round in a circle, only to one that comes before
+abbrev pub step_to : Frame → ℕ → Option ℕ → Option ℕ
+step_to frame at None = None
+step_to frame at (Some p) = cond (nat_lt p at || leads_to_root frame at) (Some p) None
+
+abbrev pub step_in : Frame → ℕ → Option ℕ
+step_in frame at = step_to frame at (parent_number frame at)
+
+-- a step, and those from there on
+abbrev pub steps_from : (ℕ → List ℕ) → Option ℕ → List ℕ
+steps_from steps None = []
+steps_from steps (Some p) = p ∷ steps p
+
+-- at most so many steps
+abbrev pub steps_by : (ℕ → Option ℕ) → ℕ → ℕ → List ℕ
+steps_by up zero at = []
+steps_by up (suc n) at = steps_from (steps_by up n) (up at)
+
+-- the modules above one in its map, the nearest first
+unfoldable pub numbers_above : Frame → ℕ → List ℕ
+numbers_above frame at = steps_by (step_in frame) (length frame.parents + at) at
+
+-- ---- in several maps
+
+abbrev pub step_of : Option Frame → ℕ → Option ℕ
+step_of None at = None
+step_of (Some frame) at = step_in frame at
+
+abbrev pub numbers_of : Option Frame → ℕ → List ℕ
+numbers_of None at = []
+numbers_of (Some frame) at = numbers_above frame at
+
+abbrev pub holders_of_frame : Option Frame → List ModuleId
+holders_of_frame None = []
+holders_of_frame (Some frame) = frame.holders
+
+abbrev pub head_of : List ModuleId → Option ModuleId
+head_of [] = None
+head_of (h ∷ hs) = Some h
+
+-- one step up in a module's own map
+abbrev pub up_by : Frames → ModuleId → Option ModuleId
+up_by frames m = option_map (numbered m.map) (step_of (frames m.map) m.index)
+
+-- the modules that hold a module's map, the nearest first
+abbrev pub holders_by : Frames → ModuleId → List ModuleId
+holders_by frames m = holders_of_frame (frames m.map)
+
+-- the module that holds the block of a module's map
+abbrev pub holder_by : Frames → ModuleId → Option ModuleId
+holder_by frames m = head_of (holders_by frames m)
+
+-- the modules above one in its own map
+abbrev pub above_inside : Frames → ModuleId → List ModuleId
+above_inside frames m = map (numbered m.map) (numbers_of (frames m.map) m.index)
+
+-- then the holder, what is above that in its map, and so on
+abbrev pub above_under : Frames → List ModuleId → ModuleId → List ModuleId
+above_under frames [] m = above_inside frames m
+above_under frames (h ∷ hs) m = above_inside frames m ++ h ∷ above_under frames hs h
 
 -- all that lie above a module, the nearest first
+abbrev pub above_by : Frames → ModuleId → List ModuleId
+above_by frames m = above_under frames (holders_by frames m) m
+
+abbrev pub up_in : Maps → ModuleId → Option ModuleId
+up_in maps m = up_by (frames_of maps) m
+
+abbrev pub holders_in : Maps → ModuleId → List ModuleId
+holders_in maps m = holders_by (frames_of maps) m
+
+abbrev pub holder_in : Maps → ModuleId → Option ModuleId
+holder_in maps m = holder_by (frames_of maps) m
+
 unfoldable pub above_in : Maps → ModuleId → List ModuleId
-above_in maps m = steps_up (up_in maps) m.index m
+above_in maps m = above_by (frames_of maps) m
 
--- ---- a chain is one step and the chain from there
+-- ---- maps in their places
 
-earlier_falls : (m n : ModuleId) (p : Option ModuleId) → earlier m p ≡ Some n → n.index < m.index
-earlier_falls m n None e = absurd cc
-earlier_falls m n (Some p) e = go (nat_lt p.index m.index) refl e
-  where
-    go : (b : Bool) → nat_lt p.index m.index ≡ b → cond b (Some (numbered m.map p.index)) None ≡ Some n → n.index < m.index
-    go true t f = let same : numbered m.map p.index ≡ n = cc in let at : p.index ≡ n.index = ap (λ (x : ModuleId). x.index) same in grind (arith, common_steps)
-    go false t f = absurd cc
+-- a holder of a map is a module of a map that is there, of the same crate, and those that are left hold that map
+abbrev pub HolderLeads : Frames → MapId → ModuleId → List ModuleId → Type 0
+HolderLeads frames id h hs = (h.map.krate ≡ id.krate) × (is_some (frames h.map) ≡ true) × (holders_by frames h ≡ hs)
 
-earlier_map : (m n : ModuleId) (p : Option ModuleId) → earlier m p ≡ Some n → n.map ≡ m.map
-earlier_map m n None e = absurd cc
-earlier_map m n (Some p) e = go (nat_lt p.index m.index) e
-  where
-    go : (b : Bool) → cond b (Some (numbered m.map p.index)) None ≡ Some n → n.map ≡ m.map
-    go true f = let same : numbered m.map p.index ≡ n = cc in ap (λ (x : ModuleId). x.map) (sym same)
-    go false f = absurd cc
-
-pub up_falls : (maps : Maps) (m n : ModuleId) → up_in maps m ≡ Some n → n.index < m.index
-up_falls maps m n e = earlier_falls m n (parent_in maps m) e
-
-pub up_map : (maps : Maps) (m n : ModuleId) → up_in maps m ≡ Some n → n.map ≡ m.map
-up_map maps m n e = earlier_map m n (parent_in maps m) e
-
-module _ (up : ModuleId → Option ModuleId) (falls : (m n : ModuleId) → up m ≡ Some n → n.index < m.index) where
-  -- more steps than the module's number find nothing more
-  enough : (n k : ℕ) (m : ModuleId) → m.index ≤ n → m.index ≤ k → steps_up up n m ≡ steps_up up k m
-  enough zero zero m a b = refl
-  enough zero (suc k) m a b = go (up m) refl
-    where
-      go : (o : Option ModuleId) → up m ≡ o → [] ≡ chain_from (steps_up up k) o
-      go None e = refl
-      go (Some p) e = absurd (omega (arith, falls m p e))
-  enough (suc n) zero m a b = go (up m) refl
-    where
-      go : (o : Option ModuleId) → up m ≡ o → chain_from (steps_up up n) o ≡ []
-      go None e = refl
-      go (Some p) e = absurd (omega (arith, falls m p e))
-  enough (suc n) (suc k) m a b = go (λ p u v. enough n k p u v) (up m) refl
-    where
-      go : ((p : ModuleId) → p.index ≤ n → p.index ≤ k → steps_up up n p ≡ steps_up up k p) → (o : Option ModuleId) → up m ≡ o → chain_from (steps_up up n) o ≡ chain_from (steps_up up k) o
-      go below None e = refl
-      go below (Some p) e = ap (λ (ms : List ModuleId). p ∷ ms) (below p (omega (arith, falls m p e)) (omega (arith, falls m p e)))
-
-  whole_step : (m : ModuleId) → steps_up up m.index m ≡ chain_from (λ n. steps_up up n.index n) (up m)
-  whole_step m = enough m.index (suc m.index) m (omega arith) (omega arith) ∙ go (up m) refl
-    where
-      go : (o : Option ModuleId) → up m ≡ o → chain_from (steps_up up m.index) o ≡ chain_from (λ n. steps_up up n.index n) o
-      go None e = refl
-      go (Some p) e = ap (λ (ms : List ModuleId). p ∷ ms) (enough m.index p.index p (omega (arith, falls m p e)) (omega arith))
-
-pub above_step : (maps : Maps) (m : ModuleId) → above_in maps m ≡ chain_from (above_in maps) (up_in maps m)
-unfolding above_in
-above_step maps m = whole_step (up_in maps) (up_falls maps) m
-
--- the same step, to a parent or else to a holder
-pub above_up : (maps : Maps) (m : ModuleId) → above_in maps m ≡ chain_from (above_in maps) (up_of (up_in maps) (holder_in maps) m)
-above_up maps m = above_step maps m ∙ ap (chain_from (above_in maps)) (go (up_in maps m))
-  where
-    go : (o : Option ModuleId) → o ≡ first_of o None
-    go None = refl
-    go (Some p) = refl
-
--- ---- a chain stays in its map
-
-in_crate : (maps : Maps) (n : ℕ) (o m : ModuleId) → o.map.krate ≡ m.map.krate → All (λ (x : ModuleId). x.map.krate ≡ m.map.krate) (steps_up (up_in maps) n o)
-in_crate maps zero o m e = All-nil (λ (x : ModuleId). x.map.krate ≡ m.map.krate)
-in_crate maps (suc n) o m e = go (λ p f. in_crate maps n p m f) (up_in maps o) refl
-  where
-    go : ((p : ModuleId) → p.map.krate ≡ m.map.krate → All (λ (x : ModuleId). x.map.krate ≡ m.map.krate) (steps_up (up_in maps) n p)) → (q : Option ModuleId) → up_in maps o ≡ q → All (λ (x : ModuleId). x.map.krate ≡ m.map.krate) (chain_from (steps_up (up_in maps) n) q)
-    go below None f = All-nil (λ (x : ModuleId). x.map.krate ≡ m.map.krate)
-    go below (Some p) f = let here : p.map.krate ≡ m.map.krate = ap (λ (i : MapId). i.krate) (up_map maps o p f) ∙ e in All-cons (λ (x : ModuleId). x.map.krate ≡ m.map.krate) p (steps_up (up_in maps) n p) here (below p here)
-
-pub above_in_crate : (maps : Maps) (m : ModuleId) → IsInOneCrate m (above_in maps m)
-unfolding above_in
-above_in_crate maps m = in_crate maps m.index m m refl
-
--- ---- a chain hangs on the parents in its map alone
-
-same_steps : (one other : Maps) (n : ℕ) (m : ModuleId) → ((x : ModuleId) → x.map ≡ m.map → x.index ≤ m.index → parent_in one x ≡ parent_in other x) → steps_up (up_in one) n m ≡ steps_up (up_in other) n m
-same_steps one other zero m same = refl
-same_steps one other (suc n) m same =
-    let here : up_in one m ≡ up_in other m = ap (earlier m) (same m refl (omega arith)) in
-    go (λ p s. same_steps one other n p s) (up_in other m) refl here
-  where
-    go : ((p : ModuleId) → ((x : ModuleId) → x.map ≡ p.map → x.index ≤ p.index → parent_in one x ≡ parent_in other x) → steps_up (up_in one) n p ≡ steps_up (up_in other) n p)
-        → (o : Option ModuleId) → up_in other m ≡ o → up_in one m ≡ up_in other m → chain_from (steps_up (up_in one) n) (up_in one m) ≡ chain_from (steps_up (up_in other) n) (up_in other m)
-    go below None f here = let first : up_in one m ≡ None = here ∙ f in rw (first, f) refl
-    go below (Some p) f here =
-        let first : up_in one m ≡ Some p = here ∙ f in
-        rw (first, f) (ap (λ (ms : List ModuleId). p ∷ ms) (below p (λ x i j. same x (i ∙ up_map other m p f) (omega (arith, up_falls other m p f)))))
-
--- where two maps give the module and those before it the same parents, the same lie above it
-pub above_same : (one other : Maps) (m : ModuleId) → ((x : ModuleId) → x.map ≡ m.map → x.index ≤ m.index → parent_in one x ≡ parent_in other x) → above_in one m ≡ above_in other m
-unfolding above_in
-above_same one other m same = same_steps one other m.index m same
+-- each map is in its place
+abbrev pub IsPlaced : Maps → Type 0
+IsPlaced maps = (id : MapId) (h : ModuleId) (hs : List ModuleId) → holders_of_frame (frames_of maps id) ≡ h ∷ hs → HolderLeads (frames_of maps) id h hs

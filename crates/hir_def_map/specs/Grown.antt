@@ -1,10 +1,9 @@
 -- What do a push and one more module leave of a map?
-use Rattle.std.specs.Prelude.{◌≡◌, ◌≢◌, ℕ, zero, suc, ◌<◌, ◌++◌, List, [], ◌∷◌, length, Bool, true, false, not, ◌&&◌, ◌||◌, cond, Option, None, Some, is_some, option_map, slice_get}
+use Rattle.std.specs.Prelude.{◌≡◌, ◌≢◌, ℕ, zero, suc, ◌<◌, ◌++◌, List, [], ◌∷◌, length, Bool, true, false, not, ◌&&◌, ◌||◌, cond, Option, None, Some, is_some, map as list_map, option_map, slice_get}
 use Rattle.std.specs.Ordering.{nat_cmp, is_eq, ordering_reverse, match_ordering}
 use Rattle.std.specs.Cmp.Lexicographic.{slice_cmp}
 use Rattle.std.specs.BTreeMap.{is_at}
 use Rattle.std.specs.Map.{set_value}
-use Rattle.std.specs.Option.{option_and_then}
 use Rattle.std.specs.declared.cmp.Ordering.{Ordering}
 use Rattle.std.specs.declared.cmp.Ordering.TheVariants.{Less, Equal, Greater}
 use Rattle.std.proofs.Common.{refl, ap, sym, ◌∙◌, arith}
@@ -26,7 +25,7 @@ use Rattle.hir_scope.specs.declared.per_ns.Item.{Item}
 use Rattle.hir_scope.specs.declared.per_ns.PerNs.{PerNs}
 use Rattle.hir_scope.specs.declared.push.Push.{Push}
 use Rattle.hir_scope.specs.declared.visibility.Visibility.{Visibility}
-use Rattle.hir_scope.specs.PerNs.{item_of, value_import}
+use Rattle.hir_scope.specs.PerNs.{first_of, item_of, value_import}
 use Rattle.hir_scope.specs.GlobImports.{GlobNames, Place}
 use Rattle.hir_scope.specs.ImportRecords.{with_entry, has_key, is_glob}
 use Rattle.hir_scope.specs.ItemScope.{ScopeValue, item_at, binding_of}
@@ -34,8 +33,8 @@ use Rattle.hir_scope.specs.Pushes.{after_push, slot_after, gives_way, takes}
 use Rattle.hir_scope.specs.Offers.{macro_offer, offered_globs, offered_items, taken, type_offer, value_offer}
 use Rattle.hir_scope.specs.ScopePushes.{offered_scope, pushed_globs, pushed_scope, taken_offers}
 use Rattle.hir_def_map.specs.declared.nameres.origin.ModuleOrigin.{ModuleOrigin}
-use Rattle.hir_def_map.specs.State.{Map, ModuleValue, alone, at_name, with_name, changed_at, entry_of, entry_at, globs_in, globs_after, module_at, module_in, new_id, new_module, no_globs, numbered, parent_of, parent_in, place_at, pushed, pushed_module, with_child, with_module}
-use Rattle.hir_def_map.specs.Chains.{above_in, above_same}
+use Rattle.hir_def_map.specs.State.{Map, Maps, ModuleValue, Placed, at_name, beside, holders_under, placed_in, with_name, changed_at, entry_of, entry_at, globs_in, globs_after, module_at, new_id, new_module, no_globs, numbered, place_at, pushed, pushed_module, with_child, with_module}
+use Rattle.hir_def_map.specs.Chains.{frame_of, frames_of}
 
 -- ---- a list by names, with one more value
 
@@ -319,50 +318,50 @@ pub entry_at-pushed_elsewhere : (map : Map) (globs : GlobNames) (at : ℕ) (name
 entry_at-pushed_elsewhere map globs at name other items import k ne =
     ap (λ (o : Option ModuleValue). entry_of o other) (changed_elsewhere map.modules at (pushed_module globs (place_at map.id at name) items import) k ne)
 
--- a part of the modules of one map alone
-pub alone_part : {B : Type 0} (part : Option ModuleValue → B) (one other : Map) → one.id ≡ other.id → ((k : ℕ) → part (module_at one k) ≡ part (module_at other k)) → (m : ModuleId) → part (module_in (alone one) m) ≡ part (module_in (alone other) m)
-alone_part part one other e same m = ap (λ (i : MapId). part (option_and_then (λ (x : Map). module_at x m.index) (cond (map_id.ghosts.eq m.map i) (Some one) None))) e ∙ go (map_id.ghosts.eq m.map other.id)
+-- what each module is in stays
+pub frame_of-changed : (map : Map) (holders : List ModuleId) (at : ℕ) (change : ModuleValue → ModuleValue) → ((m : ModuleValue) → (change m).parent ≡ m.parent)
+    → frame_of (record { map = record map { modules = changed_at map.modules at change }; holders = holders }) ≡ frame_of (record { map = map; holders = holders })
+frame_of-changed map holders at change keeps = λ i. record { id = map.id; parents = go map.modules at i; holders = holders }
   where
-    go : (b : Bool) → part (option_and_then (λ (x : Map). module_at x m.index) (cond b (Some one) None)) ≡ part (option_and_then (λ (x : Map). module_at x m.index) (cond b (Some other) None))
-    go true = same m.index
-    go false = refl
+    go : (ms : List ModuleValue) (k : ℕ) → list_map (λ (m : ModuleValue). m.parent) (changed_at ms k change) ≡ list_map (λ (m : ModuleValue). m.parent) ms
+    go [] k = refl
+    go (m ∷ ms) zero = ap (λ (p : Option ModuleId). p ∷ list_map (λ (x : ModuleValue). x.parent) ms) (keeps m)
+    go (m ∷ ms) (suc k) = ap (λ (ps : List (Option ModuleId)). m.parent ∷ ps) (go ms k)
 
-pub parent_in-pushed : (map : Map) (globs : GlobNames) (at : ℕ) (name : List ℕ) (items : PerNs) (import : Option ImportOrExternCrate) (m : ModuleId)
-    → parent_in (alone (pushed map globs at name items import)) m ≡ parent_in (alone map) m
-parent_in-pushed map globs at name items import m =
-    alone_part parent_of (pushed map globs at name items import) map refl (kept parent_of map.modules at (pushed_module globs (place_at map.id at name) items import) (λ x. refl)) m
+-- where two maps of one id and one holder have one frame, the same lies above each module beside finished maps
+pub frames_of-beside : (finished : Maps) (one other : Map) → one.id ≡ other.id → one.holder ≡ other.holder
+    → ((holders : List ModuleId) → frame_of (record { map = one; holders = holders }) ≡ frame_of (record { map = other; holders = holders }))
+    → (id : MapId) → frames_of (beside finished one) id ≡ frames_of (beside finished other) id
+unfolding frames_of
+frames_of-beside finished one other same_id same_place same id = go (finished id)
+  where
+    held : holders_under finished one.id one.holder ≡ holders_under finished other.id other.holder
+    held = λ i. holders_under finished (same_id i) (same_place i)
 
--- the same lies above each module
-pub above_in-pushed : (map : Map) (globs : GlobNames) (at : ℕ) (name : List ℕ) (items : PerNs) (import : Option ImportOrExternCrate) (m : ModuleId)
-    → above_in (alone (pushed map globs at name items import)) m ≡ above_in (alone map) m
-above_in-pushed map globs at name items import m =
-    above_same (alone (pushed map globs at name items import)) (alone map) m (λ x i j. parent_in-pushed map globs at name items import x)
+    whole : frame_of (placed_in finished one) ≡ frame_of (placed_in finished other)
+    whole = ap (λ (hs : List ModuleId). frame_of (record { map = one; holders = hs })) held ∙ same (holders_under finished other.id other.holder)
+
+    on : (b : Bool) → option_map frame_of (cond b (Some (placed_in finished one)) None) ≡ option_map frame_of (cond b (Some (placed_in finished other)) None)
+    on true = ap Some whole
+    on false = refl
+
+    go : (o : Option Placed) → option_map frame_of (first_of o (cond (map_id.ghosts.eq id one.id) (Some (placed_in finished one)) None)) ≡ option_map frame_of (first_of o (cond (map_id.ghosts.eq id other.id) (Some (placed_in finished other)) None))
+    go (Some p) = refl
+    go None = ap (λ (x : MapId). option_map frame_of (cond (map_id.ghosts.eq id x) (Some (placed_in finished one)) None)) same_id ∙ on (map_id.ghosts.eq id other.id)
+
+-- a push leaves what lies above each module
+pub frames_of-pushed : (finished : Maps) (map : Map) (globs : GlobNames) (at : ℕ) (name : List ℕ) (items : PerNs) (import : Option ImportOrExternCrate) (id : MapId)
+    → frames_of (beside finished (pushed map globs at name items import)) id ≡ frames_of (beside finished map) id
+frames_of-pushed finished map globs at name items import id =
+    frames_of-beside finished (pushed map globs at name items import) map refl refl
+    (λ holders. frame_of-changed map holders at (pushed_module globs (place_at map.id at name) items import) (λ m. refl)) id
 
 -- ---- one more module
 
--- each name stands in each module for what it stood for; in the new module for nothing
-pub entry_at-with_module : (map : Map) (parent : ℕ) (name : List ℕ) (origin : ModuleOrigin) (visibility : Visibility) (k : ℕ) (other : List ℕ) → entry_at (with_module map parent name origin visibility) k other ≡ entry_at map k other
-entry_at-with_module map parent name origin visibility k other =
+-- each name stands in each module for what it stood for; in a new module without bindings for nothing
+pub entry_at-with_module : (map : Map) (parent : ℕ) (name : List ℕ) (origin : ModuleOrigin) (visibility : Visibility) (above : Option ModuleId) (k : ℕ) (other : List ℕ)
+    → entry_at (with_module map parent name (new_module origin visibility above)) k other ≡ entry_at map k other
+entry_at-with_module map parent name origin visibility above k other =
     let part : Option ModuleValue → PerNs = λ o. entry_of o other in
-    as_none part (changed_at map.modules parent (with_child name (new_id map))) (new_module map parent origin visibility) refl k
+    as_none part (changed_at map.modules parent (with_child name (new_id map))) (new_module origin visibility above) refl k
     ∙ kept part map.modules parent (with_child name (new_id map)) (λ m. refl) k
-
-pub parent_in-with_module : (map : Map) (parent : ℕ) (name : List ℕ) (origin : ModuleOrigin) (visibility : Visibility) (m : ModuleId) → m.index < length map.modules → parent_in (alone (with_module map parent name origin visibility)) m ≡ parent_in (alone map) m
-parent_in-with_module map parent name origin visibility m h = go (map_id.ghosts.eq m.map map.id)
-  where
-    changed : List ModuleValue
-    changed = changed_at map.modules parent (with_child name (new_id map))
-
-    whole : Map
-    whole = with_module map parent name origin visibility
-
-    go : (b : Bool) → parent_of (option_and_then (λ (x : Map). module_at x m.index) (cond b (Some whole) None)) ≡ parent_of (option_and_then (λ (x : Map). module_at x m.index) (cond b (Some map) None))
-    go true =
-        let count : length changed ≡ length map.modules = length-changed map.modules parent (with_child name (new_id map)) in
-        ap parent_of (before_last changed (new_module map parent origin visibility) m.index (omega arith))
-        ∙ kept parent_of map.modules parent (with_child name (new_id map)) (λ x. refl) m.index
-    go false = refl
-
--- the same lies above each module that was there
-pub above_in-with_module : (map : Map) (parent : ℕ) (name : List ℕ) (origin : ModuleOrigin) (visibility : Visibility) (m : ModuleId) → m.index < length map.modules → above_in (alone (with_module map parent name origin visibility)) m ≡ above_in (alone map) m
-above_in-with_module map parent name origin visibility m h = above_same (alone (with_module map parent name origin visibility)) (alone map) m (λ x i j. parent_in-with_module map parent name origin visibility x (omega arith))

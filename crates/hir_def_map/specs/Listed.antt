@@ -1,19 +1,19 @@
 -- What does a declaration that is listed leave of a map?
-use Rattle.std.specs.Prelude.{◌≡◌, ℕ, List, length, Option, Some}
+use Rattle.std.specs.Prelude.{◌≡◌, ℕ, List, length, Option}
 use Rattle.std.proofs.Common.{refl}
-use Rattle.hir_base.specs.declared.ids.ModuleId.{ModuleId}
+use Rattle.hir_base.specs.declared.ids.MapId.{MapId}
 use Rattle.hir_scope.specs.ItemScope.{ScopeValue, binding_of}
 use Rattle.hir_def_map.specs.declared.nameres.declaration.Declaration.{Declaration}
 use Rattle.hir_def_map.specs.declared.nameres.declaration.Declaration.TheVariants as declaration
 use Rattle.hir_def_map.specs.Declaration.{listed}
-use Rattle.hir_def_map.specs.State.{Map, ModuleValue, alone, child_at, child_of, entry_at, entry_of, parent_at, parent_in, parent_of, with_module_scope, with_scope}
-use Rattle.hir_def_map.specs.Chains.{above_in, above_same}
-use Rattle.hir_def_map.specs.Grown.{alone_part, kept, length-changed}
+use Rattle.hir_def_map.specs.State.{Map, Maps, ModuleValue, beside, child_at, child_of, entry_at, entry_of, parent_at, parent_of, with_module_scope, with_scope}
+use Rattle.hir_def_map.specs.Chains.{frames_of}
+use Rattle.hir_def_map.specs.Grown.{frame_of-changed, frames_of-beside, kept, length-changed}
 
 -- the modules of a map stay, with what they are in and what their names stand for
 pub record KeepsNames (old new : Map) : Type 0 where
   pub id : new.id ≡ old.id
-  pub edition : new.edition ≡ old.edition
+  pub crate_data : new.crate_data ≡ old.crate_data
   pub count : length new.modules ≡ length old.modules
   pub entries : (at : ℕ) (name : List ℕ) → entry_at new at name ≡ entry_at old at name
   pub children : (at : ℕ) (name : List ℕ) → child_at new at name ≡ child_at old at name
@@ -33,17 +33,16 @@ KeepsNames-listed map at d =
     let change : ModuleValue → ModuleValue = with_module_scope (listed d) in
     record {
       id = refl;
-      edition = refl;
+      crate_data = refl;
       count = length-changed map.modules at change;
       entries = λ k name. kept (λ (o : Option ModuleValue). entry_of o name) map.modules at change (λ m. binding_of-listed d m.scope name) k;
       children = λ k name. kept (λ (o : Option ModuleValue). child_of o name) map.modules at change (λ m. refl) k;
       parents = λ k. kept parent_of map.modules at change (λ m. refl) k;
     }
 
--- each module of the map is in what it was in
-pub parent_in-KeepsNames : (old new : Map) → KeepsNames old new → (m : ModuleId) → parent_in (alone new) m ≡ parent_in (alone old) m
-parent_in-KeepsNames old new keeps m = alone_part parent_of new old keeps.id keeps.parents m
-
--- and the same lies above it
-pub above_in-KeepsNames : (old new : Map) → KeepsNames old new → (m : ModuleId) → above_in (alone new) m ≡ above_in (alone old) m
-above_in-KeepsNames old new keeps m = above_same (alone new) (alone old) m (λ x i j. parent_in-KeepsNames old new keeps x)
+-- the same lies above each module
+pub frames_of-listed : (finished : Maps) (map : Map) (at : ℕ) (d : Declaration) (id : MapId)
+    → frames_of (beside finished (with_scope map at (listed d))) id ≡ frames_of (beside finished map) id
+frames_of-listed finished map at d id =
+    frames_of-beside finished (with_scope map at (listed d)) map refl refl
+    (λ holders. frame_of-changed map holders at (with_module_scope (listed d)) (λ m. refl)) id

@@ -1,26 +1,34 @@
 -- What a def map is, and what each building call makes of it.
-use Rattle.std.specs.Prelude.{◌≡◌, ℕ, zero, suc, ◌<◌, ◌≤◌, ◌++◌, List, [], ◌∷◌, length, Option, None, Some, is_some, Bool, false, cond, slice_get, option_and_then, option_map}
+use Rattle.std.specs.Prelude.{◌≡◌, ℕ, zero, suc, ◌<◌, ◌≤◌, ◌++◌, List, [], ◌∷◌, length, Option, None, Some, is_some, Bool, false, ◌&&◌, cond, slice_get, option_and_then, option_map}
 use Rattle.std.specs.Ordering.{nat_cmp}
 use Rattle.std.specs.Cmp.Lexicographic.{slice_cmp}
 use Rattle.std.specs.BTreeMap.{is_at, insert_entry}
 use Rattle.std.specs.Map.{lookup}
 use Rattle.hir_base.specs.declared.edition.Edition.{Edition}
+use Rattle.hir_base.specs.declared.ids.Crate.{Crate}
 use Rattle.hir_base.specs.declared.ids.MapId.{MapId}
 use Rattle.hir_base.specs.declared.ids.ConstId.{ConstId}
+use Rattle.hir_base.specs.declared.ids.EnumId.{EnumId}
 use Rattle.hir_base.specs.declared.ids.ExternBlockId.{ExternBlockId}
+use Rattle.hir_base.specs.declared.ids.ExternCrateId.{ExternCrateId}
 use Rattle.hir_base.specs.declared.ids.ImplId.{ImplId}
 use Rattle.hir_base.specs.declared.ids.ModuleDefId.{ModuleDefId}
 use Rattle.hir_base.specs.declared.ids.ModuleId.{ModuleId}
 use Rattle.hir_base.specs.declared.ids.UseId.{UseId}
+use Rattle.hir_base.specs.declared.macro_kind.MacroId.{MacroId}
+use Rattle.hir_base.specs.contracts.ids.EnumIdOrd.TheImpl as enum_order
 use Rattle.hir_base.specs.contracts.ids.MapIdPartialEq.TheImpl as map_id
+use Rattle.hir_scope.specs.ModuleTree.{same_crate}
 use Rattle.hir_scope.specs.declared.imports.ImportOrExternCrate.{ImportOrExternCrate}
 use Rattle.hir_scope.specs.declared.per_ns.PerNs.{PerNs}
 use Rattle.hir_scope.specs.declared.visibility.Visibility.{Visibility}
-use Rattle.hir_scope.specs.PerNs.{nothing}
+use Rattle.hir_scope.specs.PerNs.{first_of, nothing}
 use Rattle.hir_scope.specs.GlobImports.{GlobNames, Place}
 use Rattle.hir_scope.specs.ItemScope.{ScopeValue, binding_of, empty_scope}
 use Rattle.hir_scope.specs.ScopePushes.{pushed_scope, pushed_globs, push_changes as scope_changes}
+use Rattle.hir_def_map.specs.declared.nameres.BlockInfo.{BlockInfo}
 use Rattle.hir_def_map.specs.declared.nameres.declaration.Declaration.TheVariants as declaration
+use Rattle.hir_def_map.specs.declared.nameres.enum_variants.EnumVariant.{EnumVariant}
 use Rattle.hir_def_map.specs.declared.nameres.origin.ModuleOrigin.{ModuleOrigin}
 use Rattle.hir_def_map.specs.Declaration.{listed}
 
@@ -34,11 +42,56 @@ pub record ModuleValue : Type 0 where
   -- what each name stands for, and what the module declares
   pub scope : ScopeValue
 
--- a def map, finished or still being built: its modules by number, the root first
+-- what a crate's top says, and what the crate stands on; its blocks have the same
+pub record CrateData : Type 0 where
+  pub edition : Edition
+  -- the tools whose attributes are inert, in the order in which they were registered
+  pub registered_tools : List (List ℕ)
+  -- the unstable features, by name
+  pub features : List (List ℕ)
+  pub rustc_coherence_is_core : Bool
+  pub no_core : Bool
+  pub no_std : Bool
+  -- how deep calls of macros may be nested
+  pub recursion_limit : ℕ
+  -- the crates on which it stands, directly or through others, by number
+  pub dependencies : List Crate
+
+-- the data of a crate that says nothing at its top and stands on no other
+abbrev pub new_data : Edition → CrateData
+new_data edition = record {
+  edition = edition;
+  registered_tools = [];
+  features = [];
+  rustc_coherence_is_core = false;
+  no_core = false;
+  no_std = false;
+  recursion_limit = 128;
+  dependencies = [];
+}
+
+-- an enum's variants by name; of two with one name the later
+abbrev pub Variants : Type 0
+Variants = List (List ℕ × EnumVariant)
+
+-- a def map, finished or still being built
 pub record Map : Type 0 where
   pub id : MapId
-  pub edition : Edition
+  -- the module that holds the block, in a block's map
+  pub holder : Option ModuleId
+  -- the modules by number, the root first
   pub modules : List ModuleValue
+  -- the variants of each enum that is declared
+  pub enums : List (EnumId × Variants)
+  -- the macros that are found by name in each module, and the `extern crate` that brought each, if one did
+  pub macro_use_prelude : List (List ℕ × (MacroId × Option ExternCrateId))
+  -- the module whose names are found in each module, and the `use` that names it, if one does
+  pub prelude : Option (ModuleId × Option UseId)
+  pub crate_data : CrateData
+
+-- the crates that a path may begin with, and the `extern crate` that names each, if one does
+abbrev pub Local : Type 0
+Local = List (List ℕ × (ModuleId × Option ExternCrateId))
 
 -- ---- look-ups
 
@@ -82,18 +135,53 @@ child_at map at name = child_of (module_at map at) name
 abbrev pub parent_at : Map → ℕ → Option ModuleId
 parent_at map at = parent_of (module_at map at)
 
+-- the variants of an enum
+abbrev pub variants_at : Map → EnumId → Option Variants
+variants_at map id = lookup (is_at (enum_order.ghosts.cmp id)) map.enums
+
 -- ---- several maps, seen through one look-up
 
--- the maps that can be asked: finished ones, and one that is being built
-abbrev pub Maps : Type 0
-Maps = MapId → Option Map
+-- a map and the modules that hold it: that of its block, that of this one's block, and so on; none holds a crate's map
+pub record Placed : Type 0 where
+  pub map : Map
+  pub holders : List ModuleId
 
--- one map under its id, and nothing else
+-- the maps that can be asked: finished ones, and one that may still be being built
+abbrev pub Maps : Type 0
+Maps = MapId → Option Placed
+
+-- a map's holders, none where it isn't there
+abbrev pub holders_of : Option Placed → List ModuleId
+holders_of None = []
+holders_of (Some placed) = placed.holders
+
+-- the modules that hold a map among finished ones: its block's holder, where that lies in a finished map of the crate, and those of this
+abbrev pub holders_under : Maps → MapId → Option ModuleId → List ModuleId
+holders_under finished id None = []
+holders_under finished id (Some h) = cond (same_crate h.map.krate id.krate && is_some (finished h.map)) (h ∷ holders_of (finished h.map)) []
+
+-- a map in its place among finished ones
+abbrev pub placed_in : Maps → Map → Placed
+placed_in finished map = record { map = map; holders = holders_under finished map.id map.holder }
+
+-- finished maps, and beside them one that may still be being built; a finished one of its id comes before it
+abbrev pub beside : Maps → Map → Maps
+beside finished map id = first_of (finished id) (cond (map_id.ghosts.eq id map.id) (Some (placed_in finished map)) None)
+
+-- no map
+abbrev pub no_maps : Maps
+no_maps id = None
+
+-- one map alone
 abbrev pub alone : Map → Maps
-alone map id = cond (map_id.ghosts.eq id map.id) (Some map) None
+alone map = beside no_maps map
+
+-- the map of an id
+abbrev pub map_in : Maps → MapId → Option Map
+map_in maps id = option_map (λ (placed : Placed). placed.map) (maps id)
 
 abbrev pub module_in : Maps → ModuleId → Option ModuleValue
-module_in maps m = option_and_then (λ (map : Map). module_at map m.index) (maps m.map)
+module_in maps m = option_and_then (λ (placed : Placed). module_at placed.map m.index) (maps m.map)
 
 abbrev pub entry_in : Maps → ModuleId → List ℕ → PerNs
 entry_in maps m name = entry_of (module_in maps m) name
@@ -103,6 +191,10 @@ child_in maps m name = child_of (module_in maps m) name
 
 abbrev pub parent_in : Maps → ModuleId → Option ModuleId
 parent_in maps m = parent_of (module_in maps m)
+
+-- the variants of an enum, which stand in the map of the module that declares it
+abbrev pub variants_in : Maps → EnumId → Option Variants
+variants_in maps id = option_and_then (λ (placed : Placed). variants_at placed.map id) (maps id.container.map)
 
 -- ---- building
 
@@ -115,12 +207,23 @@ abbrev pub root_of : MapId → ModuleId
 root_of id = numbered id 0
 
 -- a map with its root alone
-abbrev pub root_map : MapId → Edition → ModuleOrigin → Visibility → Map
-root_map id edition origin visibility = record {
+abbrev pub root_map : MapId → Option ModuleId → CrateData → ModuleValue → Map
+root_map id holder crate_data root = record {
   id = id;
-  edition = edition;
-  modules = record { origin = origin; visibility = visibility; parent = None; children = []; scope = empty_scope } ∷ [];
+  holder = holder;
+  modules = root ∷ [];
+  enums = [];
+  macro_use_prelude = [];
+  prelude = None;
+  crate_data = crate_data;
 }
+
+-- the map of a crate, or of a block that a module holds
+abbrev pub map_id_of : Crate → Option BlockInfo → MapId
+map_id_of krate block = record { krate = krate; block = option_map (λ (b : BlockInfo). b.block) block }
+
+abbrev pub empty_map : Crate → CrateData → ModuleValue → Option BlockInfo → Map
+empty_map krate crate_data root block = root_map (map_id_of krate block) (option_map (λ (b : BlockInfo). b.parent) block) crate_data root
 
 -- the id of the next module
 abbrev pub new_id : Map → ModuleId
@@ -134,45 +237,30 @@ changed_at (x ∷ xs) (suc at) change = x ∷ changed_at xs at change
 
 -- the module with one more child, unless the name is taken
 abbrev pub with_child : List ℕ → ModuleId → ModuleValue → ModuleValue
-with_child name id m = record {
-  origin = m.origin;
-  visibility = m.visibility;
-  parent = m.parent;
-  children = cond (is_some (at_name m.children name)) m.children (with_name m.children name id);
-  scope = m.scope;
-}
+with_child name id m = record m { children = cond (is_some (at_name m.children name)) m.children (with_name m.children name id) }
 
 -- a module without children and bindings
-abbrev pub new_module : Map → ℕ → ModuleOrigin → Visibility → ModuleValue
-new_module map parent origin visibility = record {
+abbrev pub new_module : ModuleOrigin → Visibility → Option ModuleId → ModuleValue
+new_module origin visibility parent = record {
   origin = origin;
   visibility = visibility;
-  parent = Some (numbered map.id parent);
+  parent = parent;
   children = [];
   scope = empty_scope;
 }
 
--- the map with one more module; its parent gains the child name unless that is taken
-abbrev pub with_module : Map → ℕ → List ℕ → ModuleOrigin → Visibility → Map
-with_module map parent name origin visibility = record {
-  id = map.id;
-  edition = map.edition;
-  modules = changed_at map.modules parent (with_child name (new_id map)) ++ new_module map parent origin visibility ∷ [];
-}
+-- the map with one more module; a module gains it as a child, unless the name is taken
+abbrev pub with_module : Map → ℕ → List ℕ → ModuleValue → Map
+with_module map parent name new =
+    record map { modules = changed_at map.modules parent (with_child name (new_id map)) ++ new ∷ [] }
 
 -- the module with its scope changed
 abbrev pub with_module_scope : (ScopeValue → ScopeValue) → ModuleValue → ModuleValue
-with_module_scope change m = record {
-  origin = m.origin;
-  visibility = m.visibility;
-  parent = m.parent;
-  children = m.children;
-  scope = change m.scope;
-}
+with_module_scope change m = record m { scope = change m.scope }
 
 -- the map with the scope of one module changed, where that is there
 abbrev pub with_scope : Map → ℕ → (ScopeValue → ScopeValue) → Map
-with_scope map at change = record { id = map.id; edition = map.edition; modules = changed_at map.modules at (with_module_scope change) }
+with_scope map at change = record map { modules = changed_at map.modules at (with_module_scope change) }
 
 -- the map where a module declares one more definition
 abbrev pub with_declared : Map → ℕ → ModuleDefId → Map
@@ -204,18 +292,12 @@ place_at id at name = (numbered id at, name)
 
 -- the module once items were pushed to a place by an import
 abbrev pub pushed_module : GlobNames → Place → PerNs → Option ImportOrExternCrate → ModuleValue → ModuleValue
-pushed_module globs place items import m = record {
-  origin = m.origin;
-  visibility = m.visibility;
-  parent = m.parent;
-  children = m.children;
-  scope = pushed_scope globs place items import m.scope;
-}
+pushed_module globs place items import m = record m { scope = pushed_scope globs place items import m.scope }
 
 -- the map once items were pushed under a name in a module by an import
 abbrev pub pushed : Map → GlobNames → ℕ → List ℕ → PerNs → Option ImportOrExternCrate → Map
 pushed map globs at name items import =
-    record { id = map.id; edition = map.edition; modules = changed_at map.modules at (pushed_module globs (place_at map.id at name) items import) }
+    record map { modules = changed_at map.modules at (pushed_module globs (place_at map.id at name) items import) }
 
 -- the names that globs brought, once items were pushed to a place in a module
 abbrev pub globs_in : Option ModuleValue → GlobNames → Place → PerNs → Option ImportOrExternCrate → GlobNames
@@ -235,15 +317,34 @@ changes_module (Some m) globs place items import = scope_changes m.scope globs p
 abbrev pub push_changes : Map → GlobNames → ℕ → List ℕ → PerNs → Option ImportOrExternCrate → Bool
 push_changes map globs at name items import = changes_module (module_at map at) globs (place_at map.id at name) items import
 
+-- ---- the other parts of a map
+
+-- the map with the variants of an enum
+abbrev pub with_enum : Map → EnumId → Variants → Map
+with_enum map id variants = record map { enums = insert_entry (enum_order.ghosts.cmp) map.enums id variants }
+
+-- the map with a macro in its macro-use prelude, in place of another of its name
+abbrev pub with_macro_use : Map → List ℕ → MacroId → Option ExternCrateId → Map
+with_macro_use map name makro by = record map { macro_use_prelude = with_name map.macro_use_prelude name (makro, by) }
+
+-- the map with a prelude module
+abbrev pub with_prelude : Map → Option (ModuleId × Option UseId) → Map
+with_prelude map prelude = record map { prelude = prelude }
+
 -- ---- what holds of every def map
+
+-- the root is there, and numbers fit
+pub record IsNumbered (modules : List ModuleValue) : Type 0 where
+  pub root : 0 < length modules
+  pub numbers : length modules ≤ 2147483647
+
+-- ---- what holds where each module has a parent that comes before
 
 -- a parent is a module of the map that comes before
 abbrev pub IsBefore : MapId → ℕ → Option ModuleId → Type 0
 IsBefore id at None = Unit {0}
 IsBefore id at (Some p) = (p.map ≡ id) × (p.index < at)
 
--- the root is there, parents come before their children, and numbers fit
-pub record IsRooted (id : MapId) (modules : List ModuleValue) : Type 0 where
-  pub root : 0 < length modules
-  pub parents : (at : ℕ) (m : ModuleValue) → slice_get modules at ≡ Some m → IsBefore id at m.parent
-  pub numbers : length modules ≤ 2147483647
+-- parents come before their children
+abbrev pub IsInOrder : Map → Type 0
+IsInOrder map = (at : ℕ) (m : ModuleValue) → module_at map at ≡ Some m → IsBefore map.id at m.parent

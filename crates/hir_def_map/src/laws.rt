@@ -1,24 +1,41 @@
 //! What holds of every path and every map. The functions do nothing: their contracts are the laws.
-ghost use Rattle.hir_def_map.specs.Laws.{DeclarationsKeepNames, LastSegmentsAreSeen, SegmentsAreSeen, StepsLeadToParents, UnnamedBindingsDoNotMatter};
+ghost use Rattle.hir_def_map.specs.Laws.{AskersStay, DeclarationsKeepNames, DeclarationsKeepPlaces, JoinedSegments, LastSegmentsAreSeen, LaterSegmentsAreSeen, ModulesAreWalkedTo, PushesKeepPlaces, RootedStepsLeadToParents, SegmentsAreSeen, StepsLeadToParents, UnnamedBindingsDoNotMatter, WalksAreResolved};
 
 /// A path means the same over maps that agree on its names.
 pub fn unnamed_bindings_do_not_matter()
     ensures alike { UnnamedBindingsDoNotMatter }
 {}
 
-/// Each segment after a module is a name of that module which the asking module may see.
+/// Each segment after a module is a name of that module which the asking module may see; past a module of another
+/// crate the module where the path goes on is the one that asks.
 pub fn segments_are_seen()
     ensures kept { SegmentsAreSeen }
+    ensures later { LaterSegmentsAreSeen }
 {}
 
-/// In a def map one step up leads to the parent.
-pub fn steps_lead_to_parents()
-    ensures each { StepsLeadToParents }
+/// A path may be taken in two parts, the second from where the first leads.
+pub fn segments_join()
+    ensures joined { JoinedSegments }
+    ensures whole { WalksAreResolved }
+    ensures askers { AskersStay }
+    ensures modules { ModulesAreWalkedTo }
 {}
 
 /// One more name behind a path that leads to a module names what the module has, as far as it may be seen.
 pub fn last_segments_are_seen()
     ensures seen { LastSegmentsAreSeen }
+{}
+
+/// One step up leads to the parent.
+pub fn steps_lead_to_parents()
+    ensures rooted { RootedStepsLeadToParents }
+    ensures in_order { StepsLeadToParents }
+{}
+
+/// A push and a declaration that is listed leave what lies above each module.
+pub fn places_stay()
+    ensures pushed { PushesKeepPlaces }
+    ensures listed { DeclarationsKeepPlaces }
 {}
 
 /// A declaration that is listed leaves the modules, what they are in and what their names stand for.

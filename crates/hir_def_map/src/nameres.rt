@@ -1,17 +1,27 @@
 //! The def map of a crate, after rust-analyzer's `nameres.rs`.
-ghost use Rattle.std.specs.Prelude.{◌≡◌, ◌<◌, ◌++◌, [], ◌∷◌, length, slice_get, IfOk, OnOk, OnErr, IfSome, option_map};
+ghost use Rattle.std.specs.Prelude.{◌≡◌, ◌<◌, ◌++◌, [], ◌∷◌, length, slice_get, IfOk, OnOk, OnErr, IfSome, is_some, option_map};
 ghost use Rattle.hir_base.specs.Refusal.{Gives};
-ghost use Rattle.hir_def_map.specs.State.{child_at, entry_at, parent_at, module_at, root_map, scope_at, root_of, with_child, with_module, changed_at, changes_module, globs_in, globs_after, pushed_module, pushed, push_changes, IsRooted};
+ghost use Rattle.hir_def_map.specs.State.{at_name, child_at, entry_at, parent_at, module_at, empty_map, scope_at, root_of, variants_at, with_child, with_enum, with_macro_use, with_module, with_prelude, changed_at, changes_module, globs_in, globs_after, pushed_module, pushed, push_changes, IsNumbered};
+ghost use Rattle.hir_def_map.specs.Scoping.FirstSegment.{legacy_of};
 ghost use Rattle.hir_def_map.specs.Building.{new_module_verdict, IsMemory};
 
+pub mod crate_data;
 pub mod declaration;
+pub mod enum_variants;
+pub mod local_def_map;
 pub mod module_data;
 pub mod origin;
 pub mod path_resolution;
+mod reads;
+mod same;
 mod tree;
 
+use crate_data::DefMapCrateData;
+use enum_variants::EnumVariants;
+use hir_base::ast_id::BlockId;
 use hir_base::edition::Edition;
-use hir_base::ids::{MapId, ModuleId};
+use hir_base::ids::{Crate, EnumId, ExternCrateId, MapId, ModuleId, UseId};
+use hir_base::macro_kind::MacroId;
 use hir_base::name::Name;
 use hir_scope::glob_imports::PerNsGlobImports;
 use hir_scope::imports::ImportOrExternCrate;
@@ -21,6 +31,7 @@ use hir_scope::visibility::Visibility;
 use module_data::ModuleData;
 use origin::ModuleOrigin;
 use std::alloc::{AllocError, Global};
+use std::collections::BTreeMap;
 use std::marker::Model;
 
 /// The most modules that a map may have.
@@ -34,41 +45,67 @@ pub enum AddModuleError {
     Memory,
 }
 
-/// The modules of a crate by number, the root first, with what their names stand for.
+/// A block, and the module in which it is written.
+#[derive(Clone, Copy, Debug, PartialEq, Eq, Hash)]
+pub struct BlockInfo {
+    pub block: BlockId,
+    pub parent: ModuleId,
+}
+
+/// The modules of a crate or of a block by number, the root first, with what their names stand for.
 #[derive(Drop)]
 pub struct DefMap {
     id: MapId,
-    edition: Edition,
+    holder: Option<ModuleId>,
     modules: Vec<ModuleData>,
+    enums: BTreeMap<EnumId, EnumVariants>,
+    macro_use_prelude: BTreeMap<Name, (MacroId, Option<ExternCrateId>)>,
+    prelude: Option<(ModuleId, Option<UseId>)>,
+    crate_data: DefMapCrateData,
 }
 
 impl Model for DefMap {
-    ghost use Rattle.hir_def_map.specs.State.{Map, IsRooted};
+    ghost use Rattle.hir_def_map.specs.State.{Map, IsNumbered};
 
     ghost Value = { Map };
 
-    ghost view = { λ d. record { id = d.id; edition = d.edition; modules = d.modules.items } };
+    ghost view = { λ d. record {
+      id = d.id;
+      holder = d.holder;
+      modules = d.modules.items;
+      enums = d.enums.entries;
+      macro_use_prelude = d.macro_use_prelude.entries;
+      prelude = d.prelude;
+      crate_data = d.crate_data;
+    } };
 
-    ghost invariant = { λ d. IsRooted d.id d.modules.items };
+    ghost invariant = { λ d. IsNumbered d.modules.items };
 }
 
 impl DefMap {
     /// A map with its root alone.
     pub fn empty(
         alloc: Global,
-        id: MapId,
-        edition: Edition,
-        origin: ModuleOrigin,
-        visibility: Visibility,
+        krate: Crate,
+        crate_data: DefMapCrateData,
+        root_data: ModuleData,
+        block: Option<BlockInfo>,
     ) -> Result<DefMap, AllocError>
-        ensures value { IfOk result (λ map. map ≡ root_map id edition origin visibility) }
+        ensures value { IfOk result (λ map. map ≡ empty_map krate crate_data root_data block) }
     {
         let mut modules = Vec::new(alloc);
-        modules.push(ModuleData::new(alloc, origin, visibility, None))?;
+        modules.push(root_data)?;
         Ok(DefMap {
-            id,
-            edition,
+            id: MapId {
+                krate,
+                block: block.map(|info| info.block),
+            },
+            holder: block.map(|info| info.parent),
             modules,
+            enums: BTreeMap::new(alloc),
+            macro_use_prelude: BTreeMap::new(alloc),
+            prelude: None,
+            crate_data,
         })
     }
 
@@ -79,9 +116,16 @@ impl DefMap {
     }
 
     pub fn edition(&self) -> Edition
-        ensures value { result ≡ self.now.edition }
+        ensures value { result ≡ self.now.crate_data.edition }
     {
-        self.edition
+        self.crate_data.edition()
+    }
+
+    /// The module that holds the block, in a block's map.
+    pub fn parent(&self) -> Option<ModuleId>
+        ensures value { result ≡ self.now.holder }
+    {
+        self.holder
     }
 
     /// The module that all others of the map are below.
@@ -97,9 +141,23 @@ impl DefMap {
     /// How many modules the map has; their numbers are those below it.
     pub fn module_count(&self) -> u32
         ensures value { result ≡ length self.now.modules }
-        ensures rooted { IsRooted self.now.id self.now.modules }
+        ensures numbered { IsNumbered self.now.modules }
     {
         self.modules.len() as u32
+    }
+
+    /// The modules by number.
+    pub fn modules(&self) -> &[ModuleData]
+        ensures value { result.now ≡ self.now.modules }
+    {
+        self.modules.as_slice()
+    }
+
+    /// Whether the map has a module of this number.
+    pub fn has_module(&self, at: u32) -> bool
+        ensures value { result ≡ is_some (module_at self.now at) }
+    {
+        self.modules.get(at as usize).is_some()
     }
 
     /// Where a module is written.
@@ -123,7 +181,7 @@ impl DefMap {
     }
 
     /// What a module is in.
-    pub fn parent(&self, at: u32) -> Option<ModuleId>
+    pub fn parent_of(&self, at: u32) -> Option<ModuleId>
         ensures value { result ≡ parent_at self.now at }
     {
         match self.modules.get(at as usize) {
@@ -162,17 +220,26 @@ impl DefMap {
         }
     }
 
-    /// Adds a module with the next number. Its parent gets the child name, unless it has one such already.
+    /// The last of the macros of a name that are in textual scope in a module.
+    pub fn legacy_macro(&self, at: u32, name: &Name) -> Option<MacroId>
+        ensures value { result ≡ legacy_of (module_at self.now at) name.now }
+    {
+        match self.modules.get(at as usize) {
+            Some(module) => module.legacy_macro(name),
+            None => None,
+        }
+    }
+
+    /// Adds a module with the next number. The module `parent` gets the child name, unless it has one such already.
     pub fn add_module(
         &mut self,
         parent: u32,
         name: Name,
-        origin: ModuleOrigin,
-        visibility: Visibility,
+        module_data: ModuleData,
     ) -> Result<ModuleId, AddModuleError>
         requires in_range { parent < length self.old.modules }
         ensures answer { Gives IsMemory result (new_module_verdict self.old) }
-        ensures ok { OnOk result (self.new ≡ with_module self.old parent name origin visibility) }
+        ensures ok { OnOk result (self.new ≡ with_module self.old parent name module_data) }
         ensures err { OnErr result (self.new ≡ self.old) }
     {
         let count = self.modules.len();
@@ -183,16 +250,67 @@ impl DefMap {
             map: self.id,
             index: count as u32,
         };
-        let above = ModuleId {
-            map: self.id,
-            index: parent,
-        };
-        let alloc = *self.modules.allocator();
-        let module = ModuleData::new(alloc, origin, visibility, Some(above));
-        if insert_module(&mut self.modules, parent as usize, name, id, module).is_err() {
+        if insert_module(&mut self.modules, parent as usize, name, id, module_data).is_err() {
             return Err(AddModuleError::Memory);
         }
         Ok(id)
+    }
+
+    /// What the crate's top says.
+    pub fn crate_data(&self) -> &DefMapCrateData
+        ensures value { result.now ≡ self.now.crate_data }
+    {
+        &self.crate_data
+    }
+
+    /// The variants of an enum that the map declares.
+    pub fn enum_variants(&self, id: EnumId) -> Option<&EnumVariants>
+        ensures value { option_map (λ v. v.now) result ≡ variants_at self.now id }
+    {
+        self.enums.get(&id)
+    }
+
+    /// Keeps the variants of an enum that the map declares.
+    pub fn add_enum(&mut self, id: EnumId, variants: EnumVariants) -> Result<(), AllocError>
+        ensures ok { OnOk result (self.new ≡ with_enum self.old id variants) }
+        ensures err { OnErr result (self.new ≡ self.old) }
+    {
+        self.enums.insert(id, variants)?;
+        Ok(())
+    }
+
+    /// The macro of a name in the `macro_use` prelude, and the `extern crate` that brought it, if one did.
+    pub fn macro_use(&self, name: &Name) -> Option<(MacroId, Option<ExternCrateId>)>
+        ensures value { result ≡ at_name self.now.macro_use_prelude name.now }
+    {
+        self.macro_use_prelude.get(name).copied()
+    }
+
+    /// Gives the `macro_use` prelude a macro, in place of another of its name.
+    pub fn add_macro_use(
+        &mut self,
+        name: Name,
+        makro: MacroId,
+        extern_crate: Option<ExternCrateId>,
+    ) -> Result<(), AllocError>
+        ensures ok { OnOk result (self.new ≡ with_macro_use self.old name makro extern_crate) }
+        ensures err { OnErr result (self.new ≡ self.old) }
+    {
+        self.macro_use_prelude.insert(name, (makro, extern_crate))?;
+        Ok(())
+    }
+
+    /// The module whose names each module but a block's root finds, and the `use` that names it, if one does.
+    pub fn prelude(&self) -> Option<(ModuleId, Option<UseId>)>
+        ensures value { result ≡ self.now.prelude }
+    {
+        self.prelude
+    }
+
+    pub fn set_prelude(&mut self, prelude: Option<(ModuleId, Option<UseId>)>)
+        ensures value { self.new ≡ with_prelude self.old prelude }
+    {
+        self.prelude = prelude;
     }
 
     /// Binds items under a name in a module by an import, and says whether that changed anything.

@@ -1,16 +1,62 @@
 //! What written visibilities mean in a map.
-ghost use Rattle.std.specs.Prelude.{◌≡◌, IfSome};
+ghost use Rattle.std.specs.Prelude.{◌≡◌, IfSome, option_copied};
 ghost use Rattle.hir_scope.specs.Visibility.{is_visible, lesser_of, visibility_of, IsMeet};
-ghost use Rattle.hir_def_map.specs.State.{alone, numbered};
+ghost use Rattle.hir_def_map.specs.State.{beside, numbered};
 ghost use Rattle.hir_def_map.specs.Chains.{above_in, holders_in};
+ghost use Rattle.hir_def_map.specs.World.{finished_in};
+ghost use Rattle.hir_def_map.specs.Scoping.Asking.{local_of};
+ghost use Rattle.hir_def_map.specs.Visibilities.{module_seen, path_seen, resolved_visibility};
 
+use crate::def_maps::DefMaps;
 use crate::nameres::DefMap;
-use hir_base::ids::ModuleId;
-use hir_item_tree::raw_visibility::RawVisibility;
+use crate::nameres::local_def_map::LocalDefMap;
+use crate::nameres::path_resolution::BuiltinShadowMode;
+use crate::world::World;
+use hir_base::ids::{MapId, ModuleDefId, ModuleId};
+use hir_item_tree::raw_visibility::{RawVisibility, VisibilityExplicitness};
+use hir_scope::per_ns::PerNs;
 use hir_scope::visibility::Visibility;
 
+/// The visibility in a module that a path names; outside the map its root stands for it, unless in an impl.
+fn module_seen(
+    within_impl: bool,
+    map: MapId,
+    explicitness: VisibilityExplicitness,
+    def: ModuleDefId,
+) -> Option<Visibility>
+    ensures value { result ≡ module_seen within_impl map explicitness def }
+{
+    let ModuleDefId::ModuleId(module) = def else {
+        return None;
+    };
+    if within_impl || module.map == map {
+        Some(Visibility::Module(module, explicitness))
+    } else {
+        Some(Visibility::Module(ModuleId { map, index: 0 }, explicitness))
+    }
+}
+
+/// The visibility in the module that a path reaches, where it reaches one.
+fn path_seen(
+    within_impl: bool,
+    map: MapId,
+    explicitness: VisibilityExplicitness,
+    stop: Option<usize>,
+    items: PerNs,
+) -> Option<Visibility>
+    ensures value { result ≡ path_seen within_impl map explicitness stop items }
+{
+    if stop.is_some() {
+        return None;
+    }
+    match items.types {
+        Some(item) => module_seen(within_impl, map, explicitness, item.def),
+        None => None,
+    }
+}
+
 impl DefMap {
-    /// What a visibility means that is written in a module of the map.
+    /// What a visibility means that is written in a module of the map, a path in it counting as seen by all.
     pub fn visibility_of(&self, at: u32, raw: &RawVisibility) -> Visibility
         ensures value { result ≡ visibility_of (numbered self.now.id at) raw.now }
     {
@@ -21,18 +67,45 @@ impl DefMap {
         Visibility::of_raw(module, raw)
     }
 
-    /// The lesser of two visibilities, if one has all that the other has.
-    pub fn lesser(&self, one: Visibility, other: Visibility) -> Option<Visibility>
-        ensures value { result ≡ lesser_of (above_in (alone self.now)) self.now.id one other }
-        ensures meet { IfSome result (λ least. IsMeet (is_visible (above_in (alone self.now)) (holders_in (alone self.now))) least one other) }
+    /// What a visibility means that is written in a module; none where its path doesn't lead to one.
+    pub fn resolve_visibility(
+        &self,
+        local: Option<&LocalDefMap>,
+        world: &World,
+        at: ModuleId,
+        raw: &RawVisibility,
+        within_impl: bool,
+    ) -> Option<Visibility>
+        ensures value { result ≡ resolved_visibility (beside (finished_in world.now.maps) self.now) (local_of (option_copied local.entry)) at within_impl raw.now }
     {
-        one.min(self, other, self.id())
+        match raw {
+            RawVisibility::Module(path, explicitness) => {
+                let shadow = BuiltinShadowMode::Module;
+                let (items, stop) = self.resolve_path(local, world, at, path, shadow, None);
+                path_seen(within_impl, at.map, *explicitness, stop, items)
+            }
+            RawVisibility::PubSelf(explicitness) => Some(Visibility::Module(at, *explicitness)),
+            RawVisibility::PubCrate => Some(Visibility::PubCrate(at.map.krate)),
+            RawVisibility::Public => Some(Visibility::Public),
+        }
+    }
+
+    /// The lesser of two visibilities, if one has all that the other has.
+    #[tactic(auto, unfolding(crate::specs::DefMaps::maps_of))]
+    pub fn lesser(&self, world: &World, one: Visibility, other: Visibility) -> Option<Visibility>
+        ensures value { result ≡ lesser_of (above_in (beside (finished_in world.now.maps) self.now)) self.now.id one other }
+        ensures meet { IfSome result (λ least. IsMeet (is_visible (above_in (beside (finished_in world.now.maps) self.now))
+            (holders_in (beside (finished_in world.now.maps) self.now))) least one other) }
+    {
+        one.min(&DefMaps { world, own: self }, other, self.id())
     }
 
     /// Whether a module may see what has this visibility.
-    pub fn is_visible(&self, vis: Visibility, from: ModuleId) -> bool
-        ensures value { result ≡ is_visible (above_in (alone self.now)) (holders_in (alone self.now)) vis from }
+    #[tactic(auto, unfolding(crate::specs::DefMaps::maps_of))]
+    pub fn is_visible(&self, world: &World, vis: Visibility, from: ModuleId) -> bool
+        ensures value { result ≡ is_visible (above_in (beside (finished_in world.now.maps) self.now))
+            (holders_in (beside (finished_in world.now.maps) self.now)) vis from }
     {
-        vis.is_visible_from(self, from)
+        vis.is_visible_from(&DefMaps { world, own: self }, from)
     }
 }

@@ -4,6 +4,7 @@ mod modules;
 mod paths;
 mod pushes;
 mod visibilities;
+mod worlds;
 
 use hir_base::ast_id::{AstId, AstKind, EditionedFileId, FileId, HirFileId, SyntaxId};
 use hir_base::builtin_type::{BuiltinType, BuiltinUint};
@@ -14,6 +15,8 @@ use hir_base::ids::{
 };
 use hir_base::name::Name;
 use hir_def_map::nameres::DefMap;
+use hir_def_map::nameres::crate_data::DefMapCrateData;
+use hir_def_map::nameres::module_data::ModuleData;
 use hir_def_map::nameres::origin::ModuleOrigin;
 use hir_item_tree::raw_visibility::VisibilityExplicitness;
 use hir_scope::glob_imports::PerNsGlobImports;
@@ -189,6 +192,7 @@ fn builtin(kind: BuiltinUint) -> PerNs {
 
 /// Adds a module of a name, and binds the name to it.
 fn add_named(
+    alloc: Global,
     map: &mut DefMap,
     globs: &mut PerNsGlobImports,
     parent: u32,
@@ -196,7 +200,9 @@ fn add_named(
     number: u16,
 ) -> Result<(), Fail> {
     if parent < map.module_count() {
-        let id = map.add_module(parent, name.clone()?, inline(number), Visibility::Public)?;
+        let above = Some(module(parent));
+        let data = ModuleData::new(alloc, inline(number), Visibility::Public, above);
+        let id = map.add_module(parent, name.clone()?, data)?;
         map.push(globs, parent, name, to_module(id.index), None)?;
     }
     Ok(())
@@ -211,7 +217,7 @@ fn add_module(
     number: u16,
 ) -> Result<(), Fail> {
     let name = Name::new(alloc, text)?;
-    add_named(map, globs, parent, name, number)
+    add_named(alloc, map, globs, parent, name, number)
 }
 
 fn add_modules(alloc: Global, map: &mut DefMap, globs: &mut PerNsGlobImports) -> Result<(), Fail> {
@@ -257,7 +263,9 @@ fn filled(alloc: Global, map: &mut DefMap) -> Result<(), Fail> {
 /// with `a`, `b` and `u8` the modules 1, 2 and 3, and the items numbered 1 to 4.
 fn sample(alloc: Global) -> Result<DefMap, Fail> {
     let origin = ModuleOrigin::CrateRoot { definition: FILE };
-    let mut map = DefMap::empty(alloc, MAP, Edition::Edition2021, origin, Visibility::Public)?;
+    let data = DefMapCrateData::new(alloc, Edition::Edition2021);
+    let root = ModuleData::new(alloc, origin, Visibility::Public, None);
+    let mut map = DefMap::empty(alloc, Crate(0), data, root, None)?;
     filled(alloc, &mut map)?;
     Ok(map)
 }

@@ -151,12 +151,8 @@ impl<'a> AttrQuery<'a> {
     pub fn exists(&self) -> bool
         ensures value { result ≡ is_some_attr (keyed self.now) }
     {
-        for attr in self.attrs {
-            if is_ident(&attr.meta.path, self.key) {
-                return true;
-            }
-        }
-        false
+        let mut attrs = self.attrs();
+        attrs.next().is_some()
     }
 
     /// The first literal that an attribute of the key gives.

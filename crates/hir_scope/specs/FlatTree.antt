@@ -1,11 +1,11 @@
 -- Which modules lie above one another where each module but a root is a child of its root?
-use Rattle.std.specs.Prelude.{◌≡◌, ◌==◌, ℕ, Bool, true, false, Option, None, Some, List, [], ◌∷◌, cond, refl, All}
+use Rattle.std.specs.Prelude.{◌≡◌, ◌==◌, ℕ, true, false, Option, None, Some, List, [], ◌∷◌, cond, refl, All}
 use Rattle.std.proofs.lemmas.List.Elements.{All-cons, All-nil}
 use Rattle.hir_base.specs.declared.ast_id.BlockId.{BlockId}
 use Rattle.hir_base.specs.declared.ids.Crate.{Crate}
 use Rattle.hir_base.specs.declared.ids.ModuleId.{ModuleId}
 use Rattle.hir_scope.specs.PerNs.{first_of}
-use Rattle.hir_scope.specs.ModuleTree.{chain_from, IsInOneCrate}
+use Rattle.hir_scope.specs.ModuleTree.{chain_from}
 
 -- a module by its crate, block and number
 abbrev pub module_at : Crate → Option BlockId → ℕ → ModuleId

@@ -1,5 +1,5 @@
 -- Which definition does an import reach in the end?
-use Rattle.std.specs.Prelude.{ℕ, zero, suc, List, Option, None, Some}
+use Rattle.std.specs.Prelude.{ℕ, zero, suc, Option, None, Some}
 use Rattle.hir_base.specs.declared.ids.ModuleId.{ModuleId}
 use Rattle.hir_base.specs.declared.ids.ModuleDefId.{ModuleDefId}
 use Rattle.hir_base.specs.declared.ids.ModuleDefId.TheVariants as def

@@ -1,5 +1,5 @@
 -- What a name stands for, namespace by namespace.
-use Rattle.std.specs.Prelude.{Bool, ◌&&◌, not, is_some, Option, None, Some, cond, List, [], ◌∷◌, ◌++◌}
+use Rattle.std.specs.Prelude.{Bool, ◌&&◌, not, is_some, Option, None, Some, cond, List, ◌++◌}
 use Rattle.std.specs.Option.{option_map, option_to_list}
 use Rattle.hir_base.specs.declared.ids.AdtId.TheVariants as adt
 use Rattle.hir_base.specs.declared.ids.ModuleDefId.{ModuleDefId}

@@ -1,5 +1,5 @@
 -- Which items does a walk over a scope give?
-use Rattle.std.specs.Prelude.{ℕ, Bool, true, false, not, List, [], ◌∷◌, ◌++◌, Option, None, Some, cond}
+use Rattle.std.specs.Prelude.{Bool, true, not, List, [], ◌∷◌, ◌++◌, Option, None, Some, cond}
 use Rattle.either.specs.declared.Either.TheVariants.{Left, Right}
 use Rattle.hir_base.specs.declared.ast_id.MacroCallId.{MacroCallId}
 use Rattle.hir_base.specs.declared.ids.ImplId.{ImplId}

@@ -2,11 +2,14 @@
 mod dump;
 mod import_chains;
 mod item_scope;
+mod small_tree;
+mod tables;
 mod visibility;
 
 use hir_base::ast_id::{EditionedFileId, FileId, HirFileId, SyntaxId};
 use hir_base::edition::Edition;
 use hir_base::ids::{AdtId, Crate, ExternCrateId, MapId, ModuleDefId, ModuleId, StructId, UseId};
+use hir_base::macro_kind::{MacroCallStyles, MacroExpander, MacroId, MacroRulesId};
 use hir_base::name::Name;
 use hir_scope::glob_imports::PerNsGlobImports;
 use hir_scope::imports::{GlobId, ImportId, ImportOrExternCrate};
@@ -38,13 +41,27 @@ fn node(number: u16) -> SyntaxId {
     }
 }
 
-fn structure(number: u16) -> ModuleDefId {
-    ModuleDefId::AdtId(AdtId::StructId(StructId {
+fn adt(number: u16) -> AdtId {
+    AdtId::StructId(StructId {
         container: module(0),
         file_id: FILE,
         block: None,
         id: node(number),
-    }))
+    })
+}
+
+fn structure(number: u16) -> ModuleDefId {
+    ModuleDefId::AdtId(adt(number))
+}
+
+fn macro_of(number: u16, styles: MacroCallStyles) -> MacroId {
+    MacroId::MacroRulesId(MacroRulesId {
+        container: module(0),
+        file_id: FILE,
+        block: None,
+        id: node(number),
+        expander: MacroExpander::Declarative(styles),
+    })
 }
 
 fn use_item(at: u32, number: u16) -> UseId {
@@ -74,13 +91,17 @@ fn by_glob(number: u16) -> Option<ImportOrExternCrate> {
     }))
 }
 
-fn by_extern_crate(number: u16) -> Option<ImportOrExternCrate> {
-    Some(ImportOrExternCrate::ExternCrate(ExternCrateId {
+fn extern_crate(number: u16) -> ExternCrateId {
+    ExternCrateId {
         container: module(0),
         file_id: FILE,
         block: None,
         id: node(number),
-    }))
+    }
+}
+
+fn by_extern_crate(number: u16) -> Option<ImportOrExternCrate> {
+    Some(ImportOrExternCrate::ExternCrate(extern_crate(number)))
 }
 
 /// A scope behind a box, so that a test moves a pointer and not the scope.
@@ -106,6 +127,10 @@ fn a_type(number: u16) -> PerNs {
 
 fn a_value(number: u16) -> PerNs {
     PerNs::values(structure(number), Visibility::Public, None)
+}
+
+fn a_macro(number: u16, styles: MacroCallStyles) -> PerNs {
+    PerNs::macros(macro_of(number, styles), Visibility::Public, None)
 }
 
 /// Asserts items; of all tests, so that their comparison is proved once.

@@ -1,11 +1,12 @@
 -- What is a path answered?
-use Rattle.std.specs.Prelude.{ℕ, List, Option, None, Some, Result, Ok, Err}
+use Rattle.std.specs.Prelude.{ℕ, List, [], Option, None, Some, Result, Ok, Err}
 use Rattle.std.specs.Option.{option_and_then}
 use Rattle.hir_base.specs.ModPath.{Path}
 use Rattle.hir_base.specs.Place.{PlaceValue}
 use Rattle.hir_base.specs.declared.ids.ModuleId.{ModuleId}
 use Rattle.hir_def_map.specs.State.{Map, alone}
-use Rattle.hir_def_map.specs.Scoping.{Asking, resolution_of}
+use Rattle.hir_def_map.specs.Scoping.{resolution_of}
+use Rattle.hir_def_map.specs.Scoping.Asking.{Asking}
 use Rattle.hir_def_map.specs.declared.nameres.path_resolution.ResolveMode.TheVariants as mode
 use Rattle.hir_def_map.specs.declared.nameres.path_resolution.BuiltinShadowMode.{BuiltinShadowMode}
 use Rattle.hir_def_map.specs.declared.nameres.path_resolution.BuiltinShadowMode.TheVariants as shadow_mode
@@ -36,9 +37,9 @@ sub_ns_of None = None
 sub_ns_of (Some style.Bang) = Some sub_ns.Bang
 sub_ns_of (Some style.Attr) = Some sub_ns.Attr
 
--- how a query asks
+-- how a query asks; no path begins with a crate yet
 abbrev pub asking_of : Shadow → Option MacroStyle → Asking
-asking_of shadow style = record { mode = mode.Other; shadow = shadow_mode_of shadow; sub_ns = sub_ns_of style }
+asking_of shadow style = record { local = []; mode = mode.Other; shadow = shadow_mode_of shadow; sub_ns = sub_ns_of style }
 
 -- what a path means, in source items
 abbrev pub named_by : List (List ℕ) → Map → ResolvePathResult → Answer

@@ -2,6 +2,7 @@
 use Rattle.std.specs.Prelude.{◌≡◌, ℕ, ◌+◌, Bool, true, false, List, [], ◌∷◌, Some, slice_set, map, Contains}
 use Rattle.hir_base.specs.Place.{PlaceValue}
 use Rattle.hir_base.specs.declared.ids.Crate.{Crate}
+use Rattle.hir_def_map.specs.State.{no_maps}
 use Rattle.hir_def_collector.specs.Workspace.{Workspace}
 use Rattle.hir_def_collector.specs.Start.{start_of as run_start}
 use Rattle.hir_def_collector.specs.Derivation.{IsSpent}
@@ -33,7 +34,7 @@ resolved_at s k r = record s { kept = slice_set s.kept k (Some r); marked = slic
 
 -- from where a run begins, steps lead on to as many steps or modules as are counted
 abbrev pub IsOverlong : Workspace → Start → Type 0
-IsOverlong w start = IsSpent w (run_start w start)
+IsOverlong w start = IsSpent w no_maps (run_start w start)
 
 -- the run for the first crate that is due goes on for too long
 pub record HasOverlongRun (s : SessionState) : Type 0 where

@@ -3,6 +3,7 @@ use Rattle.std.specs.Prelude.{◌≡◌, ℕ, ◌<◌, ◌≤◌, Bool, true, fa
 use Rattle.hir_base.specs.CfgOptions.{is_set}
 use Rattle.hir_base.specs.declared.cfg.CfgAtom.{CfgAtom}
 use Rattle.hir_base.specs.declared.ids.Crate.{Crate}
+use Rattle.hir_def_map.specs.State.{no_maps}
 use Rattle.hir_def_collector.specs.Workspace.{Workspace}
 use Rattle.hir_def_collector.specs.Keys.{AgreeOn}
 use Rattle.hir_def_collector.specs.Derivation.{CollectedValue, Ends}
@@ -55,9 +56,9 @@ mark_in marked k = slice_index_or marked k true
 abbrev pub is_marked : SessionState → ℕ → Bool
 is_marked s k = mark_in s.marked k
 
--- a derivation ends in the resolution over every workspace that agrees with this one on the keys that it asked for
+-- a derivation without other maps ends in the resolution over every workspace that agrees with this one on the keys that it asked for
 pub record IsResolved (w : Workspace) (start : Start) (r : Resolution) : Type 0 where
-  pub ends : (v : Workspace) → AgreeOn r.asked w v → Ends v start r
+  pub ends : (v : Workspace) → AgreeOn r.asked w v → Ends v no_maps start r
 
 -- what is kept of the crate is what the import rules could have given just now
 pub record IsCurrent (s : SessionState) (k : ℕ) : Type 0 where

@@ -13,6 +13,7 @@ use hir_base::mod_path::ModPath;
 use hir_base::place::PlaceElement;
 use hir_def_map::nameres::DefMap;
 use hir_def_map::nameres::path_resolution::{BuiltinShadowMode, MacroSubNs};
+use hir_def_map::world::World;
 use hir_scope::imports::{ImportOrExternCrate, ImportOrGlob};
 use hir_scope::per_ns::{MacrosItem, TypesItem, ValuesItem};
 use hir_wire::answer::{Answer, AnswerItem, AnswerVisibility, Definition, ImportSource};
@@ -175,7 +176,9 @@ pub fn answer_at(
 ) -> Result<Answer, AllocError>
     ensures value { IfOk result (λ a. a ≡ answer_in paths.now.items map.now at path.now shadow style) }
 {
-    let (items, stop) = map.resolve_path(at, path, shadow_mode(shadow), sub_ns(style));
+    let world = World::new(alloc);
+    let shadow = shadow_mode(shadow);
+    let (items, stop) = map.resolve_path(None, &world, at, path, shadow, sub_ns(style));
     let types = type_at(alloc, paths, map, items.types)?;
     let values = value_at(alloc, paths, map, items.values)?;
     let macros = macro_item_at(alloc, paths, map, items.macros)?;

@@ -15,6 +15,7 @@ use hir_base::ids::Crate;
 use hir_def_collector::collector::collected::Collected;
 use hir_def_collector::collector::{Start, collect_defs};
 use hir_def_collector::source_database::SourceDatabase;
+use hir_def_map::world::World;
 use hir_item_tree::item_tree::ItemTree;
 use std::alloc::{AllocError, Global};
 
@@ -87,6 +88,7 @@ pub fn resolve_crate(
         paths,
         files,
     };
-    let found = collect_defs(alloc, &sources, start)?;
+    let world = World::new(alloc);
+    let found = collect_defs(alloc, &sources, &world, start)?;
     Ok(found)
 }

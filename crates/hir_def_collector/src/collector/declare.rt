@@ -3,6 +3,8 @@ ghost use Rattle.std.specs.Prelude.{◌≡◌, ◌≤◌, true, [], map, OnOk};
 ghost use Rattle.hir_item_tree.specs.Collected.{is_enabled};
 ghost use Rattle.hir_item_tree.specs.KeptForest.{leaf, function, structure, union_structure, constant, static_item, trait_item, type_alias};
 ghost use Rattle.hir_scope.specs.Visibility.{visibility_of};
+ghost use Rattle.hir_def_map.specs.State.{Maps};
+ghost use Rattle.hir_def_map.specs.World.{finished_in};
 ghost use Rattle.hir_def_collector.specs.State.{with_map, counted};
 ghost use Rattle.hir_def_collector.specs.ItemIds.{module_id};
 ghost use Rattle.hir_def_collector.specs.Items.{constructor_of, declared_struct, meet_of, own_visibility, type_declaration, value_declaration};
@@ -21,6 +23,7 @@ use hir_base::ids::{
 };
 use hir_base::name::Name;
 use hir_def_map::nameres::DefMap;
+use hir_def_map::world::World;
 use hir_item_tree::kinds::Struct;
 use hir_item_tree::raw_visibility::RawVisibility;
 use hir_item_tree::shape::FieldsShape;
@@ -91,7 +94,7 @@ pub fn declare_function(
     name: &Name,
 ) -> Result<(), CollectError>
     requires enabled { is_enabled (head_of head).attributes ≡ true }
-    ensures ok { OnOk result (Handles run.old run.new (visit site (leaf (head_of head.entry) (function name.now))) []) }
+    ensures ok { OnOk result ((finished : Maps) → Handles finished run.old run.new (visit site (leaf (head_of head.entry) (function name.now))) []) }
     ensures many { result ≡ Err CollectError.TooMany → STEP_LIMIT ≤ run.old.count }
 {
     let def = ModuleDefId::FunctionId(FunctionId {
@@ -112,7 +115,7 @@ pub fn declare_const(
     name: &Name,
 ) -> Result<(), CollectError>
     requires enabled { is_enabled (head_of head).attributes ≡ true }
-    ensures ok { OnOk result (Handles run.old run.new (visit site (leaf (head_of head.entry) (constant (Some name.now)))) []) }
+    ensures ok { OnOk result ((finished : Maps) → Handles finished run.old run.new (visit site (leaf (head_of head.entry) (constant (Some name.now)))) []) }
     ensures many { result ≡ Err CollectError.TooMany → STEP_LIMIT ≤ run.old.count }
 {
     let def = ModuleDefId::ConstId(ConstId {
@@ -133,7 +136,7 @@ pub fn declare_static(
     name: &Name,
 ) -> Result<(), CollectError>
     requires enabled { is_enabled (head_of head).attributes ≡ true }
-    ensures ok { OnOk result (Handles run.old run.new (visit site (leaf (head_of head.entry) (static_item name.now))) []) }
+    ensures ok { OnOk result ((finished : Maps) → Handles finished run.old run.new (visit site (leaf (head_of head.entry) (static_item name.now))) []) }
     ensures many { result ≡ Err CollectError.TooMany → STEP_LIMIT ≤ run.old.count }
 {
     let def = ModuleDefId::StaticId(StaticId {
@@ -154,7 +157,7 @@ pub fn declare_type_alias(
     name: &Name,
 ) -> Result<(), CollectError>
     requires enabled { is_enabled (head_of head).attributes ≡ true }
-    ensures ok { OnOk result (Handles run.old run.new (visit site (leaf (head_of head.entry) (type_alias name.now))) []) }
+    ensures ok { OnOk result ((finished : Maps) → Handles finished run.old run.new (visit site (leaf (head_of head.entry) (type_alias name.now))) []) }
     ensures many { result ≡ Err CollectError.TooMany → STEP_LIMIT ≤ run.old.count }
 {
     let def = ModuleDefId::TypeAliasId(TypeAliasId {
@@ -175,7 +178,7 @@ pub fn declare_trait(
     name: &Name,
 ) -> Result<(), CollectError>
     requires enabled { is_enabled (head_of head).attributes ≡ true }
-    ensures ok { OnOk result (Handles run.old run.new (visit site (leaf (head_of head.entry) (trait_item name.now))) []) }
+    ensures ok { OnOk result ((finished : Maps) → Handles finished run.old run.new (visit site (leaf (head_of head.entry) (trait_item name.now))) []) }
     ensures many { result ≡ Err CollectError.TooMany → STEP_LIMIT ≤ run.old.count }
 {
     let def = ModuleDefId::TraitId(TraitId {
@@ -196,7 +199,7 @@ pub fn declare_union(
     name: &Name,
 ) -> Result<(), CollectError>
     requires enabled { is_enabled (head_of head).attributes ≡ true }
-    ensures ok { OnOk result ((fields : _) → Handles run.old run.new (visit site (leaf (head_of head.entry) (union_structure name.now fields))) []) }
+    ensures ok { OnOk result ((finished : Maps) (fields : _) → Handles finished run.old run.new (visit site (leaf (head_of head.entry) (union_structure name.now fields))) []) }
     ensures many { result ≡ Err CollectError.TooMany → STEP_LIMIT ≤ run.old.count }
 {
     let def = ModuleDefId::AdtId(AdtId::UnionId(UnionId {
@@ -212,15 +215,16 @@ pub fn declare_union(
 /// The meet of visibilities, if none of them are unrelated.
 fn meet(
     defs: &DefMap,
+    world: &World,
     at: ModuleId,
     own: Visibility,
     others: &[RawVisibility],
 ) -> Option<Visibility>
-    ensures value { result ≡ meet_of defs.now own (map (visibility_of at) others.now) }
+    ensures value { result ≡ meet_of (finished_in world.now.maps) defs.now own (map (visibility_of at) others.now) }
 {
     let mut least = own;
     for other in others {
-        least = lesser(defs, least, Visibility::of_raw(at, other))?;
+        least = lesser(defs, world, least, Visibility::of_raw(at, other))?;
     }
     Some(least)
 }
@@ -228,16 +232,17 @@ fn meet(
 /// The visibility of a struct's constructor, if its shape has one.
 fn constructor(
     defs: &DefMap,
+    world: &World,
     at: ModuleId,
     own: Visibility,
     shape: FieldsShape,
     fields: &[RawVisibility],
 ) -> Option<Visibility>
-    ensures value { result ≡ constructor_of defs.now own shape (map (visibility_of at) fields.now) }
+    ensures value { result ≡ constructor_of (finished_in world.now.maps) defs.now own shape (map (visibility_of at) fields.now) }
 {
     match shape {
         FieldsShape::Record => None,
-        FieldsShape::Tuple => match meet(defs, at, own, fields) {
+        FieldsShape::Tuple => match meet(defs, world, at, own, fields) {
             Some(least) => Some(least),
             None => Some(own),
         },
@@ -272,12 +277,13 @@ fn struct_items(def: ModuleDefId, own: Visibility, constructor: Option<Visibilit
 /// Declares a struct: a type, and by its shape a value.
 pub fn declare_struct(
     run: &mut Run,
+    world: &World,
     site: Site,
     head: ItemHead<'_>,
     item: Struct<'_>,
 ) -> Result<(), CollectError>
     requires enabled { is_enabled (head_of head).attributes ≡ true }
-    ensures ok { OnOk result (Handles run.old run.new (visit site (leaf (head_of head.entry) (structure item.entry.name.now item.entry.shape item.entry.fields.now))) []) }
+    ensures ok { OnOk result (Handles (finished_in world.now.maps) run.old run.new (visit site (leaf (head_of head.entry) (structure item.entry.name.now item.entry.shape item.entry.fields.now))) []) }
     ensures many { result ≡ Err CollectError.TooMany → STEP_LIMIT ≤ run.old.count }
 {
     let at = run.module_id(site.home);
@@ -288,7 +294,7 @@ pub fn declare_struct(
         id: head.id,
     }));
     let own = run.visibility(site, head);
-    let constructor = constructor(run.map(), at, own, item.shape, item.fields);
+    let constructor = constructor(run.map(), world, at, own, item.shape, item.fields);
     let declaration = Declaration {
         name: item.name.clone()?,
         def,

@@ -1,5 +1,6 @@
 //! Imports that a run has come upon, and what they bring.
 ghost use Rattle.std.specs.Prelude.{◌≡◌, IfOk, option_map};
+ghost use Rattle.hir_def_map.specs.World.{finished_in};
 ghost use Rattle.hir_def_collector.specs.Imports.{brought, both_of, goes_beyond, imported, is_empty, kept_by_kind, name_of, namespaces_of, reached_in};
 ghost use Rattle.hir_def_collector.specs.Items.{lesser_in};
 
@@ -7,6 +8,7 @@ use hir_base::ids::ModuleId;
 use hir_base::mod_path::ModPath;
 use hir_base::name::Name;
 use hir_def_map::nameres::DefMap;
+use hir_def_map::world::World;
 use hir_item_tree::raw_visibility::RawVisibility;
 use hir_item_tree::shape::{ImportAlias, ImportKind};
 use hir_scope::imports::ImportId;
@@ -103,20 +105,20 @@ impl ReachedImport {
     }
 }
 
-/// The lesser of two visibilities in the map, if they aren't unrelated.
+/// The lesser of two visibilities in the map beside finished ones, if they aren't unrelated.
 #[tactic(auto, unfolding(crate::specs::Items::lesser_in))]
-pub fn lesser(map: &DefMap, one: Visibility, other: Visibility) -> Option<Visibility>
-    ensures value { result ≡ lesser_in map.now one other }
+pub fn lesser(map: &DefMap, world: &World, one: Visibility, other: Visibility) -> Option<Visibility>
+    ensures value { result ≡ lesser_in (finished_in world.now.maps) map.now one other }
 {
-    map.lesser(one, other)
+    map.lesser(world, one, other)
 }
 
 /// What a path reaches that a module's import asks for.
 #[tactic(auto, unfolding(crate::specs::Imports::reached_in))]
-pub fn reached(map: &DefMap, at: ModuleId, path: &ModPath) -> PerNs
-    ensures value { result ≡ reached_in map.now at path.now }
+pub fn reached(map: &DefMap, world: &World, at: ModuleId, path: &ModPath) -> PerNs
+    ensures value { result ≡ reached_in (finished_in world.now.maps) map.now at path.now }
 {
-    map.reached_items(at, path)
+    map.reached_items(None, world, at, path)
 }
 
 /// What an import of this kind keeps of what it reaches.
@@ -136,15 +138,16 @@ pub fn kept(kind: ImportKind, items: PerNs) -> PerNs
 /// An item as an import of this visibility offers it.
 fn brought<Def: Copy, Import: Copy>(
     map: &DefMap,
+    world: &World,
     own: Visibility,
     item: Option<Item<Def, Import>>,
 ) -> Option<Item<Def, Import>>
-    ensures value { result ≡ option_map (brought map.now own) item }
+    ensures value { result ≡ option_map (brought (finished_in world.now.maps) map.now own) item }
 {
     let Some(item) = item else {
         return None;
     };
-    let vis = match lesser(map, own, item.vis) {
+    let vis = match lesser(map, world, own, item.vis) {
         Some(vis) => vis,
         None => own,
     };
@@ -156,12 +159,12 @@ fn brought<Def: Copy, Import: Copy>(
 }
 
 /// What an import of this visibility offers of what it reaches.
-pub fn imported(map: &DefMap, own: Visibility, items: PerNs) -> PerNs
-    ensures value { result ≡ imported map.now own items }
+pub fn imported(map: &DefMap, world: &World, own: Visibility, items: PerNs) -> PerNs
+    ensures value { result ≡ imported (finished_in world.now.maps) map.now own items }
 {
     PerNs {
-        types: brought(map, own, items.types),
-        values: brought(map, own, items.values),
-        macros: brought(map, own, items.macros),
+        types: brought(map, world, own, items.types),
+        values: brought(map, world, own, items.values),
+        macros: brought(map, world, own, items.macros),
     }
 }

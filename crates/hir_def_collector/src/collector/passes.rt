@@ -1,5 +1,6 @@
 //! Passes over the imports, until one moves nothing.
 ghost use Rattle.std.specs.Prelude.{◌≡◌, ℕ, ◌≤◌, Some, OnOk, IfOk};
+ghost use Rattle.hir_def_map.specs.World.{finished_in};
 ghost use Rattle.hir_def_collector.specs.Workspace.{Workspace};
 ghost use Rattle.hir_def_collector.specs.State.{at_rest};
 ghost use Rattle.hir_def_collector.specs.Imports.{taking_at};
@@ -10,11 +11,12 @@ ghost use Rattle.hir_def_collector.specs.Moves.{Moves};
 use crate::collector::imports::Taking;
 use crate::collector::run::Run;
 use crate::collector::{CollectError, STEP_LIMIT};
+use hir_def_map::world::World;
 
 /// Takes an import.
-fn take(run: &mut Run, i: usize, taking: Taking) -> Result<(), CollectError>
-    requires due { taking_at run.old i ≡ Some taking }
-    ensures ok { OnOk result ((w : Workspace) → Step w (at_rest run.old) (at_rest run.new)) }
+fn take(run: &mut Run, world: &World, i: usize, taking: Taking) -> Result<(), CollectError>
+    requires due { taking_at (finished_in world.now.maps) run.old i ≡ Some taking }
+    ensures ok { OnOk result ((w : Workspace) → Step w (finished_in world.now.maps) (at_rest run.old) (at_rest run.new)) }
     ensures many { result ≡ Err CollectError.TooMany → STEP_LIMIT ≤ run.old.count }
 {
     run.bind_as(taking.home, taking.name, taking.items, taking.import)?;
@@ -24,38 +26,38 @@ fn take(run: &mut Run, i: usize, taking: Taking) -> Result<(), CollectError>
 }
 
 /// Takes the import at the place, if its path reaches a namespace that no taking of it reached; whether it did.
-fn try_import(run: &mut Run, i: usize) -> Result<bool, CollectError>
-    ensures ok { IfOk result (λ moved. (w : Workspace) → Moves w (at_rest run.old) (at_rest run.new) moved (λ s. IsSettled s i)) }
+fn try_import(run: &mut Run, world: &World, i: usize) -> Result<bool, CollectError>
+    ensures ok { IfOk result (λ moved. (w : Workspace) → Moves w (finished_in world.now.maps) (at_rest run.old) (at_rest run.new) moved (λ s. IsSettled (finished_in world.now.maps) s i)) }
     ensures many { result ≡ Err CollectError.TooMany → STEP_LIMIT ≤ run.old.count }
 {
-    let Some(taking) = run.taking(i)? else {
+    let Some(taking) = run.taking(world, i)? else {
         return Ok(false);
     };
-    take(run, i, taking)?;
+    take(run, world, i, taking)?;
     Ok(true)
 }
 
 /// Tries each import once, in the order in which they were come upon; whether one was taken.
-fn pass(run: &mut Run) -> Result<bool, CollectError>
-    ensures ok { IfOk result (λ moved. (w : Workspace) → Moves w (at_rest run.old) (at_rest run.new) moved (λ s. (i : ℕ) → IsSettled s i)) }
+fn pass(run: &mut Run, world: &World) -> Result<bool, CollectError>
+    ensures ok { IfOk result (λ moved. (w : Workspace) → Moves w (finished_in world.now.maps) (at_rest run.old) (at_rest run.new) moved (λ s. (i : ℕ) → IsSettled (finished_in world.now.maps) s i)) }
     ensures small { IfOk result (λ _. run.new.count ≤ STEP_LIMIT) }
-    ensures many { result ≡ Err CollectError.TooMany → (w : Workspace) → IsSpent w (at_rest run.old) }
+    ensures many { result ≡ Err CollectError.TooMany → (w : Workspace) → IsSpent w (finished_in world.now.maps) (at_rest run.old) }
 {
     let mut moved = false;
     for i in 0..run.reached_len() {
-        moved |= try_import(run, i)?;
+        moved |= try_import(run, world, i)?;
     }
     let _ = run.count();
     Ok(moved)
 }
 
 /// Tries the imports until none is taken.
-pub fn settle(run: &mut Run) -> Result<(), CollectError>
-    ensures derived { OnOk result ((w : Workspace) → Steps w (at_rest run.old) (at_rest run.new)) }
-    ensures settled { OnOk result ((i : ℕ) → IsSettled (at_rest run.new) i) }
-    ensures many { result ≡ Err CollectError.TooMany → (w : Workspace) → IsSpent w (at_rest run.old) }
+pub fn settle(run: &mut Run, world: &World) -> Result<(), CollectError>
+    ensures derived { OnOk result ((w : Workspace) → Steps w (finished_in world.now.maps) (at_rest run.old) (at_rest run.new)) }
+    ensures settled { OnOk result ((i : ℕ) → IsSettled (finished_in world.now.maps) (at_rest run.new) i) }
+    ensures many { result ≡ Err CollectError.TooMany → (w : Workspace) → IsSpent w (finished_in world.now.maps) (at_rest run.old) }
 {
     let _ = run.count();
-    while pass(run)? {}
+    while pass(run, world)? {}
     Ok(())
 }

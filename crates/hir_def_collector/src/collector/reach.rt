@@ -4,6 +4,7 @@ ghost use Rattle.hir_item_tree.specs.Collected.{is_enabled};
 ghost use Rattle.hir_item_tree.specs.Imports.{imports_of};
 ghost use Rattle.hir_item_tree.specs.KeptForest.{leaf, import};
 ghost use Rattle.hir_item_tree.specs.UseTree.{use_tree_view};
+ghost use Rattle.hir_def_map.specs.State.{Maps};
 ghost use Rattle.hir_def_collector.specs.State.{with_imports};
 ghost use Rattle.hir_def_collector.specs.Imports.{reached_import};
 ghost use Rattle.hir_def_collector.specs.TreeReads.{head_of};
@@ -87,7 +88,7 @@ pub fn reach_use(
     tree: &UseTree,
 ) -> Result<(), CollectError>
     requires enabled { is_enabled (head_of head).attributes ≡ true }
-    ensures ok { OnOk result (Handles run.old run.new (visit site (leaf (head_of head.entry) (import (use_tree_view tree.now)))) []) }
+    ensures ok { OnOk result ((finished : Maps) → Handles finished run.old run.new (visit site (leaf (head_of head.entry) (import (use_tree_view tree.now)))) []) }
     ensures many { result ≡ Err CollectError.TooMany → STEP_LIMIT ≤ run.old.count }
 {
     let use_ = UseId {

@@ -1,7 +1,8 @@
 //! Where a run stands, and what each change leaves.
 ghost use Rattle.std.specs.Prelude.{◌≡◌, ◌<◌, ◌≤◌, length, OnOk, IfOk};
 ghost use Rattle.std.specs.Prelude.{◌∷◌, []};
-ghost use Rattle.hir_def_map.specs.State.{with_module, new_id, with_declared, with_use, with_impl, with_extern_block, with_unnamed_const};
+ghost use Rattle.hir_def_map.specs.State.{with_module, new_id, new_module, with_declared, with_use, with_impl, with_extern_block, with_unnamed_const};
+ghost use Rattle.hir_def_map.specs.World.{finished_in};
 ghost use Rattle.hir_def_collector.specs.State.{with_map, with_imports, with_taken, counted};
 ghost use Rattle.hir_def_collector.specs.ItemIds.{container_of, module_id};
 ghost use Rattle.hir_def_collector.specs.Items.{own_visibility};
@@ -18,11 +19,14 @@ use crate::collector::{CollectError, STEP_LIMIT, Start};
 use crate::source_database::Key;
 use hir_base::ast_id::HirFileId;
 use hir_base::ids::{
-    ConstId, ExternBlockId, ImplId, ItemContainerId, MapId, ModuleDefId, ModuleId, UseId,
+    ConstId, ExternBlockId, ImplId, ItemContainerId, ModuleDefId, ModuleId, UseId,
 };
 use hir_base::name::Name;
 use hir_def_map::nameres::DefMap;
+use hir_def_map::nameres::crate_data::DefMapCrateData;
+use hir_def_map::nameres::module_data::ModuleData;
 use hir_def_map::nameres::origin::ModuleOrigin;
+use hir_def_map::world::World;
 use hir_item_tree::shape::ImportKind;
 use hir_scope::glob_imports::PerNsGlobImports;
 use hir_scope::imports::{ImportId, ImportOrExternCrate};
@@ -71,14 +75,12 @@ impl Run {
     pub fn start(alloc: Global, start: Start) -> Result<Run, AllocError>
         ensures value { IfOk result (λ run. run ≡ start_core start) }
     {
-        let id = MapId {
-            krate: start.krate,
-            block: None,
-        };
         let origin = ModuleOrigin::CrateRoot {
             definition: start.root,
         };
-        let map = DefMap::empty(alloc, id, start.root.edition, origin, Visibility::Public)?;
+        let crate_data = DefMapCrateData::new(alloc, start.root.edition);
+        let root = ModuleData::new(alloc, origin, Visibility::Public, None);
+        let map = DefMap::empty(alloc, start.krate, crate_data, root, None)?;
         let mut asked = Vec::new(alloc);
         asked.push(Key::Tree(start.krate, HirFileId::File(start.root)))?;
         Ok(Run {
@@ -201,10 +203,12 @@ impl Run {
     ) -> Result<ModuleId, CollectError>
         requires in_range { home < length self.old.map.modules }
         ensures made { IfOk result (λ id. id ≡ new_id self.old.map) }
-        ensures ok { OnOk result (self.new ≡ with_map self.old (with_module self.old.map home name origin visibility)) }
+        ensures ok { OnOk result (self.new ≡ with_map self.old (with_module self.old.map home name (new_module origin visibility (Some (module_id self.old.map home))))) }
         ensures many { result ≡ Err CollectError.TooMany → STEP_LIMIT ≤ length self.old.map.modules }
     {
-        let id = self.map.add_module(home, name, origin, visibility)?;
+        let parent = self.module_id(home);
+        let module = ModuleData::new(self.allocator(), origin, visibility, Some(parent));
+        let id = self.map.add_module(home, name, module)?;
         Ok(id)
     }
 
@@ -271,20 +275,20 @@ impl Run {
     }
 
     /// What an import reaches now.
-    fn reached_by(&self, import: &ReachedImport) -> PerNs
-        ensures value { result ≡ reached_by self.now.map import.now }
+    fn reached_by(&self, world: &World, import: &ReachedImport) -> PerNs
+        ensures value { result ≡ reached_by (finished_in world.now.maps) self.now.map import.now }
     {
         let at = self.module_id(import.home);
         match import.kind {
-            ImportKind::Plain | ImportKind::TypeOnly => reached(&self.map, at, &import.path),
+            ImportKind::Plain | ImportKind::TypeOnly => reached(&self.map, world, at, &import.path),
             ImportKind::Glob => PerNs::none(),
         }
     }
 
     /// The taking that is due of the import at the place: where its path reaches a namespace that no
     /// taking of it reached, all that it reaches now is bound.
-    pub fn taking(&self, i: usize) -> Result<Option<Taking>, AllocError>
-        ensures value { IfOk result (λ taking. taking ≡ taking_at self.now i) }
+    pub fn taking(&self, world: &World, i: usize) -> Result<Option<Taking>, AllocError>
+        ensures value { IfOk result (λ taking. taking ≡ taking_at (finished_in world.now.maps) self.now i) }
     {
         let Some(import) = self.reached.get(i) else {
             return Ok(None);
@@ -292,7 +296,7 @@ impl Run {
         let Some(before) = self.taken.get(i) else {
             return Ok(None);
         };
-        let items = self.reached_by(import);
+        let items = self.reached_by(world, import);
         let namespaces = Namespaces::of(items);
         if !namespaces.goes_beyond(*before) {
             return Ok(None);
@@ -301,7 +305,7 @@ impl Run {
         Ok(Some(Taking {
             home: import.home,
             name: import.name()?,
-            items: imported(&self.map, own, kept(import.kind, items)),
+            items: imported(&self.map, world, own, kept(import.kind, items)),
             import: import.id,
             namespaces: before.or(namespaces),
         }))

@@ -5,6 +5,8 @@ ghost use Rattle.hir_item_tree.specs.Collected.{is_enabled};
 ghost use Rattle.hir_item_tree.specs.KeptForest.{KeptItem, Leaf, KeptForest, all_items, leaf, holder, constant, implementation, extern_block, inline_module};
 ghost use Rattle.hir_item_tree.specs.Kinds.{kind_content};
 ghost use Rattle.hir_item_tree.specs.Rows.{held_numbers, item_of, items_at, numbers_of};
+ghost use Rattle.hir_def_map.specs.State.{Maps};
+ghost use Rattle.hir_def_map.specs.World.{finished_in};
 ghost use Rattle.hir_def_collector.specs.State.{visits};
 ghost use Rattle.hir_def_collector.specs.Steps.{visit};
 ghost use Rattle.hir_def_collector.specs.TreeReads.{head_of, visits_at};
@@ -24,6 +26,7 @@ use hir_base::ast_id::{AstId, AstKind};
 use hir_base::ids::{ConstId, ExternBlockId, ImplId, ModuleDefId};
 use hir_base::name::Name;
 use hir_def_map::nameres::origin::ModuleOrigin;
+use hir_def_map::world::World;
 use hir_item_tree::item_tree::ItemTree;
 use hir_item_tree::kinds::{Mod, ModItemKind, ModKind};
 use hir_item_tree::rows::ModItemId;
@@ -39,7 +42,7 @@ struct Inside<'a> {
 /// Lists a constant that has no name.
 fn list_const(run: &mut Run, site: Site, head: ItemHead<'_>) -> Result<(), CollectError>
     requires enabled { is_enabled (head_of head).attributes ≡ true }
-    ensures ok { OnOk result (Handles run.old run.new (visit site (leaf (head_of head.entry) (constant None))) []) }
+    ensures ok { OnOk result ((finished : Maps) → Handles finished run.old run.new (visit site (leaf (head_of head.entry) (constant None))) []) }
     ensures many { result ≡ Err CollectError.TooMany → STEP_LIMIT ≤ run.old.count }
 {
     let id = ConstId {
@@ -61,7 +64,7 @@ fn visit_const(
     name: &Option<Name>,
 ) -> Result<(), CollectError>
     requires enabled { is_enabled (head_of head).attributes ≡ true }
-    ensures ok { OnOk result (Handles run.old run.new (visit site (leaf (head_of head.entry) (constant name.now))) []) }
+    ensures ok { OnOk result ((finished : Maps) → Handles finished run.old run.new (visit site (leaf (head_of head.entry) (constant name.now))) []) }
     ensures many { result ≡ Err CollectError.TooMany → STEP_LIMIT ≤ run.old.count }
 {
     match name {
@@ -79,7 +82,7 @@ fn list_impl(
     of_trait: bool,
 ) -> Result<(), CollectError>
     requires enabled { is_enabled (head_of head).attributes ≡ true }
-    ensures ok { OnOk result (Handles run.old run.new (visit site (leaf (head_of head.entry) (implementation of_trait))) []) }
+    ensures ok { OnOk result ((finished : Maps) → Handles finished run.old run.new (visit site (leaf (head_of head.entry) (implementation of_trait))) []) }
     ensures many { result ≡ Err CollectError.TooMany → STEP_LIMIT ≤ run.old.count }
 {
     let id = ImplId {
@@ -97,7 +100,7 @@ fn list_impl(
 fn open(run: &mut Run, site: Site, head: ItemHead<'_>, name: &Name) -> Result<Site, CollectError>
     requires in_range { site.home < length run.old.map.modules }
     requires enabled { is_enabled (head_of head).attributes ≡ true }
-    ensures ok { IfOk result (λ inside. (items : KeptForest) → Handles run.old run.new
+    ensures ok { IfOk result (λ inside. (finished : Maps) (items : KeptForest) → Handles finished run.old run.new
         (visit site (holder (head_of head.entry) (inline_module name.now) items)) (visits inside items)) }
     ensures in_range { IfOk result (λ inside. inside.home < length run.new.map.modules) }
     ensures many { result ≡ Err CollectError.TooMany → IsFull run.old.count run.old.map }
@@ -130,7 +133,7 @@ fn open(run: &mut Run, site: Site, head: ItemHead<'_>, name: &Name) -> Result<Si
 fn enter(run: &mut Run, site: Site, head: ItemHead<'_>) -> Result<Site, CollectError>
     requires in_range { site.home < length run.old.map.modules }
     requires enabled { is_enabled (head_of head).attributes ≡ true }
-    ensures ok { IfOk result (λ inside. (items : KeptForest) → Handles run.old run.new
+    ensures ok { IfOk result (λ inside. (finished : Maps) (items : KeptForest) → Handles finished run.old run.new
         (visit site (holder (head_of head.entry) extern_block items)) (visits inside items)) }
     ensures in_range { IfOk result (λ inside. inside.home < length run.new.map.modules) }
     ensures many { result ≡ Err CollectError.TooMany → STEP_LIMIT ≤ run.old.count }
@@ -159,7 +162,7 @@ fn visit_mod<'a>(
 ) -> Result<Inside<'a>, CollectError>
     requires in_range { site.home < length run.old.map.modules }
     requires enabled { is_enabled (head_of head).attributes ≡ true }
-    ensures ok { IfOk result (λ inside. (items : List KeptItem) → Handles run.old run.new
+    ensures ok { IfOk result (λ inside. (finished : Maps) (items : List KeptItem) → Handles finished run.old run.new
         (visit site (item_of items (head_of head.entry) (kind_content (ModItemKind.Mod item.entry))))
         (visits inside.site (items_at items (numbers_of inside.ids.now)))) }
     ensures numbers { IfOk result (λ inside. numbers_of inside.ids.now ≡ held_numbers (kind_content (ModItemKind.Mod item.entry))) }
@@ -181,13 +184,14 @@ fn visit_mod<'a>(
 /// Handles an item that isn't disabled; which items are visited next: those that it holds.
 fn visit_item<'a>(
     run: &mut Run,
+    world: &World,
     site: Site,
     head: ItemHead<'_>,
     item: ModItemKind<'a>,
 ) -> Result<Inside<'a>, CollectError>
     requires in_range { site.home < length run.old.map.modules }
     requires enabled { is_enabled (head_of head).attributes ≡ true }
-    ensures ok { IfOk result (λ inside. (items : List KeptItem) → Handles run.old run.new
+    ensures ok { IfOk result (λ inside. (items : List KeptItem) → Handles (finished_in world.now.maps) run.old run.new
         (visit site (item_of items (head_of head.entry) (kind_content item.entry)))
         (visits inside.site (items_at items (numbers_of inside.ids.now)))) }
     ensures numbers { IfOk result (λ inside. numbers_of inside.ids.now ≡ held_numbers (kind_content item.entry)) }
@@ -213,7 +217,7 @@ fn visit_item<'a>(
             Ok(nothing)
         }
         ModItemKind::Struct(item) => {
-            declare_struct(run, site, head, item)?;
+            declare_struct(run, world, site, head, item)?;
             Ok(nothing)
         }
         ModItemKind::Union(item) => {
@@ -253,19 +257,25 @@ fn visit_item<'a>(
 
 /// Handles an item, and all that is in it.
 #[cycle(walk)]
-fn walk_item(run: &mut Run, tree: &ItemTree, site: Site, id: ModItemId) -> Result<(), CollectError>
+fn walk_item(
+    run: &mut Run,
+    world: &World,
+    tree: &ItemTree,
+    site: Site,
+    id: ModItemId,
+) -> Result<(), CollectError>
     requires in_range { site.home < length run.old.map.modules }
     requires there { id.0 < length (all_items tree.now.items) }
-    ensures ok { OnOk result (Walks run.old run.new (visits_at tree.now site (id.0 ∷ []))) }
-    ensures many { result ≡ Err CollectError.TooMany → WalksTooFar run.old (visits_at tree.now site (id.0 ∷ [])) }
+    ensures ok { OnOk result (Walks (finished_in world.now.maps) run.old run.new (visits_at tree.now site (id.0 ∷ []))) }
+    ensures many { result ≡ Err CollectError.TooMany → WalksTooFar (finished_in world.now.maps) run.old (visits_at tree.now site (id.0 ∷ [])) }
 {
     let head = head_at(tree, id);
     if !head.attrs.is_enabled() {
         run.tick()?;
         return Ok(());
     }
-    let inside = visit_item(run, site, head, tree.index(id))?;
-    walk_all(run, tree, inside.site, inside.ids)?;
+    let inside = visit_item(run, world, site, head, tree.index(id))?;
+    walk_all(run, world, tree, inside.site, inside.ids)?;
     Ok(())
 }
 
@@ -273,17 +283,18 @@ fn walk_item(run: &mut Run, tree: &ItemTree, site: Site, id: ModItemId) -> Resul
 #[cycle(walk)]
 pub fn walk_all(
     run: &mut Run,
+    world: &World,
     tree: &ItemTree,
     site: Site,
     ids: &[ModItemId],
 ) -> Result<(), CollectError>
     requires in_range { site.home < length run.old.map.modules }
     requires there { All (λ n. n < length (all_items tree.now.items)) (numbers_of ids.now) }
-    ensures ok { OnOk result (Walks run.old run.new (visits_at tree.now site (numbers_of ids.now))) }
-    ensures many { result ≡ Err CollectError.TooMany → WalksTooFar run.old (visits_at tree.now site (numbers_of ids.now)) }
+    ensures ok { OnOk result (Walks (finished_in world.now.maps) run.old run.new (visits_at tree.now site (numbers_of ids.now))) }
+    ensures many { result ≡ Err CollectError.TooMany → WalksTooFar (finished_in world.now.maps) run.old (visits_at tree.now site (numbers_of ids.now)) }
 {
     for id in ids {
-        walk_item(run, tree, site, *id)?;
+        walk_item(run, world, tree, site, *id)?;
     }
     Ok(())
 }

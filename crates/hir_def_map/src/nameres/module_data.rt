@@ -1,13 +1,17 @@
 //! One module of a def map.
-ghost use Rattle.std.specs.Prelude.{◌≡◌, [], None, IfOk, OnOk, OnErr};
+ghost use Rattle.std.specs.Prelude.{◌≡◌, [], None, IfOk, OnOk, OnErr, option_and_then};
 ghost use Rattle.hir_scope.specs.ItemScope.{binding_of, empty_scope};
+ghost use Rattle.hir_scope.specs.ScopeReads.{legacy_at};
 ghost use Rattle.hir_scope.specs.ScopePushes.{pushed_globs, push_changes};
 ghost use Rattle.hir_def_map.specs.Declaration.{listed};
+ghost use Rattle.hir_def_map.specs.Scoping.FirstSegment.{last_macro};
+ghost use Rattle.hir_def_map.specs.Same.{same_contents, same_place};
 ghost use Rattle.hir_def_map.specs.State.{at_name, pushed_module, with_child, with_module_scope};
 
 use crate::nameres::declaration::Declaration;
 use crate::nameres::origin::ModuleOrigin;
 use hir_base::ids::ModuleId;
+use hir_base::macro_kind::MacroId;
 use hir_base::name::Name;
 use hir_scope::glob_imports::PerNsGlobImports;
 use hir_scope::imports::ImportOrExternCrate;
@@ -15,7 +19,7 @@ use hir_scope::item_scope::ItemScope;
 use hir_scope::per_ns::PerNs;
 use hir_scope::visibility::Visibility;
 use std::alloc::{AllocError, Global};
-use std::collections::BTreeMap;
+use std::collections::{BTreeMap, btree_map};
 use std::marker::Model;
 
 /// A module, after rust-analyzer's `ModuleData`.
@@ -83,6 +87,13 @@ impl ModuleData {
         self.children.get(name).copied()
     }
 
+    /// The modules in it, by name.
+    pub fn children(&self) -> btree_map::Iter<'_, Name, ModuleId>
+        ensures value { result ≡ self.now.children }
+    {
+        self.children.iter()
+    }
+
     /// What its names stand for, and what it declares.
     pub fn scope(&self) -> &ItemScope
         ensures value { result.now ≡ self.now.scope }
@@ -95,6 +106,16 @@ impl ModuleData {
         ensures value { result ≡ binding_of self.now.scope name.now }
     {
         self.scope.get(name)
+    }
+
+    /// The last of the macros of a name that are in textual scope in it.
+    pub fn legacy_macro(&self, name: &Name) -> Option<MacroId>
+        ensures value { result ≡ option_and_then last_macro (legacy_at self.now.scope name.now) }
+    {
+        match self.scope.get_legacy_macro(name) {
+            Some(macros) => macros.last().copied(),
+            None => None,
+        }
     }
 
     /// Gives the module a child under a name that isn't taken.
@@ -142,4 +163,40 @@ impl ModuleData {
             Declaration::UnnamedConst(konst) => self.scope.define_unnamed_const(konst),
         }
     }
+}
+
+impl ModuleData {
+    fn has_same_place(&self, other: &ModuleData) -> bool
+        ensures value { result ≡ same_place self.now other.now }
+    {
+        self.origin == other.origin
+            && self.visibility == other.visibility
+            && self.parent == other.parent
+    }
+
+    fn has_same_contents(&self, other: &ModuleData) -> bool
+        ensures value { result ≡ same_contents self.now other.now }
+    {
+        let same_children = self.children == other.children;
+        same_children && self.scope == other.scope
+    }
+}
+
+impl PartialEq for ModuleData {
+    ghost use Rattle.std.specs.Cmp.{partial_equiv_from_equiv};
+    ghost use Rattle.hir_def_map.specs.Same.{same_module, same_module_equiv};
+
+    ghost eq = { same_module };
+
+    ghost laws = { partial_equiv_from_equiv same_module_equiv };
+
+    fn eq(&self, other: &ModuleData) -> bool {
+        self.has_same_place(other) && self.has_same_contents(other)
+    }
+}
+
+impl Eq for ModuleData {
+    ghost use Rattle.hir_def_map.specs.Same.{same_module_equiv};
+
+    ghost laws = { same_module_equiv };
 }

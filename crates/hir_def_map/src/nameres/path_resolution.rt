@@ -1,18 +1,27 @@
 //! What paths mean, after rust-analyzer's `path_resolution.rs`.
-ghost use Rattle.std.specs.Prelude.{◌≡◌};
-ghost use Rattle.hir_def_map.specs.State.{alone};
+ghost use Rattle.std.specs.Prelude.{◌≡◌, None, option_copied};
+ghost use Rattle.hir_def_map.specs.State.{beside};
+ghost use Rattle.hir_def_map.specs.World.{finished_in};
 ghost use Rattle.hir_def_map.specs.Scoping.{resolution_of};
+ghost use Rattle.hir_def_map.specs.Scoping.Asking.{local_of};
+ghost use Rattle.hir_def_map.specs.Scoping.Start.{from_start};
 ghost use Rattle.hir_def_map.specs.Reaches.{reached_items};
 ghost use Rattle.hir_def_map.specs.declared.nameres.path_resolution.ResolveMode.TheVariants.{Other as in_body};
 
+mod blocks;
 mod first_segment;
+pub mod query;
 mod segments;
 mod start;
 
+use crate::def_maps::DefMaps;
 use crate::nameres::DefMap;
+use crate::nameres::local_def_map::LocalDefMap;
+use crate::world::World;
 use hir_base::ids::ModuleId;
 use hir_base::mod_path::ModPath;
 use hir_scope::per_ns::PerNs;
+use query::Query;
 
 /// Whether an import asks, or something else.
 #[derive(Clone, Copy, Debug, PartialEq, Eq)]
@@ -64,50 +73,99 @@ pub struct ResolvePathResult {
 
 impl DefMap {
     /// What a path means, asked from a module.
+    ///
+    /// Without a local map the extern prelude is empty.
+    #[tactic(auto, unfolding(crate::specs::DefMaps::maps_of))]
     pub fn resolve_path_fp_with_macro(
         &self,
+        local: Option<&LocalDefMap>,
+        world: &World,
         mode: ResolveMode,
         at: ModuleId,
         path: &ModPath,
         shadow: BuiltinShadowMode,
         sub_ns: Option<MacroSubNs>,
     ) -> ResolvePathResult
-        ensures resolves { result ≡ resolution_of (alone self.now) (record { mode = mode; shadow = shadow; sub_ns = sub_ns }) at path.now }
+        ensures resolves { result ≡ resolution_of (beside (finished_in world.now.maps) self.now)
+            (record { local = local_of (option_copied local.entry); mode = mode; shadow = shadow; sub_ns = sub_ns }) at path.now }
     {
-        // From edition 2018 on the mode tells nothing apart, and no macros are bound yet.
-        let _ = mode;
-        let _ = sub_ns;
-        self.resolve_from_start(at, path.kind(), path.segments(), shadow)
+        let query = Query {
+            maps: DefMaps { world, own: self },
+            local,
+            mode,
+            shadow,
+            sub_ns,
+        };
+        query.resolve(at, path.kind(), path.segments())
     }
 
     /// What a path means where no import asks, and the number of the segment at which it stopped, if it did.
     pub fn resolve_path(
         &self,
+        local: Option<&LocalDefMap>,
+        world: &World,
         at: ModuleId,
         path: &ModPath,
         shadow: BuiltinShadowMode,
         sub_ns: Option<MacroSubNs>,
     ) -> (PerNs, Option<usize>)
-        ensures items { result.0 ≡ (resolution_of (alone self.now) (record { mode = in_body; shadow = shadow; sub_ns = sub_ns }) at path.now).resolved_def }
-        ensures stop { result.1 ≡ (resolution_of (alone self.now) (record { mode = in_body; shadow = shadow; sub_ns = sub_ns }) at path.now).segment_index }
+        ensures items { result.0 ≡ (resolution_of (beside (finished_in world.now.maps) self.now)
+            (record { local = local_of (option_copied local.entry); mode = in_body; shadow = shadow; sub_ns = sub_ns }) at path.now).resolved_def }
+        ensures stop { result.1 ≡ (resolution_of (beside (finished_in world.now.maps) self.now)
+            (record { local = local_of (option_copied local.entry); mode = in_body; shadow = shadow; sub_ns = sub_ns }) at path.now).segment_index }
     {
+        let mode = ResolveMode::Other;
         let resolution = self.resolve_path_fp_with_macro(
-            ResolveMode::Other,
-            at,
-            path,
-            shadow,
-            sub_ns,
+            local, world, mode, at, path, shadow, sub_ns,
         );
         (resolution.resolved_def, resolution.segment_index)
     }
 
+    /// What a path means where no import asks, a block's root having nothing of what its holder has.
+    #[tactic(auto, unfolding(crate::specs::DefMaps::maps_of))]
+    pub fn resolve_path_locally(
+        &self,
+        local: Option<&LocalDefMap>,
+        world: &World,
+        at: ModuleId,
+        path: &ModPath,
+        shadow: BuiltinShadowMode,
+    ) -> (PerNs, Option<usize>, ResolvePathResultPrefixInfo)
+        ensures items { result.0 ≡ (from_start (beside (finished_in world.now.maps) self.now)
+            (record { local = local_of (option_copied local.entry); mode = in_body; shadow = shadow; sub_ns = None }) at path.now.kind path.now.segments).resolved_def }
+        ensures stop { result.1 ≡ (from_start (beside (finished_in world.now.maps) self.now)
+            (record { local = local_of (option_copied local.entry); mode = in_body; shadow = shadow; sub_ns = None }) at path.now.kind path.now.segments).segment_index }
+        ensures prefix { result.2 ≡ (from_start (beside (finished_in world.now.maps) self.now)
+            (record { local = local_of (option_copied local.entry); mode = in_body; shadow = shadow; sub_ns = None }) at path.now.kind path.now.segments).prefix_info }
+    {
+        let query = Query {
+            maps: DefMaps { world, own: self },
+            local,
+            mode: ResolveMode::Other,
+            shadow,
+            sub_ns: None,
+        };
+        let resolution = query.from_start(at, path.kind(), path.segments());
+        (
+            resolution.resolved_def,
+            resolution.segment_index,
+            resolution.prefix_info,
+        )
+    }
+
     /// What an import's path leads to, also where it stops early.
-    pub fn reached_items(&self, at: ModuleId, path: &ModPath) -> PerNs
-        ensures value { result ≡ reached_items (alone self.now) at path.now }
+    pub fn reached_items(
+        &self,
+        local: Option<&LocalDefMap>,
+        world: &World,
+        at: ModuleId,
+        path: &ModPath,
+    ) -> PerNs
+        ensures value { result ≡ reached_items (beside (finished_in world.now.maps) self.now) (local_of (option_copied local.entry)) at path.now }
     {
         let mode = ResolveMode::Import;
         let shadow = BuiltinShadowMode::Module;
-        self.resolve_path_fp_with_macro(mode, at, path, shadow, None)
+        self.resolve_path_fp_with_macro(local, world, mode, at, path, shadow, None)
             .resolved_def
     }
 }

@@ -1,65 +1,86 @@
-//! Modules by their ids, and what lies above them, in one def map.
-ghost use Rattle.std.specs.Prelude.{◌≡◌, refl, None};
-ghost use Rattle.hir_def_map.specs.State.{alone, entry_in, parent_in};
-ghost use Rattle.hir_def_map.specs.Chains.{above_in, above_in_crate, above_up, holder_in, holders_in, up_in};
+//! Modules by their ids, and what lies above them.
+ghost use Rattle.std.specs.Prelude.{◌≡◌};
+ghost use Rattle.hir_def_map.specs.Chains.{leads_to_root, own_frame, parent_number, step_in};
+ghost use Rattle.hir_def_map.specs.Named.{each_leads_to_root, has_its_parents, is_parent_in};
 
 use crate::nameres::DefMap;
-use hir_base::ids::ModuleId;
-use hir_base::name::Name;
-use hir_scope::module_tree::ModuleTree;
-use hir_scope::per_ns::PerNs;
+use hir_base::ids::{MapId, ModuleId};
 
-impl DefMap {
-    /// What a name stands for in a module; nothing where the module is none of the map's.
-    pub fn entry_in(&self, at: ModuleId, name: &Name) -> PerNs
-        ensures value { result ≡ entry_in (alone self.now) at name.now }
-    {
-        if at.map != self.id() {
-            return PerNs::none();
-        }
-        self.entry(at.index, name)
-    }
-
-    /// What a module is in.
-    pub fn parent_in(&self, of: ModuleId) -> Option<ModuleId>
-        ensures value { result ≡ parent_in (alone self.now) of }
-    {
-        if of.map != self.id() {
-            return None;
-        }
-        self.parent(of.index)
+/// Whether a parent, if there is one, lies in the map of this id.
+fn is_parent_in(id: MapId, parent: Option<ModuleId>) -> bool
+    ensures value { result ≡ is_parent_in id parent }
+{
+    match parent {
+        Some(parent) => parent.map == id,
+        None => true,
     }
 }
 
-impl ModuleTree for DefMap {
-    ghost parent_of = { λ map. up_in (alone map) };
-
-    ghost holder_of = { λ map. holder_in (alone map) };
-
-    ghost above = { λ map. above_in (alone map) };
-
-    ghost holders = { λ map. holders_in (alone map) };
-
-    ghost above_step = { λ map. above_up (alone map) };
-
-    ghost holders_step = { λ map m. refl };
-
-    ghost same_holder = { λ map m n same. refl };
-
-    ghost one_crate = { λ map. above_in_crate (alone map) };
-
-    // Each parent comes before its module.
-    fn parent(&self, of: ModuleId) -> Option<ModuleId> {
-        match self.parent_in(of) {
-            Some(parent) if parent.index < of.index => Some(ModuleId {
-                map: of.map,
-                index: parent.index,
-            }),
+impl DefMap {
+    /// The number of a module's parent, where that is a module of the map.
+    fn parent_number(&self, at: u32) -> Option<u32>
+        ensures value { result ≡ parent_number (own_frame self.now) at }
+    {
+        match self.parent_of(at) {
+            Some(parent) if parent.map == self.id() => Some(parent.index),
             _ => None,
         }
     }
 
-    fn holder(&self, _: ModuleId) -> Option<ModuleId> {
-        None
+    /// Whether parents lead from a module to a root.
+    fn leads_to_root(&self, at: u32) -> bool
+        ensures value { result ≡ leads_to_root (own_frame self.now) at }
+    {
+        let mut now = at;
+        let mut left = self.module_count();
+        'up: while left > 0 {
+            match self.parent_number(now) {
+                Some(parent) => now = parent,
+                None => return true,
+            }
+            left -= 1;
+        }
+        self.parent_number(now).is_none()
+    }
+
+    /// One step up in the map.
+    pub fn step_up(&self, at: u32) -> Option<u32>
+        ensures value { result ≡ step_in (own_frame self.now) at }
+    {
+        let parent = self.parent_number(at)?;
+        if parent < at || self.leads_to_root(at) {
+            Some(parent)
+        } else {
+            None
+        }
+    }
+
+    /// Whether parents lead from each module to a root.
+    pub(crate) fn each_leads_to_root(&self) -> bool
+        ensures value { result ≡ each_leads_to_root self.now }
+    {
+        let mut left = self.module_count();
+        'each: while left > 0 {
+            left -= 1;
+            if !self.leads_to_root(left) {
+                return false;
+            }
+        }
+        true
+    }
+
+    /// Whether each parent lies in the map itself.
+    pub(crate) fn has_its_parents(&self) -> bool
+        ensures value { result ≡ has_its_parents self.now }
+    {
+        let id = self.id();
+        let mut left = self.modules();
+        'each: while let [module, others @ ..] = left {
+            if !is_parent_in(id, module.parent()) {
+                return false;
+            }
+            left = others;
+        }
+        true
     }
 }

@@ -3,6 +3,7 @@ use super::{are_items, sample};
 use hir_base::mod_path::ModPath;
 use hir_def_map::nameres::DefMap;
 use hir_def_map::nameres::path_resolution::{BuiltinShadowMode, ReachedFixedPoint, ResolveMode};
+use hir_def_map::world::World;
 use hir_scope::per_ns::PerNs;
 use std::alloc::Global;
 use std::process::Abort;
@@ -19,13 +20,22 @@ fn answers(
     is_bound: bool,
 ) -> Result<(), Fail> {
     let path = ModPath::parse(alloc, text)?;
+    let world = World::new(alloc);
     let mode = ResolveMode::Import;
     let shadow = BuiltinShadowMode::Module;
-    let answer = map.resolve_path_fp_with_macro(mode, map.root(), &path, shadow, None);
+    let answer = map.resolve_path_fp_with_macro(
+        None,
+        &world,
+        mode,
+        map.root(),
+        &path,
+        shadow,
+        None,
+    );
     assert_eq!(rt; answer.reached_fixedpoint, reached, "{row}");
     assert!(rt; !answer.prefix_info.differing_crate, "{row}");
     assert!(rt; !answer.prefix_info.enum_variant, "{row}");
-    let items = map.reached_items(map.root(), &path);
+    let items = map.reached_items(None, &world, map.root(), &path);
     are_items(rt, items, answer.resolved_def, row);
     let found = items != PerNs::none();
     assert_eq!(rt; found, is_bound, "{row}");

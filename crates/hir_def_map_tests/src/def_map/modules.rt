@@ -3,16 +3,20 @@ use super::{MAP, are_items, inline, is_module, module, only, sample};
 use hir_base::edition::Edition;
 use hir_base::ids::{Crate, MapId, ModuleId};
 use hir_base::name::Name;
+use hir_def_map::def_maps::DefMaps;
 use hir_def_map::nameres::DefMap;
+use hir_def_map::nameres::module_data::ModuleData;
+use hir_def_map::world::World;
 use hir_scope::per_ns::PerNs;
 use std::alloc::Global;
 use std::process::Abort;
 use std::test::Fail;
 
 /// Adds a second module `a`.
-fn add_second(rt: &impl Abort, map: &mut DefMap, a: Name) -> Result<(), Fail> {
+fn add_second(rt: &impl Abort, alloc: Global, map: &mut DefMap, a: Name) -> Result<(), Fail> {
     assert_eq!(rt; map.module_count(), 4);
-    let second = map.add_module(0, a, inline(20), only(0))?;
+    let data = ModuleData::new(alloc, inline(20), only(0), Some(module(0)));
+    let second = map.add_module(0, a, data)?;
     is_module(rt, Some(second), Some(module(4)), "the next number");
     Ok(())
 }
@@ -24,9 +28,9 @@ fn children(rt: &impl Abort, map: &DefMap, a: &Name, b: &Name) {
 }
 
 fn parents(rt: &impl Abort, map: &DefMap) {
-    is_module(rt, map.parent(4), Some(module(0)), "the root above");
-    is_module(rt, map.parent(0), None, "above the root");
-    is_module(rt, map.parent_in(module(2)), Some(module(1)), "by id");
+    is_module(rt, map.parent_of(4), Some(module(0)), "the root above");
+    is_module(rt, map.parent_of(0), None, "above the root");
+    is_module(rt, map.parent(), None, "no block");
 }
 
 fn origins(rt: &impl Abort, map: &DefMap) {
@@ -40,7 +44,7 @@ fn rest(rt: &impl Abort, map: &DefMap) {
     assert_eq!(rt; map.id(), MAP);
 }
 
-fn elsewhere(rt: &impl Abort, map: &DefMap, a: &Name) {
+fn elsewhere(rt: &impl Abort, maps: DefMaps<'_>, a: &Name) {
     let elsewhere = ModuleId {
         map: MapId {
             krate: Crate(1),
@@ -48,24 +52,40 @@ fn elsewhere(rt: &impl Abort, map: &DefMap, a: &Name) {
         },
         index: 0,
     };
-    are_items(rt, map.entry_in(elsewhere, a), PerNs::none(), "another map");
-    is_module(rt, map.parent_in(elsewhere), None, "another map");
+    are_items(rt, maps.entry(elsewhere, a), PerNs::none(), "another map");
+    is_module(rt, maps.parent_of(elsewhere), None, "another map");
 }
 
-fn read_modules(rt: &impl Abort, map: &mut DefMap, a: &Name, b: &Name) -> Result<(), Fail> {
-    add_second(rt, map, a.clone()?)?;
+fn by_ids(rt: &impl Abort, alloc: Global, map: &DefMap, a: &Name) {
+    let world = World::new(alloc);
+    let maps = DefMaps {
+        world: &world,
+        own: map,
+    };
+    is_module(rt, maps.parent_of(module(2)), Some(module(1)), "by id");
+    elsewhere(rt, maps, a);
+}
+
+fn read_modules(
+    rt: &impl Abort,
+    alloc: Global,
+    map: &mut DefMap,
+    a: &Name,
+    b: &Name,
+) -> Result<(), Fail> {
+    add_second(rt, alloc, map, a.clone()?)?;
     children(rt, map, a, b);
     parents(rt, map);
     origins(rt, map);
     rest(rt, map);
-    elsewhere(rt, map, a);
+    by_ids(rt, alloc, map, a);
     Ok(())
 }
 
 fn modules_in(rt: &impl Abort, alloc: Global, map: &mut DefMap) -> Result<(), Fail> {
     let a = Name::new(alloc, "a")?;
     let b = Name::new(alloc, "b")?;
-    read_modules(rt, map, &a, &b)
+    read_modules(rt, alloc, map, &a, &b)
 }
 
 #[test]

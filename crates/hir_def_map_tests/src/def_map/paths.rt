@@ -4,6 +4,7 @@ use hir_base::builtin_type::BuiltinUint;
 use hir_base::mod_path::ModPath;
 use hir_def_map::nameres::DefMap;
 use hir_def_map::nameres::path_resolution::BuiltinShadowMode;
+use hir_def_map::world::World;
 use hir_scope::per_ns::PerNs;
 use hir_scope::visibility::Visibility;
 use std::alloc::Global;
@@ -48,7 +49,8 @@ fn leads(
     to: (Reached, Option<usize>),
 ) -> Result<(), Fail> {
     let path = ModPath::parse(alloc, from.1)?;
-    let (found, stopped) = map.resolve_path(module(from.0), &path, from.2, None);
+    let world = World::new(alloc);
+    let (found, stopped) = map.resolve_path(None, &world, module(from.0), &path, from.2, None);
     are_items(rt, found, items_of(to.0), row);
     assert_eq!(rt; stopped, to.1, "{row}");
     Ok(())

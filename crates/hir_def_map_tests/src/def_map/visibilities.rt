@@ -2,6 +2,7 @@
 use super::{module, only, sample};
 use hir_base::ids::Crate;
 use hir_def_map::nameres::DefMap;
+use hir_def_map::world::World;
 use hir_item_tree::raw_visibility::{RawVisibility, VisibilityExplicitness};
 use hir_scope::visibility::Visibility;
 use std::process::Abort;
@@ -24,7 +25,7 @@ fn mean(rt: &impl Abort, map: &DefMap) {
     assert_eq!(rt; map.visibility_of(1, &raw), written());
 }
 
-fn lesser(rt: &impl Abort, map: &DefMap) {
+fn lesser(rt: &impl Abort, world: &World, map: &DefMap) {
     let rows = [
         ("public", PUBLIC, only(1), Some(only(1))),
         ("the crate", KRATE, only(1), Some(only(1))),
@@ -40,11 +41,11 @@ fn lesser(rt: &impl Abort, map: &DefMap) {
         ("two crates", KRATE, OTHER, None),
     ];
     for (row, one, other, least) in rows {
-        assert_eq!(rt; map.lesser(one, other), least, "{row}");
+        assert_eq!(rt; map.lesser(world, one, other), least, "{row}");
     }
 }
 
-fn seen(rt: &impl Abort, map: &DefMap) {
+fn seen(rt: &impl Abort, world: &World, map: &DefMap) {
     let rows = [
         ("public", PUBLIC, 3u32, true),
         ("the crate", KRATE, 3, true),
@@ -55,15 +56,16 @@ fn seen(rt: &impl Abort, map: &DefMap) {
         ("above", only(1), 0, false),
     ];
     for (row, vis, from, may) in rows {
-        assert_eq!(rt; map.is_visible(vis, module(from)), may, "{row}");
+        assert_eq!(rt; map.is_visible(world, vis, module(from)), may, "{row}");
     }
 }
 
 #[test]
 fn visibilities(rt: HostRuntime) -> Result<(), Fail> {
     let map = sample(rt.alloc())?;
+    let world = World::new(rt.alloc());
     mean(&rt, &map);
-    lesser(&rt, &map);
-    seen(&rt, &map);
+    lesser(&rt, &world, &map);
+    seen(&rt, &world, &map);
     Ok(())
 }

@@ -1,9 +1,10 @@
 //! The lines of a scope.
 use super::{
-    FILE, a_type, a_value, by_extern_crate, by_glob, by_import, empty_scope, import, module, node,
+    FILE, a_macro, a_type, a_value, by_extern_crate, by_glob, by_import, empty_scope, import,
+    macro_of, module, node,
 };
 use hir_base::ids::TraitId;
-use hir_base::macro_kind::{MacroCallStyles, MacroExpander, MacroId, MacroRulesId};
+use hir_base::macro_kind::{MacroCallStyles, MacroId};
 use hir_base::name::Name;
 use hir_scope::glob_imports::PerNsGlobImports;
 use hir_scope::imports::ImportOrExternCrate;
@@ -14,16 +15,6 @@ use std::alloc::Global;
 use std::process::Abort;
 use std::test::Fail;
 
-fn macro_of(number: u16, styles: MacroCallStyles) -> MacroId {
-    MacroId::MacroRulesId(MacroRulesId {
-        container: module(0),
-        file_id: FILE,
-        block: None,
-        id: node(number),
-        expander: MacroExpander::Declarative(styles),
-    })
-}
-
 fn trait_of(number: u16) -> TraitId {
     TraitId {
         container: module(0),
@@ -33,9 +24,12 @@ fn trait_of(number: u16) -> TraitId {
     }
 }
 
-fn a_macro(number: u16, styles: MacroCallStyles) -> PerNs {
-    PerNs::macros(macro_of(number, styles), Visibility::Public, None)
-}
+/// How a macro is called that is both a function's and an attribute's.
+const BOTH_STYLES: MacroCallStyles = MacroCallStyles {
+    fn_like: true,
+    attr: true,
+    derive: false,
+};
 
 /// Binds items to a name.
 fn bind(
@@ -113,12 +107,19 @@ fn types_and_values(rt: HostRuntime) -> Result<(), Fail> {
 }
 
 #[test]
+fn macro_of_two_styles(rt: HostRuntime) -> Result<(), Fail> {
+    let both = a_macro(3, BOTH_STYLES);
+    line_of(&rt, rt.alloc(), both, None, "- A : macro!#\n")
+}
+
+#[test]
 fn macros(rt: HostRuntime) -> Result<(), Fail> {
     let alloc = rt.alloc();
     let bang = a_macro(3, MacroCallStyles::FN_LIKE);
     let attr = a_macro(4, MacroCallStyles::ATTR);
     let derive = a_macro(5, MacroCallStyles::DERIVE);
     line_of(&rt, alloc, a_type(1).or(bang), None, "- A : type macro!\n")?;
+    line_of(&rt, alloc, bang, by_import(1), "- A : macro! (import)\n")?;
     line_of(&rt, alloc, attr, by_glob(1), "- A : macro# (glob)\n")?;
     line_of(
         &rt,
@@ -149,18 +150,18 @@ fn names_in_order(rt: HostRuntime) -> Result<(), Fail> {
 }
 
 /// Defines a macro in textual scope.
-fn define(alloc: Global, scope: &mut ItemScope, name: &str, number: u16) -> Result<(), Fail> {
+fn define(alloc: Global, scope: &mut ItemScope, name: &str, mac: MacroId) -> Result<(), Fail> {
     let name = Name::new(alloc, name)?;
-    scope.define_legacy_macro(name, macro_of(number, MacroCallStyles::FN_LIKE))?;
+    scope.define_legacy_macro(name, mac)?;
     Ok(())
 }
 
 fn print_macros(rt: &impl Abort, alloc: Global, scope: &mut ItemScope) -> Result<(), Fail> {
-    define(alloc, scope, "y", 1)?;
-    define(alloc, scope, "x", 2)?;
-    define(alloc, scope, "y", 3)?;
+    define(alloc, scope, "y", macro_of(1, MacroCallStyles::FN_LIKE))?;
+    define(alloc, scope, "x", macro_of(2, MacroCallStyles::FN_LIKE))?;
+    define(alloc, scope, "y", macro_of(3, MacroCallStyles::ATTR))?;
     bind(alloc, scope, "z", a_value(1), None)?;
-    let expected = "- z : value\n- (legacy) x : macro!\n- (legacy) y : macro! macro!\n";
+    let expected = "- z : value\n- (legacy) x : macro!\n- (legacy) y : macro! macro#\n";
     prints(rt, alloc, scope, expected)
 }
 

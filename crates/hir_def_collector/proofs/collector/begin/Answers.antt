@@ -16,13 +16,13 @@ returns-then-not-is_enabled-clause-ok g c =
 
 pub returns-clause-ok : goal.returns-clause-ok
 returns-clause-ok g c =
-    begins_present _ c.args.start c.in_ok-run.run' c.in_ok-tree.field-0 c.in-Some.tree c.top_level_items.result.now c.in_ok-run.ensures.value c.in_ok-tree.ensures.value c.in-Some.is
+    begins_present _ _ c.args.start c.in_ok-run.run' c.in_ok-tree.field-0 c.in-Some.tree c.top_level_items.result.now c.in_ok-run.ensures.value c.in_ok-tree.ensures.value c.in-Some.is
     (ap is_enabled (sym c.top_level_attrs.ensures.value) ∙ sym c.is_enabled.ensures.value ∙ c.if-not-is_enabled.false) c.top_level_items.ensures.value
     c.walk_all.new.run c.in_ok-walk_all.ensures.ok
 
 pub returns-in_err-walk_all-clause-many : goal.returns-in_err-walk_all-clause-many
 returns-in_err-walk_all-clause-many g c h =
-    begins_spent _ c.args.start c.in_ok-run.run' c.in_ok-tree.field-0 c.in-Some.tree c.top_level_items.result.now c.in_ok-run.ensures.value c.in_ok-tree.ensures.value c.in-Some.is
+    begins_spent _ _ c.args.start c.in_ok-run.run' c.in_ok-tree.field-0 c.in-Some.tree c.top_level_items.result.now c.in_ok-run.ensures.value c.in_ok-tree.ensures.value c.in-Some.is
     (ap is_enabled (sym c.top_level_attrs.ensures.value) ∙ sym c.is_enabled.ensures.value ∙ c.if-not-is_enabled.false) c.top_level_items.ensures.value
     (c.in_err-walk_all.ensures.many (search rules))
 

@@ -1,5 +1,4 @@
 use Rattle.std.specs.Option.{option_copied}
-use Rattle.std.proofs.Common.{List}
 use Rattle.hir_scope.specs.PerNsItems.{items_left}
 use Rattle.hir_scope.proofs.WalkLemmas.{gives_its_list}
 use Rattle.hir_scope.proofs.walk_laws.walks_give_their_list.Goals as goal

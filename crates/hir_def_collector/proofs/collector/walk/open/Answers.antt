@@ -8,7 +8,7 @@ use Rattle.hir_def_collector.proofs.collector.walk.open.Goals as goal
 
 -- the run has the module, listed and bound
 pub returns-clause-ok : goal.returns-clause-ok
-returns-clause-ok c = λ items.
+returns-clause-ok c = λ finished items.
     let opened : c.declare.new.run ≡ counted (with_map c.args.run.now (with_bound_module c.args.run.now.map c.args.site (head_of c.args.head) c.args.name.now)) =
     search rules in
     record {

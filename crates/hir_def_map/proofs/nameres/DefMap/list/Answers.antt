@@ -1,15 +1,15 @@
--- A list of a scope that grows leaves each module's parent.
-use Rattle.std.proofs.Common.{refl, List}
+-- A list of a scope that grows leaves the modules numbered.
+use Rattle.std.proofs.Common.{List}
 use Rattle.hir_def_map.specs.Declaration.{listed}
-use Rattle.hir_def_map.specs.State.{ModuleValue, IsRooted, changed_at, with_module_scope}
-use Rattle.hir_def_map.proofs.Modules.{IsRooted-changed_at, either_way}
+use Rattle.hir_def_map.specs.State.{ModuleValue, IsNumbered, changed_at, with_module_scope}
+use Rattle.hir_def_map.proofs.Modules.{IsNumbered-changed_at, either_way}
 use Rattle.hir_def_map.proofs.nameres.DefMap.list.Goals as goal
 
 pub invariant_of-self : goal.invariant_of-self
 invariant_of-self c =
-    let rooted : List ModuleValue → Type 0 = λ ms. IsRooted c.self.inside.id ms in
+    let numbered : List ModuleValue → Type 0 = λ ms. IsNumbered ms in
     let change : ModuleValue → ModuleValue = with_module_scope (listed c.args.declaration) in
-    either_way rooted c.list_in.result c.list_in.new.modules.items c.self.inside.modules.items
+    either_way numbered c.list_in.result c.list_in.new.modules.items c.self.inside.modules.items
     (changed_at c.self.inside.modules.items c.args.at change)
     c.list_in.ensures.ok c.list_in.ensures.err c.self.invariant
-    (IsRooted-changed_at c.self.inside.id c.self.inside.modules.items c.args.at change (λ m. refl) c.self.invariant)
+    (IsNumbered-changed_at c.self.inside.modules.items c.args.at change c.self.invariant)

@@ -1,0 +1,344 @@
+-- What falls with a map depends on it, and what is left stays checked.
+use Rattle.std.proofs.Common.{◌≡◌, ◌∙◌, ap, sym, subst, refl, Bool, true, false, not, ◌&&◌, ◌||◌, is_some, cond, Option, Some, None, List, [], ◌∷◌, ◌⊎◌, inl, inr, arith, ◌<◌, ◌+◌}
+use Rattle.std.specs.Prelude.{if◌then◌else◌}
+use mathlib.Core.Bool.{true≢false}
+use Rattle.std.specs.Option.{option_map}
+use Rattle.std.specs.Cmp.{first_so, second_so}
+use Rattle.std.specs.List.{list_any}
+use Rattle.std.specs.BTreeMap.{BTreeMap, btree_map_len, get, is_at, Updates}
+use Rattle.std.specs.Map.{keys_of, lookup}
+use Rattle.hir_base.specs.declared.ids.MapId.{MapId}
+use Rattle.hir_base.specs.declared.ids.ModuleId.{ModuleId}
+use Rattle.hir_base.specs.contracts.ids.MapIdOrd.TheImpl as map_order
+use Rattle.hir_base.specs.contracts.ids.MapIdPartialEq.TheImpl as map_id
+use Rattle.hir_scope.specs.ModuleTree.{same_crate}
+use Rattle.hir_scope.specs.PerNs.{first_of}
+use Rattle.hir_def_map.specs.declared.world.finished.Finished.{Finished}
+use Rattle.hir_def_map.specs.State.{Maps, Placed, beside, holders_of, holders_under, placed_in}
+use Rattle.hir_def_map.specs.Chains.{HolderLeads, IsPlaced, frame_of, frames_of, holders_of_frame}
+use Rattle.hir_def_map.specs.Beside.{exact_map}
+use Rattle.hir_def_map.specs.Named.{is_missing, is_there, lies_in, map_named, names_map, names_some}
+use Rattle.hir_def_map.specs.World.{IsChecked, IsFinished, finished_in, placed_of}
+use Rattle.hir_def_map.specs.Removal.{Depends, IsClosed, IsFalling, lacks_some, lists_in, lists_of, names_in, names_of}
+use Rattle.hir_def_map.specs.Removal.Depends.{itself, through}
+use Rattle.hir_def_map.proofs.Joined.{finds_some, finished_kept, holder_named, nothing_missing, own_id, same_id, there_in}
+
+abbrev Store : Type 0
+Store = BTreeMap MapId Finished
+
+abbrev at : Store → MapId → Option Finished
+at maps id = get map_order.ghosts.cmp maps id
+
+-- ---- ids in a set that are of no map
+
+-- where none is of no map, an id in the set is of one
+module _ (test : MapId → Bool) where
+  any_from : (xs : List MapId) (id : MapId) → list_any (is_at (map_order.ghosts.cmp id)) xs ≡ true → test id ≡ true → list_any test xs ≡ true
+  any_from [] id e t = absurd cc
+  any_from (x ∷ xs) id e t = go (λ f. any_from xs id f t) (is_at (map_order.ghosts.cmp id) x) refl e
+    where
+      right : (a b : Bool) → b ≡ true → (a || b) ≡ true
+      right true b f = refl
+      right false b f = f
+
+      go : (list_any (is_at (map_order.ghosts.cmp id)) xs ≡ true → list_any test xs ≡ true)
+          → (b : Bool) → is_at (map_order.ghosts.cmp id) x ≡ b → (b || list_any (is_at (map_order.ghosts.cmp id)) xs) ≡ true → (test x || list_any test xs) ≡ true
+      go below true s f = ap (λ (b : Bool). b || list_any test xs) (let P : MapId → Type 0 = λ y. test y ≡ true in subst P (same_id id x s) t)
+      go below false s f = right (test x) (list_any test xs) (below f)
+
+  -- some id in the set passes
+  any_which : (xs : List MapId) → list_any test xs ≡ true → (id : MapId) × (list_any (is_at (map_order.ghosts.cmp id)) xs ≡ true) × (test id ≡ true)
+  any_which [] e = absurd cc
+  any_which (x ∷ xs) e = go (λ f. any_which xs f) (test x) refl e
+    where
+      right : (a b : Bool) → b ≡ true → (a || b) ≡ true
+      right true b f = refl
+      right false b f = f
+
+      go : (list_any test xs ≡ true → (id : MapId) × (list_any (is_at (map_order.ghosts.cmp id)) xs ≡ true) × (test id ≡ true))
+          → (b : Bool) → test x ≡ b → (b || list_any test xs) ≡ true → (id : MapId) × ((is_at (map_order.ghosts.cmp id) x || list_any (is_at (map_order.ghosts.cmp id)) xs) ≡ true) × (test id ≡ true)
+      go below true s f = (x, ap (λ (b : Bool). b || list_any (is_at (map_order.ghosts.cmp x)) xs) (own_id x), s)
+      go below false s f = let h = below f in (h.0, right (is_at (map_order.ghosts.cmp h.0) x) (list_any (is_at (map_order.ghosts.cmp h.0)) xs) h.1, h.2)
+
+is_there_or : (o : Option Finished) → not (is_some o) ≡ true → o ≡ None
+is_there_or None e = refl
+is_there_or (Some f) e = absurd cc
+
+-- where a map lists a missing one, it is there and lists it
+which_lacks : (maps : Store) (o : Option Finished) → lacks_some maps o ≡ true → (j : MapId) × (lists_of o j ≡ true) × (at maps j ≡ None) × (is_some o ≡ true)
+which_lacks maps None e = absurd cc
+which_lacks maps (Some f) e =
+    let h = any_which (λ (id : MapId). not (is_some (at maps id))) f.named.keys e in
+    (h.0, h.1, is_there_or (at maps h.0) h.2, refl)
+
+-- where a map lists a missing one, it lacks it
+lacks_from : (maps : Store) (o : Option Finished) (j : MapId) → lists_of o j ≡ true → at maps j ≡ None → lacks_some maps o ≡ true
+lacks_from maps None j e n = absurd cc
+lacks_from maps (Some f) j e n = any_from (λ (id : MapId). not (is_some (at maps id))) f.named.keys j e (ap (λ (o : Option Finished). not (is_some o)) n)
+
+-- ---- one map falls after another
+
+removed_here : (old new : Store) (id : MapId) → Updates map_order.ghosts.cmp old new id None → at new id ≡ None
+removed_here old new id updates = updates.1
+
+-- first the map itself
+pub falling-start : (old new : Store) (id : MapId) → Updates map_order.ghosts.cmp old new id None → IsFalling old new id
+falling-start old new id updates = record {
+  gone = updates.1;
+  each = λ k. go k (is_at (map_order.ghosts.cmp id) k) refl;
+}
+  where
+    go : (k : MapId) (b : Bool) → is_at (map_order.ghosts.cmp id) k ≡ b → (at new k ≡ at old k) ⊎ ((at new k ≡ None) × Depends (lists_in old) id k)
+    go k true s = inr (updates.0 k ∙ ap (λ (b : Bool). cond b None (at old k)) s, itself k (sym (same_id id k s)))
+    go k false s = inl (updates.2 k s)
+
+module _ (old now new : Store) (id next : MapId) (closed : IsClosed old) (falling : IsFalling old now id)
+    (lacking : lacks_some now (at now next) ≡ true) (updates : Updates map_order.ghosts.cmp now new next None) where
+  -- what it lists and is missing has fallen, since it was there
+  depends : Depends (lists_in old) id next
+  depends = on (which_lacks now (at now next) lacking)
+    where
+      by_next : (j : MapId) → lists_of (at now next) j ≡ true → is_some (at now next) ≡ true → lists_in old next j ≡ true
+      by_next j l i = elim (falling.each next) [
+        | inl same ↦ sym (ap (λ (o : Option Finished). lists_of o j) same) ∙ l
+        | inr fell ↦ absurd (true≢false (sym i ∙ ap is_some fell.0))
+      ]
+
+      on : (j : MapId) × (lists_of (at now next) j ≡ true) × (at now j ≡ None) × (is_some (at now next) ≡ true) → Depends (lists_in old) id next
+      on h = elim (falling.each h.0) [
+        | inl same ↦ absurd (true≢false (sym (lacks_from old (at old next) h.0 (by_next h.0 h.1 h.3) (sym same ∙ h.2)) ∙ closed next))
+        | inr fell ↦ through next h.0 (by_next h.0 h.1 h.3) fell.1
+      ]
+
+  pub falling-step : IsFalling old new id
+  falling-step = record {
+    gone = updates.0 id ∙ stays (is_at (map_order.ghosts.cmp next) id) (at now id) falling.gone;
+    each = λ k. go k (is_at (map_order.ghosts.cmp next) k) refl;
+  }
+    where
+      stays : (b : Bool) (o : Option Finished) → o ≡ None → cond b None o ≡ None
+      stays true o e = refl
+      stays false o e = e
+
+      go : (k : MapId) (b : Bool) → is_at (map_order.ghosts.cmp next) k ≡ b → (at new k ≡ at old k) ⊎ ((at new k ≡ None) × Depends (lists_in old) id k)
+      go k true s =
+          let P : MapId → Type 0 = λ x. Depends (lists_in old) id x in
+          inr (updates.0 k ∙ ap (λ (b : Bool). cond b None (at now k)) s, subst P (same_id next k s) depends)
+      go k false s = elim (falling.each k) [
+        | inl same ↦ inl (updates.2 k s ∙ same)
+        | inr fell ↦ inr (updates.2 k s ∙ fell.0, fell.1)
+      ]
+
+-- fewer are left
+pub falls_smaller : (now new : Store) (next : MapId) → lacks_some now (at now next) ≡ true
+    → btree_map_len new + (if is_some (at now next) then 1 else 0) ≡ btree_map_len now → btree_map_len new < btree_map_len now
+falls_smaller now new next lacking len = go (at now next) refl lacking
+  where
+    go : (o : Option Finished) → at now next ≡ o → lacks_some now o ≡ true → btree_map_len new < btree_map_len now
+    go None s e = absurd cc
+    go (Some f) s e =
+        let one : btree_map_len new + 1 ≡ btree_map_len now = ap (λ (o : Option Finished). btree_map_len new + (if is_some o then 1 else 0)) (sym s) ∙ len in
+        omega (arith, one)
+
+-- ---- the end
+
+module _ (old new : Store) (id : MapId) (falling : IsFalling old new id) (closed : IsClosed new) where
+  -- what is still there was there
+  was_there : (k : MapId) → is_some (at new k) ≡ true → at new k ≡ at old k
+  was_there k i = elim (falling.each k) [
+    | inl same ↦ same
+    | inr fell ↦ absurd (true≢false (sym i ∙ ap is_some fell.0))
+  ]
+
+  all_gone : (k : MapId) → Depends (lists_in old) id k → at new k ≡ None
+  all_gone _ (itself k e) = ap (at new) e ∙ falling.gone
+  all_gone _ (through k other l d) = go (all_gone other d) (at new k) refl
+    where
+      go : at new other ≡ None → (o : Option Finished) → at new k ≡ o → at new k ≡ None
+      go n None s = s
+      go n (Some f) s =
+          let same : at new k ≡ at old k = was_there k (ap is_some s) in
+          absurd (true≢false (sym (lacks_from new (at new k) other (ap (λ (o : Option Finished). lists_of o other) same ∙ l) n) ∙ closed k))
+
+-- ---- checked maps
+
+placed_some : (o : Option Finished) → is_some (option_map placed_of o) ≡ true → is_some o ≡ true
+placed_some None e = absurd cc
+placed_some (Some f) e = refl
+
+some_placed : (o : Option Finished) → is_some o ≡ true → is_some (option_map placed_of o) ≡ true
+some_placed None e = absurd cc
+some_placed (Some f) e = refl
+
+framed_some : (o : Option Placed) → is_some (option_map frame_of o) ≡ true → is_some o ≡ true
+framed_some None e = absurd cc
+framed_some (Some p) e = refl
+
+module _ (old : Store) (checked : IsChecked old) where
+  -- the ids that are kept are those of the maps that are named
+  names_at : (k j : MapId) → names_in old k j ≡ lists_in old k j
+  names_at k j = go (at old k) refl
+    where
+      go : (o : Option Finished) → at old k ≡ o → names_of o j ≡ lists_of o j
+      go None s = refl
+      go (Some f) s = sym ((checked.each k f s).named.has j)
+
+  pub names_alike : names_in old ≡ lists_in old
+  names_alike = λ i k j. names_at k j i
+
+  -- a map that is named is there
+  named_there : (k : MapId) (f : Finished) → at old k ≡ Some f → (j : MapId) → names_map f.map f.local j ≡ true → is_some (at old j) ≡ true
+  unfolding finished_in
+  named_there k f s j e =
+      let h = finds_some f.map f.local (lies_in j) (second_so (not (is_at (map_order.ghosts.cmp f.map.id) j)) (names_some (lies_in j) f.map f.local) e) in
+      let P : MapId → Type 0 = λ x. is_some (beside (finished_in old) f.map x) ≡ true in
+      found (at old j) (subst P (same_id (map_named h.0) j h.1) (there_in (beside (finished_in old) f.map) h.0 (there h.0 h.2 (is_there (beside (finished_in old) f.map) h.0) refl)))
+    where
+      there : (n : _) → ((other : _ → Bool) → other n ≡ true → names_some other f.map f.local ≡ true) → (b : Bool) → is_there (beside (finished_in old) f.map) n ≡ b → is_there (beside (finished_in old) f.map) n ≡ true
+      there n named true t = t
+      there n named false t = absurd (true≢false (sym (named (is_missing (beside (finished_in old) f.map)) (ap not t)) ∙ nothing_missing (finished_in old) f.map f.local (checked.each k f s).complete))
+
+      other : not (is_at (map_order.ghosts.cmp f.map.id) j) ≡ true
+      other = first_so (not (is_at (map_order.ghosts.cmp f.map.id) j)) (names_some (lies_in j) f.map f.local) e
+
+      apart : (b : Bool) → map_id.ghosts.eq j f.map.id ≡ b → is_some (cond b (Some (placed_in (finished_in old) f.map)) None) ≡ true → ⊥
+      apart true u v =
+          let Q : MapId → Type 0 = λ x. is_at (map_order.ghosts.cmp f.map.id) x ≡ true in
+          true≢false (sym other ∙ ap not (subst Q (sym (exact_map j f.map.id u)) (own_id f.map.id)))
+      apart false u v = absurd cc
+
+      found : (o : Option Finished) → is_some (first_of (option_map placed_of o) (cond (map_id.ghosts.eq j f.map.id) (Some (placed_in (finished_in old) f.map)) None)) ≡ true → is_some o ≡ true
+      found None v = absurd (apart (map_id.ghosts.eq j f.map.id) refl v)
+      found (Some g) v = refl
+
+  pub checked_closed : IsClosed old
+  checked_closed k = go (lacks_some old (at old k)) refl
+    where
+      known : (j : MapId) (o : Option Finished) → at old k ≡ o → names_of o j ≡ true → is_some (at old j) ≡ true
+      known j None s e = absurd cc
+      known j (Some f) s e = named_there k f s j e
+
+      go : (b : Bool) → lacks_some old (at old k) ≡ b → b ≡ false
+      go false s = refl
+      go true s =
+          let h = which_lacks old (at old k) s in
+          absurd (true≢false (sym (known h.0 (at old k) refl (names_at k h.0 ∙ h.1)) ∙ ap is_some h.2))
+
+under_head : (A : Maps) (k : MapId) (o : Option ModuleId) (h : ModuleId) (hs : List ModuleId) → holders_under A k o ≡ h ∷ hs → o ≡ Some h
+under_head A k None h hs e = absurd cc
+under_head A k (Some m) h hs e = go (same_crate m.map.krate k.krate && is_some (A m.map)) e
+  where
+    go : (b : Bool) → cond b (m ∷ holders_of (A m.map)) [] ≡ h ∷ hs → Some m ≡ Some h
+    go true f = let same : m ≡ h = cc in ap Some same
+    go false f = absurd cc
+
+module _ (old new : Store) (id : MapId) (checked : IsChecked old) (falling : IsFalling old new id) (closed : IsClosed new) where
+  abbrev before : Maps
+  before = finished_in old
+
+  abbrev after : Maps
+  after = finished_in new
+
+  same_maps : (k : MapId) → at new k ≡ at old k → before k ≡ after k
+  unfolding finished_in
+  same_maps k e = ap (option_map placed_of) (sym e)
+
+  was : (k : MapId) (g : Finished) → at new k ≡ Some g → at old k ≡ Some g
+  was k g e = sym (was_there old new id falling closed k (ap is_some e)) ∙ e
+
+  here : (k : MapId) (g : Finished) → at new k ≡ Some g → is_some (before k) ≡ true
+  unfolding finished_in
+  here k g e = some_placed (at old k) (ap is_some (was k g e))
+
+  -- what is still there finds the maps that it names as they were
+  same : (k : MapId) (g : Finished) → at new k ≡ Some g → (j : MapId) → names_some (lies_in j) g.map g.local ≡ true → before j ≡ after j
+  same k g e j named = go (is_at (map_order.ghosts.cmp g.map.id) j) refl
+    where
+      finished : IsFinished before k g
+      finished = checked.each k g (was k g e)
+
+      there : names_map g.map g.local j ≡ true → (o : Option Finished) → at new j ≡ o → is_some (at new j) ≡ true
+      there n (Some f) s = ap is_some s
+      there n None s =
+          absurd (true≢false (sym (lacks_from new (at new k) j (ap (λ (o : Option Finished). lists_of o j) e ∙ finished.named.has j ∙ n) s) ∙ closed k))
+
+      go : (b : Bool) → is_at (map_order.ghosts.cmp g.map.id) j ≡ b → before j ≡ after j
+      go true s =
+          let P : MapId → Type 0 = λ x. before x ≡ after x in
+          subst P (sym finished.own ∙ same_id g.map.id j s) (same_maps k (was_there old new id falling closed k (ap is_some e)))
+      go false s = same_maps j (was_there old new id falling closed j (there (ap (λ (b : Bool). not b && names_some (lies_in j) g.map g.local) s ∙ named) (at new j) refl))
+
+  placed_after : IsPlaced after
+  unfolding finished_in frames_of
+  placed_after k h hs e = go (at new k) refl e
+    where
+      leads : (g : Finished) → at new k ≡ Some g → g.holders.items ≡ h ∷ hs → HolderLeads (frames_of after) k h hs
+      leads g s f =
+          let l : HolderLeads (frames_of before) k h hs = checked.placed k h hs (ap (λ (o : Option Finished). holders_of_frame (option_map frame_of (option_map placed_of o))) (was k g s) ∙ f) in
+          let held : g.map.holder ≡ Some h = under_head before k g.map.holder h hs (sym (checked.each k g (was k g s)).holders ∙ f) in
+          let kept : before h.map ≡ after h.map = same k g s h.map (holder_named g.map g.local h held) in (
+            l.0,
+            ap (λ (o : Option Placed). is_some (option_map frame_of o)) (sym kept) ∙ l.1,
+            ap (λ (o : Option Placed). holders_of_frame (option_map frame_of o)) (sym kept) ∙ l.2,
+          )
+
+      go : (o : Option Finished) → at new k ≡ o → holders_of_frame (option_map frame_of (option_map placed_of o)) ≡ h ∷ hs → HolderLeads (frames_of after) k h hs
+      go None s f = absurd cc
+      go (Some g) s f = leads g s f
+
+  pub fallen_checked : IsChecked new
+  fallen_checked = record {
+    placed = placed_after;
+    each = λ k g e. finished_kept before after k g (checked.each k g (was k g e)) (here k g e) (λ j named i. same k g e j named);
+  }
+
+  -- all that depend on the map are gone
+  pub dependents_gone : (k : MapId) → Depends (names_in old) id k → at new k ≡ None
+  dependents_gone k d = let P : (MapId → MapId → Bool) → Type 0 = λ x. Depends x id k in all_gone old new id falling closed k (subst P (names_alike old checked) d)
+
+  -- and all others stay
+  pub others_stay : (k : MapId) → ¬ Depends (names_in old) id k → at new k ≡ at old k
+  others_stay k free = elim (falling.each k) [
+    | inl same ↦ same
+    | inr fell ↦ (let P : (MapId → MapId → Bool) → Type 0 = λ x. Depends x id k in absurd (free (subst P (sym (names_alike old checked)) fell.1)))
+  ]
+
+pub none_there : (o : Option Finished) → is_some o ≡ false → o ≡ None
+none_there None e = refl
+none_there (Some f) e = absurd cc
+
+-- on a map that isn't there nothing depends that is there
+pub absent_gone : (old : Store) (id : MapId) → IsChecked old → at old id ≡ None → (k : MapId) → Depends (names_in old) id k → at old k ≡ None
+absent_gone old id checked absent _ (itself k e) = ap (at old) e ∙ absent
+absent_gone old id checked absent _ (through k other n d) = go (absent_gone old id checked absent other d) (at old k) refl n
+  where
+    go : at old other ≡ None → (o : Option Finished) → at old k ≡ o → names_of o other ≡ true → at old k ≡ None
+    go m None s e = s
+    go m (Some f) s e = absurd (true≢false (sym (named_there old checked k f s other e) ∙ ap is_some m))
+
+-- ---- the search
+
+none_passes : (test : MapId → Bool) (es : List (MapId × Finished)) (id : MapId) → list_any test (keys_of es) ≡ false → is_some (lookup (is_at (map_order.ghosts.cmp id)) es) ≡ true → test id ≡ false
+none_passes test [] id e t = absurd cc
+none_passes test (x ∷ xs) id e t = go (λ f u. none_passes test xs id f u) (is_at (map_order.ghosts.cmp id) x.0) refl t
+  where
+    first : (a b : Bool) → (a || b) ≡ false → a ≡ false
+    first true b f = absurd cc
+    first false b f = refl
+
+    second : (a b : Bool) → (a || b) ≡ false → b ≡ false
+    second true b f = absurd cc
+    second false b f = f
+
+    go : (list_any test (keys_of xs) ≡ false → is_some (lookup (is_at (map_order.ghosts.cmp id)) xs) ≡ true → test id ≡ false)
+        → (b : Bool) → is_at (map_order.ghosts.cmp id) x.0 ≡ b → is_some (cond b (Some x.1) (lookup (is_at (map_order.ghosts.cmp id)) xs)) ≡ true → test id ≡ false
+    go below true s u = let P : MapId → Type 0 = λ y. test y ≡ false in subst P (sym (same_id id x.0 s)) (first (test x.0) (list_any test (keys_of xs)) e)
+    go below false s u = below (second (test x.0) (list_any test (keys_of xs)) e) u
+
+-- where no key is of a map that lists a missing one, none does
+pub closed_from : (maps : Store) → list_any (λ (k : MapId). lacks_some maps (at maps k)) (keys_of maps.entries) ≡ false → IsClosed maps
+closed_from maps e id = go (at maps id) refl
+  where
+    go : (o : Option Finished) → at maps id ≡ o → lacks_some maps (at maps id) ≡ false
+    go None s = ap (lacks_some maps) s
+    go (Some f) s = none_passes (λ (k : MapId). lacks_some maps (at maps k)) maps.entries id e (ap is_some s)

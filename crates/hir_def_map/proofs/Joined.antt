@@ -1,0 +1,359 @@
+-- A complete map joins finished ones, and they stay checked.
+use Rattle.std.proofs.Common.{◌≡◌, ◌∙◌, ap, sym, subst, refl, Bool, true, false, not, ◌&&◌, ◌||◌, is_some, cond, Option, Some, None, List, [], ◌∷◌, Result, Ok, Err}
+use mathlib.Core.Bool.{true≢false}
+use Rattle.std.specs.Option.{option_and_then, option_map}
+use Rattle.std.specs.Cmp.{first_so, second_so, tied_itself}
+use Rattle.std.specs.List.{list_any}
+use Rattle.std.specs.Ordering.{is_eq}
+use Rattle.std.specs.BTreeMap.{BTreeMap, get, is_at, Updates, IsUnchanged}
+use Rattle.std.specs.Map.{lookup}
+use Rattle.std.specs.Result.{OnOk, OnErr}
+use Rattle.hir_base.specs.declared.ids.Crate.{Crate}
+use Rattle.hir_base.specs.declared.ids.MapId.{MapId}
+use Rattle.hir_base.specs.declared.ids.ModuleId.{ModuleId}
+use Rattle.hir_base.specs.contracts.ids.MapIdOrd.TheImpl as map_order
+use Rattle.hir_base.specs.contracts.ids.MapIdOrd.TheImpl.Laws.{total-law as order_total, matches_eq-law as order_ties}
+use Rattle.hir_base.specs.contracts.ids.MapIdPartialEq.TheImpl as map_id
+use Rattle.hir_scope.specs.ModuleTree.{same_crate}
+use Rattle.hir_scope.specs.PerNs.{first_of}
+use Rattle.hir_def_map.specs.declared.world.finished.Finished.{Finished}
+use Rattle.hir_def_map.specs.declared.world.named.Named.{Named}
+use Rattle.hir_def_map.specs.declared.world.named.Named.TheVariants as named
+use Rattle.hir_def_map.specs.State.{Local, Map, Maps, ModuleValue, Placed, beside, holders_of, holders_under, module_at, module_in, placed_in, variants_at}
+use Rattle.hir_def_map.specs.Chains.{IsPlaced}
+use Rattle.hir_def_map.specs.Beside.{exact_map, IsPlaced-beside}
+use Rattle.hir_def_map.specs.Named.{each_leads_to_root, has_its_parents, is_complete, is_holder_for, is_missing, is_there, lies_in, map_named, named_by, names_in_module, names_own_crate, names_some, prelude_named, test_child, test_crate, test_extern, test_of, test_type}
+use Rattle.hir_def_map.specs.World.{IsChecked, IsFinished, IsNamedBy, finished_in, placed_of}
+use Rattle.hir_def_map.specs.Inserted.{may_join}
+
+-- ---- ids that are equal by the order
+
+pub own_id : (a : MapId) → is_at (map_order.ghosts.cmp a) a ≡ true
+own_id a = ap is_eq (tied_itself order_total a)
+
+pub same_id : (a b : MapId) → is_at (map_order.ghosts.cmp a) b ≡ true → a ≡ b
+same_id a b e = exact_map a b (order_ties a b ∙ e)
+
+equal_id : (a b : MapId) → a ≡ b → map_id.ghosts.eq b a ≡ true
+equal_id a b e = let P : MapId → Type 0 = λ x. map_id.ghosts.eq b x ≡ true in subst P (sym e) (order_ties b b ∙ own_id b)
+
+-- ---- a test that holds of something that is named holds of one thing, which each other test meets
+
+or_right : (a b : Bool) → b ≡ true → (a || b) ≡ true
+or_right true b e = refl
+or_right false b e = e
+
+or_left : (a b : Bool) → a ≡ true → (a || b) ≡ true
+or_left a b e = ap (λ x. x || b) e
+
+abbrev Names : Type 0
+Names = (Named → Bool) → Bool
+
+abbrev Finds : Names → Type 0
+Finds names = (test : Named → Bool) → names test ≡ true → (n : Named) × (test n ≡ true) × ((other : Named → Bool) → other n ≡ true → names other ≡ true)
+
+finds_or : (names others : Names) → Finds names → Finds others → Finds (λ test. names test || others test)
+finds_or names others f g test e = go (names test) refl e
+  where
+    go : (b : Bool) → names test ≡ b → (b || others test) ≡ true → (n : Named) × (test n ≡ true) × ((other : Named → Bool) → other n ≡ true → (names other || others other) ≡ true)
+    go true s t = let h = f test s in (h.0, h.1, λ other o. or_left (names other) (others other) (h.2 other o))
+    go false s t = let h = g test t in (h.0, h.1, λ other o. or_right (names other) (others other) (h.2 other o))
+
+finds_any : {A : Type 0} (names : (Named → Bool) → A → Bool) → ((x : A) → Finds (λ test. names test x)) → (xs : List A) → Finds (λ test. list_any (names test) xs)
+finds_any names f [] = λ test e. absurd cc
+finds_any names f (x ∷ xs) = finds_or (λ test. names test x) (λ test. list_any (names test) xs) (f x) (finds_any names f xs)
+
+finds_of : (o : Option Named) → Finds (λ test. test_of test o)
+finds_of None test e = absurd cc
+finds_of (Some n) test e = (n, e, λ other o. o)
+
+finds_one : (n : Named) → Finds (λ test. test n)
+finds_one n test e = (n, e, λ other o. o)
+
+finds_in_module : (m : ModuleValue) → Finds (λ test. names_in_module test m)
+finds_in_module m =
+    finds_or (λ test. test_of test (option_map named.Module m.parent)) (λ test. list_any (test_child test) m.children || list_any (test_type test) m.scope.types)
+    (finds_of (option_map named.Module m.parent))
+    (finds_or (λ test. list_any (test_child test) m.children) (λ test. list_any (test_type test) m.scope.types)
+    (finds_any test_child (λ c. finds_one (named.Module c.1)) m.children)
+    (finds_any test_type (λ t. finds_of (named_by t.1.def)) m.scope.types))
+
+finds_crate : (krate : Crate) → Finds (λ test. test_crate test krate)
+finds_crate krate = finds_one _
+
+finds_own_crate : (id : MapId) → Finds (λ test. names_own_crate test id)
+finds_own_crate id = go (is_some id.block)
+  where
+    go : (b : Bool) → Finds (λ test. b && test_crate test id.krate)
+    go true = finds_crate id.krate
+    go false = λ test e. absurd cc
+
+module _ (map : Map) (local : Local) where
+  abbrev in_crates : Names
+  in_crates test = list_any (test_crate test) map.crate_data.dependencies || names_own_crate test map.id
+
+  abbrev from_externs : Names
+  from_externs test = list_any (test_extern test) local || in_crates test
+
+  abbrev from_holder : Names
+  from_holder test = test_of test (option_map named.Module map.holder) || from_externs test
+
+  abbrev from_prelude : Names
+  from_prelude test = test_of test (prelude_named map.prelude) || from_holder test
+
+  pub finds_some : Finds (λ test. names_some test map local)
+  finds_some =
+      finds_or (λ test. list_any (names_in_module test) map.modules) from_prelude (finds_any names_in_module finds_in_module map.modules)
+      (finds_or (λ test. test_of test (prelude_named map.prelude)) from_holder (finds_of (prelude_named map.prelude))
+      (finds_or (λ test. test_of test (option_map named.Module map.holder)) from_externs (finds_of (option_map named.Module map.holder))
+      (finds_or (λ test. list_any (test_extern test) local) in_crates (finds_any test_extern (λ e. finds_one (named.Module e.1.0)) local)
+      (finds_or (λ test. list_any (test_crate test) map.crate_data.dependencies) (λ test. names_own_crate test map.id) (finds_any test_crate finds_crate map.crate_data.dependencies)
+      (finds_own_crate map.id)))))
+
+  -- the holder is named
+  pub holder_named : (h : ModuleId) → map.holder ≡ Some h → names_some (lies_in h.map) map local ≡ true
+  holder_named h e =
+      or_right (list_any (names_in_module (lies_in h.map)) map.modules) (from_prelude (lies_in h.map))
+      (or_right (test_of (lies_in h.map) (prelude_named map.prelude)) (from_holder (lies_in h.map))
+      (or_left (test_of (lies_in h.map) (option_map named.Module map.holder)) (from_externs (lies_in h.map))
+      (ap (λ (o : Option ModuleId). test_of (lies_in h.map) (option_map named.Module o)) e ∙ own_id h.map)))
+
+-- ---- what is there in maps stays so in others that have the same where it matters
+
+first_found : (o other : Option Placed) → is_some o ≡ true → first_of o other ≡ o
+first_found None other e = absurd cc
+first_found (Some p) other e = refl
+
+first_none : (o : Option Placed) → first_of o None ≡ o
+first_none None = refl
+first_none (Some p) = refl
+
+there_same : (A B : Maps) (n : Named) → A (map_named n) ≡ B (map_named n) → is_there A n ≡ is_there B n
+there_same A B (named.Module m) e = ap (λ (o : Option Placed). is_some (option_and_then (λ (placed : Placed). module_at placed.map m.index) o)) e
+there_same A B (named.Enum id) e = ap (λ (o : Option Placed). is_some (option_and_then (λ (placed : Placed). variants_at placed.map id) o)) e
+there_same A B (named.Map id) e = ap is_some e
+
+has_first : {X : Type 0} (read : Placed → Option X) (o : Option Placed) → is_some (option_and_then read o) ≡ true → is_some o ≡ true
+has_first read None e = absurd cc
+has_first read (Some p) e = refl
+
+pub there_in : (A : Maps) (n : Named) → is_there A n ≡ true → is_some (A (map_named n)) ≡ true
+there_in A (named.Module m) e = has_first (λ (placed : Placed). module_at placed.map m.index) (A m.map) e
+there_in A (named.Enum id) e = has_first (λ (placed : Placed). variants_at placed.map id) (A id.container.map) e
+there_in A (named.Map id) e = e
+
+both : (a b : Bool) → a ≡ true → b ≡ true → (a && b) ≡ true
+both a b p q = ap (λ x. x && b) p ∙ q
+
+not_so : (b : Bool) → not b ≡ true → b ≡ false
+not_so true e = absurd cc
+not_so false e = refl
+
+abbrev IsSameAt : Maps → Maps → MapId → Type 0
+IsSameAt A B k = is_some (A k) ≡ true → A k ≡ B k
+
+module _ (A B : Maps) (map : Map) (local : Local) where
+  missing_kept : ((k : MapId) → names_some (lies_in k) map local ≡ true → IsSameAt A B k) → names_some (is_missing A) map local ≡ false → names_some (is_missing B) map local ≡ false
+  missing_kept same e = go (names_some (is_missing B) map local) refl
+    where
+      stays : (n : Named) → ((other : Named → Bool) → other n ≡ true → names_some other map local ≡ true) → (b : Bool) → is_there A n ≡ b → is_there B n ≡ true
+      stays n named true t =
+          let there : A (map_named n) ≡ B (map_named n) = same (map_named n) (named (lies_in (map_named n)) (own_id (map_named n))) (there_in A n t) in
+          sym (there_same A B n there) ∙ t
+      stays n named false t = absurd (true≢false (sym (named (is_missing A) (ap not t)) ∙ e))
+
+      go : (b : Bool) → names_some (is_missing B) map local ≡ b → b ≡ false
+      go false s = refl
+      go true s =
+          let h = finds_some map local (is_missing B) s in
+          absurd (true≢false (sym h.1 ∙ ap not (stays h.0 h.2 (is_there A h.0) refl)))
+
+module _ (A B : Maps) (id : MapId) where
+  holder_kept : (o : Option ModuleId) → ((h : ModuleId) → o ≡ Some h → IsSameAt A B h.map) → is_holder_for A id o ≡ true → is_holder_for B id o ≡ true
+  holder_kept None same e = refl
+  holder_kept (Some h) same e =
+      let there : is_some (module_in A h) ≡ true = second_so (same_crate h.map.krate id.krate) (is_some (module_in A h)) e in
+      let k : A h.map ≡ B h.map = same h refl (has_first (λ (placed : Placed). module_at placed.map h.index) (A h.map) there) in
+      sym (ap (λ (x : Option Placed). same_crate h.map.krate id.krate && is_some (option_and_then (λ (placed : Placed). module_at placed.map h.index) x)) k) ∙ e
+
+  holders_kept : (o : Option ModuleId) → ((h : ModuleId) → o ≡ Some h → IsSameAt A B h.map) → is_holder_for A id o ≡ true → holders_under A id o ≡ holders_under B id o
+  holders_kept None same e = refl
+  holders_kept (Some h) same e =
+      let there : is_some (module_in A h) ≡ true = second_so (same_crate h.map.krate id.krate) (is_some (module_in A h)) e in
+      let k : A h.map ≡ B h.map = same h refl (has_first (λ (placed : Placed). module_at placed.map h.index) (A h.map) there) in
+      ap (λ (x : Option Placed). cond (same_crate h.map.krate id.krate && is_some x) (h ∷ holders_of x) []) k
+
+-- the parts of completeness
+module _ (A : Maps) (map : Map) (local : Local) (e : is_complete A map local ≡ true) where
+  abbrev names_kept : Bool
+  names_kept = not (names_some (is_missing (beside A map)) map local)
+
+  abbrev holder_kept_too : Bool
+  holder_kept_too = is_holder_for A map.id map.holder && names_kept
+
+  abbrev parents_too : Bool
+  parents_too = has_its_parents map && holder_kept_too
+
+  leads : each_leads_to_root map ≡ true
+  leads = first_so (each_leads_to_root map) parents_too e
+
+  past_leads : parents_too ≡ true
+  past_leads = second_so (each_leads_to_root map) parents_too e
+
+  parents : has_its_parents map ≡ true
+  parents = first_so (has_its_parents map) holder_kept_too past_leads
+
+  past_parents : holder_kept_too ≡ true
+  past_parents = second_so (has_its_parents map) holder_kept_too past_leads
+
+  pub holder : is_holder_for A map.id map.holder ≡ true
+  holder = first_so (is_holder_for A map.id map.holder) names_kept past_parents
+
+  pub nothing_missing : names_some (is_missing (beside A map)) map local ≡ false
+  nothing_missing = not_so (names_some (is_missing (beside A map)) map local) (second_so (is_holder_for A map.id map.holder) names_kept past_parents)
+
+  complete_kept : (B : Maps) → ((k : MapId) → names_some (lies_in k) map local ≡ true → IsSameAt (beside A map) (beside B map) k)
+      → ((h : ModuleId) → map.holder ≡ Some h → IsSameAt A B h.map) → is_complete B map local ≡ true
+  complete_kept B same held =
+      both (each_leads_to_root map) _ leads
+      (both (has_its_parents map) _ parents
+      (both (is_holder_for B map.id map.holder) _ (holder_kept A B map.id map.holder held holder)
+      (ap not (missing_kept (beside A map) (beside B map) map local same nothing_missing))))
+
+-- a finished map stays finished where the maps that it names stay
+module _ (A B : Maps) (id : MapId) (g : Finished) (finished : IsFinished A id g) (here : is_some (A id) ≡ true)
+    (same : (k : MapId) → names_some (lies_in k) g.map g.local ≡ true → IsSameAt A B k) where
+  beside_same : (k : MapId) → names_some (lies_in k) g.map g.local ≡ true → IsSameAt (beside A g.map) (beside B g.map) k
+  beside_same k named t = go (A k) refl t
+    where
+      own : A k ≡ None → (b : Bool) → map_id.ghosts.eq k g.map.id ≡ b → is_some (cond b (Some (placed_in A g.map)) None) ≡ true → beside A g.map k ≡ beside B g.map k
+      own s true u v = absurd (true≢false (sym here ∙ ap is_some (ap A (sym (exact_map k g.map.id u ∙ finished.own)) ∙ s)))
+      own s false u v = absurd cc
+
+      go : (o : Option Placed) → A k ≡ o → is_some (first_of o (cond (map_id.ghosts.eq k g.map.id) (Some (placed_in A g.map)) None)) ≡ true → beside A g.map k ≡ beside B g.map k
+      go None s v = own s (map_id.ghosts.eq k g.map.id) refl v
+      go (Some p) s v =
+          let some : is_some (A k) ≡ true = ap is_some s in
+          let e : A k ≡ B k = same k named some in
+          first_found (A k) _ some ∙ e ∙ sym (first_found (B k) _ (ap is_some (sym e) ∙ some))
+
+  pub finished_kept : IsFinished B id g
+  finished_kept =
+      let held : (h : ModuleId) → g.map.holder ≡ Some h → IsSameAt A B h.map = λ h e. same h.map (holder_named g.map g.local h e) in
+      let fits : is_holder_for A g.map.id g.map.holder ≡ true = holder A g.map g.local finished.complete in
+      let P : MapId → Type 0 = λ x. is_holder_for A x g.map.holder ≡ true in
+      record {
+        own = finished.own;
+        holders = finished.holders ∙ holders_kept A B id g.map.holder held (subst P finished.own fits);
+        complete = complete_kept A g.map g.local finished.complete B beside_same held;
+        named = finished.named;
+      }
+
+-- ---- one more map
+
+some_placed : (o : Option Finished) (g : Finished) → o ≡ Some g → is_some (option_map placed_of o) ≡ true
+some_placed o g e = ap (λ (x : Option Finished). is_some (option_map placed_of x)) e
+
+not_placed : (o : Option Finished) → is_some (option_map placed_of o) ≡ false → o ≡ None
+not_placed None e = refl
+not_placed (Some g) e = absurd cc
+
+module _ (maps maps' : BTreeMap MapId Finished) (f : Finished) (may : may_join (finished_in maps) f.map f.local ≡ true)
+    (holders : f.holders.items ≡ holders_under (finished_in maps) f.map.id f.map.holder) (named : IsNamedBy f.named f.map f.local)
+    (updates : Updates map_order.ghosts.cmp maps maps' f.map.id (Some f)) where
+  abbrev before : Maps
+  before = finished_in maps
+
+  absent : get map_order.ghosts.cmp maps f.map.id ≡ None
+  unfolding finished_in
+  absent = not_placed (get map_order.ghosts.cmp maps f.map.id) (not_so (is_some (before f.map.id)) (first_so (not (is_some (before f.map.id))) (is_complete before f.map f.local) may))
+
+  complete : is_complete before f.map f.local ≡ true
+  complete = second_so (not (is_some (before f.map.id))) (is_complete before f.map f.local) may
+
+  absent_at : (id : MapId) → f.map.id ≡ id → get map_order.ghosts.cmp maps id ≡ None
+  absent_at id e = let P : MapId → Type 0 = λ x. get map_order.ghosts.cmp maps x ≡ None in subst P e absent
+
+  -- the finished maps are those that were, and beside them this one
+  pub joined : (id : MapId) → finished_in maps' id ≡ beside before f.map id
+  unfolding finished_in
+  joined id = ap (option_map placed_of) (updates.0 id) ∙ go (is_at (map_order.ghosts.cmp f.map.id) id) refl
+    where
+      apart : is_at (map_order.ghosts.cmp f.map.id) id ≡ false → (b : Bool) → map_id.ghosts.eq id f.map.id ≡ b → b ≡ false
+      apart s true u =
+          let P : MapId → Type 0 = λ x. is_at (map_order.ghosts.cmp f.map.id) x ≡ true in
+          absurd (true≢false (sym (subst P (sym (exact_map id f.map.id u)) (own_id f.map.id)) ∙ s))
+      apart s false u = refl
+
+      go : (b : Bool) → is_at (map_order.ghosts.cmp f.map.id) id ≡ b → option_map placed_of (cond b (Some f) (get map_order.ghosts.cmp maps id)) ≡ beside before f.map id
+      go true s =
+          let same : f.map.id ≡ id = same_id f.map.id id s in
+          ap (λ (hs : List ModuleId). Some (record { map = f.map; holders = hs })) holders
+          ∙ sym (ap (λ (b : Bool). cond b (Some (placed_in before f.map)) None) (equal_id f.map.id id same))
+          ∙ sym (ap (λ (o : Option Finished). first_of (option_map placed_of o) (cond (map_id.ghosts.eq id f.map.id) (Some (placed_in before f.map)) None)) (absent_at id same))
+      go false s =
+          sym (first_none (option_map placed_of (get map_order.ghosts.cmp maps id)))
+          ∙ sym (ap (λ (b : Bool). first_of (option_map placed_of (get map_order.ghosts.cmp maps id)) (cond b (Some (placed_in before f.map)) None)) (apart s (map_id.ghosts.eq id f.map.id) refl))
+
+  abbrev after : Maps
+  after = beside before f.map
+
+  grows : (k : MapId) → IsSameAt before after k
+  grows k e = sym (first_found (before k) _ e)
+
+  new_finished : IsFinished after f.map.id f
+  new_finished = record {
+    own = refl;
+    holders = holders ∙ holders_kept before after f.map.id f.map.holder (λ h e. grows h.map) (holder before f.map f.local complete);
+    complete = complete_kept before f.map f.local complete after (λ k n e. sym (first_found (after k) _ e)) (λ h e. grows h.map);
+    named = named;
+  }
+
+  old_finished : (id : MapId) (g : Finished) → get map_order.ghosts.cmp maps id ≡ Some g → IsFinished before id g → IsFinished after id g
+  unfolding finished_in
+  old_finished id g e finished = finished_kept before after id g finished (some_placed (get map_order.ghosts.cmp maps id) g e) (λ k n. grows k)
+
+  each_after : IsChecked maps → (id : MapId) (g : Finished) → get map_order.ghosts.cmp maps' id ≡ Some g → IsFinished after id g
+  each_after checked id g e = go (is_at (map_order.ghosts.cmp f.map.id) id) refl (sym (updates.0 id) ∙ e)
+    where
+      go : (b : Bool) → is_at (map_order.ghosts.cmp f.map.id) id ≡ b → cond b (Some f) (get map_order.ghosts.cmp maps id) ≡ Some g → IsFinished after id g
+      go true s t =
+          let this : f ≡ g = cc in
+          let P : Finished → Type 0 = λ x. IsFinished after id x in
+          let Q : MapId → Type 0 = λ x. IsFinished after x f in
+          subst P this (subst Q (same_id f.map.id id s) new_finished)
+      go false s t = old_finished id g t (checked.each id g t)
+
+  pub still_checked : IsChecked maps → IsChecked maps'
+  still_checked checked =
+      let whole : after ≡ finished_in maps' = λ i id. sym (joined id) i in
+      record {
+        placed = subst IsPlaced whole (IsPlaced-beside before f.map checked.placed);
+        each = λ id g e. let P : Maps → Type 0 = λ x. IsFinished x id g in subst P whole (each_after checked id g e);
+      }
+
+alike_maps : (maps maps' : BTreeMap MapId Finished) → ((id : MapId) → get map_order.ghosts.cmp maps' id ≡ get map_order.ghosts.cmp maps id) → finished_in maps ≡ finished_in maps'
+unfolding finished_in
+alike_maps maps maps' alike = λ i id. option_map placed_of (sym (alike id) i)
+
+-- maps with the same entries are checked alike
+pub alike_checked : (maps maps' : BTreeMap MapId Finished) → maps'.entries ≡ maps.entries → IsChecked maps → IsChecked maps'
+alike_checked maps maps' same checked =
+    let alike : (id : MapId) → get map_order.ghosts.cmp maps' id ≡ get map_order.ghosts.cmp maps id = λ id i. lookup (is_at (map_order.ghosts.cmp id)) (same i) in
+    let whole : finished_in maps ≡ finished_in maps' = alike_maps maps maps' alike in
+    record {
+      placed = subst IsPlaced whole checked.placed;
+      each = λ id g e. let P : Maps → Type 0 = λ x. IsFinished x id g in subst P whole (checked.each id g (sym (alike id) ∙ e));
+    }
+
+-- after an insertion that may fail
+pub insert_checked : {V E : Type 0} (r : Result V E) (maps maps' : BTreeMap MapId Finished) (f : Finished) (id : MapId) → id ≡ f.map.id
+    → may_join (finished_in maps) f.map f.local ≡ true → f.holders.items ≡ holders_under (finished_in maps) f.map.id f.map.holder → IsNamedBy f.named f.map f.local
+    → OnOk r (Updates map_order.ghosts.cmp maps maps' id (Some f)) → OnErr r (IsUnchanged maps maps') → IsChecked maps → IsChecked maps'
+insert_checked (Ok v) maps maps' f id own may holders named updates err checked = let P : MapId → Type 0 = λ x. Updates map_order.ghosts.cmp maps maps' x (Some f) in still_checked maps maps' f may holders named (subst P own updates) checked
+insert_checked (Err e) maps maps' f id own may holders named updates err checked = alike_checked maps maps' err checked
+
+pub joined_under : (maps maps' : BTreeMap MapId Finished) (f : Finished) (id : MapId) → id ≡ f.map.id
+    → may_join (finished_in maps) f.map f.local ≡ true → f.holders.items ≡ holders_under (finished_in maps) f.map.id f.map.holder → IsNamedBy f.named f.map f.local
+    → Updates map_order.ghosts.cmp maps maps' id (Some f) → (k : MapId) → finished_in maps' k ≡ beside (finished_in maps) f.map k
+joined_under maps maps' f id own may holders named updates = let P : MapId → Type 0 = λ x. Updates map_order.ghosts.cmp maps maps' x (Some f) in joined maps maps' f may holders named (subst P own updates)

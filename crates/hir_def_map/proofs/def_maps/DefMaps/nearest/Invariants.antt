@@ -1,0 +1,12 @@
+-- The module that has been reached leads to the same one.
+use Rattle.std.proofs.Common.{◌≡◌, length}
+use Rattle.hir_def_map.specs.Chains.{holders_in}
+use Rattle.hir_def_map.specs.DefMaps.{maps_of}
+use Rattle.hir_def_map.specs.Scoping.Segments.{nearest_in}
+use Rattle.hir_def_map.proofs.def_maps.DefMaps.nearest.Given as goal
+
+abbrev pub invariant-out : goal.invariant-out
+invariant-out l = nearest_in (maps_of l.self) l.fn.«module» ≡ nearest_in (maps_of l.self) l.at
+
+abbrev pub decreases-out : goal.decreases-out
+decreases-out l = length (holders_in (maps_of l.self) l.at)

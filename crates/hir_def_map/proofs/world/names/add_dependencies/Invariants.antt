@@ -1,0 +1,11 @@
+use Rattle.std.proofs.Common.{length}
+use Rattle.std.specs.List.{list_any}
+use Rattle.hir_def_map.specs.Named.{lies_in, test_crate}
+use Rattle.hir_def_map.proofs.Gaining.{IsHalfWay}
+use Rattle.hir_def_map.proofs.world.names.add_dependencies.Given as goal
+
+abbrev pub invariant-next : goal.invariant-next
+invariant-next l = IsHalfWay l.initial.maps l.maps (λ id. list_any (test_crate (lies_in id)) l.initial.left) (λ id. list_any (test_crate (lies_in id)) l.left)
+
+abbrev pub decreases-next : goal.decreases-next
+decreases-next l = length l.left

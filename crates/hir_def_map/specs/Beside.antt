@@ -1,0 +1,99 @@
+-- A map beside finished ones is in its place.
+use Rattle.std.specs.Prelude.{◌≡◌, ◌==◌, Bool, true, false, ◌&&◌, is_some, Option, None, Some, List, [], ◌∷◌, cond, option_map}
+use Rattle.std.specs.Cmp.{unsigned_Decides, first_so, second_so}
+use Rattle.std.proofs.Common.{refl, ap, sym, subst, ◌∙◌}
+use mathlib.Core.Bool.{true≢false}
+use Rattle.hir_base.specs.declared.ast_id.BlockId.{BlockId}
+use Rattle.hir_base.specs.declared.ids.Crate.{Crate}
+use Rattle.hir_base.specs.declared.ids.MapId.{MapId}
+use Rattle.hir_base.specs.declared.ids.ModuleId.{ModuleId}
+use Rattle.hir_base.specs.contracts.ids.MapIdPartialEq.TheImpl as map_id
+use Rattle.hir_scope.specs.PerNs.{first_of}
+use Rattle.hir_scope.specs.ModuleTree.{same_crate}
+use Rattle.hir_def_map.specs.State.{Map, Maps, Placed, beside, holders_of, holders_under, no_maps, placed_in}
+use Rattle.hir_def_map.specs.Chains.{frame_of, frames_of, holders_of_frame, HolderLeads, IsPlaced}
+
+-- ---- equal by the tests
+
+exact_crate : (a b : Crate) → same_crate a b ≡ true → a ≡ b
+exact_crate a b e = λ i. record { 0 = (unsigned_Decides a.0 b.0).0 e i }
+
+abbrev map_of : Crate → Option BlockId → MapId
+map_of k x = record { krate = k; block = x }
+
+pub exact_map : (a b : MapId) → map_id.ghosts.eq a b ≡ true → a ≡ b
+exact_map a b e = go a.krate b.krate a.block b.block e
+  where
+    go : (k l : Crate) (x y : Option BlockId) → map_id.ghosts.eq (map_of k x) (map_of l y) ≡ true → map_of k x ≡ map_of l y
+    go k l None None e = λ i. record { krate = record { 0 = (unsigned_Decides k.0 l.0).0 (first_so (k.0 == l.0) true e) i }; block = None }
+    go k l None (Some y) e = absurd (true≢false (sym (second_so (k.0 == l.0) false e)))
+    go k l (Some x) None e = absurd (true≢false (sym (second_so (k.0 == l.0) false e)))
+    go k l (Some x) (Some y) e = λ i. record {
+      krate = record { 0 = (unsigned_Decides k.0 l.0).0 (first_so (k.0 == l.0) (x.0 == y.0) e) i };
+      block = Some (record { 0 = (unsigned_Decides x.0 y.0).0 (second_so (k.0 == l.0) (x.0 == y.0) e) i });
+    }
+
+-- ---- in their places
+
+frame_holders : (o : Option Placed) → holders_of_frame (option_map frame_of o) ≡ holders_of o
+frame_holders None = refl
+frame_holders (Some p) = refl
+
+there : (o : Option Placed) → is_some (option_map frame_of o) ≡ is_some o
+there None = refl
+there (Some p) = refl
+
+module _ (finished : Maps) (map : Map) where
+  -- what is finished is found as it is
+  same_there : (id : MapId) → is_some (finished id) ≡ true → beside finished map id ≡ finished id
+  same_there id e = go (finished id) e
+    where
+      go : (o : Option Placed) → is_some o ≡ true → first_of o (cond (map_id.ghosts.eq id map.id) (Some (placed_in finished map)) None) ≡ o
+      go None f = absurd cc
+      go (Some p) f = refl
+
+  leads_beside : (id : MapId) (h : ModuleId) (hs : List ModuleId) → HolderLeads (frames_of finished) id h hs → HolderLeads (frames_of (beside finished map)) id h hs
+  unfolding frames_of
+  leads_beside id h hs l =
+      let is_there : is_some (finished h.map) ≡ true = sym (there (finished h.map)) ∙ l.1 in
+      let same : beside finished map h.map ≡ finished h.map = same_there h.map is_there in (
+        l.0,
+        ap (λ (o : Option Placed). is_some (option_map frame_of o)) same ∙ l.1,
+        ap (λ (o : Option Placed). holders_of_frame (option_map frame_of o)) same ∙ l.2,
+      )
+
+  under : (id : MapId) → id ≡ map.id → (o : Option ModuleId) (h : ModuleId) (hs : List ModuleId) → holders_under finished map.id o ≡ h ∷ hs → HolderLeads (frames_of (beside finished map)) id h hs
+  unfolding frames_of
+  under id e None h hs f = absurd cc
+  under id e (Some k) h hs f = go (same_crate k.map.krate map.id.krate) refl (is_some (finished k.map)) refl f
+    where
+      go : (b : Bool) → same_crate k.map.krate map.id.krate ≡ b → (c : Bool) → is_some (finished k.map) ≡ c
+          → cond (b && c) (k ∷ holders_of (finished k.map)) [] ≡ h ∷ hs → HolderLeads (frames_of (beside finished map)) id h hs
+      go false s c t f = absurd cc
+      go true s false t f = absurd cc
+      go true s true t f =
+          let first : k ≡ h = cc in
+          let left : holders_of (finished k.map) ≡ hs = cc in
+          let same : beside finished map k.map ≡ finished k.map = same_there k.map t in
+          subst (λ (x : ModuleId). HolderLeads (frames_of (beside finished map)) id x hs) first (
+            exact_crate k.map.krate map.id.krate s ∙ ap (λ (x : MapId). x.krate) (sym e),
+            ap (λ (o : Option Placed). is_some (option_map frame_of o)) same ∙ there (finished k.map) ∙ t,
+            ap (λ (o : Option Placed). holders_of_frame (option_map frame_of o)) same ∙ frame_holders (finished k.map) ∙ left,
+          )
+
+  -- a map beside finished ones that are in their places is in its own
+  pub IsPlaced-beside : IsPlaced finished → IsPlaced (beside finished map)
+  unfolding frames_of
+  IsPlaced-beside placed id h hs e = go (finished id) refl e
+    where
+      own : (b : Bool) → map_id.ghosts.eq id map.id ≡ b → holders_of_frame (option_map frame_of (cond b (Some (placed_in finished map)) None)) ≡ h ∷ hs → HolderLeads (frames_of (beside finished map)) id h hs
+      own true s f = under id (exact_map id map.id s) map.holder h hs f
+      own false s f = absurd cc
+
+      go : (o : Option Placed) → finished id ≡ o → holders_of_frame (option_map frame_of (first_of o (cond (map_id.ghosts.eq id map.id) (Some (placed_in finished map)) None))) ≡ h ∷ hs → HolderLeads (frames_of (beside finished map)) id h hs
+      go None s f = own (map_id.ghosts.eq id map.id) refl f
+      go (Some p) s f = leads_beside id h hs (placed id h hs (ap (λ (x : Option Placed). holders_of_frame (option_map frame_of x)) s ∙ f))
+
+pub IsPlaced-no_maps : IsPlaced no_maps
+unfolding frames_of
+IsPlaced-no_maps id h hs e = absurd cc

@@ -1,0 +1,49 @@
+-- Which maps fall with a map?
+use Rattle.std.specs.Prelude.{◌≡◌, ◌⊎◌, Bool, true, false, not, is_some, Option, None, Some}
+use Rattle.std.specs.List.{list_any}
+use Rattle.std.specs.BTreeMap.{BTreeMap, get}
+use Rattle.std.specs.BTreeSet.{BTreeSet, contains}
+use Rattle.hir_base.specs.declared.ids.MapId.{MapId}
+use Rattle.hir_base.specs.contracts.ids.MapIdOrd.TheImpl as map_order
+use Rattle.hir_def_map.specs.declared.world.finished.Finished.{Finished}
+use Rattle.hir_def_map.specs.Named.{names_map}
+
+-- the least set that holds a map, and each one that names one in it
+pub data Depends (names : MapId → MapId → Bool) (on : MapId) : MapId → Type 0 where
+  itself : (id : MapId) → id ≡ on → Depends names on id
+  through : (id other : MapId) → names id other ≡ true → Depends names on other → Depends names on id
+
+abbrev pub names_of : Option Finished → MapId → Bool
+names_of None id = false
+names_of (Some finished) id = names_map finished.map finished.local id
+
+-- whether a finished map names another one
+abbrev pub names_in : BTreeMap MapId Finished → MapId → MapId → Bool
+names_in maps id other = names_of (get map_order.ghosts.cmp maps id) other
+
+-- ---- the same by the ids that are kept beside each map
+
+abbrev pub lists_of : Option Finished → MapId → Bool
+lists_of None id = false
+lists_of (Some finished) id = contains map_order.ghosts.cmp finished.named id
+
+abbrev pub lists_in : BTreeMap MapId Finished → MapId → MapId → Bool
+lists_in maps id other = lists_of (get map_order.ghosts.cmp maps id) other
+
+-- whether one of the ids is of no finished map
+abbrev pub lacks : BTreeMap MapId Finished → BTreeSet MapId → Bool
+lacks maps named = list_any (λ (id : MapId). not (is_some (get map_order.ghosts.cmp maps id))) named.keys
+
+abbrev pub lacks_some : BTreeMap MapId Finished → Option Finished → Bool
+lacks_some maps None = false
+lacks_some maps (Some finished) = lacks maps finished.named
+
+-- no finished map lists a missing one
+abbrev pub IsClosed : BTreeMap MapId Finished → Type 0
+IsClosed maps = (id : MapId) → lacks_some maps (get map_order.ghosts.cmp maps id) ≡ false
+
+-- a map is gone, and others only where they depend on it
+pub record IsFalling (old new : BTreeMap MapId Finished) (id : MapId) : Type 0 where
+  pub gone : get map_order.ghosts.cmp new id ≡ None
+  pub each : (k : MapId) → (get map_order.ghosts.cmp new k ≡ get map_order.ghosts.cmp old k)
+      ⊎ ((get map_order.ghosts.cmp new k ≡ None) × Depends (lists_in old) id k)

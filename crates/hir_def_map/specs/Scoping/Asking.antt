@@ -1,0 +1,18 @@
+-- How is a path asked for?
+use Rattle.std.specs.Prelude.{Option, None, Some, []}
+use Rattle.hir_def_map.specs.State.{Local}
+use Rattle.hir_def_map.specs.declared.nameres.path_resolution.ResolveMode.{ResolveMode}
+use Rattle.hir_def_map.specs.declared.nameres.path_resolution.BuiltinShadowMode.{BuiltinShadowMode}
+use Rattle.hir_def_map.specs.declared.nameres.path_resolution.MacroSubNs.{MacroSubNs}
+
+-- over these crates, by an import or else, whether a builtin type yields to a module, which macros fit
+pub record Asking : Type 0 where
+  pub local : Local
+  pub mode : ResolveMode
+  pub shadow : BuiltinShadowMode
+  pub sub_ns : Option MacroSubNs
+
+-- the crates that a path may begin with; where none are given, none
+abbrev pub local_of : Option Local → Local
+local_of None = []
+local_of (Some local) = local

@@ -1,0 +1,72 @@
+-- What does a path mean that is asked from inside a block?
+use Rattle.std.specs.Prelude.{ℕ, List, [], ◌∷◌, max, ◌&&◌, ◌||◌, not, is_some, Option, None, Some, cond}
+use Rattle.hir_base.specs.declared.ids.ModuleId.{ModuleId}
+use Rattle.hir_base.specs.declared.mod_path.PathKind.{PathKind}
+use Rattle.hir_base.specs.declared.mod_path.PathKind.TheVariants as kinds
+use Rattle.hir_scope.specs.PerNs.{or_of}
+use Rattle.hir_def_map.specs.State.{Maps, map_in}
+use Rattle.hir_def_map.specs.Chains.{holders_in}
+use Rattle.hir_def_map.specs.Scoping.Asking.{Asking}
+use Rattle.hir_def_map.specs.Scoping.FirstSegment.{extern_name, is_block_root, name_in_preludes}
+use Rattle.hir_def_map.specs.Scoping.Segments.{rest, unresolved}
+use Rattle.hir_def_map.specs.Scoping.Start.{abs_from, crate_root, from_start, is_import, of_2015}
+use Rattle.hir_def_map.specs.declared.nameres.path_resolution.ReachedFixedPoint.{ReachedFixedPoint}
+use Rattle.hir_def_map.specs.declared.nameres.path_resolution.ReachedFixedPoint.TheVariants.{Yes, No}
+use Rattle.hir_def_map.specs.declared.nameres.path_resolution.ResolvePathResult.{ResolvePathResult}
+
+-- a path in the preludes of a crate, asked from its root; a path with a root of its own names nothing there
+abbrev pub in_preludes : Maps → Asking → ModuleId → PathKind → List (List ℕ) → ResolvePathResult
+in_preludes maps asking root kinds.Crate segs = unresolved Yes
+in_preludes maps asking root (kinds.DollarCrate c) segs = unresolved Yes
+in_preludes maps asking root (kinds.Super n) segs = unresolved Yes
+in_preludes maps asking root kinds.Plain [] = unresolved Yes
+in_preludes maps asking root kinds.Plain (s ∷ ss) =
+    cond (of_2015 (map_in maps root.map) && is_import asking.mode)
+    (rest maps root ss 1 (extern_name asking.local s))
+    (rest maps root ss 1 (name_in_preludes maps asking.local root s))
+in_preludes maps asking root kinds.Abs [] = unresolved Yes
+in_preludes maps asking root kinds.Abs (s ∷ ss) =
+    cond (of_2015 (map_in maps root.map))
+    (rest maps root ss 1 (extern_name asking.local s))
+    (abs_from maps root ss (extern_name asking.local s))
+
+-- ---- answers of several maps
+
+-- the later of two stops, or the one that is there
+abbrev pub later_stop : Option ℕ → Option ℕ → Option ℕ
+later_stop None b = b
+later_stop (Some a) None = Some a
+later_stop (Some a) (Some b) = Some (max a b)
+
+abbrev pub either_reached : ReachedFixedPoint → ReachedFixedPoint → ReachedFixedPoint
+either_reached Yes b = Yes
+either_reached No b = b
+
+-- an answer, and what another has besides
+abbrev pub joined : ResolvePathResult → ResolvePathResult → ResolvePathResult
+joined a b = record {
+  resolved_def = or_of a.resolved_def b.resolved_def;
+  segment_index = later_stop a.segment_index b.segment_index;
+  reached_fixedpoint = either_reached a.reached_fixedpoint b.reached_fixedpoint;
+  prefix_info = record {
+    differing_crate = a.prefix_info.differing_crate || b.prefix_info.differing_crate;
+    enum_variant = a.prefix_info.enum_variant || b.prefix_info.enum_variant;
+  };
+}
+
+-- a module inside a block that isn't its root has the preludes of the crate
+abbrev pub with_preludes : Maps → Asking → PathKind → List (List ℕ) → ResolvePathResult → ModuleId → ResolvePathResult
+with_preludes maps asking kind segs r m =
+    cond (is_some m.map.block && not (is_block_root m)) (joined r (in_preludes maps asking (crate_root m.map.krate) kind segs)) r
+
+-- a block's root has what its holder has too, and so on outwards
+abbrev pub inherited : Maps → Asking → PathKind → List (List ℕ) → ResolvePathResult → ModuleId → List ModuleId → ResolvePathResult
+inherited maps asking kind segs r m [] = with_preludes maps asking kind segs r m
+inherited maps asking kind segs r m (h ∷ hs) =
+    cond (is_block_root m)
+    (inherited maps asking kind segs (joined r (from_start maps asking h kind segs)) h hs)
+    (with_preludes maps asking kind segs r m)
+
+-- a path, its root and its segments apart
+abbrev pub from_blocks : Maps → Asking → ModuleId → PathKind → List (List ℕ) → ResolvePathResult
+from_blocks maps asking from kind segs = inherited maps asking kind segs (from_start maps asking from kind segs) from (holders_in maps from)

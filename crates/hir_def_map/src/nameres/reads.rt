@@ -1,0 +1,99 @@
+//! What a def map says of itself, of its crate and of its modules.
+ghost use Rattle.std.specs.Prelude.{◌≡◌, ◌||◌, ◌&&◌, ◌<◌, Option, option_map, length, nat_lt, slice_get};
+ghost use Rattle.hir_scope.specs.PerNs.{first_of};
+ghost use Rattle.hir_def_map.specs.State.{at_name, module_at, parent_at, root_of};
+ghost use Rattle.hir_def_map.specs.Reads.{contains_module, feature_in, is_without_std};
+
+use crate::nameres::DefMap;
+use crate::nameres::module_data::ModuleData;
+use hir_base::ast_id::BlockId;
+use hir_base::ids::{Crate, MapId, ModuleId};
+use hir_base::name::Name;
+
+impl DefMap {
+    /// The crate of the map, also of a block's.
+    pub fn krate(&self) -> Crate
+        ensures value { result ≡ self.now.id.krate }
+    {
+        self.id().krate
+    }
+
+    /// The block of the map, where it is one's.
+    pub fn block_id(&self) -> Option<BlockId>
+        ensures value { result ≡ self.now.id.block }
+    {
+        self.id().block
+    }
+
+    /// The root of the crate, also asked of a block's map.
+    pub fn crate_root(&self) -> ModuleId
+        ensures value { result ≡ root_of (record { krate = self.now.id.krate; block = None }) }
+    {
+        ModuleId {
+            map: MapId {
+                krate: self.krate(),
+                block: None,
+            },
+            index: 0,
+        }
+    }
+
+    /// Whether a module is one of the map's.
+    pub fn contains(&self, module: ModuleId) -> bool
+        ensures value { result ≡ contains_module self.now «module» }
+    {
+        module.map == self.id() && module.index < self.module_count()
+    }
+
+    /// What a module is in: its parent, or for a root the module that holds the block.
+    pub fn containing_module(&self, at: u32) -> Option<ModuleId>
+        ensures value { result ≡ first_of (parent_at self.now at) self.now.holder }
+    {
+        match self.parent_of(at) {
+            Some(parent) => Some(parent),
+            None => self.parent(),
+        }
+    }
+
+    /// How deep calls of macros may be nested.
+    pub fn recursion_limit(&self) -> u32
+        ensures value { result ≡ self.now.crate_data.recursion_limit }
+    {
+        self.crate_data().recursion_limit()
+    }
+
+    /// Whether the crate has `std` left out, itself or with `core`.
+    pub fn is_no_std(&self) -> bool
+        ensures value { result ≡ is_without_std self.now.crate_data }
+    {
+        self.crate_data().no_std() || self.crate_data().no_core()
+    }
+
+    /// Whether the crate has `core` left out.
+    pub fn is_no_core(&self) -> bool
+        ensures value { result ≡ self.now.crate_data.no_core }
+    {
+        self.crate_data().no_core()
+    }
+
+    /// Whether the crate may write impls that only `core` may.
+    pub fn is_rustc_coherence_is_core(&self) -> bool
+        ensures value { result ≡ self.now.crate_data.rustc_coherence_is_core }
+    {
+        self.crate_data().rustc_coherence_is_core()
+    }
+
+    /// The tools whose attributes are inert, in the order in which they were registered.
+    pub fn registered_tools(&self) -> &[Name]
+        ensures value { result.now ≡ self.now.crate_data.registered_tools }
+    {
+        self.crate_data().registered_tools()
+    }
+
+    /// Whether the crate lists an unstable feature.
+    pub fn has_feature(&self, name: &Name) -> bool
+        ensures value { result ≡ feature_in self.now.crate_data name.now }
+    {
+        self.crate_data().has_feature(name)
+    }
+}

@@ -1,0 +1,18 @@
+//! A finished map, and what stands beside it.
+
+use crate::nameres::DefMap;
+use crate::nameres::local_def_map::LocalDefMap;
+use hir_base::ids::{MapId, ModuleId};
+use std::collections::BTreeSet;
+
+/// A finished map in its place.
+#[derive(Drop)]
+pub struct Finished {
+    pub map: DefMap,
+    /// The crates that its paths may begin with.
+    pub local: LocalDefMap,
+    /// The module that holds the block, the one that holds that one's block, and so on.
+    pub holders: Vec<ModuleId>,
+    /// The maps that it names.
+    pub named: BTreeSet<MapId>,
+}

@@ -1,0 +1,368 @@
+//! Several maps: what paths lead to over a world, and which maps join it.
+use super::{FILE, are_items, both, inline, node, types};
+use hir_base::ast_id::{BlockId, HirFileId};
+use hir_base::edition::Edition;
+use hir_base::ids::{AdtId, Crate, EnumId, EnumVariantId, MapId, ModuleDefId, ModuleId, StructId};
+use hir_base::mod_path::ModPath;
+use hir_base::name::Name;
+use hir_def_map::nameres::crate_data::DefMapCrateData;
+use hir_def_map::nameres::enum_variants::{EnumVariant, EnumVariants};
+use hir_def_map::nameres::local_def_map::LocalDefMap;
+use hir_def_map::nameres::module_data::ModuleData;
+use hir_def_map::nameres::origin::ModuleOrigin;
+use hir_def_map::nameres::path_resolution::BuiltinShadowMode;
+use hir_def_map::nameres::{BlockInfo, DefMap};
+use hir_def_map::world::World;
+use hir_item_tree::raw_visibility::VisibilityExplicitness;
+use hir_item_tree::shape::FieldsShape;
+use hir_scope::glob_imports::PerNsGlobImports;
+use hir_scope::per_ns::PerNs;
+use hir_scope::visibility::Visibility;
+use std::alloc::Global;
+use std::process::Abort;
+use std::test::Fail;
+
+const PUBLIC: Visibility = Visibility::Public;
+
+const ZERO: MapId = MapId {
+    krate: Crate(0),
+    block: None,
+};
+
+const ONE: MapId = MapId {
+    krate: Crate(1),
+    block: None,
+};
+
+/// A block in the module `m` of crate 1.
+const BLOCK: MapId = MapId {
+    krate: Crate(1),
+    block: Some(BlockId(7)),
+};
+
+fn at(map: MapId, index: u32) -> ModuleId {
+    ModuleId { map, index }
+}
+
+/// The struct of a node.
+fn item(map: MapId, number: u16) -> ModuleDefId {
+    ModuleDefId::AdtId(AdtId::StructId(StructId {
+        container: at(map, 0),
+        file_id: HirFileId::File(FILE),
+        block: None,
+        id: node(number),
+    }))
+}
+
+/// The enum of crate 0.
+fn choice() -> EnumId {
+    EnumId {
+        container: at(ZERO, 0),
+        file_id: HirFileId::File(FILE),
+        block: None,
+        id: node(5),
+    }
+}
+
+fn variant(number: u16) -> EnumVariantId {
+    EnumVariantId {
+        parent: choice(),
+        id: node(number),
+    }
+}
+
+/// Binds items to a name, by no import.
+fn name_items(
+    alloc: Global,
+    map: &mut DefMap,
+    at: u32,
+    text: &str,
+    items: PerNs,
+) -> Result<(), Fail> {
+    let mut globs = PerNsGlobImports::new(alloc);
+    let name = Name::new(alloc, text)?;
+    map.push(&mut globs, at, name, items, None)?;
+    Ok(())
+}
+
+/// Adds a module below the root, and binds its name.
+fn name_module(alloc: Global, map: &mut DefMap, text: &str, number: u16) -> Result<(), Fail> {
+    let above = Some(map.root());
+    let module = at(map.id(), map.module_count());
+    let data = ModuleData::new(alloc, inline(number), PUBLIC, above);
+    if map.module_count() > 0 {
+        map.add_module(0, Name::new(alloc, text)?, data)?;
+    }
+    name_items(
+        alloc,
+        map,
+        0,
+        text,
+        types(ModuleDefId::ModuleId(module), PUBLIC),
+    )
+}
+
+/// A map with its root alone, of the latest but one edition.
+fn rooted(
+    alloc: Global,
+    data: DefMapCrateData,
+    krate: Crate,
+    block: Option<BlockInfo>,
+) -> Result<DefMap, Fail> {
+    let origin = ModuleOrigin::CrateRoot { definition: FILE };
+    let root = ModuleData::new(alloc, origin, PUBLIC, None);
+    let map = DefMap::empty(alloc, krate, data, root, block)?;
+    Ok(map)
+}
+
+fn name_variants(alloc: Global, map: &mut DefMap) -> Result<(), Fail> {
+    let mut variants = EnumVariants::new(alloc);
+    let tuple = EnumVariant {
+        id: variant(6),
+        shape: FieldsShape::Tuple,
+    };
+    let record = EnumVariant {
+        id: variant(7),
+        shape: FieldsShape::Record,
+    };
+    variants.insert(Name::new(alloc, "A")?, tuple)?;
+    variants.insert(Name::new(alloc, "B")?, record)?;
+    map.add_enum(choice(), variants)?;
+    Ok(())
+}
+
+/// `pub mod a { pub struct S; struct P; } pub enum E { A(), B {} }`
+fn crate_zero(alloc: Global) -> Result<DefMap, Fail> {
+    let data = DefMapCrateData::new(alloc, Edition::Edition2021);
+    let mut map = rooted(alloc, data, Crate(0), None)?;
+    name_module(alloc, &mut map, "a", 10)?;
+    name_items(alloc, &mut map, 1, "S", both(item(ZERO, 1), PUBLIC))?;
+    let within = Visibility::Module(at(ZERO, 1), VisibilityExplicitness::Implicit);
+    name_items(alloc, &mut map, 1, "P", both(item(ZERO, 2), within))?;
+    let def = ModuleDefId::AdtId(AdtId::EnumId(choice()));
+    name_items(alloc, &mut map, 0, "E", types(def, PUBLIC))?;
+    name_variants(alloc, &mut map)?;
+    Ok(map)
+}
+
+/// `pub struct T; pub mod m { pub struct V; }` over crate 0, the module `a` of which is the prelude.
+fn crate_one(alloc: Global) -> Result<DefMap, Fail> {
+    let mut data = DefMapCrateData::new(alloc, Edition::Edition2021);
+    data.add_dependency(Crate(0))?;
+    let mut map = rooted(alloc, data, Crate(1), None)?;
+    map.set_prelude(Some((at(ZERO, 1), None)));
+    name_items(alloc, &mut map, 0, "T", both(item(ONE, 1), PUBLIC))?;
+    name_module(alloc, &mut map, "m", 10)?;
+    name_items(alloc, &mut map, 1, "V", both(item(ONE, 2), PUBLIC))?;
+    Ok(map)
+}
+
+/// `pub struct U; pub mod n {}` in a block in the module `m` of crate 1.
+fn block(alloc: Global) -> Result<DefMap, Fail> {
+    let data = DefMapCrateData::new(alloc, Edition::Edition2021);
+    let info = BlockInfo {
+        block: BlockId(7),
+        parent: at(ONE, 1),
+    };
+    let mut map = rooted(alloc, data, Crate(1), Some(info))?;
+    name_items(alloc, &mut map, 0, "U", both(item(BLOCK, 1), PUBLIC))?;
+    name_module(alloc, &mut map, "n", 10)?;
+    Ok(map)
+}
+
+/// Crate 0 as `zero`.
+fn extern_zero(alloc: Global) -> Result<LocalDefMap, Fail> {
+    let mut local = LocalDefMap::empty(alloc);
+    local.add_extern(Name::new(alloc, "zero")?, at(ZERO, 0), None)?;
+    Ok(local)
+}
+
+/// Whether a map joins the world.
+fn joins(world: &mut World, map: DefMap, local: LocalDefMap) -> bool {
+    world.insert(map, local).is_ok()
+}
+
+/// The crates 0 and 1, and the block.
+fn world(rt: &impl Abort, alloc: Global) -> Result<World, Fail> {
+    let mut world = World::new(alloc);
+    assert!(rt; joins(&mut world, crate_zero(alloc)?, LocalDefMap::empty(alloc)));
+    assert!(rt; joins(&mut world, crate_one(alloc)?, extern_zero(alloc)?));
+    assert!(rt; joins(&mut world, block(alloc)?, LocalDefMap::empty(alloc)));
+    Ok(world)
+}
+
+/// What a path leads to: the items of a struct or of a variant, or a type alone.
+#[derive(Clone, Copy)]
+enum Reached {
+    Nothing,
+    Struct(MapId, u16),
+    TypeAlone(MapId, u16),
+    Choice,
+    TupleVariant,
+    RecordVariant,
+}
+
+fn items_of(reached: Reached) -> PerNs {
+    match reached {
+        Reached::Nothing => PerNs::none(),
+        Reached::Struct(map, number) => both(item(map, number), PUBLIC),
+        Reached::TypeAlone(map, number) => types(item(map, number), PUBLIC),
+        Reached::Choice => types(ModuleDefId::AdtId(AdtId::EnumId(choice())), PUBLIC),
+        Reached::TupleVariant => both(ModuleDefId::EnumVariantId(variant(6)), PUBLIC),
+        Reached::RecordVariant => types(ModuleDefId::EnumVariantId(variant(7)), PUBLIC),
+    }
+}
+
+/// A path, the module that asks, what it leads to and where it stops.
+type Row = (&'static str, (MapId, u32), Reached, Option<usize>);
+
+const S: Reached = Reached::Struct(ZERO, 1);
+
+const T: Reached = Reached::Struct(ONE, 1);
+
+const U: Reached = Reached::Struct(BLOCK, 1);
+
+const V: Reached = Reached::Struct(ONE, 2);
+
+const BETWEEN_CRATES: [Row; 14] = [
+    ("zero::a::S", (ONE, 0), S, None),
+    ("::zero::a::S", (ONE, 0), S, None),
+    ("$0::a::S", (ONE, 0), S, None),
+    ("$1::T", (ZERO, 0), Reached::Nothing, None),
+    ("zero::a::P", (ONE, 0), Reached::Nothing, None),
+    ("a::P", (ZERO, 0), Reached::Nothing, None),
+    (
+        "zero::a::S::x",
+        (ONE, 0),
+        Reached::TypeAlone(ZERO, 1),
+        Some(3),
+    ),
+    ("zero::zero::a", (ONE, 0), Reached::Nothing, None),
+    ("zero::E::A", (ONE, 0), Reached::TupleVariant, None),
+    ("zero::E::B", (ONE, 0), Reached::RecordVariant, None),
+    ("zero::E::A::x", (ONE, 0), Reached::Nothing, None),
+    ("zero::E::C", (ONE, 0), Reached::Choice, Some(2)),
+    ("S", (ONE, 1), S, None),
+    ("S", (ZERO, 0), Reached::Nothing, None),
+];
+
+const IN_A_BLOCK: [Row; 11] = [
+    ("U", (BLOCK, 0), U, None),
+    ("V", (BLOCK, 0), V, None),
+    ("T", (BLOCK, 0), Reached::Nothing, None),
+    ("super::T", (BLOCK, 0), T, None),
+    ("self::V", (BLOCK, 0), V, None),
+    ("super::U", (BLOCK, 1), Reached::Nothing, None),
+    ("super::V", (BLOCK, 1), V, None),
+    ("zero::a::S", (BLOCK, 0), S, None),
+    ("S", (BLOCK, 1), S, None),
+    ("U", (BLOCK, 1), Reached::Nothing, None),
+    ("crate::T", (BLOCK, 1), T, None),
+];
+
+/// Asserts what a path leads to, and where it stops.
+fn leads(
+    rt: &impl Abort,
+    alloc: Global,
+    world: &World,
+    local: &LocalDefMap,
+    row: &Row,
+) -> Result<(), Fail> {
+    let (text, (id, index), reached, stop) = *row;
+    let path = ModPath::parse(alloc, text)?;
+    if let Some(map) = world.map(id) {
+        let module = at(id, index);
+        let shadow = BuiltinShadowMode::Other;
+        let local = if id == ZERO { None } else { Some(local) };
+        let (found, stopped) = map.resolve_path(local, world, module, &path, shadow, None);
+        are_items(rt, found, items_of(reached), text);
+        assert_eq!(rt; stopped, stop, "{text}");
+    }
+    Ok(())
+}
+
+fn lead(
+    rt: &impl Abort,
+    alloc: Global,
+    world: &World,
+    local: &LocalDefMap,
+    rows: &[Row],
+) -> Result<(), Fail> {
+    for row in rows {
+        leads(rt, alloc, world, local, row)?;
+    }
+    Ok(())
+}
+
+#[test]
+fn paths_between_crates(rt: HostRuntime) -> Result<(), Fail> {
+    let world = world(&rt, rt.alloc())?;
+    let local = extern_zero(rt.alloc())?;
+    lead(&rt, rt.alloc(), &world, &local, &BETWEEN_CRATES)
+}
+
+#[test]
+fn paths_in_a_block(rt: HostRuntime) -> Result<(), Fail> {
+    let world = world(&rt, rt.alloc())?;
+    let local = extern_zero(rt.alloc())?;
+    lead(&rt, rt.alloc(), &world, &local, &IN_A_BLOCK)
+}
+
+/// A map that names a crate, a module or an enum that isn't there doesn't join, and the world is as before.
+fn stay_out(rt: &impl Abort, alloc: Global) -> Result<(), Fail> {
+    let mut world = World::new(alloc);
+    assert!(rt;
+        !joins(&mut world, crate_one(alloc)?, extern_zero(alloc)?),
+        "a missing crate"
+    );
+    assert!(rt;
+        !joins(&mut world, block(alloc)?, LocalDefMap::empty(alloc)),
+        "a missing holder"
+    );
+    assert!(rt; world.map(ONE).is_none(), "refused");
+    assert!(rt;
+        joins(&mut world, crate_zero(alloc)?, LocalDefMap::empty(alloc)),
+        "a crate by itself"
+    );
+    assert!(rt;
+        !joins(&mut world, crate_zero(alloc)?, LocalDefMap::empty(alloc)),
+        "its id is taken"
+    );
+    Ok(())
+}
+
+fn stays_out(rt: &impl Abort, alloc: Global) -> Result<(), Fail> {
+    let mut world = World::new(alloc);
+    let data = DefMapCrateData::new(alloc, Edition::Edition2021);
+    let mut map = rooted(alloc, data, Crate(0), None)?;
+    let def = ModuleDefId::AdtId(AdtId::EnumId(choice()));
+    name_items(alloc, &mut map, 0, "E", types(def, PUBLIC))?;
+    assert!(rt;
+        !joins(&mut world, map, LocalDefMap::empty(alloc)),
+        "an enum without variants"
+    );
+    Ok(())
+}
+
+/// A crate goes with the maps that name it.
+fn fall(rt: &impl Abort, alloc: Global) -> Result<(), Fail> {
+    let mut world = world(rt, alloc)?;
+    world.remove_with_dependents(BLOCK)?;
+    assert!(rt;
+        world.map(BLOCK).is_none() && world.map(ONE).is_some(),
+        "a block alone"
+    );
+    world.remove_with_dependents(ZERO)?;
+    assert!(rt;
+        world.map(ONE).is_none() && world.map(ZERO).is_none(),
+        "with its dependents"
+    );
+    Ok(())
+}
+
+#[test]
+fn worlds(rt: HostRuntime) -> Result<(), Fail> {
+    stay_out(&rt, rt.alloc())?;
+    stays_out(&rt, rt.alloc())?;
+    fall(&rt, rt.alloc())
+}

@@ -1,0 +1,105 @@
+//! The tables that a scope's impls, crates and macro calls fill.
+use super::{FILE, adt, empty_scope, extern_crate, macro_of, node};
+use either::Either;
+use hir_base::ast_id::{AstId, AstKind, AttrId, MacroCallId};
+use hir_base::macro_kind::{BuiltinDeriveImplId, MacroCallStyles};
+use hir_scope::item_scope::ItemScope;
+use std::alloc::Global;
+use std::process::Abort;
+use std::test::Fail;
+
+/// The node of a struct.
+fn item(number: u16) -> AstId {
+    AstId {
+        file_id: FILE,
+        kind: AstKind::Struct,
+        id: node(number),
+    }
+}
+
+fn derived(number: u16) -> BuiltinDeriveImplId {
+    BuiltinDeriveImplId {
+        adt: adt(number),
+        derive: macro_of(number, MacroCallStyles::DERIVE),
+        derive_attr_id: AttrId(1),
+        derive_index: 0,
+    }
+}
+
+fn note_impl(rt: &impl Abort, scope: &mut ItemScope) -> Result<(), Fail> {
+    scope.define_builtin_derive_impl(derived(1))?;
+    assert_eq!(rt; scope.builtin_derive_impls(), [derived(1)].as_slice());
+    Ok(())
+}
+
+#[test]
+fn impls_of_builtin_derives(rt: HostRuntime) -> Result<(), Fail> {
+    let mut scope = empty_scope(rt.alloc())?;
+    note_impl(&rt, &mut scope)
+}
+
+fn note_crate(rt: &impl Abort, scope: &mut ItemScope) -> Result<(), Fail> {
+    scope.define_extern_crate_decl(extern_crate(1))?;
+    assert_eq!(rt; scope.extern_crate_decls(), [extern_crate(1)].as_slice());
+    Ok(())
+}
+
+#[test]
+fn extern_crates(rt: HostRuntime) -> Result<(), Fail> {
+    let mut scope = empty_scope(rt.alloc())?;
+    note_crate(&rt, &mut scope)
+}
+
+/// Notes calls of an attribute and of a macro, and asserts each.
+fn note_calls(rt: &impl Abort, scope: &mut ItemScope) -> Result<(), Fail> {
+    scope.add_attr_macro_invoc(item(1), MacroCallId(1))?;
+    scope.add_macro_invoc(item(2), MacroCallId(2))?;
+    let mut attributes = scope.attr_macro_invocs();
+    assert_eq!(rt; attributes.next(), Some((&item(1), &MacroCallId(1))));
+    assert!(rt; attributes.next().is_none());
+    assert_eq!(rt; scope.macro_invoc(item(2)), Some(MacroCallId(2)));
+    assert!(rt; scope.macro_invoc(item(1)).is_none());
+    Ok(())
+}
+
+#[test]
+fn calls(rt: HostRuntime) -> Result<(), Fail> {
+    let mut scope = empty_scope(rt.alloc())?;
+    note_calls(&rt, &mut scope)
+}
+
+/// Notes an attribute of two paths, and what the second became.
+fn note_derive(rt: &impl Abort, alloc: Global, scope: &mut ItemScope) -> Result<(), Fail> {
+    let of = item(1);
+    let paths = Vec::from_array(alloc, [None, None])?;
+    scope.init_derive_attribute(of, AttrId(1), MacroCallId(1), paths)?;
+    assert!(rt; scope.has_derive_slot(of, AttrId(1), 1));
+    scope.set_derive_macro_invoc(of, Either::Left(MacroCallId(2)), AttrId(1), 1);
+    Ok(())
+}
+
+/// Asserts what the attribute and its paths became.
+fn has_derive(rt: &impl Abort, scope: &ItemScope) -> Result<(), Fail> {
+    let (of, attributes) = scope.derive_macro_invocs().next().ok_or("no item")?;
+    assert_eq!(rt; *of, item(1));
+    let attribute = attributes.as_slice().first().ok_or("no attribute")?;
+    assert_eq!(rt; attribute.attr_call_id(), MacroCallId(1));
+    assert_eq!(rt;
+        attribute.derive_call_ids(),
+        [None, Some(Either::Left(MacroCallId(2)))].as_slice()
+    );
+    assert_eq!(rt;
+        scope.derive_macro_invoc(item(1), AttrId(1)),
+        Some(MacroCallId(1))
+    );
+    assert!(rt; scope.derive_macro_invoc(item(1), AttrId(2)).is_none());
+    Ok(())
+}
+
+#[test]
+fn derive_attributes(rt: HostRuntime) -> Result<(), Fail> {
+    let alloc = rt.alloc();
+    let mut scope = empty_scope(alloc)?;
+    note_derive(&rt, alloc, &mut scope)?;
+    has_derive(&rt, &scope)
+}

@@ -1,0 +1,209 @@
+#!/usr/bin/env python3
+"""Tries the wrong bodies that stand beside the gate: each has to be refused by its crate's prover.
+
+usage: tools/wrong_bodies.py [CRATE | EDIT.edit] ..
+
+With no name, all of each folder crates/CRATE/wrong-bodies/. Edits of different functions are tried together, in one
+check of a copy of the crate over what earlier checks kept, and each is refused where the prover refuses a goal of the
+function that it changes. What isn't seen so is tried again without those that were, and at last alone, as
+`rt must-fail` does. Prints a line an edit, and ends with 1 where one isn't refused.
+"""
+import importlib.machinery
+import importlib.util
+import os
+import re
+import shutil
+import sys
+
+AT_ONCE = 24
+ROOT = os.path.dirname(os.path.dirname(os.path.realpath(__file__)))
+FN = re.compile(r"([ \t]*)(?:pub(?:\([^)]*\))? )?(?:(?:final|const|unsafe) )*fn (\w+)")
+# What says only that a proof names something that the edit took away.
+NAMES = re.compile(r"has no field|is not in scope|has no `|was not admitted")
+
+
+def load_rt():
+    path = os.path.realpath(shutil.which("rt"))
+    loader = importlib.machinery.SourceFileLoader("rt", path)
+    made = importlib.util.module_from_spec(importlib.util.spec_from_loader("rt", loader))
+    loader.exec_module(made)
+    return made
+
+
+rt = load_rt()
+
+
+class Function:
+    """The innermost function around a line of a source file."""
+
+    def __init__(self, path, lines, at):
+        for first in range(at, -1, -1):
+            head = FN.match(lines[first])
+            if not head:
+                continue
+            # The lines at the head's own depth that close and open its body.
+            last = next((it for it in range(first, len(lines)) if lines[it] == head[1] + "}"), first)
+            outer = (it for it in range(first, last) if not lines[it].startswith(head[1] + " "))
+            if next((it for it in outer if lines[it].endswith("{")), last) < at < last:
+                self.path, self.name, self.lines = path, head[2], range(first + 1, last + 2)
+                return
+        raise ValueError(f"{path}:{at + 1} lies in no function's body")
+
+    def clashes(self, other):
+        return (self.path, self.name) == (other.path, other.name)
+
+    def is_refused_by(self, line):
+        """Returns whether a line of the prover says that a goal of this function isn't proved."""
+        at = re.match(r"(?:note: )?(?:\./)?(\S+?):(\d+):\d+: (.*)", line)
+        if not at:
+            return False
+        if at[1] == self.path:
+            is_told = "is not proved" in at[3] or at[3].startswith("error:")
+            return is_told and int(at[2]) in self.lines
+        module = re.sub(r"^src/(lib$|main$)?", "proofs/", self.path[: -len(".rt")]).rstrip("/")
+        is_own = at[1].startswith(f"{module}/") and f"/{self.name}/" in at[1]
+        return is_own and at[3].startswith("error:") and not NAMES.search(at[3])
+
+
+class Edit:
+    def __init__(self, file, crate):
+        self.file, self.name, self.crate = file, f"{crate.name}/{os.path.basename(file)}", crate
+        with open(file, encoding="utf-8") as it:
+            self.text = it.read()
+        # The functions that it changes, or None where it changes something else too.
+        self.functions = []
+        texts, _ = rt.edited(self.text, crate.folder)
+        try:
+            for path in texts or ["no file"]:
+                with open(f"{crate.folder}/{path}", encoding="utf-8") as it:
+                    lines = it.read().split("\n")
+                new = texts[path].split("\n")
+                changed = [at for at, (one, two) in enumerate(zip(lines, new)) if one != two]
+                self.functions += [Function(path, lines, at) for at in changed]
+                if not path.startswith("src/") or len(lines) != len(new):
+                    raise ValueError(path)
+        except (OSError, ValueError):
+            self.functions = None
+
+    def fits(self, batch):
+        others = [it for edit in batch for it in edit.functions]
+        return len(batch) < AT_ONCE and not any(a.clashes(b) for a in self.functions for b in others)
+
+
+def link_all(folder, to):
+    """Gives kept work a second name: a check replaces its files, and writes into none."""
+    if os.path.isdir(folder):
+        shutil.copytree(folder, to, copy_function=os.link, dirs_exist_ok=True)
+
+
+class Trial:
+    """The checks of one crate's edits, each over a copy of what was kept of the crate itself."""
+
+    def __init__(self, crate):
+        self.crate, self.flags = crate, ["--jobs", "1"]
+        self.room = f"{crate.folder}/out/wrong-bodies"
+
+    def is_proved(self):
+        shutil.rmtree(self.room, ignore_errors=True)
+        os.makedirs(f"{self.room}/whole")
+        link_all(f"{self.crate.folder}/out/incremental", f"{self.room}/whole")
+        return rt.checked(self.crate, {}, self.flags, f"{self.room}/whole").returncode == 0
+
+    def kept(self):
+        shutil.rmtree(f"{self.room}/tried", ignore_errors=True)
+        link_all(f"{self.room}/whole", f"{self.room}/tried")
+        return f"{self.room}/tried"
+
+    def together(self, batch):
+        """Yields what each edit of a batch came to."""
+        if len(batch) < 2:
+            for edit in batch:
+                yield from self.alone(edit)
+            return
+        texts, _ = rt.edited("\n".join(it.text for it in batch), self.crate.folder)
+        ran = rt.checked(self.crate, texts, self.flags, self.kept()) if texts else None
+        lines = ran.stdout.rstrip("\n").split("\n") if ran else []
+        reached = ran and ran.returncode == 1 and lines[-1].startswith("logic=not-proved")
+        if not reached or rt.rtlib.STALE.search(ran.stdout) or any(rt.unread(it, texts) for it in lines):
+            half = len(batch) // 2
+            yield from self.together(batch[:half])
+            yield from self.together(batch[half:])
+            return
+        left = []
+        for edit in batch:
+            told = [it for it in lines if any(fn.is_refused_by(it) for fn in edit.functions)]
+            if told:
+                yield edit, True, f"refused with {len(batch) - 1} others: {told[0][:160]}"
+            else:
+                left.append(edit)
+        if len(left) < len(batch):
+            yield from self.together(left)
+            return
+        for edit in left:
+            yield from self.alone(edit)
+
+    def alone(self, edit):
+        well, said = rt.must_fail(self.crate, edit.file, self.flags, self.kept())
+        yield edit, well, re.sub(r"^must-fail \S+: ", "", said) + " (alone)"
+
+    def edits(self, files):
+        batches, single = [], []
+        for edit in [Edit(it, self.crate) for it in files]:
+            if edit.functions:
+                fits = next((it for it in batches if edit.fits(it)), None)
+                if fits is None:
+                    batches.append([edit])
+                else:
+                    fits.append(edit)
+            else:
+                single.append([edit])
+        for batch in batches + single:
+            yield from self.together(batch)
+
+
+def files_of(crate, names):
+    folder = f"{crate.folder}/wrong-bodies"
+    named = [os.path.realpath(it) for it in names if it.endswith(".edit")]
+    found = [it for it in named if it.startswith(f"{crate.folder}/")]
+    if os.path.isdir(folder) and (crate.name in names or not names):
+        found += sorted(f"{folder}/{it}" for it in os.listdir(folder) if it.endswith(".edit"))
+    return found
+
+
+def try_all(crate, files):
+    """Returns how many of a crate's edits are refused, and prints what each came to."""
+    for dep in crate.below():
+        if dep.build_rlib(["--jobs", "1"], anew=False):
+            sys.exit(f"{dep.name} is not proved")
+    trial, refused = Trial(crate), 0
+    try:
+        if not trial.is_proved():
+            sys.exit(f"{crate.name} is not proved")
+        for edit, well, said in trial.edits(files):
+            print(f"{edit.name}: {said}", flush=True)
+            refused += well
+    finally:
+        shutil.rmtree(trial.room, ignore_errors=True)
+    print(f"{crate.name}: {refused} of {len(files)} refused", flush=True)
+    return refused
+
+
+def main(names):
+    rt.rtlib.guarded()
+    crates = rt.rtlib.crates_below(ROOT)
+    unknown = {*names} - {it.name for it in crates} - {it for it in names if it.endswith(".edit") and os.path.isfile(it)}
+    if unknown:
+        sys.exit(f"no crate and no edit: {', '.join(sorted(unknown))}")
+    failed = 0
+    for crate in crates:
+        files = files_of(crate, names)
+        if files:
+            held = rt.rtlib.lock([crate, *crate.below()])
+            failed += len(files) - try_all(crate, files)
+            for it in held:
+                os.close(it)
+    return 1 if failed else 0
+
+
+if __name__ == "__main__":
+    sys.exit(main(sys.argv[1:]))
