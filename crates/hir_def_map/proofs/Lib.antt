@@ -10,3 +10,4 @@ pub mod LookUps
 pub mod Gaining
 pub mod Joined
 pub mod Falling
+pub mod Reached

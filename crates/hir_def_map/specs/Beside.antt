@@ -15,7 +15,7 @@ use Rattle.hir_def_map.specs.Chains.{frame_of, frames_of, holders_of_frame, Hold
 
 -- ---- equal by the tests
 
-exact_crate : (a b : Crate) → same_crate a b ≡ true → a ≡ b
+pub exact_crate : (a b : Crate) → same_crate a b ≡ true → a ≡ b
 exact_crate a b e = λ i. record { 0 = (unsigned_Decides a.0 b.0).0 e i }
 
 abbrev map_of : Crate → Option BlockId → MapId

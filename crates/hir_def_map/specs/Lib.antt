@@ -13,6 +13,7 @@ pub mod Listed
 pub mod Named
 pub mod World
 pub mod Laws
+pub mod Closed
 pub mod DefMaps
 pub mod Inserted
 pub mod Removal

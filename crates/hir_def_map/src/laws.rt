@@ -1,5 +1,6 @@
 //! What holds of every path and every map. The functions do nothing: their contracts are the laws.
 ghost use Rattle.hir_def_map.specs.Laws.{AskersStay, DeclarationsKeepNames, DeclarationsKeepPlaces, JoinedSegments, LastSegmentsAreSeen, LaterSegmentsAreSeen, ModulesAreWalkedTo, PushesKeepPlaces, RootedStepsLeadToParents, SegmentsAreSeen, StepsLeadToParents, UnnamedBindingsDoNotMatter, WalksAreResolved};
+ghost use Rattle.hir_def_map.specs.Closed.{PathsLeadToWhatIsThere};
 
 /// A path means the same over maps that agree on its names.
 pub fn unnamed_bindings_do_not_matter()
@@ -41,4 +42,9 @@ pub fn places_stay()
 /// A declaration that is listed leaves the modules, what they are in and what their names stand for.
 pub fn declarations_keep_names()
     ensures keeps { DeclarationsKeepNames }
+{}
+
+/// A path leads only to what is there, where all that is named lies among the maps.
+pub fn paths_lead_to_what_is_there()
+    ensures there { PathsLeadToWhatIsThere }
 {}
