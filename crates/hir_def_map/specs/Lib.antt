@@ -16,6 +16,9 @@ pub mod World
 pub mod Parts
 pub mod Laws
 pub mod Closed
+pub mod NoneOf
+pub mod Complete
+pub mod StaysComplete
 pub mod DefMaps
 pub mod Inserted
 pub mod Removal
