@@ -3,9 +3,11 @@ use Rattle.std.specs.Prelude.{◌≡◌, ◌⊎◌, ℕ, zero, suc, ◌<◌, ◌
 use Rattle.std.specs.List.{list_any}
 use Rattle.std.specs.Ordering.{nat_cmp}
 use Rattle.std.specs.Cmp.Lexicographic.{slice_cmp}
+use Rattle.std.specs.BTreeMap.{is_at}
 use Rattle.std.proofs.Common.{ap, inl, inr, refl, subst, sym, ◌∙◌, arith}
 use mathlib.Core.Bool.{true≢false}
 use Rattle.hir_base.specs.declared.ids.EnumId.{EnumId}
+use Rattle.hir_base.specs.declared.ids.ExternCrateId.{ExternCrateId}
 use Rattle.hir_base.specs.declared.ids.MapId.{MapId}
 use Rattle.hir_base.specs.declared.ids.ModuleDefId.{ModuleDefId}
 use Rattle.hir_base.specs.declared.ids.ModuleId.{ModuleId}
@@ -30,13 +32,13 @@ use Rattle.hir_def_map.specs.declared.nameres.origin.ModuleOrigin.{ModuleOrigin}
 use Rattle.hir_def_map.specs.declared.world.named.Named.{Named}
 use Rattle.hir_def_map.specs.declared.world.named.Named.TheVariants as named
 use Rattle.hir_def_map.specs.Declaration.{listed}
-use Rattle.hir_def_map.specs.State.{Local, Map, Maps, ModuleValue, Placed, at_name, beside, changed_at, module_at, module_in, new_id, new_module, numbered, parent_of, placed_in, place_at, pushed, variants_at, variants_in, with_child, with_module, with_module_scope, with_name, with_prelude, with_scope, IsBefore, IsInOrder}
+use Rattle.hir_def_map.specs.State.{Local, Map, Maps, ModuleValue, Placed, at_name, beside, changed_at, holders_or, holders_under, module_at, module_in, new_id, new_module, numbered, parent_of, placed_in, place_at, pushed, variants_at, variants_in, with_child, with_module, with_module_scope, with_name, with_prelude, with_scope, IsBefore, IsInOrder}
 use Rattle.hir_def_map.specs.Beside.{exact_map, same_id}
 use Rattle.hir_def_map.specs.Grown.{kept, length-changed}
 use Rattle.hir_def_map.specs.Named.{is_missing, is_there, named_by, names_in_module, prelude_named, test_child, test_of, test_type}
-use Rattle.hir_def_map.specs.Closed.{AreThere, ModuleIsThere, TypeIsThere}
-use Rattle.hir_def_map.specs.Complete.{Extends, NamesOnly, NamesOnly-more, none_missing}
-use Rattle.hir_def_map.specs.NoneOf.{neither, none_changed, none_inserted, none_more, none_of_less, none_with_entry, not_first, not_second}
+use Rattle.hir_def_map.specs.Closed.{AreThere, IsClosed, LocalIsThere, ModuleIsThere, TypeIsThere}
+use Rattle.hir_def_map.specs.Complete.{AreWhole, BeginsOnly, Extends, IsClosed-whole, IsWhole, NamesOnly, NamesOnly-more, none_missing}
+use Rattle.hir_def_map.specs.NoneOf.{neither, none_changed, none_found, none_inserted, none_more, none_of_less, none_with_entry, not_first, not_second}
 
 -- ---- more is there
 
@@ -303,6 +305,44 @@ NamesOnly-prelude finished map prelude there f =
       prelude = there;
       dependencies = f.dependencies;
     })
+
+-- ---- beside finished maps
+
+-- a map that names only what is there stands beside maps that do as one of them
+pub AreWhole-beside : (finished : Maps) (map : Map) → finished map.id ≡ None → AreWhole finished → NamesOnly (beside finished map) map → AreWhole (beside finished map)
+AreWhole-beside finished map new whole names id placed e = go (map_id.ghosts.eq id map.id) refl e
+  where
+    unheld : holders_or (finished map.id) (holders_under finished map.id map.holder) ≡ []
+    unheld = ap (λ (o : Option Placed). holders_or o (holders_under finished map.id map.holder)) new ∙ ap (holders_under finished map.id) names.unheld
+
+    go : (b : Bool) → map_id.ghosts.eq id map.id ≡ b → cond b (Some (placed_in finished map)) (finished id) ≡ Some placed → IsWhole (beside finished map) id placed
+    go true s f =
+        let same : placed_in finished map ≡ placed = cc in
+        subst (IsWhole (beside finished map) id) same (record { own = sym (exact_map id map.id s); unheld = unheld; names = names })
+    go false s f =
+        let w = whole id placed f in
+        record { own = w.own; unheld = w.unheld; names = NamesOnly-more finished (beside finished map) (Extends-beside finished map new) placed.map w.names }
+
+-- so all that is named lies among them
+pub IsClosed-beside : (finished : Maps) (map : Map) → finished map.id ≡ None → AreWhole finished → NamesOnly (beside finished map) map → IsClosed (beside finished map)
+IsClosed-beside finished map new whole names = IsClosed-whole (beside finished map) (AreWhole-beside finished map new whole names)
+
+-- the crates that paths begin with are there
+pub LocalIsThere-begins : (maps : Maps) (local : Local) → BeginsOnly maps local → LocalIsThere maps local
+LocalIsThere-begins maps local begins = record {
+  modules = λ name entry e.
+      shown (is_there maps (named.Module entry.0)) (none_found (λ (x : ModuleId × Option ExternCrateId). is_missing maps (named.Module x.0)) (is_at (slice_cmp nat_cmp name)) local entry begins e);
+}
+  where
+    shown : (b : Bool) → not b ≡ false → b ≡ true
+    shown true f = refl
+    shown false f = absurd (true≢false f)
+
+-- a module of the map is there by its number
+pub module_there : (finished : Maps) (map : Map) (at : ℕ) → at < length map.modules → ModuleIsThere (beside finished map) (numbered map.id at)
+module_there finished map at low =
+    ap (λ (b : Bool). is_some (option_and_then (λ (p : Placed). module_at p.map at) (cond b (Some (placed_in finished map)) (finished map.id)))) (same_id map.id)
+    ∙ some_below map.modules at low
 
 -- ---- as laws
 
