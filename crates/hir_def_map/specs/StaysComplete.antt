@@ -1,5 +1,5 @@
 -- Building leaves a map that names only what is there.
-use Rattle.std.specs.Prelude.{◌≡◌, ◌⊎◌, ℕ, zero, suc, ◌<◌, ◌≤◌, ◌++◌, List, [], ◌∷◌, length, Bool, true, false, ◌||◌, not, is_some, Option, None, Some, cond, slice_get, option_and_then, option_map}
+use Rattle.std.specs.Prelude.{◌≡◌, ◌⊎◌, ℕ, zero, suc, ◌<◌, ◌≤◌, ◌+◌, ◌++◌, List, [], ◌∷◌, length, Bool, true, false, ◌||◌, not, is_some, Option, None, Some, cond, slice_get, option_and_then, option_map}
 use Rattle.std.specs.List.{list_any}
 use Rattle.std.specs.Ordering.{nat_cmp}
 use Rattle.std.specs.Cmp.Lexicographic.{slice_cmp}
@@ -124,16 +124,19 @@ module _ (maps : Maps) where
       (neither c (list_any (test_type missing) (change m.scope).types) (not_first c t (not_second p (c || t) f)) (types (not_second c t (not_second p (c || t) f))))
 
 module _ (finished : Maps) (map : Map) (at : ℕ) where
+  -- what was there stays there where the scope of a module changes
+  pub Extends-scope : (change : ScopeValue → ScopeValue) → Extends (beside finished map) (beside finished (with_scope map at change))
+  Extends-scope change = Extends-grown finished map (with_scope map at change) refl
+      (λ k e. kept (λ (o : Option ModuleValue). is_some o) map.modules at (with_module_scope change) (λ m. refl) k ∙ e)
+      (λ e t. t)
+
   -- a change of the names of one module, after which they are of what is there
   NamesOnly-scope : (change : ScopeValue → ScopeValue)
       → ((m : ModuleValue) → names_in_module (is_missing (beside finished map)) m ≡ false → names_in_module (is_missing (beside finished map)) (with_module_scope change m) ≡ false)
       → NamesOnly (beside finished map) map → NamesOnly (beside finished (with_scope map at change)) (with_scope map at change)
   NamesOnly-scope change keeps f =
       let new : Map = with_scope map at change in
-      NamesOnly-more (beside finished map) (beside finished new)
-      (Extends-grown finished map new refl
-      (λ k e. kept (λ (o : Option ModuleValue). is_some o) map.modules at (with_module_scope change) (λ m. refl) k ∙ e)
-      (λ e t. t)) new
+      NamesOnly-more (beside finished map) (beside finished new) (Extends-scope change) new
       (record {
         of_crate = f.of_crate;
         unheld = f.unheld;
@@ -199,6 +202,14 @@ module _ {A : Type 0} where
   some_below [] k l = absurd (omega arith)
   some_below (x ∷ xs) zero l = refl
   some_below (x ∷ xs) (suc k) l = some_below xs k (omega arith)
+
+-- there is one module more
+pub length-made : (map : Map) (at : ℕ) (name : List ℕ) (new : ModuleValue) → length (with_module map at name new).modules ≡ length map.modules + 1
+length-made map at name new = one_longer (changed_at map.modules at (with_child name (new_id map))) ∙ ap (λ (n : ℕ). n + 1) (length-changed map.modules at (with_child name (new_id map)))
+  where
+    one_longer : (ms : List ModuleValue) → length (ms ++ new ∷ []) ≡ length ms + 1
+    one_longer [] = refl
+    one_longer (m ∷ ms) = let below : length (ms ++ new ∷ []) ≡ length ms + 1 = one_longer ms in omega arith
 
 module _ (finished : Maps) (map : Map) (at : ℕ) (here : at < length map.modules) (name : List ℕ) (origin : ModuleOrigin) (visibility : Visibility) where
   abbrev made : ModuleValue
