@@ -12,3 +12,4 @@ pub mod Asked
 pub mod Derived
 pub mod Walked
 pub mod Reached
+pub mod Whole

@@ -13,3 +13,4 @@ pub mod Steps
 pub mod Causes
 pub mod Derivation
 pub mod Moves
+pub mod Whole
