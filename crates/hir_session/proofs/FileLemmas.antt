@@ -102,7 +102,7 @@ becomes s F M path altered sound edit sp = record {
   kept = refl;
   only = λ k h. Spread-map (λ j. touched_from_seeded s path (workspace_in s.crates s.paths F) altered j edit) (sp.only k h);
   all = λ k h. sp.all k (Spread-map (λ j. seeded_from_touched s path (workspace_in s.crates s.paths F) altered j edit) h);
-  current = (applied_sound s F M path altered sound edit sp).current;
+  sound = applied_sound s F M path altered sound edit sp;
 }
 
 -- a session whose marks were spread from what became of one file is sound; the path is the file's
