@@ -82,11 +82,11 @@ impl Session {
         ensures refused { IfErr result (λ e. IsNewMemory e ⊎ (verdict_of_new (map crate_input_view inputs.items) ≡ Err e)) }
     {
         let count = inputs.as_slice().len();
-        if count > 1 {
-            return Err(NewSessionError::NotYet);
-        }
         if is_any_untaken(&inputs) {
             return Err(NewSessionError::NotYet);
+        }
+        if count > u32::MAX as usize {
+            return Err(NewSessionError::TooLarge(Limit::Crates));
         }
         if let Some(k) = first_late(&inputs) {
             return Err(NewSessionError::DependencyOrder(Crate(k)));
