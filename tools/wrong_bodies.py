@@ -100,7 +100,7 @@ class Trial:
     """The checks of one crate's edits, each over a copy of what was kept of the crate itself."""
 
     def __init__(self, crate):
-        self.crate, self.flags = crate, ["--jobs", "1"]
+        self.crate, self.flags, self.checks = crate, ["--jobs", "1"], 0
         self.room = f"{crate.folder}/out/wrong-bodies"
 
     def is_proved(self):
@@ -110,9 +110,11 @@ class Trial:
         return rt.checked(self.crate, {}, self.flags, f"{self.room}/whole").returncode == 0
 
     def kept(self):
-        shutil.rmtree(f"{self.room}/tried", ignore_errors=True)
-        link_all(f"{self.room}/whole", f"{self.room}/tried")
-        return f"{self.room}/tried"
+        # A new folder each time: what an earlier check left may still be written to.
+        shutil.rmtree(f"{self.room}/{self.checks}", ignore_errors=True)
+        self.checks += 1
+        link_all(f"{self.room}/whole", f"{self.room}/{self.checks}")
+        return f"{self.room}/{self.checks}"
 
     def together(self, batch):
         """Yields what each edit of a batch came to."""

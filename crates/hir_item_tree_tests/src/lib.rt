@@ -6,7 +6,11 @@ mod attributes;
 #[cfg(test)]
 mod item_tree;
 #[cfg(test)]
+mod large;
+#[cfg(test)]
 mod limits;
+#[cfg(test)]
+mod lowered_use_trees;
 #[cfg(test)]
 mod pages;
 #[cfg(test)]

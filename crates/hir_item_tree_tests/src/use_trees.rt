@@ -51,13 +51,13 @@ fn shown(alloc: Global, imports: &Vec<Import>) -> Result<String, Fail> {
 }
 
 /// What the tree hands out: place, path, kind and alias of each import.
-fn expanded(alloc: Global, tree: &UseTree) -> Result<String, Fail> {
+pub fn expanded(alloc: Global, tree: &UseTree) -> Result<String, Fail> {
     let imports = imports(alloc, tree)?;
     shown(alloc, &imports)
 }
 
 /// A file with this `use` item alone.
-fn use_item(alloc: Global, tree: &str) -> Result<Source, Fail> {
+pub fn use_item(alloc: Global, tree: &str) -> Result<Source, Fail> {
     let unit = format!(in alloc;
         "{{\"nodes\":[{{\"kind\":\"Use\",\"id\":[1,0],\"tree\":{tree}}}]}}"
     )?;
@@ -65,7 +65,7 @@ fn use_item(alloc: Global, tree: &str) -> Result<Source, Fail> {
 }
 
 /// The tree of the file's `use` item.
-fn tree_of(source: &Source) -> Option<&UseTree> {
+pub fn tree_of(source: &Source) -> Option<&UseTree> {
     let Source::Unit(unit) = source else {
         return None;
     };
@@ -92,7 +92,7 @@ fn expanded_copy(alloc: Global, tree: &str) -> Result<String, Fail> {
 }
 
 /// Use trees, and what they hand out.
-const USE_TREES: &[(&str, &str, &str)] = &[
+pub const USE_TREES: &[(&str, &str, &str)] = &[
     (
         "self_in_a_list_is_type_only",
         r#"{"path":"a","list":[{"single":"self"},{"glob":"b"}]}"#,

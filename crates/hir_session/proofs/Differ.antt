@@ -1,8 +1,13 @@
 use Rattle.std.proofs.Common.{◌≡◌, ◌⊎◌, inl, inr, ℕ, false, List, Option, refl, sym, subst, ap, ◌∙◌, Contains}
+use Rattle.hir_base.specs.ModPath.{Path}
+use Rattle.hir_base.specs.Place.{PlaceValue}
 use Rattle.hir_base.specs.declared.ids.Crate.{Crate}
 use Rattle.hir_def_collector.specs.Workspace.{Workspace}
 use Rattle.hir_def_collector.specs.Keys.{look}
 use Rattle.hir_def_collector.specs.declared.source_database.Key.{Key}
+use Rattle.hir_wire.specs.Edits.{EditValue}
+use Rattle.hir_wire.specs.declared.command.Shadow.{Shadow}
+use Rattle.hir_wire.specs.declared.command.MacroStyle.{MacroStyle}
 use Rattle.hir_session.specs.Crates.{CrateValue, dependencies_in}
 use Rattle.hir_session.specs.Files.{Files}
 use Rattle.hir_session.specs.SessionState.{SessionState, Resolution, workspace_of, dependencies_of, kept_of, kept_in, is_marked, IsSound}
@@ -12,7 +17,8 @@ use Rattle.hir_session.specs.Marks.{IsAltered, IsTouched}
 use Rattle.hir_session.specs.Marks.IsTouched.{before, asked_for}
 use Rattle.hir_session.specs.Due.{IsBehind, IsAskedBehind}
 use Rattle.hir_session.specs.Due.IsBehind.{itself, next}
-use Rattle.hir_session.specs.Changes.{Becomes, edited_files, with_files}
+use Rattle.hir_session.specs.Changes.{Becomes, Applies, Resolves, edited_files, with_files}
+use Rattle.hir_session.specs.Answers.{answer_of}
 use Rattle.hir_session.specs.Histories.{History, WasAltered, DifferOnlyWhereAltered}
 use Rattle.hir_session.specs.Histories.History.{none, edit, refresh}
 use Rattle.hir_session.proofs.Truth.{clash, on_bool}
@@ -60,33 +66,53 @@ what_marked w same (depends j d among sp) behind =
 workspace-becomes : {old new : SessionState} {files : Files} → Becomes old files new → workspace_of new ≡ workspace_of (with_files old files)
 workspace-becomes is = rw (is.crates, is.paths, is.files_are) refl
 
+-- an edit leaves all that is behind the crate as it was, or alters a key that was asked for there
+pub same_after_edit : {from mid to : SessionState} {k : ℕ} (e : EditValue) → IsSame from mid k → Applies mid e to
+    → IsSame from to k ⊎ ((key : Key) × IsAskedBehind from k key × IsAltered (workspace_of mid) (workspace_of to) key)
+same_after_edit {from} {mid} {to} {k} e same is = on_bool (is_marked to k)
+    (λ on. let hit = what_marked (workspace_of (with_files mid (edited_files mid e))) same (is.only k on) itself in
+    inr (hit.0, hit.1, λ h. hit.2 (subst (λ (w : Workspace). look w hit.0 ≡ look (workspace_of mid) hit.0) (workspace-becomes is) h)))
+    (λ still. inl (record {
+      crates = is.crates ∙ same.crates;
+      paths = is.paths ∙ same.paths;
+      off = λ j behind. unmarked_still (is.crates ∙ same.crates) (closed_after is) still behind;
+      kept = λ j behind. ap (λ (kept : List (Option Resolution)). kept_in kept j) is.kept ∙ same.kept j behind;
+    }))
+
+-- and a refresh leaves it so
+pub same_after_refresh : {from mid to : SessionState} {k : ℕ} {done : List PlaceValue} → IsSame from mid k → Resolves mid done to → IsSame from to k
+same_after_refresh same is = record {
+  crates = is.crates ∙ same.crates;
+  paths = is.paths ∙ same.paths;
+  off = λ j behind. (is.others j (same.off j behind)).0;
+  kept = λ j behind. (is.others j (same.off j behind)).1 ∙ same.kept j behind;
+}
+
+pub same_at_first : {from : SessionState} {k : ℕ} → IsSound from → is_marked from k ≡ false → IsSame from from k
+same_at_first sound off = record { crates = refl; paths = refl; off = λ j behind. unmarked_behind sound off behind; kept = λ j behind. refl }
+
 pub same_or_altered : {from : SessionState} {k : ℕ} → IsSound from → is_marked from k ≡ false → {to : SessionState} → (h : History from to)
     → IsSame from to k ⊎ ((key : Key) × IsAskedBehind from k key × WasAltered key h)
-same_or_altered sound off none = inl (record { crates = refl; paths = refl; off = λ j behind. unmarked_behind sound off behind; kept = λ j behind. refl })
-same_or_altered {from} {k} sound off (edit mid to e earlier is) = elim (same_or_altered sound off earlier) [
-  | inl same ↦ on_bool (is_marked to k)
-      (λ on. let hit = what_marked (workspace_of (with_files mid (edited_files mid e))) same (is.only k on) itself in
-      inr (hit.0, hit.1, inl (λ h. hit.2 (subst (λ (w : Workspace). look w hit.0 ≡ look (workspace_of mid) hit.0) (workspace-becomes is) h))))
-      (λ still. inl (record {
-        crates = is.crates ∙ same.crates;
-        paths = is.paths ∙ same.paths;
-        off = λ j behind. unmarked_still (is.crates ∙ same.crates) (closed_after is) still behind;
-        kept = λ j behind. ap (λ (kept : List (Option Resolution)). kept_in kept j) is.kept ∙ same.kept j behind;
-      }))
+same_or_altered sound off none = inl (same_at_first sound off)
+same_or_altered sound off (edit mid to e earlier is) = elim (same_or_altered sound off earlier) [
+  | inl same ↦ elim (same_after_edit e same is) [
+    | inl still ↦ inl still
+    | inr hit ↦ inr (hit.0, hit.1, inl hit.2)
+  ]
   | inr hit ↦ inr (hit.0, hit.1, inr hit.2)
 ]
-same_or_altered {from} {k} sound off (refresh mid to done earlier is) = elim (same_or_altered sound off earlier) [
-  | inl same ↦ inl (record {
-    crates = is.crates ∙ same.crates;
-    paths = is.paths ∙ same.paths;
-    off = λ j behind. (is.others j (same.off j behind)).0;
-    kept = λ j behind. (is.others j (same.off j behind)).1 ∙ same.kept j behind;
-  })
+same_or_altered sound off (refresh mid to done earlier is) = elim (same_or_altered sound off earlier) [
+  | inl same ↦ inl (same_after_refresh same is)
   | inr hit ↦ inr (hit.0, hit.1, hit.2)
 ]
 
+-- and then a query has the same answer
+pub same_answer : {from to : SessionState} (place : PlaceValue) (path : Path) (shadow : Shadow) (style : Option MacroStyle) → is_marked from place.krate.0 ≡ false
+    → IsSame from to place.krate.0 → answer_of to place path shadow style ≡ answer_of from place path shadow style
+same_answer place path shadow style off same = rw (same.crates, same.paths, same.off place.krate.0 itself, same.kept place.krate.0 itself, off) refl
+
 pub differ_only : DifferOnlyWhereAltered
 differ_only from to place path shadow style sound off h = elim (same_or_altered sound off h) [
-  | inl same ↦ inl (rw (same.crates, same.paths, same.off place.krate.0 itself, same.kept place.krate.0 itself, off) refl)
+  | inl same ↦ inl (same_answer place path shadow style off same)
   | inr hit ↦ inr hit
 ]

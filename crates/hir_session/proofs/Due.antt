@@ -32,7 +32,7 @@ pub record IsRefreshing (old new : SessionState) (done : List PlaceValue) (k : �
 
 pub refreshing-start : (s : SessionState) → IsSound s → IsRefreshing s s [] 0
 refreshing-start s sound = record {
-  so_far = record { crates = refl; paths = refl; files = refl; due = refl; others = λ k off. (off, refl); current = sound.current };
+  so_far = record { crates = refl; paths = refl; files = refl; due = refl; others = λ k off. (off, refl); sound = sound };
   below = λ j h. absurd (omega arith);
 }
 
@@ -63,7 +63,7 @@ refreshing-more {old} {new} {done} k r p sound within on resolved =
           mark-set new.marked k j false was.0,
           get_or-set_other new.kept k j (Some r) None (λ e. clash on (rw (sym e) was.0)) ∙ was.1,
         );
-        current = (resolved_sound new k r sound within p.below resolved).current;
+        sound = resolved_sound new k r sound within p.below resolved;
       };
       below = below_more _ k (λ j h. mark-set new.marked k j false (p.below j h)) (get_or-set_same new.marked k false true (omega arith));
     }

@@ -1,13 +1,22 @@
-use Rattle.std.proofs.Common.{◌≡◌, ℕ, List, Some, None, refl, sym, subst}
-use Rattle.hir_wire.specs.CommandValue.{CommandValue}
+use Rattle.std.proofs.Common.{◌≡◌, ◌⊎◌, inl, inr, ℕ, ◌≤◌, Bool, true, false, nat_le, nat_lt, not, List, [], ◌∷◌, length, Option, Some, None, Ok, refl, sym, subst, arith}
+use Rattle.std.proofs.lemmas.Bool.Decides.{nat_tests}
+use Rattle.std.specs.List.{list_any}
+use Rattle.hir_base.specs.declared.ids.Crate.{Crate}
+use Rattle.hir_wire.specs.CommandValue.{CommandValue, CrateInputValue}
 use Rattle.hir_wire.specs.declared.reply.Reply.{Reply}
-use Rattle.hir_session.specs.SessionState.{SessionState}
+use Rattle.hir_session.specs.SessionState.{SessionState, IsSound}
+use Rattle.hir_session.specs.NotYet.{is_crate_taken}
+use Rattle.hir_session.specs.Refusals.{first_out_of_order, verdict_of_order, verdict_of_new}
+use Rattle.hir_session.proofs.Truth.{on_bool}
+use Rattle.hir_session.proofs.Start.{begins_sound}
 use Rattle.hir_session.specs.Machine.{MachineState, Moves, AnswersCommand, AnswersLine, Runs}
 use Rattle.hir_session.specs.Machine.Moves.{applies, refuses, refreshes, refreshes_partly, resolves, tells, shows, shows_none}
 use Rattle.hir_session.specs.Machine.AnswersCommand.{finds_no_memory, begins, refuses_session, comes_too_soon, comes_too_late, calls}
 use Rattle.hir_session.specs.Machine.AnswersLine.{finds_no_memory_for_line, reads_no_command, carries_out}
 use Rattle.hir_session.specs.Machine.Runs.{none as nothing_yet, more}
-use Rattle.hir_session.specs.Histories.{History, RunsMakeHistories}
+use Rattle.hir_session.specs.declared.open_line.TheConstants.{LINE_LIMIT}
+use Rattle.hir_session.specs.Lines.{AnswersWithin, AnswersLines}
+use Rattle.hir_session.specs.Histories.{History, HasBegun, RunsMakeHistories, LinesMakeHistories, LinesBeginHistories}
 use Rattle.hir_session.specs.Histories.History.{none, edit, refresh}
 
 -- one call lengthens the history, or changes nothing
@@ -26,7 +35,7 @@ abbrev HasHistory : SessionState → MachineState → Type 0
 HasHistory from new = (to : SessionState) × (new ≡ Some to) × History from to
 
 -- the value that is there is one
-one_value : {s t : SessionState} → (Some s) ≡ (Some t) → s ≡ t
+pub one_value : {s t : SessionState} → (Some s) ≡ (Some t) → s ≡ t
 one_value h = cc
 
 -- none is no session
@@ -55,3 +64,94 @@ after_runs {from} (more mid to line answer earlier last) =
 
 pub runs_make_histories : RunsMakeHistories
 runs_make_histories from new runs = after_runs runs
+
+after_within : {from s : SessionState} {new : MachineState} (fits : Bool) (line : List ℕ) (answer : Reply) → History from s
+    → AnswersWithin fits (Some s) line answer new → HasHistory from new
+after_within true line answer h (inl done) = after_line h done
+after_within {s = s} true line answer h (inr lost) = (s, lost.1, h)
+after_within {s = s} false line answer h skipped = (s, skipped.1, h)
+
+pub after_lines : {from : SessionState} {new : MachineState} (lines : List (List ℕ)) (answers : List Reply) {s : SessionState} → History from s
+    → AnswersLines (Some s) lines answers new → HasHistory from new
+after_lines [] [] {s} h same = (s, same, h)
+after_lines {new = new} (line ∷ lines) (answer ∷ answers) h done =
+    let next = after_within (nat_le (length line) LINE_LIMIT) line answer h done.1 in
+    after_lines lines answers next.2 (subst (λ (m : MachineState). AnswersLines m lines answers new) next.1 done.2)
+after_lines [] (answer ∷ answers) h wrong = absurd wrong
+after_lines (line ∷ lines) [] h wrong = absurd wrong
+
+pub lines_make_histories : LinesMakeHistories
+lines_make_histories from lines answers new done = after_lines lines answers none done
+
+-- a history leads from a sound session to a sound one
+pub history_sound : {from to : SessionState} → IsSound from → History from to → IsSound to
+history_sound sound none = sound
+history_sound sound (edit mid to e earlier is) = is.sound
+history_sound sound (refresh mid to done earlier is) = is.sound
+
+-- crates that are accepted are few, and in order
+accepted_few : (inputs : List CrateInputValue) → verdict_of_new inputs ≡ Ok tt → length inputs ≤ 10000
+accepted_few inputs accepted = on_bool (nat_lt 1 (length inputs))
+    (λ many. absurd (let wrong : ⊥ = cc (rw many at accepted) in wrong))
+    (λ few. grind (arith, nat_tests))
+
+in_order : (inputs : List CrateInputValue) (late : Option Crate) → verdict_of_order inputs late ≡ Ok tt → late ≡ None
+in_order inputs None accepted = refl
+in_order inputs (Some krate) accepted = absurd (let wrong : ⊥ = cc accepted in wrong)
+
+accepted_in_order : (inputs : List CrateInputValue) → verdict_of_new inputs ≡ Ok tt → first_out_of_order 0 inputs ≡ None
+accepted_in_order inputs accepted = on_bool (nat_lt 1 (length inputs))
+    (λ many. absurd (let wrong : ⊥ = cc (rw many at accepted) in wrong))
+    (λ few. on_bool (list_any (λ c. not (is_crate_taken c)) inputs)
+    (λ untaken. absurd (let wrong : ⊥ = cc (rw (few, untaken) at accepted) in wrong))
+    (λ taken. in_order inputs (first_out_of_order 0 inputs) (rw (few, taken) at accepted)))
+
+-- no session yet, or one with a history
+abbrev MayHaveBegun : MachineState → Type 0
+MayHaveBegun new = (new ≡ None) ⊎ HasBegun new
+
+first_command : {c : CommandValue} {answer : Reply} {new : MachineState} → AnswersCommand None c answer new → MayHaveBegun new
+first_command (finds_no_memory told same) = inl same
+first_command (begins inputs s is_crates before accepted made told same) =
+    inr (record {
+      inputs = inputs;
+      accepted = accepted;
+      from = s;
+      begun = made;
+      to = s;
+      is = same;
+      history = none;
+      sound = begins_sound inputs s (accepted_few inputs accepted) (accepted_in_order inputs accepted) made;
+    })
+first_command (refuses_session inputs why is_crates before refused told same) = inl same
+first_command (comes_too_soon other before told same) = inl same
+first_command (comes_too_late s makes before told same) = no_session (sym before)
+first_command (calls s t before moves same) = no_session (sym before)
+
+first_line : {line : List ℕ} {answer : Reply} {new : MachineState} → AnswersLine None line answer new → MayHaveBegun new
+first_line (finds_no_memory_for_line told same) = inl same
+first_line (reads_no_command why read told same) = inl same
+first_line (carries_out c read done) = first_command done
+
+first_within : {new : MachineState} (fits : Bool) (line : List ℕ) (answer : Reply) → AnswersWithin fits None line answer new → MayHaveBegun new
+first_within true line answer (inl done) = first_line done
+first_within true line answer (inr lost) = inl lost.1
+first_within false line answer skipped = inl skipped.1
+
+-- it was sound when it began
+begun_sound : {new : MachineState} → (b : HasBegun new) → IsSound b.from
+begun_sound b = begins_sound b.inputs b.from (accepted_few b.inputs b.accepted) (accepted_in_order b.inputs b.accepted) b.begun
+
+pub begun_by : {new : MachineState} (lines : List (List ℕ)) (answers : List Reply) → AnswersLines None lines answers new → MayHaveBegun new
+begun_by [] [] same = inl same
+begun_by {new} (line ∷ lines) (answer ∷ answers) done = elim (first_within (nat_le (length line) LINE_LIMIT) line answer done.1) [
+  | inl same ↦ begun_by lines answers (subst (λ (m : MachineState). AnswersLines m lines answers new) same done.2)
+  | inr so_far ↦
+      let next = after_lines lines answers so_far.history (subst (λ (m : MachineState). AnswersLines m lines answers new) so_far.is done.2) in
+      inr (record { inputs = so_far.inputs; accepted = so_far.accepted; from = so_far.from; begun = so_far.begun; to = next.0; is = next.1; history = next.2; sound = history_sound (begun_sound so_far) next.2 })
+]
+begun_by [] (answer ∷ answers) wrong = absurd wrong
+begun_by (line ∷ lines) [] wrong = absurd wrong
+
+pub lines_begin_histories : LinesBeginHistories
+lines_begin_histories lines answers new done = begun_by lines answers done

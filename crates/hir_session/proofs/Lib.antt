@@ -11,6 +11,7 @@ pub mod Differ
 pub mod Stand
 pub mod Replies
 pub mod Histories
+pub mod TwoReplies
 pub mod EditLaws
 pub mod CutLemmas
 pub mod PartLemmas

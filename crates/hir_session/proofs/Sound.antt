@@ -72,7 +72,7 @@ becomes s F hits M sound judged sp = record {
   kept = refl;
   only = λ k h. Spread-map (λ j. touched_from_seeded s (workspace_in s.crates s.paths F) hits j judged) (sp.only k h);
   all = λ k h. sp.all k (Spread-map (λ j. seeded_from_touched s (workspace_in s.crates s.paths F) hits j judged) h);
-  current = (applied_sound s F hits M sound judged sp).current;
+  sound = applied_sound s F hits M sound judged sp;
 }
 
 module _ (s view : SessionState) (F : Files) (file : List ℕ) (there : Option SourceValue) (hits M : List Bool) where

@@ -3,7 +3,7 @@ use Rattle.std.specs.Prelude.{◌≡◌, ℕ, true, false, List, ◌++◌}
 use Rattle.hir_base.specs.Place.{PlaceValue}
 use Rattle.hir_wire.specs.Edits.{EditValue, set_file, remove_file}
 use Rattle.hir_session.specs.Files.{Files, with_file, without_file}
-use Rattle.hir_session.specs.SessionState.{SessionState, workspace_of, kept_of, is_marked, IsCurrent}
+use Rattle.hir_session.specs.SessionState.{SessionState, workspace_of, kept_of, is_marked, IsSound}
 use Rattle.hir_session.specs.Marks.{marks_after}
 use Rattle.hir_session.specs.Due.{due_places}
 
@@ -25,7 +25,7 @@ pub record Becomes (old : SessionState) (files : Files) (new : SessionState) : T
   pub only : (k : ℕ) → is_marked new k ≡ true → marks_after old (workspace_of (with_files old files)) k
   pub all : (k : ℕ) → marks_after old (workspace_of (with_files old files)) k → is_marked new k ≡ true
   -- what isn't marked is what the import rules could have given just now
-  pub current : (k : ℕ) → is_marked new k ≡ false → IsCurrent new k
+  pub sound : IsSound new
 
 -- the edit was accepted
 abbrev pub Applies : SessionState → EditValue → SessionState → Type 0
@@ -39,7 +39,7 @@ pub record Resolves (old : SessionState) (done : List PlaceValue) (new : Session
   pub due : due_places old ≡ done ++ due_places new
   pub others : (k : ℕ) → is_marked old k ≡ false → (is_marked new k ≡ false) × (kept_of new k ≡ kept_of old k)
   -- what isn't marked is what the import rules could have given just now
-  pub current : (k : ℕ) → is_marked new k ≡ false → IsCurrent new k
+  pub sound : IsSound new
 
 -- the refresh resolved all that was due
 pub record Refreshes (old : SessionState) (done : List PlaceValue) (new : SessionState) : Type 0 where

@@ -1,17 +1,22 @@
 -- When may two answers to one query differ?
-use Rattle.std.specs.Prelude.{◌≡◌, ◌⊎◌, false, List, Option, Some}
+use Rattle.std.specs.Prelude.{◌≡◌, ◌⊎◌, ℕ, false, List, Option, None, Some, Ok}
 use Rattle.hir_base.specs.ModPath.{Path}
 use Rattle.hir_base.specs.Place.{PlaceValue}
 use Rattle.hir_def_collector.specs.declared.source_database.Key.{Key}
+use Rattle.hir_wire.specs.CommandValue.{CrateInputValue}
 use Rattle.hir_wire.specs.Edits.{EditValue}
 use Rattle.hir_wire.specs.declared.command.Shadow.{Shadow}
 use Rattle.hir_wire.specs.declared.command.MacroStyle.{MacroStyle}
+use Rattle.hir_wire.specs.declared.reply.Reply.{Reply}
 use Rattle.hir_session.specs.SessionState.{SessionState, workspace_of, is_marked, IsSound}
 use Rattle.hir_session.specs.Marks.{IsAltered}
 use Rattle.hir_session.specs.Due.{IsAskedBehind}
 use Rattle.hir_session.specs.Changes.{Applies, Resolves}
 use Rattle.hir_session.specs.Answers.{answer_of}
-use Rattle.hir_session.specs.Machine.{MachineState, Runs}
+use Rattle.hir_session.specs.Beginning.{Begins}
+use Rattle.hir_session.specs.Refusals.{verdict_of_new}
+use Rattle.hir_session.specs.Machine.{MachineState, first_state, Runs}
+use Rattle.hir_session.specs.Lines.{AnswersLines}
 
 -- edits and refreshes in any order; a refused edit changes nothing, and a refused refresh is one that did less
 pub data History (from : SessionState) : SessionState → Type 0 where
@@ -35,3 +40,24 @@ DifferOnlyWhereAltered = (from to : SessionState) (place : PlaceValue) (path : P
 -- what answers lines makes such a history of its session, whatever the lines are
 abbrev pub RunsMakeHistories : Type 0
 RunsMakeHistories = (from : SessionState) (new : MachineState) → Runs (Some from) new → (to : SessionState) × (new ≡ Some to) × History from to
+
+-- the lines of an input that are answered from a session on make such a history of it, whatever they are
+abbrev pub LinesMakeHistories : Type 0
+LinesMakeHistories = (from : SessionState) (lines : List (List ℕ)) (answers : List Reply) (new : MachineState)
+    → AnswersLines (Some from) lines answers new → (to : SessionState) × (new ≡ Some to) × History from to
+
+-- a session began over crates that were not refused, and its history led here
+pub record HasBegun (new : MachineState) : Type 0 where
+  pub inputs : List CrateInputValue
+  pub accepted : verdict_of_new inputs ≡ Ok tt
+  pub from : SessionState
+  pub begun : Begins inputs from
+  pub to : SessionState
+  pub is : new ≡ Some to
+  pub history : History from to
+  pub sound : IsSound to
+
+-- where lines are answered from the first state on, there is no session yet, or one that began and has a history
+abbrev pub LinesBeginHistories : Type 0
+LinesBeginHistories = (lines : List (List ℕ)) (answers : List Reply) (new : MachineState)
+    → AnswersLines first_state lines answers new → (new ≡ None) ⊎ HasBegun new

@@ -23,3 +23,4 @@ pub mod Laws
 pub mod Output
 pub mod Lines
 pub mod Serving
+pub mod TwoReplies

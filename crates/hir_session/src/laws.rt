@@ -1,5 +1,6 @@
 //! What holds of all that a session does; each function's contract is a law.
-ghost use Rattle.hir_session.specs.Histories.{DifferOnlyWhereAltered, RunsMakeHistories};
+ghost use Rattle.hir_session.specs.Histories.{DifferOnlyWhereAltered, RunsMakeHistories, LinesMakeHistories, LinesBeginHistories};
+ghost use Rattle.hir_session.specs.TwoReplies.{RepliesDifferOnlyWhereAltered};
 ghost use Rattle.hir_session.specs.Laws.{BodyEditsMarkNothing, SetAbsentFileMarks, RemovePresentFileMarks, RemoveAbsentFileMarksNothing};
 
 use hir_item_tree::laws::body_texts_leave_the_tree;
@@ -12,6 +13,18 @@ pub fn answers_differ_only_where_altered()
 /// What answers lines makes a history of edits and refreshes, of which the other law speaks.
 pub fn runs_make_histories()
     ensures law { RunsMakeHistories }
+{}
+
+/// What `run` answers lines by makes such a history too; from its first state on, a session begins, and then has one.
+pub fn lines_make_histories()
+    ensures law { LinesMakeHistories }
+    ensures begun { LinesBeginHistories }
+{}
+
+/// Of the replies that `run` writes, two to one query are alike, or a line between them was an edit that altered something
+/// that was asked for behind the first.
+pub fn replies_differ_only_where_altered()
+    ensures law { RepliesDifferOnlyWhereAltered }
 {}
 
 /// An edit that changes nothing but bodies leaves every answer as it is.
