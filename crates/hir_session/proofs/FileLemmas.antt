@@ -1,20 +1,19 @@
-use Rattle.std.proofs.Common.{◌≡◌, ◌≢◌, ℕ, Bool, true, false, cond, List, Option, Some, None, refl, sym, subst, ap, ◌∙◌, option_and_then}
-use Rattle.std.specs.Ordering.{nat_cmp}
+use Rattle.std.proofs.Common.{◌≡◌, ◌≢◌, ℕ, Bool, true, false, cond, Ordering, Less, Equal, Greater, List, [], ◌∷◌, Option, Some, None, refl, sym, ap, ◌∙◌, option_and_then, option_map}
+use Rattle.std.specs.Ordering.{nat_cmp, match_ordering, is_eq}
 use Rattle.std.specs.Cmp.Lexicographic.{slice_cmp, bytes_decides}
 use Rattle.std.specs.BTreeMap.{is_at}
 use Rattle.std.proofs.lemmas.Map.Text.{is_eq-slice_cmp}
+use Rattle.hir_base.specs.declared.ast_id.HirFileId.{HirFileId}
+use Rattle.hir_base.specs.declared.ids.Crate.{Crate}
 use Rattle.hir_item_tree.specs.ItemTree.{Tree}
+use Rattle.hir_item_tree.specs.Source.{SourceValue}
 use Rattle.hir_def_collector.specs.Workspace.{tree_look}
 use Rattle.hir_def_collector.specs.Keys.{Look, of_tree, look}
-use Rattle.hir_def_collector.specs.declared.source_database.Key.{Key}
 use Rattle.hir_def_collector.specs.declared.source_database.Key.TheVariants as keys
 use Rattle.hir_session.specs.Crates.{CrateValue}
-use Rattle.hir_session.specs.Files.{Files, file_at, path_in, workspace_in}
-use Rattle.hir_session.specs.SessionState.{SessionState, workspace_of, IsSound}
-use Rattle.hir_session.specs.Marking.{is_path, names_file, IsEdited, asked_altered, IsSpread}
-use Rattle.hir_session.specs.Changes.{Becomes}
+use Rattle.hir_session.specs.Files.{Files, file_at, path_in, with_file, without_file, edited_at, tree_under, tree_at, workspace_in}
+use Rattle.hir_session.specs.Marking.{is_path}
 use Rattle.hir_session.proofs.Truth.{clash, on_bool}
-use Rattle.hir_session.proofs.Sound.{Spread-map, touched_from_seeded, seeded_from_touched, applied_sound}
 
 -- the test at a path says that two paths are the same
 pub is_at-same : (p q : List ℕ) → is_at (slice_cmp nat_cmp p) q ≡ true → p ≡ q
@@ -22,6 +21,60 @@ is_at-same p q h = (bytes_decides p q).0 (sym (is_eq-slice_cmp p q) ∙ h)
 
 pub same-is_at : (p q : List ℕ) → p ≡ q → is_at (slice_cmp nat_cmp p) q ≡ true
 same-is_at p q h = is_eq-slice_cmp p q ∙ (bytes_decides p q).1 h
+
+-- which of two paths is named first is one to the test
+test-flip : (p q : List ℕ) → is_at (slice_cmp nat_cmp p) q ≡ is_at (slice_cmp nat_cmp q) p
+test-flip p q = on_bool (is_at (slice_cmp nat_cmp p) q)
+    (λ on. on ∙ sym (same-is_at q p (sym (is_at-same p q on))))
+    (λ off. on_bool (is_at (slice_cmp nat_cmp q) p)
+    (λ on. clash (same-is_at p q (sym (is_at-same q p on))) off)
+    (λ too. off ∙ sym too))
+
+-- the file that is set is there with its source, and each other is as it was
+pub file_at-with_file : (files : Files) (path : List ℕ) (source : SourceValue) (q : List ℕ)
+    → file_at (with_file files path source) q ≡ cond (is_at (slice_cmp nat_cmp path) q) (Some source) (file_at files q)
+file_at-with_file [] path source q = rw (test-flip q path) refl
+file_at-with_file (e ∷ files) path source q = by (slice_cmp nat_cmp path e.0) refl (file_at-with_file files path source q)
+  where
+    by : (r : Ordering) → slice_cmp nat_cmp path e.0 ≡ r
+        → file_at (with_file files path source) q ≡ cond (is_at (slice_cmp nat_cmp path) q) (Some source) (file_at files q)
+        → file_at (match_ordering r ((path, source) ∷ e ∷ files) ((e.0, source) ∷ files) (e ∷ with_file files path source)) q
+        ≡ cond (is_at (slice_cmp nat_cmp path) q) (Some source) (file_at (e ∷ files) q)
+    by Less p more = rw (test-flip q path) refl
+    by Equal p more =
+        let same : path ≡ e.0 = is_at-same path e.0 (ap is_eq p) in
+        on_bool (is_at (slice_cmp nat_cmp path) q)
+        (λ on. let there : is_at (slice_cmp nat_cmp q) e.0 ≡ true = same-is_at q e.0 (sym (is_at-same path q on) ∙ same) in rw (there, on) refl)
+        (λ off. on_bool (is_at (slice_cmp nat_cmp q) e.0)
+        (λ there. clash (same-is_at path q (same ∙ sym (is_at-same q e.0 there))) off)
+        (λ other. rw (other, off) refl))
+    by Greater p more = on_bool (is_at (slice_cmp nat_cmp path) q)
+        (λ on. on_bool (is_at (slice_cmp nat_cmp q) e.0)
+        (λ there. clash (same-is_at path e.0 (is_at-same path q on ∙ is_at-same q e.0 there)) (ap is_eq p))
+        (λ other. rw (other, more, on) refl))
+        (λ off. rw (more, off) refl)
+
+-- the file that is removed isn't there, and each other is as it was
+pub file_at-without_file : (files : Files) (path q : List ℕ)
+    → file_at (without_file files path) q ≡ cond (is_at (slice_cmp nat_cmp path) q) None (file_at files q)
+file_at-without_file [] path q = on_bool (is_at (slice_cmp nat_cmp path) q) (λ on. rw on refl) (λ off. rw off refl)
+file_at-without_file (e ∷ files) path q = on_bool (is_at (slice_cmp nat_cmp path) e.0)
+    (λ gone. on_bool (is_at (slice_cmp nat_cmp path) q)
+    (λ on. rw (gone, file_at-without_file files path q, on) refl)
+    (λ off. on_bool (is_at (slice_cmp nat_cmp q) e.0)
+    (λ there. clash (same-is_at path q (is_at-same path e.0 gone ∙ sym (is_at-same q e.0 there))) off)
+    (λ other. rw (gone, file_at-without_file files path q, off, other) refl)))
+    (λ stays. on_bool (is_at (slice_cmp nat_cmp q) e.0)
+    (λ there. on_bool (is_at (slice_cmp nat_cmp path) q)
+    (λ on. clash (same-is_at path e.0 (is_at-same path q on ∙ is_at-same q e.0 there)) stays)
+    (λ off. rw (stays, there, off) refl))
+    (λ other. rw (stays, other, file_at-without_file files path q) refl))
+
+-- the file of an edit is as the edit says, and each other is as it was
+pub file_at-edited_at : (files : Files) (path : List ℕ) (there : Option SourceValue) (q : List ℕ)
+    → file_at (edited_at files path there) q ≡ cond (is_at (slice_cmp nat_cmp path) q) there (file_at files q)
+file_at-edited_at files path (Some source) q = file_at-with_file files path source q
+file_at-edited_at files path None q = file_at-without_file files path q
 
 -- whether what is seen is there
 abbrev is_there : Look → Bool
@@ -38,86 +91,54 @@ tree_look-same None (Some u) h = clash (ap is_there h) refl
 tree_look-same (Some t) None h = clash refl (ap is_there h)
 tree_look-same (Some t) (Some u) h = ap (λ (x : Tree). Some x) (ap seen_tree h)
 
--- what is seen of a file of this path, if of any
-abbrev seen : Files → Option (List ℕ) → Look
-seen files o = of_tree (tree_look (option_and_then (file_at files) o))
+-- what is seen of a file of this path under a crate, if of any
+abbrev pub seen : List CrateValue → Files → ℕ → Option (List ℕ) → Look
+seen crates files k o = of_tree (tree_look (option_and_then (tree_at crates files k) o))
 
-module _ (F G : Files) (path : List ℕ) (there : Option Tree) (updates : (q : List ℕ) → file_at G q ≡ cond (is_at (slice_cmp nat_cmp path) q) there (file_at F q)) where
-  pub at_other : (q : List ℕ) → is_at (slice_cmp nat_cmp path) q ≡ false → file_at G q ≡ file_at F q
-  at_other q off = updates q ∙ rw off refl
+module _ (crates : List CrateValue) (F : Files) (path : List ℕ) (there : Option SourceValue) (k : ℕ) where
+  at_other : (q : List ℕ) → is_at (slice_cmp nat_cmp path) q ≡ false → file_at (edited_at F path there) q ≡ file_at F q
+  at_other q off = file_at-edited_at F path there q ∙ rw off refl
 
-  pub at_path : (q : List ℕ) → is_at (slice_cmp nat_cmp path) q ≡ true → file_at G q ≡ there
-  at_path q on = updates q ∙ rw on refl
+  at_path : (q : List ℕ) → is_at (slice_cmp nat_cmp path) q ≡ true → file_at (edited_at F path there) q ≡ there
+  at_path q on = file_at-edited_at F path there q ∙ rw on refl
 
-  pub seen-other : (o : Option (List ℕ)) → is_path path o ≡ false → seen G o ≡ seen F o
+  pub seen-other : (o : Option (List ℕ)) → is_path path o ≡ false → seen crates (edited_at F path there) k o ≡ seen crates F k o
   seen-other None h = refl
   seen-other (Some q) h = on_bool (is_at (slice_cmp nat_cmp path) q)
       (λ on. clash ((bytes_decides q path).1 (sym (is_at-same path q on))) h)
-      (λ off. ap (λ (x : Option Tree). of_tree (tree_look x)) (at_other q off))
+      (λ off. ap (λ (x : Option SourceValue). of_tree (tree_look (option_map (tree_under crates k) x))) (at_other q off))
 
-  pub seen-same : file_at F path ≡ there → (o : Option (List ℕ)) → seen G o ≡ seen F o
-  seen-same was None = refl
-  seen-same was (Some q) = on_bool (is_at (slice_cmp nat_cmp path) q)
-      (λ on. ap (λ (x : Option Tree). of_tree (tree_look x))
-      (at_path q on ∙ sym (subst (λ (p : List ℕ). file_at F p ≡ there) (is_at-same path q on) was)))
-      (λ off. ap (λ (x : Option Tree). of_tree (tree_look x)) (at_other q off))
-
-  pub seen-differs : file_at F path ≢ there → (o : Option (List ℕ)) → is_path path o ≡ true → seen G o ≢ seen F o
-  seen-differs was None h e = clash h refl
-  seen-differs was (Some q) h e =
+  pub seen-same : option_map (tree_under crates k) there ≡ option_map (tree_under crates k) (file_at F path) → (o : Option (List ℕ)) → is_path path o ≡ true
+      → seen crates (edited_at F path there) k o ≡ seen crates F k o
+  seen-same alike None h = clash h refl
+  seen-same alike (Some q) h =
       let same : q ≡ path = (bytes_decides q path).0 h in
-      let now : file_at G q ≡ there = at_path q (same-is_at path q (sym same)) in
-      was (subst (λ (p : List ℕ). file_at F p ≡ there) same (sym (tree_look-same (file_at G q) (file_at F q) e) ∙ now))
+      ap (λ (x : Option Tree). of_tree (tree_look x))
+      (ap (λ (x : Option SourceValue). option_map (tree_under crates k) x) (at_path q (same-is_at path q (sym same)))
+      ∙ alike ∙ ap (λ (p : List ℕ). option_map (tree_under crates k) (file_at F p)) (sym same))
 
--- what becomes of one file is an edit of the workspace
-pub edits_file : (crates : List CrateValue) (paths : List (List ℕ)) (F G : Files) (path : List ℕ) (there : Option Tree) (altered : Bool)
-    → ((q : List ℕ) → file_at G q ≡ cond (is_at (slice_cmp nat_cmp path) q) there (file_at F q))
-    → (altered ≡ false → file_at F path ≡ there) → (altered ≡ true → file_at F path ≢ there)
-    → IsEdited paths path (workspace_in crates paths F) (workspace_in crates paths G) altered
-edits_file crates paths F G path there altered updates same other = record {
-  crates = refl;
-  others = others;
-  same = λ off. unaltered (same off);
-  differs = λ on. changed (other on);
-}
-  where
-    others : (key : Key) → names_file paths path key ≡ false → look (workspace_in crates paths G) key ≡ look (workspace_in crates paths F) key
-    others (keys.Tree krate file) h = seen-other F G path there updates (path_in paths file) h
+  pub seen-differs : option_map (tree_under crates k) there ≢ option_map (tree_under crates k) (file_at F path) → (o : Option (List ℕ)) → is_path path o ≡ true
+      → seen crates (edited_at F path there) k o ≢ seen crates F k o
+  seen-differs other None h e = clash h refl
+  seen-differs other (Some q) h e =
+      let same : q ≡ path = (bytes_decides q path).0 h in
+      other (ap (λ (x : Option SourceValue). option_map (tree_under crates k) x) (sym (at_path q (same-is_at path q (sym same))))
+      ∙ tree_look-same _ _ e ∙ ap (λ (p : List ℕ). option_map (tree_under crates k) (file_at F p)) same)
 
-    unaltered : file_at F path ≡ there → (key : Key) → look (workspace_in crates paths G) key ≡ look (workspace_in crates paths F) key
-    unaltered was (keys.Tree krate file) = seen-same F G path there updates was (path_in paths file)
+module _ (crates : List CrateValue) (paths : List (List ℕ)) (F : Files) (path : List ℕ) (there : Option SourceValue) (krate : Crate) (file : HirFileId) where
+  -- a key of another file
+  pub look-other : is_path path (path_in paths file) ≡ false
+      → look (workspace_in crates paths (edited_at F path there)) (keys.Tree krate file) ≡ look (workspace_in crates paths F) (keys.Tree krate file)
+  look-other h = seen-other crates F path there krate.0 (path_in paths file) h
 
-    changed : file_at F path ≢ there → (key : Key) → names_file paths path key ≡ true
-        → look (workspace_in crates paths G) key ≢ look (workspace_in crates paths F) key
-    changed was (keys.Tree krate file) h = seen-differs F G path there updates was (path_in paths file) h
+  -- a key of the file, under a crate for which its tree stays
+  pub look-same : is_path path (path_in paths file) ≡ true
+      → option_map (tree_under crates krate.0) there ≡ option_map (tree_under crates krate.0) (file_at F path)
+      → look (workspace_in crates paths (edited_at F path there)) (keys.Tree krate file) ≡ look (workspace_in crates paths F) (keys.Tree krate file)
+  look-same h alike = seen-same crates F path there krate.0 alike (path_in paths file) h
 
--- an edit that was marked for has its effect
-pub becomes : (s : SessionState) (F : Files) (M : List Bool) (path : List ℕ) (altered : Bool) → IsSound s
-    → IsEdited s.paths path (workspace_of s) (workspace_in s.crates s.paths F) altered
-    → IsSpread s.crates (asked_altered s.paths path s.kept altered) s.marked M → Becomes s F (record s { files = F; marked = M })
-becomes s F M path altered sound edit sp = record {
-  crates = refl;
-  paths = refl;
-  files_are = refl;
-  kept = refl;
-  only = λ k h. Spread-map (λ j. touched_from_seeded s path (workspace_in s.crates s.paths F) altered j edit) (sp.only k h);
-  all = λ k h. sp.all k (Spread-map (λ j. seeded_from_touched s path (workspace_in s.crates s.paths F) altered j edit) h);
-  sound = applied_sound s F M path altered sound edit sp;
-}
-
--- a session whose marks were spread from what became of one file is sound; the path is the file's
-pub edited_sound : (s : SessionState) (F : Files) (M : List Bool) (path file : List ℕ) (there : Option Tree) (altered : Bool) → path ≡ file → IsSound s
-    → ((q : List ℕ) → file_at F q ≡ cond (is_at (slice_cmp nat_cmp file) q) there (file_at s.files q))
-    → (altered ≡ false → file_at s.files file ≡ there) → (altered ≡ true → file_at s.files file ≢ there)
-    → IsSpread s.crates (asked_altered s.paths path s.kept altered) s.marked M → IsSound (record s { files = F; marked = M })
-edited_sound s F M path file there altered is sound updates same other sp =
-    applied_sound s F M file altered sound (edits_file s.crates s.paths s.files F file there altered updates same other)
-    (subst (λ (p : List ℕ). IsSpread s.crates (asked_altered s.paths p s.kept altered) s.marked M) is sp)
-
-pub edited_becomes : (s : SessionState) (F : Files) (M : List Bool) (path file : List ℕ) (there : Option Tree) (altered : Bool) → path ≡ file → IsSound s
-    → ((q : List ℕ) → file_at F q ≡ cond (is_at (slice_cmp nat_cmp file) q) there (file_at s.files q))
-    → (altered ≡ false → file_at s.files file ≡ there) → (altered ≡ true → file_at s.files file ≢ there)
-    → IsSpread s.crates (asked_altered s.paths path s.kept altered) s.marked M → Becomes s F (record s { files = F; marked = M })
-edited_becomes s F M path file there altered is sound updates same other sp =
-    becomes s F M file altered sound (edits_file s.crates s.paths s.files F file there altered updates same other)
-    (subst (λ (p : List ℕ). IsSpread s.crates (asked_altered s.paths p s.kept altered) s.marked M) is sp)
+  -- a key of the file, under a crate for which its tree becomes another
+  pub look-differs : is_path path (path_in paths file) ≡ true
+      → option_map (tree_under crates krate.0) there ≢ option_map (tree_under crates krate.0) (file_at F path)
+      → look (workspace_in crates paths (edited_at F path there)) (keys.Tree krate file) ≢ look (workspace_in crates paths F) (keys.Tree krate file)
+  look-differs h other = seen-differs crates F path there krate.0 other (path_in paths file) h

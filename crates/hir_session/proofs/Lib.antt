@@ -3,6 +3,7 @@ pub mod Spreading
 pub mod Sound
 pub mod Start
 pub mod Due
+pub mod Judging
 pub mod EntryLemmas
 pub mod OptionLemmas
 pub mod FileLemmas

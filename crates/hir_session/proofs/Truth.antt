@@ -1,4 +1,4 @@
-use Rattle.std.proofs.Common.{◌≡◌, ◌≢◌, ℕ, Bool, true, false, ◌&&◌, ◌||◌, refl, nat_eq}
+use Rattle.std.proofs.Common.{◌≡◌, ◌≢◌, ℕ, Bool, true, false, Result, Ok, Err, IfOk, ◌&&◌, ◌||◌, refl, nat_eq}
 use Rattle.std.proofs.lemmas.Bool.{eqb-true, eqb-false}
 
 -- true is not false
@@ -40,3 +40,8 @@ on_bool false f g = g refl
 -- what holds at a place and at each other place
 pub on_same : {A : Type 0} (j k : ℕ) → (j ≡ k → A) → (j ≢ k → A) → A
 on_same j k f g = on_bool (nat_eq j k) (λ e. f (eqb-true j k e)) (λ e. g (eqb-false j k e))
+
+-- what holds of a value that is there and gives something else
+pub on_ok : {T E : Type 0} {P Q : T → Type 0} (r : Result T E) → ((x : T) → P x → Q x) → IfOk r P → IfOk r Q
+on_ok (Ok x) f h = f x h
+on_ok (Err e) f h = h

@@ -1,17 +1,15 @@
 -- What do the calls of a session change?
 use Rattle.std.specs.Prelude.{◌≡◌, ℕ, true, false, List, ◌++◌}
 use Rattle.hir_base.specs.Place.{PlaceValue}
-use Rattle.hir_item_tree.specs.Attributes.{no_attributes}
-use Rattle.hir_item_tree.specs.ItemTree.{tree_of}
 use Rattle.hir_wire.specs.Edits.{EditValue, set_file, remove_file}
 use Rattle.hir_session.specs.Files.{Files, with_file, without_file}
-use Rattle.hir_session.specs.SessionState.{SessionState, sets, workspace_of, kept_of, is_marked, IsSound}
+use Rattle.hir_session.specs.SessionState.{SessionState, workspace_of, kept_of, is_marked, IsSound}
 use Rattle.hir_session.specs.Marks.{marks_after}
 use Rattle.hir_session.specs.Due.{due_places}
 
 -- the files once the edit is made
 abbrev pub edited_files : SessionState → EditValue → Files
-edited_files s (set_file path source) = with_file s.files path (tree_of (sets s) no_attributes source)
+edited_files s (set_file path source) = with_file s.files path source
 edited_files s (remove_file path) = without_file s.files path
 
 -- the session with other files

@@ -25,9 +25,9 @@ crate_in crates k = slice_index_or crates k no_crate
 abbrev pub dependencies_in : List CrateValue → ℕ → List Crate
 dependencies_in crates k = (crate_in crates k).dependencies
 
--- the options under which files are read: those of the one crate; none where there is no crate
-abbrev pub file_options : List CrateValue → List CfgAtom
-file_options crates = (crate_in crates 0).options
+-- the options that are set in it
+abbrev pub options_in : List CrateValue → ℕ → List CfgAtom
+options_in crates k = (crate_in crates k).options
 
 -- a crate as a run of the import rules sees it
 abbrev pub crate_data : CrateValue → CrateData

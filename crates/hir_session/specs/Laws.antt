@@ -2,20 +2,19 @@
 use Rattle.std.specs.Prelude.{◌≡◌, ℕ, true, List, Some, None, Contains}
 use Rattle.hir_base.specs.declared.ids.Crate.{Crate}
 use Rattle.hir_base.specs.declared.ast_id.HirFileId.{HirFileId}
+use Rattle.hir_item_tree.specs.BodyTexts.{source_without_bodies}
 use Rattle.hir_item_tree.specs.Source.{SourceValue}
-use Rattle.hir_item_tree.specs.Attributes.{no_attributes}
-use Rattle.hir_item_tree.specs.ItemTree.{Tree as KeptTree, tree_of}
 use Rattle.hir_def_collector.specs.declared.source_database.Key.TheVariants.{Tree}
 use Rattle.hir_wire.specs.Edits.{set_file, remove_file}
 use Rattle.hir_session.specs.Files.{file_at, path_in}
-use Rattle.hir_session.specs.SessionState.{SessionState, Resolution, sets, kept_of, is_marked, IsSound}
+use Rattle.hir_session.specs.SessionState.{SessionState, Resolution, kept_of, is_marked, IsSound}
 use Rattle.hir_session.specs.Changes.{Applies}
 pub use Rattle.hir_session.specs.Histories.{History, WasAltered, DifferOnlyWhereAltered}
 
--- a file that was there is set to a source of which the same is kept, as one that differs in bodies alone: no mark changes
+-- a file that was there is set to a source that differs in the texts of bodies alone: no mark changes
 abbrev pub BodyEditsMarkNothing : Type 0
-BodyEditsMarkNothing = (old new : SessionState) (path : List ℕ) (source : SourceValue) → IsSound old
-    → file_at old.files path ≡ Some (tree_of (sets old) no_attributes source) → Applies old (set_file path source) new
+BodyEditsMarkNothing = (old new : SessionState) (path : List ℕ) (was source : SourceValue) → IsSound old
+    → file_at old.files path ≡ Some was → source_without_bodies was ≡ source_without_bodies source → Applies old (set_file path source) new
     → (k : ℕ) → is_marked new k ≡ is_marked old k
 
 -- a file that was absent is set, to an empty source too: each crate whose run asked for it is marked
@@ -27,8 +26,8 @@ SetAbsentFileMarks = (old new : SessionState) (path : List ℕ) (source : Source
 
 -- a file that was there is removed, an empty one too: each crate whose run asked for it is marked
 abbrev pub RemovePresentFileMarks : Type 0
-RemovePresentFileMarks = (old new : SessionState) (path : List ℕ) (tree : KeptTree) (k : ℕ) (found : Resolution) (krate : Crate) (file : HirFileId)
-    → file_at old.files path ≡ Some tree → Applies old (remove_file path) new
+RemovePresentFileMarks = (old new : SessionState) (path : List ℕ) (was : SourceValue) (k : ℕ) (found : Resolution) (krate : Crate) (file : HirFileId)
+    → file_at old.files path ≡ Some was → Applies old (remove_file path) new
     → kept_of old k ≡ Some found → Contains found.asked (Tree krate file) → path_in old.paths file ≡ Some path
     → is_marked new k ≡ true
 

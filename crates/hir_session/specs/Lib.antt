@@ -1,6 +1,7 @@
 pub mod Crates
 pub mod Files
 pub mod SessionState
+pub mod SourceCodes
 pub mod Codes
 pub mod Spread
 pub mod Marks

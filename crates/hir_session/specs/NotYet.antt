@@ -1,7 +1,5 @@
 -- What can't be taken yet?
 use Rattle.std.specs.Prelude.{Bool, true, false, ◌&&◌, not, List, [], ◌∷◌, Option, Some, None}
-use Rattle.hir_base.specs.declared.edition.Edition.{Edition}
-use Rattle.hir_base.specs.declared.edition.Edition.TheVariants as edition
 use Rattle.hir_item_tree.specs.declared.raw_visibility.RawVisibility.{RawVisibility}
 use Rattle.hir_item_tree.specs.declared.raw_visibility.RawVisibility.TheVariants as visibility
 use Rattle.hir_item_tree.specs.declared.shape.ImportAlias.{ImportAlias}
@@ -15,13 +13,6 @@ use Rattle.hir_wire.specs.declared.command.Dependency.{Dependency}
 
 -- ---- crates
 
--- all editions but the first
-abbrev pub is_edition_taken : Edition → Bool
-is_edition_taken edition.Edition2015 = false
-is_edition_taken edition.Edition2018 = true
-is_edition_taken edition.Edition2021 = true
-is_edition_taken edition.Edition2024 = true
-
 -- whether there are no dependencies
 abbrev pub has_none : List Dependency → Bool
 has_none [] = true
@@ -32,9 +23,9 @@ abbrev pub is_bare : Attributes → Bool
 is_bare no_attributes = true
 is_bare (attribute a rest) = false
 
--- a crate of a later edition, without dependencies and attributes, that isn't a procedural macro's
+-- a crate without dependencies and attributes that isn't a procedural macro's
 abbrev pub is_crate_taken : CrateInputValue → Bool
-is_crate_taken c = is_edition_taken c.edition && (has_none c.deps && (is_bare c.attributes && not c.proc_macro))
+is_crate_taken c = has_none c.deps && (is_bare c.attributes && not c.proc_macro)
 
 -- ---- the parts of items
 

@@ -1,5 +1,5 @@
 -- What are a session and an edit refused for?
-use Rattle.std.specs.Prelude.{◌≡◌, ℕ, ◌+◌, Bool, not, nat_le, nat_lt, List, [], ◌∷◌, length, map, Option, Some, None, Result, Ok, Err, if◌then◌else◌}
+use Rattle.std.specs.Prelude.{◌≡◌, ℕ, ◌+◌, ◌^◌, Bool, not, nat_le, nat_lt, List, [], ◌∷◌, length, map, Option, Some, None, Result, Ok, Err, if◌then◌else◌}
 use Rattle.std.specs.List.{list_any}
 use Rattle.hir_base.specs.declared.ids.Crate.{Crate}
 use Rattle.hir_base.specs.declared.limit.Limit.TheVariants as limit
@@ -65,11 +65,15 @@ abbrev pub verdict_of_order : List CrateInputValue → Option Crate → Result (
 verdict_of_order inputs (Some krate) = Err (new_error.DependencyOrder krate)
 verdict_of_order inputs None = if nat_lt max_crates (length inputs) then Err (new_error.TooLarge limit.Crates) else Ok tt
 
--- that a session over the crates is made, or the first thing for which it is refused
+-- how many crates have a number of their own
+abbrev pub crate_numbers : ℕ
+crate_numbers = 2 ^ 32
+
+-- that a session over the crates is made, or the first thing for which it is refused; more than can be numbered have no order
 abbrev pub verdict_of_new : List CrateInputValue → Result (Unit {0}) NewSessionError
 verdict_of_new inputs =
-    if nat_lt 1 (length inputs) then Err new_error.NotYet else
-    (if list_any (λ c. not (is_crate_taken c)) inputs then Err new_error.NotYet else
+    if list_any (λ c. not (is_crate_taken c)) inputs then Err new_error.NotYet else
+    (if nat_le crate_numbers (length inputs) then Err (new_error.TooLarge limit.Crates) else
     verdict_of_order inputs (first_out_of_order 0 inputs))
 
 -- what an edit is refused for where its source is

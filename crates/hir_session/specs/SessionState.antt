@@ -1,14 +1,12 @@
 -- Where does a session stand?
 use Rattle.std.specs.Prelude.{◌≡◌, ℕ, ◌<◌, ◌≤◌, Bool, true, false, List, length, Option, Some, None, slice_index_or, Contains}
-use Rattle.hir_base.specs.CfgOptions.{is_set}
-use Rattle.hir_base.specs.declared.cfg.CfgAtom.{CfgAtom}
 use Rattle.hir_base.specs.declared.ids.Crate.{Crate}
 use Rattle.hir_def_map.specs.State.{no_maps}
 use Rattle.hir_def_collector.specs.Workspace.{Workspace}
 use Rattle.hir_def_collector.specs.Keys.{AgreeOn}
 use Rattle.hir_def_collector.specs.Derivation.{CollectedValue, Ends}
 use Rattle.hir_def_collector.specs.declared.collector.Start.{Start}
-use Rattle.hir_session.specs.Crates.{CrateValue, dependencies_in, file_options, start_in}
+use Rattle.hir_session.specs.Crates.{CrateValue, dependencies_in, start_in}
 use Rattle.hir_session.specs.Files.{Files, workspace_in}
 
 -- what is kept of a crate that was resolved: its map, the imports left over, and the keys that were asked for
@@ -31,10 +29,6 @@ workspace_of s = workspace_in s.crates s.paths s.files
 -- what a crate depends on
 abbrev pub dependencies_of : SessionState → ℕ → List Crate
 dependencies_of s k = dependencies_in s.crates k
-
--- whether an option is set where files are read
-abbrev pub sets : SessionState → CfgAtom → Bool
-sets s = is_set (file_options s.crates)
 
 -- where the run for a crate begins
 abbrev pub start_of : SessionState → ℕ → Start

@@ -7,7 +7,7 @@ use Rattle.hir_item_tree.specs.Page.{page}
 use Rattle.hir_session.specs.declared.error.TreeTextError.{TreeTextError}
 use Rattle.hir_session.specs.declared.error.TreeTextError.TheVariants as error
 use Rattle.hir_session.specs.Crates.{CrateValue, crate_in}
-use Rattle.hir_session.specs.Files.{file_at}
+use Rattle.hir_session.specs.Files.{tree_at}
 use Rattle.hir_session.specs.SessionState.{SessionState}
 
 -- the edition of a crate
@@ -22,5 +22,5 @@ page_of edition (Some tree) = page edition tree
 -- the page of the file's tree in the crate's edition, or that there is no such crate
 abbrev pub tree_text_of : SessionState → Crate → List ℕ → Result (List ℕ) TreeTextError
 tree_text_of s krate path =
-    if nat_lt krate.0 (length s.crates) then Ok (page_of (edition_in s.crates krate.0) (file_at s.files path)) else
+    if nat_lt krate.0 (length s.crates) then Ok (page_of (edition_in s.crates krate.0) (tree_at s.crates s.files krate.0 path)) else
     Err error.UnknownCrate

@@ -1,20 +1,35 @@
 //! The files of a session.
-ghost use Rattle.std.specs.Prelude.{◌≡◌, ◌≢◌, ◌↔◌, ℕ, List, [], true, false, None, Some, IsTrue, OnOk, OnErr, IfOk, option_map, cond};
-ghost use Rattle.std.specs.Ordering.{nat_cmp};
-ghost use Rattle.std.specs.Cmp.Lexicographic.{slice_cmp};
-ghost use Rattle.std.specs.BTreeMap.{is_at};
+ghost use Rattle.std.specs.Prelude.{◌≡◌, ℕ, List, [], None, Some, OnOk, OnErr, option_map};
+ghost use Rattle.hir_item_tree.specs.Source.{source_view};
 ghost use Rattle.hir_session.specs.Files.{file_at, with_file, without_file};
 
 use hir_base::file_path::FilePath;
-use hir_item_tree::item_tree::ItemTree;
+use hir_item_tree::source::Source;
 use std::alloc::{AllocError, Global};
 use std::collections::BTreeMap;
 use std::marker::Model;
 
-/// The trees that are kept of the files that are there, by path.
+/// The source of a file, as it was handed in.
+#[derive(Drop)]
+struct FileSource {
+    source: Source,
+}
+
+impl Model for FileSource {
+    ghost use Rattle.hir_item_tree.specs.Source.{SourceValue, source_view};
+    ghost use Rattle.hir_session.specs.SourceCodes.{coded_source};
+
+    ghost Value = { SourceValue };
+
+    ghost coded = { coded_source };
+
+    ghost view = { λ f. source_view f.source };
+}
+
+/// The sources of the files that are there, by path.
 #[derive(Drop)]
 pub struct Files {
-    by_path: BTreeMap<FilePath, ItemTree>,
+    by_path: BTreeMap<FilePath, FileSource>,
 }
 
 impl Model for Files {
@@ -28,11 +43,12 @@ impl Model for Files {
     ghost view = { λ f. f.by_path.entries };
 }
 
-/// Whether two trees are the same.
-fn is_same_tree(a: &ItemTree, b: &ItemTree) -> bool
-    ensures exact { IsTrue result ↔ (a.now ≡ b.now) }
-{
-    a.same(b)
+impl FileSource {
+    fn source(&self) -> &Source
+        ensures value { source_view result.now ≡ self.now }
+    {
+        &self.source
+    }
 }
 
 impl Files {
@@ -44,46 +60,29 @@ impl Files {
         }
     }
 
-    /// The tree of the file at a path, if it is there.
-    pub fn get(&self, path: &FilePath) -> Option<&ItemTree>
-        ensures value { option_map (λ t. t.now) result ≡ file_at self.now path.now }
+    /// The source of the file at a path, if it is there.
+    pub fn get(&self, path: &FilePath) -> Option<&Source>
+        ensures value { option_map (λ s. source_view s.now) result ≡ file_at self.now path.now }
     {
-        self.by_path.get(path)
-    }
-
-    /// Whether the file at a path isn't there, or has another tree.
-    fn differs(&self, path: &FilePath, tree: &ItemTree) -> bool
-        ensures same { result ≡ false → file_at self.now path.now ≡ Some tree.now }
-        ensures other { result ≡ true → file_at self.now path.now ≢ Some tree.now }
-    {
-        match self.get(path) {
-            Some(old) => !is_same_tree(old, tree),
-            None => true,
+        match self.by_path.get(path) {
+            Some(file) => Some(file.source()),
+            None => None,
         }
     }
 
-    /// Sets a file, and says whether that alters what is there.
-    pub fn set(&mut self, path: FilePath, tree: ItemTree) -> Result<bool, AllocError>
-        ensures ok { OnOk result (self.new ≡ with_file self.old path tree) }
-        ensures updates { OnOk result ((q : List ℕ)
-            → file_at self.new q ≡ cond (is_at (slice_cmp nat_cmp path) q) (Some tree) (file_at self.old q)) }
-        ensures same { IfOk result (λ altered. altered ≡ false → file_at self.old path ≡ Some tree) }
-        ensures other { IfOk result (λ altered. altered ≡ true → file_at self.old path ≢ Some tree) }
+    /// Sets a file.
+    pub fn set(&mut self, path: FilePath, source: Source) -> Result<(), AllocError>
+        ensures ok { OnOk result (self.new ≡ with_file self.old path (source_view source)) }
         ensures err { OnErr result (self.new ≡ self.old) }
     {
-        let altered = self.differs(&path, &tree);
-        self.by_path.insert(path, tree)?;
-        Ok(altered)
+        self.by_path.insert(path, FileSource { source })?;
+        Ok(())
     }
 
-    /// Removes a file, and says whether that alters what is there.
-    pub fn remove(&mut self, path: &FilePath) -> bool
+    /// Removes a file.
+    pub fn remove(&mut self, path: &FilePath)
         ensures value { self.new ≡ without_file self.old path.now }
-        ensures updates { (q : List ℕ)
-            → file_at self.new q ≡ cond (is_at (slice_cmp nat_cmp path.now) q) None (file_at self.old q) }
-        ensures same { result ≡ false → file_at self.old path.now ≡ None }
-        ensures other { result ≡ true → file_at self.old path.now ≢ None }
     {
-        self.by_path.remove(path).is_some()
+        self.by_path.remove(path);
     }
 }

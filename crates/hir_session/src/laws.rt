@@ -3,6 +3,8 @@ ghost use Rattle.hir_session.specs.Histories.{DifferOnlyWhereAltered, RunsMakeHi
 ghost use Rattle.hir_session.specs.TwoReplies.{RepliesDifferOnlyWhereAltered};
 ghost use Rattle.hir_session.specs.Laws.{BodyEditsMarkNothing, SetAbsentFileMarks, RemovePresentFileMarks, RemoveAbsentFileMarksNothing};
 
+use hir_item_tree::laws::body_texts_leave_the_tree;
+
 /// Two answers to one query differ only where an edit between them altered something that was asked for behind the first.
 pub fn answers_differ_only_where_altered()
     ensures law { DifferOnlyWhereAltered }
@@ -28,7 +30,9 @@ pub fn replies_differ_only_where_altered()
 /// An edit that changes nothing but bodies leaves every answer as it is.
 pub fn body_edits_mark_nothing()
     ensures law { BodyEditsMarkNothing }
-{}
+{
+    body_texts_leave_the_tree();
+}
 
 /// A file that was looked for and wasn't there makes stale what looked for it, once it is set.
 pub fn set_absent_file_marks()

@@ -7,6 +7,7 @@ mod crate_info;
 pub mod error;
 mod file_trees;
 mod files;
+mod judge;
 pub mod laws;
 mod marks;
 mod not_yet;

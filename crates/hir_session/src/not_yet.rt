@@ -5,9 +5,8 @@ ghost use Rattle.hir_item_tree.specs.Attributes.{attribute_view, attributes_view
 ghost use Rattle.hir_item_tree.specs.Source.{node_view, nodes_view, source_view};
 ghost use Rattle.hir_item_tree.specs.UseTree.{use_tree_view, use_trees_view};
 ghost use Rattle.hir_wire.specs.CommandValue.{crate_input_view};
-ghost use Rattle.hir_session.specs.NotYet.{is_edition_taken, has_none, is_bare, is_crate_taken, is_visibility_taken, are_visibilities_taken, is_attribute_taken, are_attributes_taken, is_alias_taken, is_tree_taken, are_trees_taken, is_item_taken, are_items_taken, is_source_taken};
+ghost use Rattle.hir_session.specs.NotYet.{has_none, is_bare, is_crate_taken, is_visibility_taken, are_visibilities_taken, is_attribute_taken, are_attributes_taken, is_alias_taken, is_tree_taken, are_trees_taken, is_item_taken, are_items_taken, is_source_taken};
 
-use hir_base::edition::Edition;
 use hir_def_collector::builtin_attr::is_inert_by_name;
 use hir_item_tree::raw_attr::RawAttr;
 use hir_item_tree::raw_visibility::RawVisibility;
@@ -15,15 +14,6 @@ use hir_item_tree::shape::ImportAlias;
 use hir_item_tree::source::{Node, NodeKind, Source};
 use hir_item_tree::use_tree::{UseTree, UseTreeKind};
 use hir_wire::command::{CrateInput, Dependency};
-
-fn is_edition_taken_now(edition: Edition) -> bool
-    ensures value { result ≡ is_edition_taken edition }
-{
-    match edition {
-        Edition::Edition2015 => false,
-        Edition::Edition2018 | Edition::Edition2021 | Edition::Edition2024 => true,
-    }
-}
 
 fn has_none_now(dependencies: &[Dependency]) -> bool
     ensures value { result ≡ has_none dependencies.now }
@@ -43,14 +33,11 @@ fn is_bare_now(attrs: &Vec<RawAttr>) -> bool
     }
 }
 
-/// Whether the crate is of a later edition, has no dependencies and no attributes, and isn't a procedural macro's.
+/// Whether the crate has no dependencies and no attributes, and isn't a procedural macro's.
 fn is_taken(input: &CrateInput) -> bool
     ensures value { result ≡ is_crate_taken (crate_input_view input.now) }
 {
-    is_edition_taken_now(input.edition)
-        && has_none_now(input.deps.as_slice())
-        && is_bare_now(&input.attrs)
-        && !input.proc_macro
+    has_none_now(input.deps.as_slice()) && is_bare_now(&input.attrs) && !input.proc_macro
 }
 
 /// Whether one of the crates can't be taken yet.

@@ -1,10 +1,12 @@
 //! The session: what is handed in, and what is kept of each crate that was resolved.
-ghost use Rattle.std.specs.Prelude.{◌≡◌, ℕ, ◌<◌, ◌++◌, ◌∷◌, [], map, false, length, None, IfOk, OnOk, OnErr, IfErr, ◌≤◌, ◌⊎◌, Ok, Err, string_bytes};
+ghost use Rattle.std.specs.Prelude.{◌≡◌, ℕ, ◌<◌, ◌++◌, ◌∷◌, [], map, false, length, None, IfOk, OnOk, OnErr, IfErr, ◌≤◌, ◌⊎◌, Ok, Err, string_bytes, option_map};
 ghost use Rattle.hir_base.specs.Refusal.{Gives};
 ghost use Rattle.hir_wire.specs.CommandValue.{crate_input_view};
 ghost use Rattle.hir_wire.specs.Edits.{edit_view};
 ghost use Rattle.hir_session.specs.Beginning.{Begins};
-ghost use Rattle.hir_session.specs.Files.{with_file, without_file};
+ghost use Rattle.hir_item_tree.specs.Source.{source_view};
+ghost use Rattle.hir_session.specs.Files.{with_file, without_file, edited_at};
+ghost use Rattle.hir_session.specs.Marking.{IsJudged};
 ghost use Rattle.hir_session.specs.SessionState.{SessionState, Resolution, workspace_of, start_of, kept_in, kept_of, is_marked, IsResolved, IsSound};
 ghost use Rattle.hir_session.specs.Due.{resolved_at, crate_place, IsOverlong, HasOverlongRun};
 ghost use Rattle.hir_session.specs.Refusals.{first_out_of_order, verdict_of_new, IsNewMemory, verdict_of_apply, IsEditMemory, IsQueryMemory, IsTreeTextMemory};
@@ -12,14 +14,15 @@ ghost use Rattle.hir_session.specs.Status.{module_in_kept, module_of, status_of}
 ghost use Rattle.hir_session.specs.Answers.{answer_from, answer_of};
 ghost use Rattle.hir_session.specs.AnswersStand.{AnswersStand};
 ghost use Rattle.hir_session.specs.TreeText.{tree_text_of};
-ghost use Rattle.hir_session.specs.Changes.{Becomes, Applies, Refreshes, RefreshesPartly};
+ghost use Rattle.hir_session.specs.Changes.{with_files, Becomes, Applies, Refreshes, RefreshesPartly};
 
 use crate::answers::{answer_at, module_below_root};
 use crate::beginning::{all_marked, first_late, infos_of, nothing_kept, roots_of};
 use crate::crate_info::CrateInfo;
 use crate::error::{EditError, NewSessionError, QueryError, RefreshError, TreeTextError};
-use crate::file_trees::{page_at, taken_tree};
+use crate::file_trees::{check_source, page_at};
 use crate::files::Files;
+use crate::judge::judged;
 use crate::marks::{is_marked_in, spread};
 use crate::not_yet::is_any_untaken;
 use crate::sources::resolve_crate;
@@ -29,7 +32,7 @@ use hir_base::limit::Limit;
 use hir_base::mod_path::ModPath;
 use hir_base::place::{Place, PlaceElement};
 use hir_def_collector::collector::collected::Collected;
-use hir_item_tree::item_tree::ItemTree;
+use hir_item_tree::source::Source;
 use hir_wire::answer::Answer;
 use hir_wire::command::{CrateInput, MacroStyle, Shadow};
 use hir_wire::edit::Edit;
@@ -79,11 +82,11 @@ impl Session {
         ensures refused { IfErr result (λ e. IsNewMemory e ⊎ (verdict_of_new (map crate_input_view inputs.items) ≡ Err e)) }
     {
         let count = inputs.as_slice().len();
-        if count > 1 {
-            return Err(NewSessionError::NotYet);
-        }
         if is_any_untaken(&inputs) {
             return Err(NewSessionError::NotYet);
+        }
+        if count > u32::MAX as usize {
+            return Err(NewSessionError::TooLarge(Limit::Crates));
         }
         if let Some(k) = first_late(&inputs) {
             return Err(NewSessionError::DependencyOrder(Crate(k)));
@@ -102,37 +105,48 @@ impl Session {
         let _marked = &self.marked;
     }
 
-    /// Sets a file to a tree, and marks what that touches.
-    fn set_tree(&mut self, file: FilePath, tree: ItemTree) -> Result<(), AllocError>
-        ensures ok { OnOk result (Becomes self.old (with_file self.old.files file tree) self.new) }
-        ensures err { OnErr result (self.new ≡ self.old) }
+    /// Of each crate whether its run asked for something that is altered, where a file gets a source or is removed.
+    fn judged(
+        &self,
+        alloc: Global,
+        file: &FilePath,
+        new: Option<&Source>,
+    ) -> Result<Vec<bool>, AllocError>
+        ensures judged { IfOk result (λ hits. IsJudged (workspace_of self.now)
+            (workspace_of (with_files self.now (edited_at self.now.files file.now (option_map (λ s. source_view s.now) new.entry))))
+            self.now.kept hits.items) }
     {
-        let path = file.clone()?;
-        let altered = self.files.set(file, tree)?;
-        spread(
+        judged(
+            alloc,
             &self.crates,
             &self.paths,
+            &self.files,
             &self.kept,
-            &mut self.marked,
-            &path,
-            altered,
-        );
+            file,
+            new,
+        )
+    }
+
+    /// Sets a file, and marks what that touches.
+    fn set_file(&mut self, alloc: Global, file: FilePath, source: Source) -> Result<(), AllocError>
+        ensures ok { OnOk result (Becomes self.old (with_file self.old.files file (source_view source)) self.new) }
+        ensures err { OnErr result (self.new ≡ self.old) }
+    {
+        let hits = self.judged(alloc, &file, Some(&source))?;
+        self.files.set(file, source)?;
+        spread(&self.crates, &hits, &mut self.marked);
         Ok(())
     }
 
     /// Removes a file, and marks what that touches.
-    fn remove_tree(&mut self, file: &FilePath)
-        ensures ok { Becomes self.old (without_file self.old.files file.now) self.new }
+    fn remove_file(&mut self, alloc: Global, file: &FilePath) -> Result<(), AllocError>
+        ensures ok { OnOk result (Becomes self.old (without_file self.old.files file.now) self.new) }
+        ensures err { OnErr result (self.new ≡ self.old) }
     {
-        let altered = self.files.remove(file);
-        spread(
-            &self.crates,
-            &self.paths,
-            &self.kept,
-            &mut self.marked,
-            file,
-            altered,
-        );
+        let hits = self.judged(alloc, file, None)?;
+        self.files.remove(file);
+        spread(&self.crates, &hits, &mut self.marked);
+        Ok(())
     }
 
     /// Changes what is handed in, and marks what that touches. A refused edit is dropped.
@@ -143,10 +157,10 @@ impl Session {
     {
         match edit {
             Edit::SetFile { file, source } => {
-                let tree = taken_tree(alloc, &self.crates, &source)?;
-                self.set_tree(file, tree)?;
+                check_source(alloc, &source)?;
+                self.set_file(alloc, file, source)?;
             }
-            Edit::RemoveFile { file } => self.remove_tree(&file),
+            Edit::RemoveFile { file } => self.remove_file(alloc, &file)?,
         }
         Ok(())
     }
@@ -277,7 +291,14 @@ impl Session {
         let Some(info) = self.crates.get(krate.0 as usize) else {
             return Err(TreeTextError::UnknownCrate);
         };
-        let text = page_at(alloc, &self.files, file, info.root().edition)?;
+        let text = page_at(
+            alloc,
+            &self.crates,
+            &self.files,
+            krate,
+            file,
+            info.root().edition,
+        )?;
         Ok(text)
     }
 }

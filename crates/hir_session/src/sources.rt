@@ -1,13 +1,15 @@
 //! What a run of the import rules reads of a session.
 ghost use Rattle.std.specs.Prelude.{◌≡◌, ◌<◌, length, Err, IfOk, option_map, slice_get};
-ghost use Rattle.hir_def_collector.specs.Workspace.{tree_look};
+ghost use Rattle.std.specs.Option.{option_and_then};
+ghost use Rattle.hir_item_tree.specs.Source.{source_view};
 ghost use Rattle.hir_session.specs.Crates.{start_in};
-ghost use Rattle.hir_session.specs.Files.{path_in, tree_in, workspace_in};
+ghost use Rattle.hir_session.specs.Files.{file_at, path_in, workspace_in};
 ghost use Rattle.hir_session.specs.SessionState.{IsResolved};
 ghost use Rattle.hir_session.specs.Due.{IsOverlong};
 
 use crate::crate_info::CrateInfo;
 use crate::error::RefreshError;
+use crate::file_trees::make_tree;
 use crate::files::Files;
 use hir_base::ast_id::HirFileId;
 use hir_base::file_path::FilePath;
@@ -17,6 +19,7 @@ use hir_def_collector::collector::{Start, collect_defs};
 use hir_def_collector::source_database::SourceDatabase;
 use hir_def_map::world::World;
 use hir_item_tree::item_tree::ItemTree;
+use hir_item_tree::source::Source;
 use std::alloc::{AllocError, Global};
 
 /// The parts of a session that make up its workspace.
@@ -34,12 +37,12 @@ impl<'a> SourceDatabase for Sources<'a> {
 
     fn tree(
         &self,
-        _alloc: Global,
-        _krate: Crate,
+        alloc: Global,
+        krate: Crate,
         file: HirFileId,
     ) -> Result<Option<ItemTree>, AllocError> {
-        match tree_at(self.paths, self.files, file) {
-            Some(tree) => Ok(Some(tree.clone()?)),
+        match source_at(self.paths, self.files, file) {
+            Some(source) => Ok(Some(make_tree(alloc, self.crates, krate, source)?)),
             None => Ok(None),
         }
     }
@@ -55,9 +58,9 @@ pub fn path_at(paths: &Vec<FilePath>, file: HirFileId) -> Option<&FilePath>
     }
 }
 
-/// The tree of what holds syntax, if it is there.
-fn tree_at<'a>(paths: &'a Vec<FilePath>, files: &'a Files, file: HirFileId) -> Option<&'a ItemTree>
-    ensures value { option_map (λ t. t.now) result ≡ tree_in paths.now.items files.now file }
+/// The source of what holds syntax, if it is there.
+fn source_at<'a>(paths: &'a Vec<FilePath>, files: &'a Files, file: HirFileId) -> Option<&'a Source>
+    ensures value { option_map (λ s. source_view s.now) result ≡ option_and_then (file_at files.now) (path_in paths.now.items file) }
 {
     match path_at(paths, file) {
         Some(path) => files.get(path),

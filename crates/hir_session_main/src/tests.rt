@@ -1,5 +1,6 @@
 //! Whole sessions: lines in, replies out.
 
+mod crates;
 mod faults;
 mod imports;
 mod kinds;

@@ -57,8 +57,8 @@ fn refusals_hold(rt: HostRuntime) -> Result<(), Fail> {
         ),
         (
             "crates_that_are_not_taken_yet",
-            r#"{"do":"crates","crates":[{"edition":"2021","root":"a.rs"},{"edition":"2021","root":"b.rs"}]}
-{"do":"crates","crates":[{"edition":"2015","root":"lib.rs"}]}
+            r#"{"do":"crates","crates":[{"edition":"2021","root":"a.rs"},{"edition":"2021","root":"b.rs","proc_macro":true}]}
+{"do":"crates","crates":[{"edition":"2021","root":"a.rs"},{"edition":"2021","root":"b.rs","deps":[{"crate":0,"name":"a"}]}]}
 {"do":"crates","crates":[{"edition":"2021","root":"lib.rs","attrs":[{"path":"no_std"}]}]}
 {"do":"crates","crates":[{"edition":"2021","root":"lib.rs","deps":[{"crate":0,"name":"a"}]}]}
 {"do":"crates","crates":[{"edition":"2021","root":"lib.rs","proc_macro":true}]}

@@ -1,6 +1,5 @@
-use Rattle.hir_session.specs.Marking.{asked_altered}
 use Rattle.hir_session.proofs.Spreading.{IsSpreading}
 use Rattle.hir_session.proofs.marks.spread.Given as goal
 
 abbrev pub invariant-loop-k : goal.invariant-loop-k
-invariant-loop-k l = IsSpreading l.crates.items (asked_altered l.paths.items l.path l.kept.items l.altered) l.initial.marked.items l.marked.items l.k
+invariant-loop-k l = IsSpreading l.crates.items l.hits.items l.initial.marked.items l.marked.items l.k

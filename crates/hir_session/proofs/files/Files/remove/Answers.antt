@@ -7,9 +7,11 @@ use Rattle.hir_session.specs.Files.{Files, without_file}
 use Rattle.hir_session.proofs.EntryLemmas.{remove_entry-filter}
 use Rattle.hir_session.proofs.files.Files.remove.Goals as goal
 
-pub returns-clause-value : goal.returns-clause-value
-returns-clause-value c =
+pub returns : goal.returns
+returns c =
     let left = c.remove.ensures.updates.1 in
-    c.remove.ensures.entries
-    ∙ remove_entry-filter (is_at (slice_cmp nat_cmp c.args.path.now)) c.self.inside.by_path.entries (rw c.remove.ensures.entries at left)
-    ∙ ap (λ (files : Files). without_file files c.args.path.now) c.self.view_is
+    record {
+      value = c.remove.ensures.entries
+          ∙ remove_entry-filter (is_at (slice_cmp nat_cmp c.args.path.now)) c.self.inside.by_path.entries (rw c.remove.ensures.entries at left)
+          ∙ ap (λ (files : Files). without_file files c.args.path.now) c.self.view_is;
+    }

@@ -1,0 +1,12 @@
+use Rattle.std.proofs.Common.{option_map}
+use Rattle.hir_item_tree.specs.Source.{source_view}
+use Rattle.hir_session.specs.Files.{edited_at, workspace_in}
+use Rattle.hir_session.proofs.Judging.{IsJudging}
+use Rattle.hir_session.proofs.judge.judged.Given as goal
+
+-- the crates so far were judged
+abbrev pub invariant-loop-found : goal.invariant-loop-found
+invariant-loop-found l =
+    IsJudging (workspace_in l.crates.items l.paths.items l.files)
+    (workspace_in l.crates.items l.paths.items (edited_at l.files l.path (option_map (λ s. source_view s.now) l.new)))
+    l.kept.items l.hits.items l.found-index

@@ -1,0 +1,12 @@
+-- It was told which runs asked for something that is altered, and the marks were spread from there.
+use Rattle.std.proofs.Common.{None}
+use Rattle.hir_session.proofs.Sound.{edited_sound, edited_becomes}
+use Rattle.hir_session.proofs.session.Session.remove_file.Goals as goal
+
+pub invariant_of-self : goal.invariant_of-self
+invariant_of-self c = edited_sound _ c.args.self.now _ c.args.file.now None _ _
+    c.self.view_is c.self.invariant c.remove.ensures.value c.in_ok-hits.ensures.judged c.spread.ensures.spread
+
+pub returns-clause-ok : goal.returns-clause-ok
+returns-clause-ok c = edited_becomes _ c.args.self.now _ c.args.file.now None _ _
+    c.self.view_is c.self.invariant c.remove.ensures.value c.in_ok-hits.ensures.judged c.spread.ensures.spread

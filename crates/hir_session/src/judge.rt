@@ -1,0 +1,192 @@
+//! Which of what was asked for becomes another by an edit of a file.
+ghost use Rattle.std.specs.Prelude.{◌≡◌, ◌≢◌, ℕ, true, false, IfOk, Option, option_map};
+ghost use Rattle.hir_item_tree.specs.Source.{source_view};
+ghost use Rattle.hir_def_collector.specs.Keys.{look, AgreeOn};
+ghost use Rattle.hir_def_collector.specs.declared.source_database.Key.TheVariants.{Tree};
+ghost use Rattle.hir_session.specs.Files.{path_in, tree_under, workspace_in, edited_at};
+ghost use Rattle.hir_session.specs.Marks.{IsAltered};
+ghost use Rattle.hir_session.specs.Marking.{is_path, HasAltered, IsTold, IsJudged};
+
+use crate::crate_info::CrateInfo;
+use crate::file_trees::make_tree;
+use crate::files::Files;
+use crate::sources::path_at;
+use hir_base::ast_id::HirFileId;
+use hir_base::file_path::FilePath;
+use hir_base::ids::Crate;
+use hir_def_collector::collector::collected::Collected;
+use hir_def_collector::source_database::Key;
+use hir_item_tree::item_tree::ItemTree;
+use hir_item_tree::source::Source;
+use std::alloc::{AllocError, Global};
+
+/// Whether two trees are different.
+fn are_different(a: &ItemTree, b: &ItemTree) -> bool
+    ensures same { result ≡ false → a.now ≡ b.now }
+    ensures other { result ≡ true → a.now ≢ b.now }
+{
+    !a.same(b)
+}
+
+/// Whether two sources have different trees under a crate.
+fn differ(
+    alloc: Global,
+    crates: &Vec<CrateInfo>,
+    krate: Crate,
+    old: &Source,
+    new: &Source,
+) -> Result<bool, AllocError>
+    ensures same { IfOk result (λ differ. differ ≡ false
+        → tree_under crates.now.items krate.0 (source_view new.now) ≡ tree_under crates.now.items krate.0 (source_view old.now)) }
+    ensures other { IfOk result (λ differ. differ ≡ true
+        → tree_under crates.now.items krate.0 (source_view new.now) ≢ tree_under crates.now.items krate.0 (source_view old.now)) }
+{
+    let was = make_tree(alloc, crates, krate, old)?;
+    let is = make_tree(alloc, crates, krate, new)?;
+    Ok(are_different(&is, &was))
+}
+
+/// Whether a file's tree under a crate, or that it is there, becomes another.
+fn becomes_another(
+    alloc: Global,
+    crates: &Vec<CrateInfo>,
+    krate: Crate,
+    old: Option<&Source>,
+    new: Option<&Source>,
+) -> Result<bool, AllocError>
+    ensures same { IfOk result (λ other. other ≡ false
+        → option_map (tree_under crates.now.items krate.0) (option_map (λ s. source_view s.now) new.entry)
+        ≡ option_map (tree_under crates.now.items krate.0) (option_map (λ s. source_view s.now) old.entry)) }
+    ensures other { IfOk result (λ other. other ≡ true
+        → option_map (tree_under crates.now.items krate.0) (option_map (λ s. source_view s.now) new.entry)
+        ≢ option_map (tree_under crates.now.items krate.0) (option_map (λ s. source_view s.now) old.entry)) }
+{
+    match (old, new) {
+        (Some(old), Some(new)) => differ(alloc, crates, krate, old, new),
+        (None, None) => Ok(false),
+        (Some(_), None) | (None, Some(_)) => Ok(true),
+    }
+}
+
+/// Whether what holds syntax is the file at a path.
+fn is_file_at(paths: &Vec<FilePath>, file: HirFileId, path: &FilePath) -> bool
+    ensures value { result ≡ is_path path.now (path_in paths.now.items file) }
+{
+    match path_at(paths, file) {
+        Some(other) => *other == *path,
+        None => false,
+    }
+}
+
+/// Whether the tree of what holds syntax is altered where the file at a path gets a source, or is removed.
+fn is_tree_altered(
+    alloc: Global,
+    crates: &Vec<CrateInfo>,
+    paths: &Vec<FilePath>,
+    files: &Files,
+    path: &FilePath,
+    new: Option<&Source>,
+    krate: Crate,
+    file: HirFileId,
+) -> Result<bool, AllocError>
+    ensures same { IfOk result (λ altered. altered ≡ false
+        → look (workspace_in crates.now.items paths.now.items (edited_at files.now path.now (option_map (λ s. source_view s.now) new.entry)))
+        (Tree krate file)
+        ≡ look (workspace_in crates.now.items paths.now.items files.now) (Tree krate file)) }
+    ensures other { IfOk result (λ altered. altered ≡ true → IsAltered (workspace_in crates.now.items paths.now.items files.now)
+        (workspace_in crates.now.items paths.now.items (edited_at files.now path.now (option_map (λ s. source_view s.now) new.entry)))
+        (Tree krate file)) }
+{
+    if is_file_at(paths, file, path) {
+        becomes_another(alloc, crates, krate, files.get(path), new)
+    } else {
+        Ok(false)
+    }
+}
+
+/// Whether a key is altered where the file at a path gets a source, or is removed.
+fn is_altered(
+    alloc: Global,
+    crates: &Vec<CrateInfo>,
+    paths: &Vec<FilePath>,
+    files: &Files,
+    path: &FilePath,
+    new: Option<&Source>,
+    key: Key,
+) -> Result<bool, AllocError>
+    ensures same { IfOk result (λ altered. altered ≡ false
+        → look (workspace_in crates.now.items paths.now.items (edited_at files.now path.now (option_map (λ s. source_view s.now) new.entry))) key
+        ≡ look (workspace_in crates.now.items paths.now.items files.now) key) }
+    ensures other { IfOk result (λ altered. altered ≡ true → IsAltered (workspace_in crates.now.items paths.now.items files.now)
+        (workspace_in crates.now.items paths.now.items (edited_at files.now path.now (option_map (λ s. source_view s.now) new.entry))) key) }
+{
+    match key {
+        Key::Tree(krate, file) => {
+            is_tree_altered(alloc, crates, paths, files, path, new, krate, file)
+        }
+    }
+}
+
+/// Whether one of the keys is altered.
+fn is_any_altered(
+    alloc: Global,
+    crates: &Vec<CrateInfo>,
+    paths: &Vec<FilePath>,
+    files: &Files,
+    path: &FilePath,
+    new: Option<&Source>,
+    keys: &[Key],
+) -> Result<bool, AllocError>
+    ensures none { IfOk result (λ altered. altered ≡ false → AgreeOn keys.now (workspace_in crates.now.items paths.now.items files.now)
+        (workspace_in crates.now.items paths.now.items (edited_at files.now path.now (option_map (λ s. source_view s.now) new.entry)))) }
+    ensures some { IfOk result (λ altered. altered ≡ true → HasAltered (workspace_in crates.now.items paths.now.items files.now)
+        (workspace_in crates.now.items paths.now.items (edited_at files.now path.now (option_map (λ s. source_view s.now) new.entry))) keys.now) }
+{
+    for key in keys {
+        if is_altered(alloc, crates, paths, files, path, new, *key)? {
+            return Ok(true);
+        }
+    }
+    Ok(false)
+}
+
+/// Whether the run of which this is kept asked for something that is altered.
+fn is_told(
+    alloc: Global,
+    crates: &Vec<CrateInfo>,
+    paths: &Vec<FilePath>,
+    files: &Files,
+    path: &FilePath,
+    new: Option<&Source>,
+    kept: &Option<Collected>,
+) -> Result<bool, AllocError>
+    ensures told { IfOk result (λ hit. IsTold (workspace_in crates.now.items paths.now.items files.now)
+        (workspace_in crates.now.items paths.now.items (edited_at files.now path.now (option_map (λ s. source_view s.now) new.entry)))
+        kept.now hit) }
+{
+    match kept {
+        Some(found) => { is_any_altered(alloc, crates, paths, files, path, new, found.asked()) }
+        None => Ok(false),
+    }
+}
+
+/// Of each crate whether its run asked for something that is altered. Trees are made for those that asked for the file.
+pub fn judged(
+    alloc: Global,
+    crates: &Vec<CrateInfo>,
+    paths: &Vec<FilePath>,
+    files: &Files,
+    kept: &Vec<Option<Collected>>,
+    path: &FilePath,
+    new: Option<&Source>,
+) -> Result<Vec<bool>, AllocError>
+    ensures judged { IfOk result (λ hits. IsJudged (workspace_in crates.now.items paths.now.items files.now)
+        (workspace_in crates.now.items paths.now.items (edited_at files.now path.now (option_map (λ s. source_view s.now) new.entry)))
+        kept.now.items hits.items) }
+{
+    let mut hits = Vec::new(alloc);
+    for found in kept {
+        hits.push(is_told(alloc, crates, paths, files, path, new, found)?)?;
+    }
+    Ok(hits)
+}
