@@ -1,5 +1,6 @@
 //! Runs of the import rules, after rust-analyzer's `DefCollector`.
 ghost use Rattle.std.specs.Prelude.{◌≡◌, ◌<◌, IfOk, OnOk, length, option_map};
+ghost use Rattle.hir_item_tree.specs.Collected.{is_enabled};
 ghost use Rattle.hir_def_map.specs.Parts.{part_of};
 ghost use Rattle.hir_def_map.specs.State.{Maps};
 ghost use Rattle.hir_def_map.specs.World.{finished_in};
@@ -155,6 +156,13 @@ fn begin<D: SourceDatabase>(
     Ok(run)
 }
 
+/// Whether no condition disables a tree at its top.
+fn is_enabled_at_top(tree: &ItemTree) -> bool
+    ensures value { result ≡ is_enabled tree.now.attributes }
+{
+    tree.top_level_attrs().is_enabled()
+}
+
 /// Handles the items of a tree that are written in the root module; one that is disabled at its top declares nothing.
 fn walk_root(
     run: &mut Run,
@@ -166,7 +174,7 @@ fn walk_root(
     ensures ok { OnOk result ((w : Workspace) → Steps w (part_of world.entry) (joined run.old (tree_visits (root_site start) tree.now)) (at_rest run.new)) }
     ensures many { result ≡ Err CollectError.TooMany → (w : Workspace) → IsSpent w (part_of world.entry) (joined run.old (tree_visits (root_site start) tree.now)) }
 {
-    if !tree.top_level_attrs().is_enabled() {
+    if !is_enabled_at_top(tree) {
         return Ok(());
     }
     let site = Site {

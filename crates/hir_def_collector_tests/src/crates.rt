@@ -28,7 +28,7 @@ struct Crates {
 }
 
 impl SourceDatabase for Crates {
-    ghost use Rattle.std.specs.Prelude.{None, option_map, slice_get, true, unwrap_or};
+    ghost use Rattle.std.specs.Prelude.{None, option_map, slice_get, false, true, unwrap_or};
     ghost use Rattle.hir_item_tree.specs.Attributes.{no_attributes};
     ghost use Rattle.hir_item_tree.specs.ItemTree.{tree_of};
     ghost use Rattle.hir_item_tree.specs.Source.{broken, source_view};
@@ -115,7 +115,7 @@ fn start(number: u32) -> Start {
 }
 
 /// Crate 0, and crate 1, which depends on it under the name `core`.
-fn crates(alloc: Global, upper: &str, is_prelude: bool) -> Result<Crates, Fail> {
+fn two_crates(alloc: Global, upper: &str, is_prelude: bool) -> Result<Crates, Fail> {
     let none = Rc::new(alloc, BTreeSet::new(alloc))?;
     let mut behind = BTreeSet::new(alloc);
     behind.insert(Crate(0))?;
@@ -162,7 +162,7 @@ fn names_of_another_crate(rt: HostRuntime) -> Result<(), Fail> {
             "marked",
             UPPER,
             true,
-            "- Hidden : _\n- O : type value (import)\n- S : type value (import)\n",
+            "- Hidden : _\n- O : type (import) value (import)\n- S : type (import) value (import)\n",
             1,
         ),
         ("unmarked", UPPER, false, "", 4),
@@ -170,7 +170,7 @@ fn names_of_another_crate(rt: HostRuntime) -> Result<(), Fail> {
     ];
     for (row, upper, is_prelude, expected, leftover) in rows {
         let alloc = rt.alloc();
-        let found = collected(alloc, &crates(alloc, upper, is_prelude)?)?;
+        let found = collected(alloc, &two_crates(alloc, upper, is_prelude)?)?;
         assert_eq!(rt; page(alloc, found.map())?.as_str(), expected, "{row}");
         assert_eq!(rt; found.leftover().len(), leftover, "{row}");
         assert_eq!(rt; found.asked().len(), 1, "{row}");
