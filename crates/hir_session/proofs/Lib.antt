@@ -1,6 +1,8 @@
 pub mod Truth
 pub mod Spreading
 pub mod Sound
+pub mod Gaining
+pub mod Stands
 pub mod Start
 pub mod Due
 pub mod Judging

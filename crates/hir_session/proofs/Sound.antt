@@ -54,6 +54,7 @@ applied_sound s F hits M sound judged sp = record {
   kept_len = sound.kept_len;
   marked_len = sp.len;
   below = sound.below;
+  behind = sound.behind;
   closed = λ k d off among. on_bool (mark_in M d.0) (λ on. clash (sp.all k (depends k d among (sp.only d.0 on))) off) (λ h. h);
   current = λ k off.
       let unseeded : seeded s.marked hits k ≡ false = on_bool (seeded s.marked hits k) (λ on. clash (sp.all k (here k on)) off) (λ h. h) in
@@ -112,6 +113,7 @@ resolved_sound s k r sound within first p =
       kept_len = length-set s.kept k (Some r) ∙ kept_len;
       marked_len = length-set s.marked k false ∙ marked_len;
       below = sound.below;
+      behind = sound.behind;
       closed = λ j d off among. on_same j k
           (λ e. mark-set s.marked k d.0 false (first d.0 (let lower : d.0 < j = sound.below j d among in omega arith)))
           (λ ne. mark-set s.marked k d.0 false (sound.closed j d (sym (get_or-set_other s.marked k j false true ne) ∙ off) among));

@@ -9,6 +9,8 @@ use Rattle.hir_session.specs.Files.{Files}
 use Rattle.hir_session.specs.SessionState.{SessionState, Resolution, mark_in, is_marked, IsSound}
 use Rattle.hir_session.specs.Refusals.{dependency_crates, has_late, first_out_of_order}
 use Rattle.hir_session.specs.Beginning.{IsMade, AreMade, Begins}
+use Rattle.hir_session.specs.Behind.{AreBuilt}
+use Rattle.hir_session.proofs.Stands.{stands}
 use Rattle.hir_session.proofs.Truth.{clash, on_bool}
 
 -- one more at the end
@@ -90,19 +92,22 @@ begins_sound inputs s few ordered is =
       kept_len = ap (λ (xs : List (Option Resolution)). length xs) is.kept ∙ length-replicate (length inputs) None ∙ sym count;
       marked_len = ap (λ (xs : List Bool). length xs) is.marked ∙ length-replicate (length inputs) true ∙ sym count;
       below = λ k d among. let lower : d.0 < 0 + k = below_from 0 inputs s.crates is.crates ordered k d among in omega arith;
+      behind = is.behind;
       closed = λ k d off among. clash (on k) off;
       current = λ k off. clash (on k) off;
     }
 
 -- the parts of a session that begins
 pub begins_with : (inputs : List CrateInput) (crates : List CrateValue) (paths : List (List ℕ)) (files : Files) (kept : List (Option Resolution)) (marked : List Bool)
-    (n : ℕ) → n ≡ length inputs → AreMade 0 (map crate_input_view inputs) crates → paths ≡ map (λ c. c.root) (map crate_input_view inputs) → files ≡ []
+    (n : ℕ) → n ≡ length inputs → AreMade 0 (map crate_input_view inputs) crates → AreBuilt crates → first_out_of_order 0 (map crate_input_view inputs) ≡ None
+    → paths ≡ map (λ c. c.root) (map crate_input_view inputs) → files ≡ []
     → kept ≡ replicate n None → marked ≡ replicate n true
     → Begins (map crate_input_view inputs) (record { crates = crates; paths = paths; files = files; kept = kept; marked = marked })
-begins_with inputs crates paths files kept marked n count made is_paths is_files is_kept is_marked =
+begins_with inputs crates paths files kept marked n count made built ordered is_paths is_files is_kept is_marked =
     let all : n ≡ length (map crate_input_view inputs) = count ∙ sym (length-map inputs crate_input_view) in
     record {
       crates = made;
+      behind = stands crates built (λ k d among. let lower : d.0 < 0 + k = below_from 0 (map crate_input_view inputs) crates made ordered k d among in omega arith);
       paths = is_paths;
       files = is_files;
       kept = is_kept ∙ ap (λ (m : ℕ). replicate m None) all;

@@ -1,8 +1,11 @@
 -- How does a session begin?
-use Rattle.std.specs.Prelude.{◌≡◌, ℕ, ◌+◌, true, List, [], ◌∷◌, length, map, replicate, None}
+use Rattle.std.specs.Prelude.{◌≡◌, ◌↔◌, ℕ, ◌+◌, true, List, [], ◌∷◌, length, map, replicate, None}
 use Rattle.hir_base.specs.CfgOptions.{SetAlike}
 use Rattle.hir_wire.specs.CommandValue.{CrateInputValue}
-use Rattle.hir_session.specs.Crates.{CrateValue}
+use Rattle.hir_base.specs.declared.ids.Crate.{Crate}
+use Rattle.hir_session.specs.Crates.{CrateValue, behind_in, dependencies_in}
+use Rattle.hir_session.specs.StandsOn.{StandsOn}
+use Rattle.hir_session.specs.Behind.{has_crate}
 use Rattle.hir_session.specs.SessionState.{SessionState}
 use Rattle.hir_session.specs.Refusals.{dependency_crates}
 
@@ -22,6 +25,8 @@ AreMade k (input ∷ inputs) [] = ⊥
 -- the session is over these crates, without files, and nothing of it is resolved
 pub record Begins (inputs : List CrateInputValue) (s : SessionState) : Type 0 where
   pub crates : AreMade 0 inputs s.crates
+  -- of each crate it is known on which it stands
+  pub behind : (k : ℕ) (c : Crate) → (has_crate (behind_in s.crates k) c ≡ true) ↔ StandsOn (dependencies_in s.crates) k c.0
   pub paths : s.paths ≡ map (λ c. c.root) inputs
   pub files : s.files ≡ []
   pub kept : s.kept ≡ replicate (length inputs) None

@@ -7,15 +7,17 @@ use Rattle.hir_base.specs.declared.ids.Crate.{Crate}
 use Rattle.hir_def_collector.specs.Workspace.{CrateData}
 use Rattle.hir_def_collector.specs.declared.collector.Start.{Start}
 
--- its root file, in its edition, the crates that it depends on, and the options that are set
+-- its root file, in its edition, the crates that it depends on, those on which it stands, directly or through others, by number,
+-- and the options that are set
 pub record CrateValue : Type 0 where
   pub root : EditionedFileId
   pub dependencies : List Crate
+  pub behind : List Crate
   pub options : List CfgAtom
 
 -- what stands for a crate that isn't there
 abbrev pub no_crate : CrateValue
-no_crate = record { root = record { file_id = record { 0 = 0 }; edition = Edition2024 }; dependencies = []; options = [] }
+no_crate = record { root = record { file_id = record { 0 = 0 }; edition = Edition2024 }; dependencies = []; behind = []; options = [] }
 
 -- the crate of this number
 abbrev pub crate_in : List CrateValue → ℕ → CrateValue
@@ -24,6 +26,10 @@ crate_in crates k = slice_index_or crates k no_crate
 -- what it depends on
 abbrev pub dependencies_in : List CrateValue → ℕ → List Crate
 dependencies_in crates k = (crate_in crates k).dependencies
+
+-- on what it stands, directly or through others
+abbrev pub behind_in : List CrateValue → ℕ → List Crate
+behind_in crates k = (crate_in crates k).behind
 
 -- the options that are set in it
 abbrev pub options_in : List CrateValue → ℕ → List CfgAtom

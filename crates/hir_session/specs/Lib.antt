@@ -1,4 +1,6 @@
 pub mod Crates
+pub mod StandsOn
+pub mod Behind
 pub mod Files
 pub mod SessionState
 pub mod SourceCodes

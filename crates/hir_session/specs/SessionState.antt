@@ -1,12 +1,14 @@
 -- Where does a session stand?
-use Rattle.std.specs.Prelude.{◌≡◌, ℕ, ◌<◌, ◌≤◌, Bool, true, false, List, length, Option, Some, None, slice_index_or, Contains}
+use Rattle.std.specs.Prelude.{◌≡◌, ◌↔◌, ℕ, ◌<◌, ◌≤◌, Bool, true, false, List, length, Option, Some, None, slice_index_or, Contains}
 use Rattle.hir_base.specs.declared.ids.Crate.{Crate}
 use Rattle.hir_def_map.specs.State.{no_maps}
 use Rattle.hir_def_collector.specs.Workspace.{Workspace}
 use Rattle.hir_def_collector.specs.Keys.{AgreeOn}
 use Rattle.hir_def_collector.specs.Derivation.{CollectedValue, Ends}
 use Rattle.hir_def_collector.specs.declared.collector.Start.{Start}
-use Rattle.hir_session.specs.Crates.{CrateValue, dependencies_in, start_in}
+use Rattle.hir_session.specs.Crates.{CrateValue, behind_in, dependencies_in, start_in}
+use Rattle.hir_session.specs.StandsOn.{StandsOn}
+use Rattle.hir_session.specs.Behind.{has_crate}
 use Rattle.hir_session.specs.Files.{Files, workspace_in}
 
 -- what is kept of a crate that was resolved: its map, the imports left over, and the keys that were asked for
@@ -70,5 +72,6 @@ pub record IsSound (s : SessionState) : Type 0 where
   pub kept_len : length s.kept ≡ length s.crates
   pub marked_len : length s.marked ≡ length s.crates
   pub below : (k : ℕ) (d : Crate) → Contains (dependencies_of s k) d → d.0 < k
+  pub behind : (k : ℕ) (c : Crate) → (has_crate (behind_in s.crates k) c ≡ true) ↔ StandsOn (dependencies_of s) k c.0
   pub closed : (k : ℕ) (d : Crate) → is_marked s k ≡ false → Contains (dependencies_of s k) d → is_marked s d.0 ≡ false
   pub current : (k : ℕ) → is_marked s k ≡ false → IsCurrent s k

@@ -3,8 +3,10 @@ ghost use Rattle.std.specs.Prelude.{◌≡◌, ◌<◌, ◌^◌, map, replicate,
 ghost use Rattle.hir_base.specs.CfgOptions.{SetAlike};
 ghost use Rattle.hir_wire.specs.CommandValue.{crate_input_view};
 ghost use Rattle.hir_session.specs.Refusals.{dependency_crates, has_late, first_out_of_order};
+ghost use Rattle.hir_session.specs.Behind.{AreBehind, AreBuilt};
 ghost use Rattle.hir_session.specs.Beginning.{IsMade, AreMade};
 
+use crate::behind::behind_of;
 use crate::crate_info::CrateInfo;
 use hir_base::ast_id::{EditionedFileId, FileId};
 use hir_base::cfg::CfgAtom;
@@ -62,27 +64,35 @@ fn options_of(alloc: Global, atoms: &Vec<CfgAtom>) -> Result<CfgOptions, AllocEr
     Ok(options)
 }
 
-/// A crate of this number, with a root file of the same.
-fn info_of(alloc: Global, k: u32, input: &CrateInput) -> Result<CrateInfo, AllocError>
+/// A crate of this number, with a root file of the same, behind the crates before it.
+fn info_of(
+    alloc: Global,
+    k: u32,
+    input: &CrateInput,
+    before: &Vec<CrateInfo>,
+) -> Result<CrateInfo, AllocError>
     ensures made { IfOk result (λ c. IsMade k (crate_input_view input.now) c) }
+    ensures behind { IfOk result (λ c. AreBehind before.now.items c.dependencies c.behind) }
 {
     let root = EditionedFileId {
         file_id: FileId(k),
         edition: input.edition,
     };
     let dependencies = named_crates(alloc, input.deps.as_slice())?;
+    let behind = behind_of(alloc, before, dependencies.as_slice())?;
     let options = options_of(alloc, &input.cfg)?;
-    Ok(CrateInfo::new(root, dependencies, options))
+    Ok(CrateInfo::new(root, dependencies, behind, options))
 }
 
 /// The crates of a session.
 pub fn infos_of(alloc: Global, inputs: &Vec<CrateInput>) -> Result<Vec<CrateInfo>, AllocError>
     requires few { length inputs.now.items < 2 ^ 32 }
     ensures made { IfOk result (λ v. AreMade 0 (map crate_input_view inputs.now.items) v.items) }
+    ensures built { IfOk result (λ v. AreBuilt v.items) }
 {
     let mut infos = Vec::new(alloc);
     for k in 0..inputs.as_slice().len() {
-        infos.push(info_of(alloc, k as u32, &inputs[k])?)?;
+        infos.push(info_of(alloc, k as u32, &inputs[k], &infos)?)?;
     }
     Ok(infos)
 }

@@ -5,13 +5,15 @@ ghost use Rattle.hir_session.specs.Crates.{crate_in, dependencies_in};
 use hir_base::ast_id::EditionedFileId;
 use hir_base::cfg_options::CfgOptions;
 use hir_base::ids::Crate;
+use std::collections::BTreeSet;
 use std::marker::Model;
 
-/// A crate: its root file, in its edition, the crates that it depends on, and the options that are set.
+/// A crate: its root file, in its edition, the crates that it depends on, all on which it stands, and the options that are set.
 #[derive(Drop)]
 pub struct CrateInfo {
     root: EditionedFileId,
     dependencies: Vec<Crate>,
+    behind: BTreeSet<Crate>,
     options: CfgOptions,
 }
 
@@ -20,16 +22,22 @@ impl Model for CrateInfo {
 
     ghost Value = { CrateValue };
 
-    ghost view = { λ c. record { root = c.root; dependencies = c.dependencies.items; options = c.options } };
+    ghost view = { λ c. record { root = c.root; dependencies = c.dependencies.items; behind = c.behind.keys; options = c.options } };
 }
 
 impl CrateInfo {
-    pub fn new(root: EditionedFileId, dependencies: Vec<Crate>, options: CfgOptions) -> CrateInfo
-        ensures value { result ≡ record { root = root; dependencies = dependencies.items; options = options } }
+    pub fn new(
+        root: EditionedFileId,
+        dependencies: Vec<Crate>,
+        behind: BTreeSet<Crate>,
+        options: CfgOptions,
+    ) -> CrateInfo
+        ensures value { result ≡ record { root = root; dependencies = dependencies.items; behind = behind.keys; options = options } }
     {
         CrateInfo {
             root,
             dependencies,
+            behind,
             options,
         }
     }
@@ -46,6 +54,13 @@ impl CrateInfo {
         ensures value { result.now ≡ self.now.dependencies }
     {
         self.dependencies.as_slice()
+    }
+
+    /// On what it stands, directly or through others.
+    pub fn behind(&self) -> &BTreeSet<Crate>
+        ensures value { result.now.keys ≡ self.now.behind }
+    {
+        &self.behind
     }
 
     /// The options that are set in it.

@@ -3,6 +3,7 @@
 
 mod answers;
 mod beginning;
+mod behind;
 mod crate_info;
 pub mod error;
 mod file_trees;

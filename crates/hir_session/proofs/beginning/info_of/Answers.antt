@@ -9,4 +9,5 @@ returns c = record {
     dependencies = rw c.as_slice.ensures.value at c.in_ok-dependencies.ensures.value;
     options = c.in_ok-options.ensures.value;
   });
+  behind = rw c.new.ensures.value (rw c.as_slice-2.ensures.value at c.in_ok-behind.ensures.behind);
 }

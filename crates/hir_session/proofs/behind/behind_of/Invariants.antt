@@ -1,0 +1,11 @@
+use Rattle.std.proofs.Common.{◌≡◌, ◌||◌, drop}
+use Rattle.std.specs.List.{list_any}
+use Rattle.hir_base.specs.declared.ids.Crate.{Crate}
+use Rattle.hir_session.specs.Behind.{has_crate, comes_by}
+use Rattle.hir_session.proofs.behind.behind_of.Given as goal
+
+-- what the set has, and those that are left give, is what all give
+abbrev pub invariant-loop-krate : goal.invariant-loop-krate
+invariant-loop-krate l =
+    (c : Crate) → (has_crate l.set.keys c || list_any (λ d. comes_by l.crates.items d c) (drop l.krate-index l.dependencies))
+    ≡ list_any (λ d. comes_by l.crates.items d c) l.dependencies
