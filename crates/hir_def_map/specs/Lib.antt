@@ -1,7 +1,9 @@
 pub mod Declaration
 pub mod State
+pub mod Codes
 pub mod Reads
 pub mod Building
+pub mod Macros
 pub mod Chains
 pub mod Above
 pub mod Beside
@@ -18,5 +20,7 @@ pub mod Laws
 pub mod DefMaps
 pub mod Inserted
 pub mod Removal
+pub mod SameMacros
 pub mod Same
+pub mod LocalHash
 pub mod Agreement
