@@ -1,6 +1,7 @@
 pub mod Declaration
 pub mod State
 pub mod Codes
+pub mod Origins
 pub mod Reads
 pub mod Building
 pub mod Macros
@@ -18,6 +19,7 @@ pub mod World
 pub mod Parts
 pub mod Laws
 pub mod DefMaps
+pub mod AskMaps
 pub mod Inserted
 pub mod Removal
 pub mod SameMacros

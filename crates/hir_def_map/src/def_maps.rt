@@ -10,6 +10,7 @@ ghost use Rattle.hir_def_map.specs.Scoping.Start.{is_dependency, is_in_edition_2
 ghost use Rattle.hir_def_map.specs.Parts.{part_of};
 ghost use Rattle.hir_def_map.specs.DefMaps.{maps_of, maps_placed};
 
+mod ancestors;
 mod paths;
 mod visibilities;
 
