@@ -5,9 +5,12 @@ pub mod State
 pub mod ItemIds
 pub mod Items
 pub mod Imports
+pub mod CrateTop
+pub mod Preludes
 pub mod Start
 pub mod TreeReads
 pub mod Steps
 pub mod Causes
 pub mod Derivation
 pub mod Moves
+pub mod Whole

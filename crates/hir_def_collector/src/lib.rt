@@ -3,4 +3,5 @@
 
 pub mod builtin_attr;
 pub mod collector;
+pub mod laws;
 pub mod source_database;

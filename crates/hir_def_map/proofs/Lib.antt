@@ -12,3 +12,4 @@ pub mod Parts
 pub mod Gaining
 pub mod Joined
 pub mod Falling
+pub mod Reached

@@ -14,7 +14,7 @@ use Rattle.hir_def_map.specs.Chains.{frame_of, frames_of, holders_of_frame, Hold
 
 -- ---- equal by the tests
 
-exact_crate : (a b : Crate) → same_crate a b ≡ true → a ≡ b
+pub exact_crate : (a b : Crate) → same_crate a b ≡ true → a ≡ b
 exact_crate a b e = λ i. record { 0 = (unsigned_Decides a.0 b.0).0 e i }
 
 abbrev map_of : Crate → Option BlockId → MapId
@@ -31,6 +31,16 @@ exact_map a b e = go a.krate b.krate a.block b.block e
       krate = record { 0 = (unsigned_Decides k.0 l.0).0 (first_so (k.0 == l.0) (x.0 == y.0) e) i };
       block = Some (record { 0 = (unsigned_Decides x.0 y.0).0 (second_so (k.0 == l.0) (x.0 == y.0) e) i });
     }
+
+pub same_id : (id : MapId) → map_id.ghosts.eq id id ≡ true
+same_id id = go id.block
+  where
+    first : (id.krate.0 == id.krate.0) ≡ true
+    first = (unsigned_Decides id.krate.0 id.krate.0).1 refl
+
+    go : (b : Option BlockId) → map_id.ghosts.eq (record { krate = id.krate; block = b }) (record { krate = id.krate; block = b }) ≡ true
+    go None = rw first refl
+    go (Some b) = rw (first, (unsigned_Decides b.0 b.0).1 refl) refl
 
 -- ---- in their places
 

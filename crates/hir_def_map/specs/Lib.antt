@@ -18,6 +18,10 @@ pub mod Among
 pub mod World
 pub mod Parts
 pub mod Laws
+pub mod Closed
+pub mod NoneOf
+pub mod Complete
+pub mod StaysComplete
 pub mod DefMaps
 pub mod AskMaps
 pub mod Inserted

@@ -1,5 +1,11 @@
 //! What holds of every path and every map. The functions do nothing: their contracts are the laws.
 ghost use Rattle.hir_def_map.specs.Laws.{AskersStay, DeclarationsKeepNames, DeclarationsKeepPlaces, JoinedSegments, LastSegmentsAreSeen, LaterSegmentsAreSeen, ModulesAreWalkedTo, PushesKeepPlaces, RootedStepsLeadToParents, SegmentsAreSeen, StepsLeadToParents, UnnamedBindingsDoNotMatter, WalksAreResolved};
+ghost use Rattle.std.specs.Prelude.{◌≡◌, true};
+ghost use Rattle.hir_def_map.specs.Closed.{IsClosed, PathsLeadToWhatIsThere};
+ghost use Rattle.hir_def_map.specs.Complete.{AreWhole, BeginsOnly, NamesOnly};
+ghost use Rattle.hir_def_map.specs.Named.{is_complete};
+ghost use Rattle.hir_def_map.specs.StaysComplete.{DeclarationsNameWhatIsThere, ModulesNameWhatIsThere, PushesNameWhatIsThere};
+ghost use Rattle.hir_def_map.specs.State.{Local, Map, Maps, beside};
 
 /// A path means the same over maps that agree on its names.
 pub fn unnamed_bindings_do_not_matter()
@@ -41,4 +47,24 @@ pub fn places_stay()
 /// A declaration that is listed leaves the modules, what they are in and what their names stand for.
 pub fn declarations_keep_names()
     ensures keeps { DeclarationsKeepNames }
+{}
+
+/// A path leads only to what is there, where all that is named lies among the maps.
+pub fn paths_lead_to_what_is_there()
+    ensures there { PathsLeadToWhatIsThere }
+{}
+
+/// Where each map names only what is there, all that is named lies among them; so does what a map names that is
+/// complete.
+pub fn whole_maps_are_closed()
+    ensures closed { (maps : Maps) → AreWhole maps → IsClosed maps }
+    ensures complete { (finished : Maps) (map : Map) (local : Local) → NamesOnly (beside finished map) map → BeginsOnly (beside finished map) local
+        → is_complete finished map local ≡ true }
+{}
+
+/// Pushes, lists, modules and preludes that name what is there leave a map that names only what is there.
+pub fn building_names_what_is_there()
+    ensures pushed { PushesNameWhatIsThere }
+    ensures listed { DeclarationsNameWhatIsThere }
+    ensures made { ModulesNameWhatIsThere }
 {}

@@ -1,0 +1,8 @@
+-- It begins with what is there, and each step leaves it so.
+use Rattle.std.proofs.Common.{refl}
+use Rattle.hir_def_collector.specs.Derivation.{read_by}
+use Rattle.hir_def_collector.proofs.Whole.{ends_whole}
+use Rattle.hir_def_collector.proofs.laws.runs_name_what_is_there.Goals as goal
+
+pub returns : goal.returns
+returns c = record { there = λ w finished start answer whole stands e. ends_whole c.paths_lead_to_what_is_there.ensures.there (read_by w finished start) whole w finished start answer refl stands e }

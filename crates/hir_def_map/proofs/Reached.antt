@@ -1,0 +1,306 @@
+-- A path leads only to what is there.
+use Rattle.std.proofs.Common.{◌≡◌, ◌∙◌, ap, sym, refl, ℕ, zero, suc, ◌+◌, List, [], ◌∷◌, Bool, true, false, ◌&&◌, ◌||◌, cond, Option, None, Some}
+use Rattle.std.specs.List.{All}
+use Rattle.std.specs.Option.{option_and_then, option_map}
+use Rattle.std.specs.Prelude.{is_some, not}
+use Rattle.std.proofs.lemmas.List.Elements.{All-head, All-tail}
+use Rattle.hir_base.specs.declared.builtin_type.BuiltinType.{BuiltinType as AnyBuiltin}
+use Rattle.hir_base.specs.BuiltinType.{builtin_named}
+use Rattle.hir_base.specs.declared.ids.AdtId.{AdtId}
+use Rattle.hir_base.specs.declared.ids.AdtId.TheVariants as adts
+use Rattle.hir_base.specs.declared.ids.Crate.{Crate}
+use Rattle.hir_base.specs.declared.ids.ExternCrateId.{ExternCrateId}
+use Rattle.hir_base.specs.declared.ids.ModuleId.{ModuleId as AnyModule}
+use Rattle.hir_base.specs.declared.ids.ModuleDefId.{ModuleDefId}
+use Rattle.hir_base.specs.declared.ids.ModuleDefId.TheVariants.{ModuleId, FunctionId, AdtId as AnyAdt, EnumVariantId, ConstId, StaticId, TraitId, TypeAliasId, BuiltinType, MacroId}
+use Rattle.hir_base.specs.declared.ids.UseId.{UseId}
+use Rattle.hir_base.specs.declared.macro_kind.MacroId.{MacroId as AnyMacro}
+use Rattle.hir_base.specs.declared.mod_path.PathKind.{PathKind}
+use Rattle.hir_base.specs.declared.mod_path.PathKind.TheVariants as kinds
+use Rattle.hir_item_tree.specs.Shape.{has_constructor}
+use Rattle.hir_scope.specs.declared.imports.ImportOrExternCrate.{ImportOrExternCrate}
+use Rattle.hir_scope.specs.declared.per_ns.Item.{Item}
+use Rattle.hir_scope.specs.declared.per_ns.PerNs.{PerNs}
+use Rattle.hir_scope.specs.declared.visibility.Visibility.{Visibility}
+use Rattle.hir_scope.specs.ModuleTree.{same_block, same_crate}
+use Rattle.hir_scope.specs.PerNs.{first_of, keep_item, keep_of, nothing, or_of, with_constructor}
+use Rattle.hir_scope.specs.Visibility.{is_visible}
+use Rattle.hir_def_map.specs.State.{Maps, at_name, entry_in, map_in, module_in, parent_in}
+use Rattle.hir_def_map.specs.Beside.{exact_crate}
+use Rattle.hir_def_map.specs.Chains.{above_in, holders_in}
+use Rattle.hir_def_map.specs.Closed.{AreThere, IsClosed, IsThere, LocalIsThere, MapIsThere, ModuleIsThere, TypeIsThere}
+use Rattle.hir_def_map.specs.Named.{crate_map}
+use Rattle.hir_def_map.specs.Scoping.Asking.{Asking}
+use Rattle.hir_def_map.specs.Scoping.Blocks.{from_blocks, in_preludes, inherited, joined, with_preludes}
+use Rattle.hir_def_map.specs.Scoping.FirstSegment.{builtin_bound, builtin_name, extern_bound, extern_name, fits, is_block_root, legacy_bound, legacy_name, legacy_of, macro_use_bound, macro_use_name, macro_use_of, name_in_module, name_in_preludes, name_in_root, names_module, of_style, prelude_bound, prelude_name, prelude_of, scope_name, shadow_before, unless_block_root, with_builtin}
+use Rattle.hir_def_map.specs.Scoping.Segments.{after_enum, crossing, nearest, nearest_in, rest, seen, stopped, through, through_adt, through_module, through_type, unresolved, variant_in}
+use Rattle.hir_def_map.specs.Scoping.Start.{abs_from, climb, crate_root, from_start, is_dependency, is_import, is_in_reach, module_bound, of_2015, settled_in_block, super_from}
+use Rattle.hir_def_map.specs.declared.nameres.enum_variants.EnumVariant.{EnumVariant}
+use Rattle.hir_def_map.specs.declared.nameres.path_resolution.BuiltinShadowMode.{BuiltinShadowMode}
+use Rattle.hir_def_map.specs.declared.nameres.path_resolution.BuiltinShadowMode.TheVariants as shadow_modes
+use Rattle.hir_def_map.specs.declared.nameres.path_resolution.MacroSubNs.{MacroSubNs}
+use Rattle.hir_def_map.specs.declared.nameres.path_resolution.ReachedFixedPoint.TheVariants.{Yes, No}
+use Rattle.hir_def_map.specs.declared.nameres.path_resolution.ResolvePathResult.{ResolvePathResult}
+
+module _ (maps : Maps) where
+  abbrev There : PerNs → Type 0
+  There p = AreThere maps p
+
+  abbrev Answers : ResolvePathResult → Type 0
+  Answers r = AreThere maps r.resolved_def
+
+  -- ---- joined and chosen
+
+  -- of two that are there the one is there
+  either : (b : Bool) (p q : PerNs) → There p → There q → There (cond b p q)
+  either true p q f g = f
+  either false p q f g = g
+
+  either_answer : (b : Bool) (p q : ResolvePathResult) → Answers p → Answers q → Answers (cond b p q)
+  either_answer true p q f g = f
+  either_answer false p q f g = g
+
+  or_there : (a b : PerNs) → There a → There b → There (or_of a b)
+  or_there a b f g = go a.types f
+    where
+      go : (t : Option (Item ModuleDefId ImportOrExternCrate)) → TypeIsThere maps t → TypeIsThere maps (first_of t b.types)
+      go None h = g
+      go (Some i) h = h
+
+  keep_there : (test : Visibility → Bool) (p : PerNs) → There p → There (keep_of test p)
+  keep_there test p f = go p.types f
+    where
+      kept : (b : Bool) (i : Item ModuleDefId ImportOrExternCrate) → IsThere maps i.def → TypeIsThere maps (cond b (Some i) None)
+      kept true i h = h
+      kept false i h = tt
+
+      go : (t : Option (Item ModuleDefId ImportOrExternCrate)) → TypeIsThere maps t → TypeIsThere maps (keep_item test t)
+      go None h = tt
+      go (Some i) h = kept (test i.vis) i h
+
+  module_there : (m : AnyModule) → ModuleIsThere maps m → There (module_bound m)
+  module_there m e = ap not e
+
+  -- ---- names of first segments
+
+  legacy_there : (sub_ns : Option MacroSubNs) (o : Option AnyMacro) → There (legacy_bound sub_ns o)
+  legacy_there sub_ns None = tt
+  legacy_there sub_ns (Some m) = go (fits sub_ns m)
+    where
+      go : (b : Bool) → There (cond b (legacy_bound None (Some m)) nothing)
+      go true = tt
+      go false = tt
+
+  builtin_there : (at : AnyModule) (name : List ℕ) → There (builtin_name at name)
+  unfolding builtin_name
+  builtin_there at name = go (is_some at.map.block) (builtin_named name)
+    where
+      go : (b : Bool) (o : Option AnyBuiltin) → There (cond b nothing (builtin_bound o))
+      go true o = tt
+      go false None = tt
+      go false (Some t) = refl
+
+  macro_use_there : (o : Option (AnyMacro × Option ExternCrateId)) → There (macro_use_bound o)
+  macro_use_there None = tt
+  macro_use_there (Some e) = tt
+
+  module _ (closed : IsClosed maps) (asking : Asking) (local : LocalIsThere maps asking.local) where
+    extern_there : (name : List ℕ) → There (extern_name asking.local name)
+    extern_there name = go (at_name asking.local name) refl
+      where
+        go : (o : Option (AnyModule × Option ExternCrateId)) → at_name asking.local name ≡ o → There (extern_bound o)
+        go None e = tt
+        go (Some entry) e = module_there entry.0 (local.modules name entry e)
+
+    prelude_there : (o : Option (AnyModule × Option UseId)) (name : List ℕ) → There (prelude_bound maps o name)
+    prelude_there None name = tt
+    prelude_there (Some p) name = closed.types p.0 name
+
+    unless_there : (at : AnyModule) (p : PerNs) → There p → There (unless_block_root at p)
+    unless_there at p f = either (is_block_root at) nothing p tt f
+
+    builtin_or : (shadow : BuiltinShadowMode) (scope builtin : PerNs) → There scope → There builtin → There (with_builtin shadow scope builtin)
+    builtin_or shadow_modes.Module scope builtin f g = or_there scope builtin f g
+    builtin_or shadow_modes.Other scope builtin f g = either (names_module scope.types) (or_of builtin scope) (or_of scope builtin) (or_there builtin scope g f) (or_there scope builtin f g)
+
+    name_there : (sub_ns : Option MacroSubNs) (shadow : BuiltinShadowMode) (at : AnyModule) (name : List ℕ) → There (name_in_module maps asking.local sub_ns shadow at name)
+    name_there sub_ns shadow at name =
+        let legacy : PerNs = legacy_name maps sub_ns at name in
+        let scope : PerNs = with_builtin shadow (scope_name maps sub_ns at name) (builtin_name at name) in
+        let crate_ : PerNs = unless_block_root at (extern_name asking.local name) in
+        let macro_use : PerNs = macro_use_name maps at name in
+        let prelude : PerNs = unless_block_root at (prelude_name maps at name) in
+        or_there (or_of (or_of (or_of legacy scope) crate_) macro_use) prelude
+        (or_there (or_of (or_of legacy scope) crate_) macro_use
+        (or_there (or_of legacy scope) crate_
+        (or_there legacy scope
+        (legacy_there sub_ns (legacy_of (module_in maps at) name))
+        (builtin_or shadow (scope_name maps sub_ns at name) (builtin_name at name) (closed.types at name) (builtin_there at name)))
+        (unless_there at (extern_name asking.local name) (extern_there name)))
+        (macro_use_there (macro_use_of (map_in maps at.map) name)))
+        (unless_there at (prelude_name maps at name) (prelude_there (prelude_of (map_in maps at.map)) name))
+
+    preludes_there : (at : AnyModule) (name : List ℕ) → There (name_in_preludes maps asking.local at name)
+    preludes_there at name =
+        or_there (or_of (extern_name asking.local name) (macro_use_name maps at name)) (prelude_name maps at name)
+        (or_there (extern_name asking.local name) (macro_use_name maps at name) (extern_there name) (macro_use_there (macro_use_of (map_in maps at.map) name)))
+        (prelude_there (prelude_of (map_in maps at.map)) name)
+
+    root_there : (at : AnyModule) (name : List ℕ) → There (name_in_root maps asking.local at name)
+    root_there at name =
+        or_there (entry_in maps (crate_root at.map.krate) name) (unless_block_root at (extern_name asking.local name))
+        (closed.types (crate_root at.map.krate) name) (unless_there at (extern_name asking.local name) (extern_there name))
+
+    -- ---- further segments
+
+    seen_there : (from at : AnyModule) (name : List ℕ) → There (seen maps from at name)
+    seen_there from at name = keep_there (λ v. is_visible (above_in maps) (holders_in maps) v from) (entry_in maps at name) (closed.types at name)
+
+    enum_there : (ss : List (List ℕ)) (i : ℕ) (item : Item ModuleDefId ImportOrExternCrate) → IsThere maps item.def → (o : Option EnumVariant) → Answers (after_enum ss i item o)
+    enum_there ss i item f None = f
+    enum_there [] i item f (Some v) = go (cond (has_constructor v.shape) (Some item.vis) None)
+      where
+        go : (c : Option Visibility) → There (with_constructor (EnumVariantId v.id) item.vis c None)
+        go None = refl
+        go (Some x) = refl
+    enum_there (s ∷ ss) i item f (Some v) = tt
+
+    through_there : (further : AnyModule → PerNs → ResolvePathResult) → ((from : AnyModule) (now : PerNs) → There now → Answers (further from now))
+        → (from : AnyModule) (ss : List (List ℕ)) (i : ℕ) (s : List ℕ) (t : Option (Item ModuleDefId ImportOrExternCrate)) → TypeIsThere maps t
+        → Answers (through_type further maps from ss i s t)
+    through_there further below from ss i s None f = tt
+    through_there further below from ss i s (Some item) f = go item.def
+      where
+        here : (m : AnyModule) (b : Bool) → Answers (cond b (further from (seen maps from m s)) (crossing (further (nearest_in maps m) (seen maps (nearest_in maps m) (nearest_in maps m) s))))
+        here m true = below from (seen maps from m s) (seen_there from m s)
+        here m false = below (nearest_in maps m) (seen maps (nearest_in maps m) (nearest_in maps m) s) (seen_there (nearest_in maps m) (nearest_in maps m) s)
+
+        adt : (a : AdtId) → Answers (through_adt maps ss i s item a)
+        adt (adts.EnumId id) = enum_there ss i item f (variant_in maps id s)
+        adt (adts.StructId id) = f
+        adt (adts.UnionId id) = f
+
+        go : (d : ModuleDefId) → Answers (through further maps from ss i s item d)
+        go (ModuleId m) = here m (same_crate m.map.krate from.map.krate)
+        go (AnyAdt a) = adt a
+        go (FunctionId x) = f
+        go (EnumVariantId x) = f
+        go (ConstId x) = f
+        go (StaticId x) = f
+        go (TraitId x) = f
+        go (TypeAliasId x) = f
+        go (BuiltinType x) = f
+        go (MacroId x) = f
+
+    rest_there : (from : AnyModule) (ss : List (List ℕ)) (i : ℕ) (now : PerNs) → There now → Answers (rest maps from ss i now)
+    rest_there from [] i now f = f
+    rest_there from (s ∷ ss) i now f = through_there (λ next_from next. rest maps next_from ss (i + 1) next) (λ next_from next g. rest_there next_from ss (i + 1) next g) from ss i s now.types f
+
+    -- ---- roots
+
+    either_module : (b : Bool) (m n : AnyModule) → ModuleIsThere maps m → ModuleIsThere maps n → ModuleIsThere maps (cond b m n)
+    either_module true m n f g = f
+    either_module false m n f g = g
+
+    near_there : (hs : List AnyModule) (m : AnyModule) → ModuleIsThere maps m → All (ModuleIsThere maps) hs → ModuleIsThere maps (nearest m hs)
+    near_there [] m e all = e
+    near_there (h ∷ hs) m e all = either_module (is_block_root m) (nearest h hs) m (near_there hs h (All-head (ModuleIsThere maps) h hs all) (All-tail (ModuleIsThere maps) h hs all)) e
+
+    nearest_there : (m : AnyModule) → ModuleIsThere maps m → ModuleIsThere maps (nearest_in maps m)
+    unfolding nearest_in
+    nearest_there m e = near_there (holders_in maps m) m e (closed.holders m)
+
+    climb_there : (n : ℕ) (m : AnyModule) → ModuleIsThere maps m → (to : AnyModule) → climb maps n m ≡ Some to → ModuleIsThere maps to
+    climb_there zero m e to f = let same : m ≡ to = cc in ap (λ (x : AnyModule). is_some (module_in maps x)) (sym same) ∙ e
+    climb_there (suc n) m e to f = go (λ q there g. climb_there n q there to g) (parent_in maps m) refl f
+      where
+        go : ((q : AnyModule) → ModuleIsThere maps q → climb maps n q ≡ Some to → ModuleIsThere maps to)
+            → (o : Option AnyModule) → parent_in maps m ≡ o → option_and_then (λ p. climb maps n (nearest_in maps p)) o ≡ Some to → ModuleIsThere maps to
+        go further None s g = absurd cc
+        go further (Some p) s g = further (nearest_in maps p) (nearest_there p (closed.parents m p s)) g
+
+    settled_there : (m : AnyModule) (r : ResolvePathResult) → Answers r → Answers (settled_in_block m r)
+    settled_there m r f = either_answer (is_some m.map.block && not (is_block_root m)) (record r { reached_fixedpoint = Yes }) r f f
+
+    super_there : (from : AnyModule) (ss : List (List ℕ)) (o : Option AnyModule) → ((m : AnyModule) → o ≡ Some m → ModuleIsThere maps m) → Answers (super_from maps from ss o)
+    super_there from ss None f = tt
+    super_there from ss (Some m) f =
+        either_answer (same_block m.map.block from.map.block) (rest maps from ss 0 (module_bound m)) (settled_in_block m (rest maps m ss 0 (module_bound m)))
+        (rest_there from ss 0 (module_bound m) (module_there m (f m refl)))
+        (settled_there m (rest maps m ss 0 (module_bound m)) (rest_there m ss 0 (module_bound m) (module_there m (f m refl))))
+
+    crate_there : (c : Crate) → MapIsThere maps (crate_map c) → There (module_bound (crate_root c))
+    crate_there c e = module_there (crate_root c) (closed.roots (crate_map c) e)
+
+    abs_there : (from : AnyModule) (ss : List (List ℕ)) (names : PerNs) → There names → Answers (abs_from maps from ss names)
+    abs_there from ss names f = either_answer (is_some names.types) (rest maps from ss 1 names) (unresolved No) (rest_there from ss 1 names f) tt
+
+    same_crates : (a b : Crate) → same_crate a b ≡ true → a ≡ b
+    same_crates a b e = exact_crate a b e
+
+    reach_there : (from : AnyModule) → ModuleIsThere maps from → (c : Crate) (ss : List (List ℕ))
+        → Answers (cond (is_in_reach maps from c) (rest maps from ss 0 (module_bound (crate_root c))) (unresolved No))
+    reach_there from e c ss = go (same_crate c from.map.krate) refl (is_dependency (map_in maps from.map) c) refl
+      where
+        go : (b : Bool) → same_crate c from.map.krate ≡ b → (d : Bool) → is_dependency (map_in maps from.map) c ≡ d
+            → Answers (cond (b || d) (rest maps from ss 0 (module_bound (crate_root c))) (unresolved No))
+        go true s d t = rest_there from ss 0 (module_bound (crate_root c)) (crate_there c (ap (λ (k : Crate). is_some (maps (crate_map k))) (same_crates c from.map.krate s) ∙ closed.crates from e))
+        go false s true t = rest_there from ss 0 (module_bound (crate_root c)) (crate_there c (closed.dependencies from.map c t))
+        go false s false t = tt
+
+    start_there : (from : AnyModule) → ModuleIsThere maps from → (kind : PathKind) (ss : List (List ℕ)) → Answers (from_start maps asking from kind ss)
+    start_there from e kinds.Crate ss = rest_there from ss 0 (module_bound (crate_root from.map.krate)) (crate_there from.map.krate (closed.crates from e))
+    start_there from e (kinds.DollarCrate c) ss = reach_there from e c ss
+    start_there from e (kinds.Super n) ss = super_there from ss (climb maps n (nearest_in maps from)) (λ m f. climb_there n (nearest_in maps from) (nearest_there from e) m f)
+    start_there from e kinds.Plain [] = tt
+    start_there from e kinds.Plain (s ∷ ss) = either_answer (of_2015 (map_in maps from.map) && is_import asking.mode)
+        (rest maps from ss 1 (name_in_root maps asking.local from s))
+        (rest maps from ss 1 (name_in_module maps asking.local asking.sub_ns (shadow_before ss asking.shadow) from s))
+        (rest_there from ss 1 (name_in_root maps asking.local from s) (root_there from s))
+        (rest_there from ss 1 (name_in_module maps asking.local asking.sub_ns (shadow_before ss asking.shadow) from s) (name_there asking.sub_ns (shadow_before ss asking.shadow) from s))
+    start_there from e kinds.Abs [] = tt
+    start_there from e kinds.Abs (s ∷ ss) = either_answer (of_2015 (map_in maps from.map))
+        (rest maps from ss 1 (name_in_root maps asking.local from s))
+        (abs_from maps from ss (extern_name asking.local s))
+        (rest_there from ss 1 (name_in_root maps asking.local from s) (root_there from s))
+        (abs_there from ss (extern_name asking.local s) (extern_there s))
+
+    -- ---- blocks
+
+    in_preludes_there : (root : AnyModule) (kind : PathKind) (ss : List (List ℕ)) → Answers (in_preludes maps asking root kind ss)
+    in_preludes_there root kinds.Crate ss = tt
+    in_preludes_there root (kinds.DollarCrate c) ss = tt
+    in_preludes_there root (kinds.Super n) ss = tt
+    in_preludes_there root kinds.Plain [] = tt
+    in_preludes_there root kinds.Plain (s ∷ ss) = either_answer (of_2015 (map_in maps root.map) && is_import asking.mode)
+        (rest maps root ss 1 (extern_name asking.local s))
+        (rest maps root ss 1 (name_in_preludes maps asking.local root s))
+        (rest_there root ss 1 (extern_name asking.local s) (extern_there s))
+        (rest_there root ss 1 (name_in_preludes maps asking.local root s) (preludes_there root s))
+    in_preludes_there root kinds.Abs [] = tt
+    in_preludes_there root kinds.Abs (s ∷ ss) = either_answer (of_2015 (map_in maps root.map))
+        (rest maps root ss 1 (extern_name asking.local s))
+        (abs_from maps root ss (extern_name asking.local s))
+        (rest_there root ss 1 (extern_name asking.local s) (extern_there s))
+        (abs_there root ss (extern_name asking.local s) (extern_there s))
+
+    joined_there : (a b : ResolvePathResult) → Answers a → Answers b → Answers (joined a b)
+    joined_there a b f g = or_there a.resolved_def b.resolved_def f g
+
+    with_preludes_there : (kind : PathKind) (ss : List (List ℕ)) (r : ResolvePathResult) → Answers r → (m : AnyModule) → Answers (with_preludes maps asking kind ss r m)
+    with_preludes_there kind ss r f m = either_answer (is_some m.map.block && not (is_block_root m))
+        (joined r (in_preludes maps asking (crate_root m.map.krate) kind ss)) r
+        (joined_there r (in_preludes maps asking (crate_root m.map.krate) kind ss) f (in_preludes_there (crate_root m.map.krate) kind ss)) f
+
+    inherited_there : (kind : PathKind) (ss : List (List ℕ)) (r : ResolvePathResult) → Answers r → (m : AnyModule) (hs : List AnyModule) → All (ModuleIsThere maps) hs
+        → Answers (inherited maps asking kind ss r m hs)
+    inherited_there kind ss r f m [] all = with_preludes_there kind ss r f m
+    inherited_there kind ss r f m (h ∷ hs) all = either_answer (is_block_root m)
+        (inherited maps asking kind ss (joined r (from_start maps asking h kind ss)) h hs)
+        (with_preludes maps asking kind ss r m)
+        (inherited_there kind ss (joined r (from_start maps asking h kind ss)) (joined_there r (from_start maps asking h kind ss) f (start_there h (All-head (ModuleIsThere maps) h hs all) kind ss)) h hs (All-tail (ModuleIsThere maps) h hs all))
+        (with_preludes_there kind ss r f m)
+
+    -- a path leads only to what is there
+    pub paths_lead_there : (from : AnyModule) → ModuleIsThere maps from → (kind : PathKind) (ss : List (List ℕ)) → Answers (from_blocks maps asking from kind ss)
+    paths_lead_there from e kind ss = inherited_there kind ss (from_start maps asking from kind ss) (start_there from e kind ss) from (holders_in maps from) (closed.holders from)
