@@ -24,9 +24,9 @@ use Rattle.hir_def_map.specs.State.{CrateData, Map, Maps, Placed, entry_in, map_
 use Rattle.hir_def_map.specs.Chains.{Frame, above_by, above_in, frame_of, frames_of, holders_by, holders_in}
 use Rattle.hir_def_map.specs.Scoping.Asking.{Asking}
 use Rattle.hir_def_map.specs.Scoping.Blocks.{from_blocks, in_preludes, inherited, joined, with_preludes}
-use Rattle.hir_def_map.specs.Scoping.FirstSegment.{builtin_name, extern_name, is_block_root, legacy_bound, macro_use_bound, name_in_module, name_in_preludes, name_in_root, of_style, prelude_bound, prelude_name, prelude_of, shadow_before, unless_block_root, with_builtin}
-use Rattle.hir_def_map.specs.Scoping.Segments.{after_enum, crossing, nearest, nearest_in, rest, seen, through, through_adt, through_type, unresolved}
-use Rattle.hir_def_map.specs.Scoping.Start.{abs_from, climb, crate_root, from_start, is_2015, is_dependency, is_import, is_in_reach, module_bound, of_2015, settled_in_block, super_from}
+use Rattle.hir_def_map.specs.Scoping.FirstSegment.{builtin_name, extern_name, is_block_root, legacy_bound, macro_use_bound, name_in_module, name_in_preludes, name_in_crate_root_or_extern_prelude, of_style, prelude_bound, prelude_name, prelude_of, shadow_before, unless_block_root, with_builtin}
+use Rattle.hir_def_map.specs.Scoping.Segments.{after_enum, crossing, nearest_non_block_among, nearest_non_block_module, rest, seen, through, through_adt, through_type, unresolved}
+use Rattle.hir_def_map.specs.Scoping.Start.{abs_from, climb, crate_root, from_start, is_edition_2015, is_dependency, is_import, is_in_reach, module_bound, is_in_edition_2015, settled_in_block, super_from}
 use Rattle.hir_def_map.specs.declared.nameres.path_resolution.ReachedFixedPoint.TheVariants.{No}
 use Rattle.hir_def_map.specs.declared.nameres.path_resolution.ResolvePathResult.{ResolvePathResult}
 use Rattle.hir_def_map.specs.Laws.{data_of, prelude_module_of, AgreeOnName}
@@ -46,9 +46,9 @@ parent-by (Some placed) at = parent_listed placed.map.modules at
 
 abbrev data_2015 : Option CrateData → Bool
 data_2015 None = false
-data_2015 (Some said) = is_2015 said.edition
+data_2015 (Some said) = is_edition_2015 said.edition
 
-data-2015 : (o : Option Map) → of_2015 o ≡ data_2015 (data_of o)
+data-2015 : (o : Option Map) → is_in_edition_2015 o ≡ data_2015 (data_of o)
 data-2015 None = refl
 data-2015 (Some map) = refl
 
@@ -87,15 +87,15 @@ module _ (one other : Maps) (frames : (id : MapId) → frames_of one id ≡ fram
   same_holders : (m : AnyModule) → holders_in one m ≡ holders_in other m
   same_holders m = λ i. holders_by (λ id. frames id i) m
 
-  same_nearest : nearest_in one ≡ nearest_in other
-  unfolding nearest_in
-  same_nearest = λ i m. nearest m (same_holders m i)
+  same_nearest : nearest_non_block_module one ≡ nearest_non_block_module other
+  unfolding nearest_non_block_module
+  same_nearest = λ i m. nearest_non_block_among m (same_holders m i)
 
   same_parent : (m : AnyModule) → parent_in one m ≡ parent_in other m
   unfolding frames_of
   same_parent m = sym (parent-by (one m.map) m.index) ∙ ap (λ (o : Option Frame). parent_by o m.index) (frames m.map) ∙ parent-by (other m.map) m.index
 
-  same_2015 : (id : MapId) → of_2015 (map_in one id) ≡ of_2015 (map_in other id)
+  same_2015 : (id : MapId) → is_in_edition_2015 (map_in one id) ≡ is_in_edition_2015 (map_in other id)
   same_2015 id = data-2015 (map_in one id) ∙ ap data_2015 (datas id) ∙ sym (data-2015 (map_in other id))
 
   same_dependency : (id : MapId) (c : Crate) → is_dependency (map_in one id) c ≡ is_dependency (map_in other id) c
@@ -135,7 +135,7 @@ module _ (one other : Maps) (frames : (id : MapId) → frames_of one id ≡ fram
     same_in_preludes : (asking : Asking) (at : AnyModule) → name_in_preludes one asking.local at name ≡ name_in_preludes other asking.local at name
     same_in_preludes asking at = λ i. or_of (or_of (extern_name asking.local name) (macro_use_bound (agree.macro_uses at.map i))) (same_prelude at i)
 
-    same_in_root : (asking : Asking) (at : AnyModule) → name_in_root one asking.local at name ≡ name_in_root other asking.local at name
+    same_in_root : (asking : Asking) (at : AnyModule) → name_in_crate_root_or_extern_prelude one asking.local at name ≡ name_in_crate_root_or_extern_prelude other asking.local at name
     same_in_root asking at = λ i.
         or_of (agree.entries (root_of (record { krate = at.map.krate; block = None })) i) (unless_block_root at (extern_name asking.local name))
 
@@ -200,12 +200,12 @@ module _ (one other : Maps) (frames : (id : MapId) → frames_of one id ≡ fram
     same_start from kinds.Crate segs agree = same_rest segs agree 0 from (module_bound (crate_root from.map.krate))
     same_start from (kinds.DollarCrate c) segs agree = λ i. cond (same_reach from c i) (same_rest segs agree 0 from (module_bound (crate_root c)) i) (unresolved No)
     same_start from (kinds.Super n) segs agree =
-        (λ i. super_from one from segs (same_climb n i (same_nearest i from))) ∙ same_super from segs agree (climb other n (nearest_in other from))
+        (λ i. super_from one from segs (same_climb n i (same_nearest i from))) ∙ same_super from segs agree (climb other n (nearest_non_block_module other from))
     same_start from kinds.Plain [] agree = refl
     same_start from kinds.Plain (s ∷ ss) agree =
         let here : AgreeOnName one other s = first_of_names s ss agree in
         let left : Agree ss = other_names s ss agree in
-        let root : _ ≡ _ = same_from ss left 1 from (name_in_root one asking.local from s) (name_in_root other asking.local from s) (same_in_root s here asking from) in
+        let root : _ ≡ _ = same_from ss left 1 from (name_in_crate_root_or_extern_prelude one asking.local from s) (name_in_crate_root_or_extern_prelude other asking.local from s) (same_in_root s here asking from) in
         let named : _ ≡ _ = same_from ss left 1 from (name_in_module one asking.local asking.sub_ns (shadow_before ss asking.shadow) from s)
         (name_in_module other asking.local asking.sub_ns (shadow_before ss asking.shadow) from s) (same_in_module s here asking ss from) in
         λ i. cond (same_2015 from.map i && is_import asking.mode) (root i) (named i)
@@ -213,7 +213,7 @@ module _ (one other : Maps) (frames : (id : MapId) → frames_of one id ≡ fram
     same_start from kinds.Abs (s ∷ ss) agree =
         let here : AgreeOnName one other s = first_of_names s ss agree in
         let left : Agree ss = other_names s ss agree in
-        let root : _ ≡ _ = same_from ss left 1 from (name_in_root one asking.local from s) (name_in_root other asking.local from s) (same_in_root s here asking from) in
+        let root : _ ≡ _ = same_from ss left 1 from (name_in_crate_root_or_extern_prelude one asking.local from s) (name_in_crate_root_or_extern_prelude other asking.local from s) (same_in_root s here asking from) in
         λ i. cond (same_2015 from.map i) (root i) (same_abs from ss left (extern_name asking.local s) i)
 
     same_preludes : (root : AnyModule) (kind : PathKind) (segs : List (List ℕ)) → Agree segs → in_preludes one asking root kind segs ≡ in_preludes other asking root kind segs

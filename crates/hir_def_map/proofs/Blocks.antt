@@ -6,16 +6,16 @@ use Rattle.hir_def_map.specs.State.{Maps}
 use Rattle.hir_def_map.specs.Scoping.Asking.{Asking}
 use Rattle.hir_def_map.specs.Scoping.Blocks.{inherited, with_preludes}
 use Rattle.hir_def_map.specs.Scoping.FirstSegment.{is_block_root}
-use Rattle.hir_def_map.specs.Scoping.Segments.{nearest}
+use Rattle.hir_def_map.specs.Scoping.Segments.{nearest_non_block_among}
 use Rattle.hir_def_map.specs.declared.nameres.path_resolution.ResolvePathResult.{ResolvePathResult}
 
-pub nearest-stop : (m : ModuleId) (hs : List ModuleId) → is_block_root m ≡ false → nearest m hs ≡ m
-nearest-stop m [] e = refl
-nearest-stop m (h ∷ hs) e = rw e refl
+pub nearest_non_block_among-stop : (m : ModuleId) (hs : List ModuleId) → is_block_root m ≡ false → nearest_non_block_among m hs ≡ m
+nearest_non_block_among-stop m [] e = refl
+nearest_non_block_among-stop m (h ∷ hs) e = rw e refl
 
 pub inherited-stop : (maps : Maps) (asking : Asking) (kind : PathKind) (segs : List (List ℕ)) (r : ResolvePathResult) (m : ModuleId) (hs : List ModuleId)
     → is_block_root m ≡ false → inherited maps asking kind segs r m hs ≡ with_preludes maps asking kind segs r m
 inherited-stop maps asking kind segs r m [] e = refl
 inherited-stop maps asking kind segs r m (h ∷ hs) e = rw e refl
 
-pub ruleset stops = (nearest-stop, inherited-stop)
+pub ruleset stops = (nearest_non_block_among-stop, inherited-stop)

@@ -17,7 +17,7 @@ use Rattle.hir_scope.specs.declared.visibility.Visibility.{Visibility}
 use Rattle.hir_scope.specs.ModuleTree.{same_crate}
 use Rattle.hir_scope.specs.PerNs.{with_constructor}
 use Rattle.hir_def_map.specs.State.{Maps}
-use Rattle.hir_def_map.specs.Scoping.Segments.{after_enum, crossing, nearest_in, resolved, rest, seen, through, through_adt, through_module, through_type, variant_in}
+use Rattle.hir_def_map.specs.Scoping.Segments.{after_enum, crossing, nearest_non_block_module, resolved, rest, seen, through, through_adt, through_module, through_type, variant_in}
 use Rattle.hir_def_map.specs.Scoping.Walked.{Walked, crossed_by, into_other_crate, walked, walked_module, walked_through, walked_type}
 use Rattle.hir_def_map.specs.declared.nameres.enum_variants.EnumVariant.{EnumVariant}
 use Rattle.hir_def_map.specs.declared.nameres.path_resolution.ResolvePathResult.{ResolvePathResult}
@@ -46,13 +46,13 @@ module _ (maps : Maps) (ys : List (List ℕ)) where
     join_module from s m = go (same_crate m.map.krate from.map.krate)
       where
         go : (b : Bool) → JoinsAt k
-            (cond b (f from (seen maps from m s)) (crossing (f (nearest_in maps m) (seen maps (nearest_in maps m) (nearest_in maps m) s))))
-            (cond b (g from (seen maps from m s)) (option_map into_other_crate (g (nearest_in maps m) (seen maps (nearest_in maps m) (nearest_in maps m) s))))
+            (cond b (f from (seen maps from m s)) (crossing (f (nearest_non_block_module maps m) (seen maps (nearest_non_block_module maps m) (nearest_non_block_module maps m) s))))
+            (cond b (g from (seen maps from m s)) (option_map into_other_crate (g (nearest_non_block_module maps m) (seen maps (nearest_non_block_module maps m) (nearest_non_block_module maps m) s))))
         go true = below from (seen maps from m s)
         go false =
-            join_crossing k (f (nearest_in maps m) (seen maps (nearest_in maps m) (nearest_in maps m) s))
-            (g (nearest_in maps m) (seen maps (nearest_in maps m) (nearest_in maps m) s))
-            (below (nearest_in maps m) (seen maps (nearest_in maps m) (nearest_in maps m) s))
+            join_crossing k (f (nearest_non_block_module maps m) (seen maps (nearest_non_block_module maps m) (nearest_non_block_module maps m) s))
+            (g (nearest_non_block_module maps m) (seen maps (nearest_non_block_module maps m) (nearest_non_block_module maps m) s))
+            (below (nearest_non_block_module maps m) (seen maps (nearest_non_block_module maps m) (nearest_non_block_module maps m) s))
 
     join_type : (from : AnyModule) (ss : List (List ℕ)) (i : ℕ) (s : List ℕ) (t : Option (Item ModuleDefId ImportOrExternCrate)) → JoinsAt k (through_type f maps from ss i s t) (walked_type g maps from s t)
     join_type from ss i s None = λ w e. absurd cc
@@ -120,12 +120,12 @@ module _ (maps : Maps) (m : AnyModule) where
     walk_module from s n = go (same_crate n.map.krate from.map.krate)
       where
         go : (b : Bool) → IsWalked m
-            (cond b (f from (seen maps from n s)) (crossing (f (nearest_in maps n) (seen maps (nearest_in maps n) (nearest_in maps n) s))))
-            (cond b (g from (seen maps from n s)) (option_map into_other_crate (g (nearest_in maps n) (seen maps (nearest_in maps n) (nearest_in maps n) s))))
+            (cond b (f from (seen maps from n s)) (crossing (f (nearest_non_block_module maps n) (seen maps (nearest_non_block_module maps n) (nearest_non_block_module maps n) s))))
+            (cond b (g from (seen maps from n s)) (option_map into_other_crate (g (nearest_non_block_module maps n) (seen maps (nearest_non_block_module maps n) (nearest_non_block_module maps n) s))))
         go true = below from (seen maps from n s)
         go false = λ it e k h.
-            there-other (g (nearest_in maps n) (seen maps (nearest_in maps n) (nearest_in maps n) s))
-            (below (nearest_in maps n) (seen maps (nearest_in maps n) (nearest_in maps n) s) it e k h)
+            there-other (g (nearest_non_block_module maps n) (seen maps (nearest_non_block_module maps n) (nearest_non_block_module maps n) s))
+            (below (nearest_non_block_module maps n) (seen maps (nearest_non_block_module maps n) (nearest_non_block_module maps n) s) it e k h)
 
     walk_adt : (from : AnyModule) (ss : List (List ℕ)) (i : ℕ) (s : List ℕ) (item : Item ModuleDefId ImportOrExternCrate) (adt : AdtId) → IsWalked m (through_adt maps ss i s item adt) None
     walk_adt from ss i s item (adts.EnumId id) = λ it e k h. absurd (variant-no_module ss i item (variant_in maps id s) it e k h)
@@ -170,9 +170,9 @@ module _ (maps : Maps) where
     stay_type from s (Some item) = go item.def
       where
         on : (m : AnyModule) (b : Bool) → Stays from
-            (cond b (g from (seen maps from m s)) (option_map into_other_crate (g (nearest_in maps m) (seen maps (nearest_in maps m) (nearest_in maps m) s))))
+            (cond b (g from (seen maps from m s)) (option_map into_other_crate (g (nearest_non_block_module maps m) (seen maps (nearest_non_block_module maps m) (nearest_non_block_module maps m) s))))
         on m true = below from (seen maps from m s)
-        on m false = crossed-moves from (g (nearest_in maps m) (seen maps (nearest_in maps m) (nearest_in maps m) s))
+        on m false = crossed-moves from (g (nearest_non_block_module maps m) (seen maps (nearest_non_block_module maps m) (nearest_non_block_module maps m) s))
 
         go : (d : ModuleDefId) → Stays from (walked_through g maps from s d)
         go (ModuleId m) = on m (same_crate m.map.krate from.map.krate)

@@ -12,9 +12,9 @@ use Rattle.hir_def_map.specs.State.{Maps, map_in}
 use Rattle.hir_def_map.specs.Chains.{holders_in}
 use Rattle.hir_def_map.specs.Scoping.Asking.{Asking}
 use Rattle.hir_def_map.specs.Scoping.Blocks.{from_blocks, in_preludes, inherited, joined, with_preludes}
-use Rattle.hir_def_map.specs.Scoping.FirstSegment.{extern_name, is_block_root, name_in_module, name_in_root, shadow_before}
-use Rattle.hir_def_map.specs.Scoping.Segments.{crossing, nearest_in, resolved, rest, seen, through, through_type, unresolved}
-use Rattle.hir_def_map.specs.Scoping.Start.{abs_from, climb, crate_root, from_start, is_import, is_in_reach, module_bound, of_2015, settled_in_block, super_from}
+use Rattle.hir_def_map.specs.Scoping.FirstSegment.{extern_name, is_block_root, name_in_module, name_in_crate_root_or_extern_prelude, shadow_before}
+use Rattle.hir_def_map.specs.Scoping.Segments.{crossing, nearest_non_block_module, resolved, rest, seen, through, through_type, unresolved}
+use Rattle.hir_def_map.specs.Scoping.Start.{abs_from, climb, crate_root, from_start, is_import, is_in_reach, module_bound, is_in_edition_2015, settled_in_block, super_from}
 use Rattle.hir_def_map.specs.Scoping.Walked.{Walked, crossed_by, walked}
 use Rattle.hir_def_map.specs.declared.nameres.path_resolution.BuiltinShadowMode.{BuiltinShadowMode}
 use Rattle.hir_def_map.specs.declared.nameres.path_resolution.BuiltinShadowMode.TheVariants as shadow_modes
@@ -53,7 +53,7 @@ module _ (maps : Maps) (at : AnyModule) (name : List ℕ) where
       ap (λ (m : AnyModule). rest maps m (name ∷ []) k now) (stays refl)
       ∙ ap (through_type (λ next_from found. resolved found) maps from [] k name) types
       ∙ ap (through (λ next_from found. resolved found) maps from [] k name leads.item) leads.is_module
-      ∙ ap (λ (b : Bool). cond b (resolved (seen maps from at name)) (crossing (resolved (seen maps (nearest_in maps at) (nearest_in maps at) name)))) own
+      ∙ ap (λ (b : Bool). cond b (resolved (seen maps from at name)) (crossing (resolved (seen maps (nearest_non_block_module maps at) (nearest_non_block_module maps at) name)))) own
 
   rest_last : (from : AnyModule) (xs : List (List ℕ)) (i : ℕ) (now : PerNs) → LeadsTo at (rest maps from xs i now) → same_crate at.map.krate from.map.krate ≡ true
       → rest maps from (xs ++ name ∷ []) i now ≡ resolved (seen maps from at name)
@@ -110,12 +110,12 @@ module _ (maps : Maps) (at : AnyModule) (name : List ℕ) where
       → same_crate at.map.krate (asker_of maps from kind).map.krate ≡ true → from_start maps asking from kind (segs ++ name ∷ []) ≡ resolved (seen maps (asker_of maps from kind) at name)
   start_last asking from modules kinds.Crate segs leads own = rest_last from segs 0 (module_bound (crate_root from.map.krate)) leads own
   start_last asking from modules (kinds.DollarCrate c) segs leads own = if_last from (is_in_reach maps from c) segs 0 (module_bound (crate_root c)) leads own
-  start_last asking from modules (kinds.Super n) segs leads own = super_last from segs (climb maps n (nearest_in maps from)) leads own
+  start_last asking from modules (kinds.Super n) segs leads own = super_last from segs (climb maps n (nearest_non_block_module maps from)) leads own
   start_last asking from modules kinds.Plain [] leads own = absurd (leads-nowhere at Yes leads)
   start_last asking from modules kinds.Plain (s ∷ ss) leads own =
-      ap (λ (mode : BuiltinShadowMode). cond (of_2015 (map_in maps from.map) && is_import asking.mode) (rest maps from (ss ++ name ∷ []) 1 (name_in_root maps asking.local from s)) (rest maps from (ss ++ name ∷ []) 1 (name_in_module maps asking.local asking.sub_ns mode from s)))
+      ap (λ (mode : BuiltinShadowMode). cond (is_in_edition_2015 (map_in maps from.map) && is_import asking.mode) (rest maps from (ss ++ name ∷ []) 1 (name_in_crate_root_or_extern_prelude maps asking.local from s)) (rest maps from (ss ++ name ∷ []) 1 (name_in_module maps asking.local asking.sub_ns mode from s)))
       (ap (shadow_before (ss ++ name ∷ [])) modules ∙ sym (same_shadow ss) ∙ ap (shadow_before ss) (sym modules))
-      ∙ either_last from (of_2015 (map_in maps from.map) && is_import asking.mode) ss 1 (name_in_root maps asking.local from s) (name_in_module maps asking.local asking.sub_ns (shadow_before ss asking.shadow) from s) leads own
+      ∙ either_last from (is_in_edition_2015 (map_in maps from.map) && is_import asking.mode) ss 1 (name_in_crate_root_or_extern_prelude maps asking.local from s) (name_in_module maps asking.local asking.sub_ns (shadow_before ss asking.shadow) from s) leads own
   start_last asking from modules kinds.Abs [] leads own = absurd (leads-nowhere at Yes leads)
   start_last asking from modules kinds.Abs (s ∷ ss) leads own =
-      abs_last from (of_2015 (map_in maps from.map)) ss (name_in_root maps asking.local from s) (extern_name asking.local s) leads own
+      abs_last from (is_in_edition_2015 (map_in maps from.map)) ss (name_in_crate_root_or_extern_prelude maps asking.local from s) (extern_name asking.local s) leads own

@@ -7,7 +7,7 @@ use Rattle.hir_scope.specs.declared.visibility.Visibility.{Visibility}
 use Rattle.hir_scope.specs.ModuleTree.{same_crate}
 use Rattle.hir_scope.specs.PerNs.{keep_item, keep_of}
 use Rattle.hir_def_map.specs.State.{Maps, entry_in}
-use Rattle.hir_def_map.specs.Scoping.Segments.{crossing, nearest_in, seen}
+use Rattle.hir_def_map.specs.Scoping.Segments.{crossing, nearest_non_block_module, seen}
 use Rattle.hir_def_map.specs.declared.nameres.path_resolution.ResolvePathResult.{ResolvePathResult}
 use Rattle.hir_def_map.specs.Laws.{may_see, AreKept, IsKept, TakesHere, TakesThere}
 
@@ -29,14 +29,14 @@ AreKept-keep_of test p = record {
 
 module _ (maps : Maps) (from m : ModuleId) (s : List ℕ) where
   abbrev on : (ModuleId → PerNs → ResolvePathResult) → Bool → ResolvePathResult
-  on further b = cond b (further from (seen maps from m s)) (crossing (further (nearest_in maps m) (seen maps (nearest_in maps m) (nearest_in maps m) s)))
+  on further b = cond b (further from (seen maps from m s)) (crossing (further (nearest_non_block_module maps m) (seen maps (nearest_non_block_module maps m) (nearest_non_block_module maps m) s)))
 
   pub takes_here : same_crate m.map.krate from.map.krate ≡ true → TakesHere maps from m s
   takes_here e = (seen maps from m s, AreKept-keep_of (may_see maps from) (entry_in maps m s), λ further. ap (on further) e)
 
   pub takes_there : same_crate m.map.krate from.map.krate ≡ false → TakesThere maps from m s
   takes_there e = (
-    seen maps (nearest_in maps m) (nearest_in maps m) s,
-    AreKept-keep_of (may_see maps (nearest_in maps m)) (entry_in maps (nearest_in maps m) s),
+    seen maps (nearest_non_block_module maps m) (nearest_non_block_module maps m) s,
+    AreKept-keep_of (may_see maps (nearest_non_block_module maps m)) (entry_in maps (nearest_non_block_module maps m) s),
     λ further. ap (on further) e,
   )

@@ -26,7 +26,7 @@ use Rattle.hir_def_map.specs.Chains.{above_in, frame_of, frames_of, holders_in, 
 use Rattle.hir_def_map.specs.Scoping.{resolution_of}
 use Rattle.hir_def_map.specs.Scoping.Asking.{Asking}
 use Rattle.hir_def_map.specs.Scoping.FirstSegment.{legacy_of, macro_use_of, prelude_of}
-use Rattle.hir_def_map.specs.Scoping.Segments.{crossing, nearest_in, resolved, rest, seen, through_module, variant_in}
+use Rattle.hir_def_map.specs.Scoping.Segments.{crossing, nearest_non_block_module, resolved, rest, seen, through_module, variant_in}
 use Rattle.hir_def_map.specs.Scoping.Start.{climb}
 use Rattle.hir_def_map.specs.Scoping.Walked.{Walked, crossed_by, walked}
 
@@ -90,8 +90,8 @@ TakesHere maps from m s =
 -- a segment in a module of another crate takes a name of the module where the path goes on, which is the asking module from there on
 abbrev pub TakesThere : Maps → ModuleId → ModuleId → List ℕ → Type 0
 TakesThere maps from m s =
-    (items : PerNs) × AreKept (may_see maps (nearest_in maps m)) (entry_in maps (nearest_in maps m) s) items
-    × ((further : ModuleId → PerNs → ResolvePathResult) → through_module further maps from s m ≡ crossing (further (nearest_in maps m) items))
+    (items : PerNs) × AreKept (may_see maps (nearest_non_block_module maps m)) (entry_in maps (nearest_non_block_module maps m) s) items
+    × ((further : ModuleId → PerNs → ResolvePathResult) → through_module further maps from s m ≡ crossing (further (nearest_non_block_module maps m) items))
 
 -- each segment after what names a module hands on what the module that asks there may see
 abbrev pub LaterSegmentsAreSeen : Type 0
@@ -138,7 +138,7 @@ super_asker from (Some m) = cond (same_block m.map.block from.map.block) from m
 
 -- the module from which a path's segments are asked
 abbrev pub asker_of : Maps → ModuleId → PathKind → ModuleId
-asker_of maps from (kinds.Super n) = super_asker from (climb maps n (nearest_in maps from))
+asker_of maps from (kinds.Super n) = super_asker from (climb maps n (nearest_non_block_module maps from))
 asker_of maps from _ = from
 
 -- a path that leads from a crate's own map to a module, and one more name: what the module has under it, as far as the asking module may see it

@@ -1,7 +1,10 @@
 pub mod Declaration
 pub mod State
+pub mod Codes
+pub mod Origins
 pub mod Reads
 pub mod Building
+pub mod Macros
 pub mod Chains
 pub mod Above
 pub mod Beside
@@ -20,7 +23,10 @@ pub mod NoneOf
 pub mod Complete
 pub mod StaysComplete
 pub mod DefMaps
+pub mod AskMaps
 pub mod Inserted
 pub mod Removal
+pub mod SameMacros
 pub mod Same
+pub mod LocalHash
 pub mod Agreement

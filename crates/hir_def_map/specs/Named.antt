@@ -17,6 +17,7 @@ use Rattle.hir_scope.specs.declared.imports.ImportOrExternCrate.{ImportOrExternC
 use Rattle.hir_scope.specs.declared.per_ns.Item.{Item}
 use Rattle.hir_def_map.specs.declared.world.named.Named.{Named}
 use Rattle.hir_def_map.specs.declared.world.named.Named.TheVariants as named
+pub use Rattle.hir_def_map.specs.State.{crate_map}
 use Rattle.hir_def_map.specs.State.{Local, Map, Maps, ModuleValue, beside, module_in, variants_in}
 use Rattle.hir_def_map.specs.Chains.{leads_to_root, own_frame}
 
@@ -72,10 +73,6 @@ names_in_module test m = test_of test (option_map named.Module m.parent) || (lis
 
 abbrev pub test_extern : (Named → Bool) → (List ℕ × (ModuleId × Option ExternCrateId)) → Bool
 test_extern test entry = test (named.Module entry.1.0)
-
--- the map of a crate
-abbrev pub crate_map : Crate → MapId
-crate_map krate = record { krate = krate; block = None }
 
 abbrev pub test_crate : (Named → Bool) → Crate → Bool
 test_crate test krate = test (named.Map (crate_map krate))

@@ -5,6 +5,8 @@ use Rattle.std.specs.Option.{option_eq}
 use Rattle.std.specs.Ordering.{on, eq_of_both}
 use Rattle.std.specs.Cmp.{IsEquivalence, on_equiv, and_equiv, bool_eq_equiv, nat_eq_equiv}
 use Rattle.std.specs.Cmp.Lexicographic.{pointwise, lists_equiv, options_equiv, nat_list_eq_equiv}
+use Rattle.hir_base.specs.contracts.ast_id.AstIdPartialEq.TheImpl as ast_id
+use Rattle.hir_base.specs.contracts.ast_id.AstIdEq.TheImpl.Laws.{laws-law as ast_id_laws}
 use Rattle.hir_base.specs.contracts.edition.EditionPartialEq.TheImpl as edition
 use Rattle.hir_base.specs.contracts.edition.EditionEq.TheImpl.Laws.{laws-law as edition_laws}
 use Rattle.hir_base.specs.contracts.ids.CratePartialEq.TheImpl as krate
@@ -15,6 +17,8 @@ use Rattle.hir_base.specs.contracts.ids.EnumIdPartialEq.TheImpl as enum_id
 use Rattle.hir_base.specs.contracts.ids.EnumIdEq.TheImpl.Laws.{laws-law as enum_id_laws}
 use Rattle.hir_base.specs.contracts.ids.ExternCrateIdPartialEq.TheImpl as extern_crate
 use Rattle.hir_base.specs.contracts.ids.ExternCrateIdEq.TheImpl.Laws.{laws-law as extern_crate_laws}
+use Rattle.hir_base.specs.contracts.ids.FunctionIdPartialEq.TheImpl as function
+use Rattle.hir_base.specs.contracts.ids.FunctionIdEq.TheImpl.Laws.{laws-law as function_laws}
 use Rattle.hir_base.specs.contracts.ids.MapIdPartialEq.TheImpl as map_id
 use Rattle.hir_base.specs.contracts.ids.MapIdEq.TheImpl.Laws.{laws-law as map_id_laws}
 use Rattle.hir_base.specs.contracts.ids.ModuleIdPartialEq.TheImpl as module_id
@@ -23,6 +27,8 @@ use Rattle.hir_base.specs.contracts.ids.UseIdPartialEq.TheImpl as use_id
 use Rattle.hir_base.specs.contracts.ids.UseIdEq.TheImpl.Laws.{laws-law as use_id_laws}
 use Rattle.hir_base.specs.contracts.macro_kind.MacroIdPartialEq.TheImpl as makro
 use Rattle.hir_base.specs.contracts.macro_kind.MacroIdEq.TheImpl.Laws.{laws-law as makro_laws}
+use Rattle.hir_base.specs.contracts.macro_kind.ProcMacroIdPartialEq.TheImpl as proc_macro
+use Rattle.hir_base.specs.contracts.macro_kind.ProcMacroIdEq.TheImpl.Laws.{laws-law as proc_macro_laws}
 use Rattle.hir_scope.specs.SameScope.{same_scope, same_scope_equiv}
 use Rattle.hir_scope.specs.contracts.visibility.VisibilityPartialEq.TheImpl as visibility
 use Rattle.hir_scope.specs.contracts.visibility.VisibilityEq.TheImpl.Laws.{laws-law as visibility_laws}
@@ -30,6 +36,7 @@ use Rattle.hir_def_map.specs.contracts.nameres.enum_variants.EnumVariantPartialE
 use Rattle.hir_def_map.specs.contracts.nameres.enum_variants.EnumVariantEq.TheImpl.Laws.{laws-law as enum_variant_laws}
 use Rattle.hir_def_map.specs.contracts.nameres.origin.ModuleOriginPartialEq.TheImpl as origin
 use Rattle.hir_def_map.specs.contracts.nameres.origin.ModuleOriginEq.TheImpl.Laws.{laws-law as origin_laws}
+use Rattle.hir_def_map.specs.SameMacros.{same_diagnostics, same_diagnostics_equiv, same_helpers, same_helpers_equiv}
 use Rattle.hir_def_map.specs.State.{CrateData, Local, Map, ModuleValue, Variants}
 
 -- a test of two values
@@ -99,9 +106,20 @@ same_prelude = option_eq (same_pair module_id.ghosts.eq (option_eq use_id.ghosts
 abbrev pub same_preludes : Test Map
 same_preludes = eq_of_both same_macro_use (on (λ (m : Map). m.prelude) same_prelude)
 
+-- whether two maps have the same macros, by item and by function, and the same derive helpers
+abbrev pub same_macros : Test Map
+same_macros =
+    eq_of_both (on (λ (m : Map). m.macro_ids) (pointwise (same_pair ast_id.ghosts.eq makro.ghosts.eq)))
+    (eq_of_both (on (λ (m : Map). m.proc_macros) (pointwise (same_pair function.ghosts.eq proc_macro.ghosts.eq)))
+    (on (λ (m : Map). m.derive_helpers) (pointwise (same_pair ast_id.ghosts.eq same_helpers))))
+
+-- and the same macros and diagnostics
+abbrev pub same_reports : Test Map
+same_reports = eq_of_both same_macros (on (λ (m : Map). m.diagnostics) same_diagnostics)
+
 -- whether two maps are equal
 abbrev pub same_def_map : Test Map
-same_def_map = eq_of_both same_items (eq_of_both same_preludes (on (λ (m : Map). m.crate_data) same_data))
+same_def_map = eq_of_both same_items (eq_of_both same_preludes (eq_of_both same_reports (on (λ (m : Map). m.crate_data) same_data)))
 
 -- ---- equivalences
 
@@ -149,4 +167,10 @@ same_def_map_equiv =
     (and_equiv
     (and_equiv (on_equiv (λ (m : Map). m.macro_use_prelude) (same_by_name_equiv (same_pair_equiv makro_laws (options_equiv extern_crate_laws))))
     (on_equiv (λ (m : Map). m.prelude) (options_equiv (same_pair_equiv module_id_laws (options_equiv use_id_laws)))))
-    (on_equiv (λ (m : Map). m.crate_data) same_data_equiv))
+    (and_equiv
+    (and_equiv
+    (and_equiv (on_equiv (λ (m : Map). m.macro_ids) (lists_equiv (same_pair_equiv ast_id_laws makro_laws)))
+    (and_equiv (on_equiv (λ (m : Map). m.proc_macros) (lists_equiv (same_pair_equiv function_laws proc_macro_laws)))
+    (on_equiv (λ (m : Map). m.derive_helpers) (lists_equiv (same_pair_equiv ast_id_laws same_helpers_equiv)))))
+    (on_equiv (λ (m : Map). m.diagnostics) same_diagnostics_equiv))
+    (on_equiv (λ (m : Map). m.crate_data) same_data_equiv)))

@@ -4,6 +4,7 @@ use Rattle.std.specs.Ordering.{nat_cmp}
 use Rattle.std.specs.Cmp.Lexicographic.{slice_cmp}
 use Rattle.std.specs.BTreeMap.{is_at, insert_entry}
 use Rattle.std.specs.Map.{lookup}
+use Rattle.hir_base.specs.declared.ast_id.AstId.{AstId}
 use Rattle.hir_base.specs.declared.edition.Edition.{Edition}
 use Rattle.hir_base.specs.declared.ids.Crate.{Crate}
 use Rattle.hir_base.specs.declared.ids.MapId.{MapId}
@@ -11,11 +12,13 @@ use Rattle.hir_base.specs.declared.ids.ConstId.{ConstId}
 use Rattle.hir_base.specs.declared.ids.EnumId.{EnumId}
 use Rattle.hir_base.specs.declared.ids.ExternBlockId.{ExternBlockId}
 use Rattle.hir_base.specs.declared.ids.ExternCrateId.{ExternCrateId}
+use Rattle.hir_base.specs.declared.ids.FunctionId.{FunctionId}
 use Rattle.hir_base.specs.declared.ids.ImplId.{ImplId}
 use Rattle.hir_base.specs.declared.ids.ModuleDefId.{ModuleDefId}
 use Rattle.hir_base.specs.declared.ids.ModuleId.{ModuleId}
 use Rattle.hir_base.specs.declared.ids.UseId.{UseId}
 use Rattle.hir_base.specs.declared.macro_kind.MacroId.{MacroId}
+use Rattle.hir_base.specs.declared.macro_kind.ProcMacroId.{ProcMacroId}
 use Rattle.hir_base.specs.contracts.ids.EnumIdOrd.TheImpl as enum_order
 use Rattle.hir_base.specs.contracts.ids.MapIdPartialEq.TheImpl as map_id
 use Rattle.hir_scope.specs.ModuleTree.{same_crate}
@@ -28,6 +31,8 @@ use Rattle.hir_scope.specs.ItemScope.{ScopeValue, binding_of, empty_scope}
 use Rattle.hir_scope.specs.ScopePushes.{pushed_scope, pushed_globs, push_changes as scope_changes}
 use Rattle.hir_def_map.specs.declared.nameres.BlockInfo.{BlockInfo}
 use Rattle.hir_def_map.specs.declared.nameres.declaration.Declaration.TheVariants as declaration
+use Rattle.hir_def_map.specs.declared.nameres.derive_helpers.DeriveHelper.{DeriveHelper}
+use Rattle.hir_def_map.specs.declared.nameres.diagnostics.DefDiagnostic.{DefDiagnostic}
 use Rattle.hir_def_map.specs.declared.nameres.enum_variants.EnumVariant.{EnumVariant}
 use Rattle.hir_def_map.specs.declared.nameres.origin.ModuleOrigin.{ModuleOrigin}
 use Rattle.hir_def_map.specs.Declaration.{listed}
@@ -87,6 +92,14 @@ pub record Map : Type 0 where
   pub macro_use_prelude : List (List ℕ × (MacroId × Option ExternCrateId))
   -- the module whose names are found in each module, and the `use` that names it, if one does
   pub prelude : Option (ModuleId × Option UseId)
+  -- the macro that each item defines which defines one
+  pub macro_ids : List (AstId × MacroId)
+  -- the procedural macro that each function exports which exports one
+  pub proc_macros : List (FunctionId × ProcMacroId)
+  -- the attributes that derives bring into scope on each item, in the order in which they come
+  pub derive_helpers : List (AstId × List DeriveHelper)
+  -- what went wrong, in the order in which it was met
+  pub diagnostics : List DefDiagnostic
   pub crate_data : CrateData
 
 -- the crates that a path may begin with, and the `extern crate` that names each, if one does
@@ -211,6 +224,14 @@ numbered id index = record { map = id; index = index }
 abbrev pub root_of : MapId → ModuleId
 root_of id = numbered id 0
 
+-- the map of a crate
+abbrev pub crate_map : Crate → MapId
+crate_map krate = record { krate = krate; block = None }
+
+-- the root of a crate
+abbrev pub crate_root : Crate → ModuleId
+crate_root krate = root_of (crate_map krate)
+
 -- a map with its root alone
 abbrev pub root_map : MapId → Option ModuleId → CrateData → ModuleValue → Map
 root_map id holder crate_data root = record {
@@ -220,6 +241,10 @@ root_map id holder crate_data root = record {
   enums = [];
   macro_use_prelude = [];
   prelude = None;
+  macro_ids = [];
+  proc_macros = [];
+  derive_helpers = [];
+  diagnostics = [];
   crate_data = crate_data;
 }
 

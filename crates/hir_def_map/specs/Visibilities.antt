@@ -1,5 +1,5 @@
 -- What does a written visibility mean?
-use Rattle.std.specs.Prelude.{ℕ, Bool, ◌||◌, Option, None, Some, cond}
+use Rattle.std.specs.Prelude.{ℕ, Bool, true, false, ◌||◌, Option, None, Some, cond, unwrap_or}
 use Rattle.hir_base.specs.declared.ids.MapId.{MapId}
 use Rattle.hir_base.specs.declared.ids.ModuleId.{ModuleId}
 use Rattle.hir_base.specs.declared.ids.ModuleDefId.{ModuleDefId}
@@ -15,13 +15,12 @@ use Rattle.hir_scope.specs.declared.visibility.Visibility.TheVariants.{Module, P
 use Rattle.hir_scope.specs.ModuleTree.{same_map}
 use Rattle.hir_def_map.specs.State.{Local, Maps, root_of}
 use Rattle.hir_def_map.specs.Scoping.{Resolution, resolution_of}
-use Rattle.hir_def_map.specs.Scoping.Asking.{Asking}
-use Rattle.hir_def_map.specs.declared.nameres.path_resolution.ResolveMode.TheVariants as modes
+use Rattle.hir_def_map.specs.Scoping.Asking.{Asking, by_other}
 use Rattle.hir_def_map.specs.declared.nameres.path_resolution.BuiltinShadowMode.TheVariants as shadow_modes
 
 -- how the path of a visibility is asked for
 abbrev pub by_visibility : Local → Asking
-by_visibility local = record { local = local; mode = modes.Other; shadow = shadow_modes.Module; sub_ns = None }
+by_visibility local = by_other local shadow_modes.Module None
 
 -- a module that a path names; outside the map in which the visibility is written, its root stands for it, unless in an impl
 abbrev pub within_map : Bool → MapId → ModuleId → ModuleId
@@ -49,3 +48,12 @@ resolved_visibility maps local at within_impl (raws.Module path e) = answer_seen
 resolved_visibility maps local at within_impl (raws.PubSelf e) = Some (Module at e)
 resolved_visibility maps local at within_impl raws.PubCrate = Some (PubCrate at.map.krate)
 resolved_visibility maps local at within_impl raws.Public = Some Public
+
+-- what it means, where one that means none counts as public
+abbrev pub written_visibility : Maps → Local → ModuleId → Bool → RawVisibility → Visibility
+written_visibility maps local at within_impl raw = unwrap_or (resolved_visibility maps local at within_impl raw) Public
+
+-- who may see an associated item: an item of a trait has the trait's visibility, an item of an impl its own
+abbrev pub assoc_visibility_of : Maps → Local → ModuleId → Option RawVisibility → RawVisibility → Visibility
+assoc_visibility_of maps local at (Some of_trait) raw = written_visibility maps local at false of_trait
+assoc_visibility_of maps local at None raw = written_visibility maps local at true raw

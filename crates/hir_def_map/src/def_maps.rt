@@ -6,10 +6,11 @@ ghost use Rattle.hir_def_map.specs.Chains.{above_in, head_of, holder_in, holders
 ghost use Rattle.hir_def_map.specs.Above.{above_in_crate, above_up, holders_up, same_holder};
 ghost use Rattle.hir_def_map.specs.Scoping.FirstSegment.{legacy_of, macro_use_of, prelude_of};
 ghost use Rattle.hir_def_map.specs.Scoping.Segments.{variant_in};
-ghost use Rattle.hir_def_map.specs.Scoping.Start.{is_dependency, of_2015};
+ghost use Rattle.hir_def_map.specs.Scoping.Start.{is_dependency, is_in_edition_2015};
 ghost use Rattle.hir_def_map.specs.Parts.{part_of};
 ghost use Rattle.hir_def_map.specs.DefMaps.{maps_of, maps_placed};
 
+mod ancestors;
 mod paths;
 mod visibilities;
 
@@ -121,8 +122,8 @@ impl DefMaps<'_> {
     }
 
     /// Whether a map is of edition 2015.
-    pub fn is_2015(&self, id: MapId) -> bool
-        ensures value { result ≡ of_2015 (map_in (maps_of self.now) id) }
+    pub fn is_in_edition_2015(&self, id: MapId) -> bool
+        ensures value { result ≡ is_in_edition_2015 (map_in (maps_of self.now) id) }
     {
         match self.map(id) {
             Some(map) => matches!(map.edition(), Edition::Edition2015),

@@ -7,8 +7,11 @@ ghost use Rattle.hir_def_map.specs.Building.{new_module_verdict, IsMemory};
 
 pub mod crate_data;
 pub mod declaration;
+pub mod derive_helpers;
+pub mod diagnostics;
 pub mod enum_variants;
 pub mod local_def_map;
+mod macros;
 pub mod module_data;
 pub mod origin;
 pub mod path_resolution;
@@ -17,11 +20,13 @@ mod same;
 mod tree;
 
 use crate_data::DefMapCrateData;
+use derive_helpers::DeriveHelpers;
+use diagnostics::DefDiagnostics;
 use enum_variants::EnumVariants;
-use hir_base::ast_id::BlockId;
+use hir_base::ast_id::{AstId, BlockId};
 use hir_base::edition::Edition;
-use hir_base::ids::{Crate, EnumId, ExternCrateId, MapId, ModuleId, UseId};
-use hir_base::macro_kind::MacroId;
+use hir_base::ids::{Crate, EnumId, ExternCrateId, FunctionId, MapId, ModuleId, UseId};
+use hir_base::macro_kind::{MacroId, ProcMacroId};
 use hir_base::name::Name;
 use hir_scope::glob_imports::PerNsGlobImports;
 use hir_scope::imports::ImportOrExternCrate;
@@ -61,13 +66,20 @@ pub struct DefMap {
     enums: BTreeMap<EnumId, EnumVariants>,
     macro_use_prelude: BTreeMap<Name, (MacroId, Option<ExternCrateId>)>,
     prelude: Option<(ModuleId, Option<UseId>)>,
+    macro_ids: BTreeMap<AstId, MacroId>,
+    proc_macros: BTreeMap<FunctionId, ProcMacroId>,
+    derive_helpers: BTreeMap<AstId, DeriveHelpers>,
+    diagnostics: DefDiagnostics,
     crate_data: DefMapCrateData,
 }
 
 impl Model for DefMap {
+    ghost use Rattle.hir_def_map.specs.Codes.{coded_map};
     ghost use Rattle.hir_def_map.specs.State.{Map, IsNumbered};
 
     ghost Value = { Map };
+
+    ghost coded = { coded_map };
 
     ghost view = { λ d. record {
       id = d.id;
@@ -76,6 +88,10 @@ impl Model for DefMap {
       enums = d.enums.entries;
       macro_use_prelude = d.macro_use_prelude.entries;
       prelude = d.prelude;
+      macro_ids = d.macro_ids.entries;
+      proc_macros = d.proc_macros.entries;
+      derive_helpers = d.derive_helpers.entries;
+      diagnostics = d.diagnostics;
       crate_data = d.crate_data;
     } };
 
@@ -105,6 +121,10 @@ impl DefMap {
             enums: BTreeMap::new(alloc),
             macro_use_prelude: BTreeMap::new(alloc),
             prelude: None,
+            macro_ids: BTreeMap::new(alloc),
+            proc_macros: BTreeMap::new(alloc),
+            derive_helpers: BTreeMap::new(alloc),
+            diagnostics: DefDiagnostics::new(Vec::new(alloc)),
             crate_data,
         })
     }

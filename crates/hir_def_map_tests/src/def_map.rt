@@ -3,6 +3,7 @@ mod fixed_points;
 mod modules;
 mod paths;
 mod pushes;
+mod reports;
 mod visibilities;
 mod worlds;
 
@@ -19,6 +20,7 @@ use hir_def_map::nameres::crate_data::DefMapCrateData;
 use hir_def_map::nameres::module_data::ModuleData;
 use hir_def_map::nameres::origin::ModuleOrigin;
 use hir_item_tree::raw_visibility::VisibilityExplicitness;
+use hir_item_tree::tree_id::TreeId;
 use hir_scope::glob_imports::PerNsGlobImports;
 use hir_scope::imports::{GlobId, ImportId, ImportOrExternCrate, ImportOrGlob};
 use hir_scope::per_ns::{Item, PerNs};
@@ -52,7 +54,7 @@ fn node(number: u16) -> SyntaxId {
 
 fn inline(number: u16) -> ModuleOrigin {
     ModuleOrigin::Inline {
-        definition_tree_id: HirFileId::File(FILE),
+        definition_tree_id: TreeId::new(HirFileId::File(FILE), None),
         definition: AstId {
             file_id: HirFileId::File(FILE),
             kind: AstKind::Module,

@@ -2,6 +2,7 @@
 use Rattle.std.specs.Prelude.{Option, None, Some, []}
 use Rattle.hir_def_map.specs.State.{Local}
 use Rattle.hir_def_map.specs.declared.nameres.path_resolution.ResolveMode.{ResolveMode}
+use Rattle.hir_def_map.specs.declared.nameres.path_resolution.ResolveMode.TheVariants as modes
 use Rattle.hir_def_map.specs.declared.nameres.path_resolution.BuiltinShadowMode.{BuiltinShadowMode}
 use Rattle.hir_def_map.specs.declared.nameres.path_resolution.MacroSubNs.{MacroSubNs}
 
@@ -11,6 +12,10 @@ pub record Asking : Type 0 where
   pub mode : ResolveMode
   pub shadow : BuiltinShadowMode
   pub sub_ns : Option MacroSubNs
+
+-- how all ask but imports
+abbrev pub by_other : Local → BuiltinShadowMode → Option MacroSubNs → Asking
+by_other local shadow sub_ns = record { local = local; mode = modes.Other; shadow = shadow; sub_ns = sub_ns }
 
 -- the crates that a path may begin with; where none are given, none
 abbrev pub local_of : Option Local → Local

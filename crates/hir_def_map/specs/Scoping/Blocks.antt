@@ -9,26 +9,26 @@ use Rattle.hir_def_map.specs.Chains.{holders_in}
 use Rattle.hir_def_map.specs.Scoping.Asking.{Asking}
 use Rattle.hir_def_map.specs.Scoping.FirstSegment.{extern_name, is_block_root, name_in_preludes}
 use Rattle.hir_def_map.specs.Scoping.Segments.{rest, unresolved}
-use Rattle.hir_def_map.specs.Scoping.Start.{abs_from, crate_root, from_start, is_import, of_2015}
+use Rattle.hir_def_map.specs.Scoping.Start.{abs_from, crate_root, from_start, is_import, is_in_edition_2015}
 use Rattle.hir_def_map.specs.declared.nameres.path_resolution.ReachedFixedPoint.{ReachedFixedPoint}
 use Rattle.hir_def_map.specs.declared.nameres.path_resolution.ReachedFixedPoint.TheVariants.{Yes, No}
 use Rattle.hir_def_map.specs.declared.nameres.path_resolution.ResolvePathResult.{ResolvePathResult}
 
 -- a path in the preludes of a crate, asked from its root; a path with a root of its own names nothing there
 abbrev pub in_preludes : Maps → Asking → ModuleId → PathKind → List (List ℕ) → ResolvePathResult
-in_preludes maps asking root kinds.Crate segs = unresolved Yes
-in_preludes maps asking root (kinds.DollarCrate c) segs = unresolved Yes
-in_preludes maps asking root (kinds.Super n) segs = unresolved Yes
+in_preludes maps asking root kinds.Crate segments = unresolved Yes
+in_preludes maps asking root (kinds.DollarCrate c) segments = unresolved Yes
+in_preludes maps asking root (kinds.Super n) segments = unresolved Yes
 in_preludes maps asking root kinds.Plain [] = unresolved Yes
-in_preludes maps asking root kinds.Plain (s ∷ ss) =
-    cond (of_2015 (map_in maps root.map) && is_import asking.mode)
-    (rest maps root ss 1 (extern_name asking.local s))
-    (rest maps root ss 1 (name_in_preludes maps asking.local root s))
+in_preludes maps asking root kinds.Plain (segment ∷ others) =
+    cond (is_in_edition_2015 (map_in maps root.map) && is_import asking.mode)
+    (rest maps root others 1 (extern_name asking.local segment))
+    (rest maps root others 1 (name_in_preludes maps asking.local root segment))
 in_preludes maps asking root kinds.Abs [] = unresolved Yes
-in_preludes maps asking root kinds.Abs (s ∷ ss) =
-    cond (of_2015 (map_in maps root.map))
-    (rest maps root ss 1 (extern_name asking.local s))
-    (abs_from maps root ss (extern_name asking.local s))
+in_preludes maps asking root kinds.Abs (segment ∷ others) =
+    cond (is_in_edition_2015 (map_in maps root.map))
+    (rest maps root others 1 (extern_name asking.local segment))
+    (abs_from maps root others (extern_name asking.local segment))
 
 -- ---- answers of several maps
 
@@ -56,17 +56,17 @@ joined a b = record {
 
 -- a module inside a block that isn't its root has the preludes of the crate
 abbrev pub with_preludes : Maps → Asking → PathKind → List (List ℕ) → ResolvePathResult → ModuleId → ResolvePathResult
-with_preludes maps asking kind segs r m =
-    cond (is_some m.map.block && not (is_block_root m)) (joined r (in_preludes maps asking (crate_root m.map.krate) kind segs)) r
+with_preludes maps asking kind segments r m =
+    cond (is_some m.map.block && not (is_block_root m)) (joined r (in_preludes maps asking (crate_root m.map.krate) kind segments)) r
 
 -- a block's root has what its holder has too, and so on outwards
 abbrev pub inherited : Maps → Asking → PathKind → List (List ℕ) → ResolvePathResult → ModuleId → List ModuleId → ResolvePathResult
-inherited maps asking kind segs r m [] = with_preludes maps asking kind segs r m
-inherited maps asking kind segs r m (h ∷ hs) =
+inherited maps asking kind segments r m [] = with_preludes maps asking kind segments r m
+inherited maps asking kind segments r m (h ∷ holders) =
     cond (is_block_root m)
-    (inherited maps asking kind segs (joined r (from_start maps asking h kind segs)) h hs)
-    (with_preludes maps asking kind segs r m)
+    (inherited maps asking kind segments (joined r (from_start maps asking h kind segments)) h holders)
+    (with_preludes maps asking kind segments r m)
 
 -- a path, its root and its segments apart
 abbrev pub from_blocks : Maps → Asking → ModuleId → PathKind → List (List ℕ) → ResolvePathResult
-from_blocks maps asking from kind segs = inherited maps asking kind segs (from_start maps asking from kind segs) from (holders_in maps from)
+from_blocks maps asking from kind segments = inherited maps asking kind segments (from_start maps asking from kind segments) from (holders_in maps from)

@@ -16,7 +16,7 @@ use Rattle.hir_scope.specs.declared.per_ns.PerNs.{PerNs}
 use Rattle.hir_scope.specs.declared.visibility.Visibility.TheVariants.{Public}
 use Rattle.hir_scope.specs.PerNs.{nothing, types_only, macros_only, or_of}
 use Rattle.hir_scope.specs.ScopeReads.{legacy_at}
-use Rattle.hir_def_map.specs.State.{Local, Map, Maps, ModuleValue, at_name, entry_in, map_in, module_in, root_of}
+use Rattle.hir_def_map.specs.State.{Local, Map, Maps, ModuleValue, at_name, crate_root, entry_in, map_in, module_in}
 use Rattle.hir_def_map.specs.declared.nameres.path_resolution.BuiltinShadowMode.{BuiltinShadowMode}
 use Rattle.hir_def_map.specs.declared.nameres.path_resolution.BuiltinShadowMode.TheVariants as shadow_modes
 use Rattle.hir_def_map.specs.declared.nameres.path_resolution.MacroSubNs.{MacroSubNs}
@@ -125,7 +125,7 @@ with_builtin shadow_modes.Other scope builtin = cond (names_module scope.types) 
 -- the mode in which a first segment is looked up: where others follow, a module is wanted
 abbrev pub shadow_before : List (List ℕ) → BuiltinShadowMode → BuiltinShadowMode
 shadow_before [] shadow = shadow
-shadow_before (s ∷ ss) shadow = shadow_modes.Module
+shadow_before (segment ∷ others) shadow = shadow_modes.Module
 
 -- the root of a block's map
 abbrev pub is_block_root : AnyModule → Bool
@@ -151,6 +151,6 @@ name_in_preludes maps local at name =
     or_of (or_of (extern_name local name) (macro_use_name maps at name)) (prelude_name maps at name)
 
 -- what it stands for in the root of its crate, or else among the crates
-abbrev pub name_in_root : Maps → Local → AnyModule → List ℕ → PerNs
-name_in_root maps local at name =
-    or_of (entry_in maps (root_of (record { krate = at.map.krate; block = None })) name) (unless_block_root at (extern_name local name))
+abbrev pub name_in_crate_root_or_extern_prelude : Maps → Local → AnyModule → List ℕ → PerNs
+name_in_crate_root_or_extern_prelude maps local at name =
+    or_of (entry_in maps (crate_root at.map.krate) name) (unless_block_root at (extern_name local name))

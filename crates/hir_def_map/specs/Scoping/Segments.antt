@@ -61,12 +61,12 @@ abbrev pub seen : Maps → AnyModule → AnyModule → List ℕ → PerNs
 seen maps from at name = keep_of (λ v. is_visible (above_in maps) (holders_in maps) v from) (entry_in maps at name)
 
 -- the module, or the first of those that hold it that is no block's root
-abbrev pub nearest : AnyModule → List AnyModule → AnyModule
-nearest m [] = m
-nearest m (h ∷ hs) = cond (is_block_root m) (nearest h hs) m
+abbrev pub nearest_non_block_among : AnyModule → List AnyModule → AnyModule
+nearest_non_block_among m [] = m
+nearest_non_block_among m (h ∷ holders) = cond (is_block_root m) (nearest_non_block_among h holders) m
 
-unfoldable pub nearest_in : Maps → AnyModule → AnyModule
-nearest_in maps m = nearest m (holders_in maps m)
+unfoldable pub nearest_non_block_module : Maps → AnyModule → AnyModule
+nearest_non_block_module maps m = nearest_non_block_among m (holders_in maps m)
 
 -- the variant of a name
 abbrev pub variant_in : Maps → EnumId → List ℕ → Option EnumVariant
@@ -79,41 +79,41 @@ variant_bound vis variant = with_constructor (definitions.EnumVariantId variant.
 -- a variant, with the visibility of the name that led to its enum; nothing comes after a variant
 abbrev pub after_variant : List (List ℕ) → Visibility → EnumVariant → ResolvePathResult
 after_variant [] vis variant = record { resolved_def = variant_bound vis variant; segment_index = None; reached_fixedpoint = Yes; prefix_info = through_enum }
-after_variant (s ∷ ss) vis variant = unresolved No
+after_variant (segment ∷ others) vis variant = unresolved No
 
 -- a variant and what comes after it; the path stops before a name that no variant has
 abbrev pub after_enum : List (List ℕ) → ℕ → Item ModuleDefId ImportOrExternCrate → Option EnumVariant → ResolvePathResult
-after_enum ss i item None = stopped i item
-after_enum ss i item (Some variant) = after_variant ss item.vis variant
+after_enum others i item None = stopped i item
+after_enum others i item (Some variant) = after_variant others item.vis variant
 
 -- a segment after what names a struct, a union or an enum
 abbrev pub through_adt : Maps → List (List ℕ) → ℕ → List ℕ → Item ModuleDefId ImportOrExternCrate → AdtId → ResolvePathResult
-through_adt maps ss i s item (adts.EnumId id) = after_enum ss i item (variant_in maps id s)
-through_adt maps ss i s item (adts.StructId id) = stopped i item
-through_adt maps ss i s item (adts.UnionId id) = stopped i item
+through_adt maps others i segment item (adts.EnumId id) = after_enum others i item (variant_in maps id segment)
+through_adt maps others i segment item (adts.StructId id) = stopped i item
+through_adt maps others i segment item (adts.UnionId id) = stopped i item
 
 -- ---- segments one after another
 
 -- a segment after what names a module: of this crate, a name of it that the asking module may see; of another crate
 -- the path goes on from the module that is entered, or from the nearest that holds it as a block's root
 abbrev pub through_module : (AnyModule → PerNs → ResolvePathResult) → Maps → AnyModule → List ℕ → AnyModule → ResolvePathResult
-through_module further maps from s m =
+through_module further maps from segment m =
     cond (same_crate m.map.krate from.map.krate)
-    (further from (seen maps from m s))
-    (crossing (further (nearest_in maps m) (seen maps (nearest_in maps m) (nearest_in maps m) s)))
+    (further from (seen maps from m segment))
+    (crossing (further (nearest_non_block_module maps m) (seen maps (nearest_non_block_module maps m) (nearest_non_block_module maps m) segment)))
 
 -- a segment after what names a definition; the path ends before it where that has no names of its own
 abbrev pub through : (AnyModule → PerNs → ResolvePathResult) → Maps → AnyModule → List (List ℕ) → ℕ → List ℕ → Item ModuleDefId ImportOrExternCrate → ModuleDefId → ResolvePathResult
-through further maps from ss i s item (definitions.ModuleId m) = through_module further maps from s m
-through further maps from ss i s item (definitions.AdtId adt) = through_adt maps ss i s item adt
-through further maps from ss i s item _ = stopped i item
+through further maps from others i segment item (definitions.ModuleId m) = through_module further maps from segment m
+through further maps from others i segment item (definitions.AdtId adt) = through_adt maps others i segment item adt
+through further maps from others i segment item _ = stopped i item
 
 -- a segment after what names a type, or else none
 abbrev pub through_type : (AnyModule → PerNs → ResolvePathResult) → Maps → AnyModule → List (List ℕ) → ℕ → List ℕ → Option (Item ModuleDefId ImportOrExternCrate) → ResolvePathResult
-through_type further maps from ss i s None = unresolved No
-through_type further maps from ss i s (Some item) = through further maps from ss i s item item.def
+through_type further maps from others i segment None = unresolved No
+through_type further maps from others i segment (Some item) = through further maps from others i segment item item.def
 
 -- the segments that are left, the first of which has this number, after what names these items, asked from a module
 abbrev pub rest : Maps → AnyModule → List (List ℕ) → ℕ → PerNs → ResolvePathResult
 rest maps from [] i now = resolved now
-rest maps from (s ∷ ss) i now = through_type (λ next_from next. rest maps next_from ss (i + 1) next) maps from ss i s now.types
+rest maps from (segment ∷ others) i now = through_type (λ next_from next. rest maps next_from others (i + 1) next) maps from others i segment now.types

@@ -12,10 +12,11 @@ use Rattle.hir_scope.specs.declared.per_ns.PerNs.{PerNs}
 use Rattle.hir_scope.specs.declared.visibility.Visibility.TheVariants.{Public}
 use Rattle.hir_scope.specs.ModuleTree.{same_block, same_crate}
 use Rattle.hir_scope.specs.PerNs.{types_only}
-use Rattle.hir_def_map.specs.State.{Map, Maps, map_in, parent_in, root_of}
+pub use Rattle.hir_def_map.specs.State.{crate_root}
+use Rattle.hir_def_map.specs.State.{Map, Maps, map_in, parent_in}
 use Rattle.hir_def_map.specs.Scoping.Asking.{Asking}
-use Rattle.hir_def_map.specs.Scoping.FirstSegment.{extern_name, is_block_root, name_in_module, name_in_root, shadow_before}
-use Rattle.hir_def_map.specs.Scoping.Segments.{nearest_in, rest, unresolved}
+use Rattle.hir_def_map.specs.Scoping.FirstSegment.{extern_name, is_block_root, name_in_module, name_in_crate_root_or_extern_prelude, shadow_before}
+use Rattle.hir_def_map.specs.Scoping.Segments.{nearest_non_block_module, rest, unresolved}
 use Rattle.hir_def_map.specs.declared.nameres.path_resolution.ResolveMode.{ResolveMode}
 use Rattle.hir_def_map.specs.declared.nameres.path_resolution.ResolveMode.TheVariants as modes
 use Rattle.hir_def_map.specs.declared.nameres.path_resolution.ReachedFixedPoint.TheVariants.{Yes, No}
@@ -25,19 +26,15 @@ use Rattle.hir_def_map.specs.declared.nameres.path_resolution.ResolvePathResult.
 abbrev pub module_bound : AnyModule → PerNs
 module_bound m = types_only (ModuleId m) Public None
 
--- the root of a crate
-abbrev pub crate_root : Crate → AnyModule
-crate_root c = root_of (record { krate = c; block = None })
-
 -- ---- what a crate's data say
 
-abbrev pub is_2015 : Edition → Bool
-is_2015 editions.Edition2015 = Bool.true
-is_2015 _ = false
+abbrev pub is_edition_2015 : Edition → Bool
+is_edition_2015 editions.Edition2015 = Bool.true
+is_edition_2015 _ = false
 
-abbrev pub of_2015 : Option Map → Bool
-of_2015 None = false
-of_2015 (Some map) = is_2015 map.crate_data.edition
+abbrev pub is_in_edition_2015 : Option Map → Bool
+is_in_edition_2015 None = false
+is_in_edition_2015 (Some map) = is_edition_2015 map.crate_data.edition
 
 abbrev pub is_import : ResolveMode → Bool
 is_import modes.Import = Bool.true
@@ -57,7 +54,7 @@ is_in_reach maps from c = same_crate c from.map.krate || is_dependency (map_in m
 -- the module so many levels above, where there are as many; a block's root counts as the module that holds it
 abbrev pub climb : Maps → ℕ → AnyModule → Option AnyModule
 climb maps zero m = Some m
-climb maps (suc n) m = option_and_then (λ p. climb maps n (nearest_in maps p)) (parent_in maps m)
+climb maps (suc n) m = option_and_then (λ p. climb maps n (nearest_non_block_module maps p)) (parent_in maps m)
 
 -- an answer that is settled where the path led into a module inside another block, which asks the preludes too
 abbrev pub settled_in_block : AnyModule → ResolvePathResult → ResolvePathResult
@@ -65,29 +62,29 @@ settled_in_block m r = cond (is_some m.map.block && not (is_block_root m)) (reco
 
 -- a path from the module that `super` leads to, asked there where it lies in another map; past the root it names nothing
 abbrev pub super_from : Maps → AnyModule → List (List ℕ) → Option AnyModule → ResolvePathResult
-super_from maps from segs None = unresolved Yes
-super_from maps from segs (Some m) =
+super_from maps from segments None = unresolved Yes
+super_from maps from segments (Some m) =
     cond (same_block m.map.block from.map.block)
-    (rest maps from segs 0 (module_bound m))
-    (settled_in_block m (rest maps m segs 0 (module_bound m)))
+    (rest maps from segments 0 (module_bound m))
+    (settled_in_block m (rest maps m segments 0 (module_bound m)))
 
 -- a path from what the extern prelude names
 abbrev pub abs_from : Maps → AnyModule → List (List ℕ) → PerNs → ResolvePathResult
-abs_from maps from ss names = cond (is_some names.types) (rest maps from ss 1 names) (unresolved No)
+abs_from maps from others names = cond (is_some names.types) (rest maps from others 1 names) (unresolved No)
 
 -- a path, its root and its segments apart, asked from a module of a map
 abbrev pub from_start : Maps → Asking → AnyModule → PathKind → List (List ℕ) → ResolvePathResult
-from_start maps asking from kinds.Crate segs = rest maps from segs 0 (module_bound (crate_root from.map.krate))
-from_start maps asking from (kinds.DollarCrate c) segs =
-    cond (is_in_reach maps from c) (rest maps from segs 0 (module_bound (crate_root c))) (unresolved No)
-from_start maps asking from (kinds.Super n) segs = super_from maps from segs (climb maps n (nearest_in maps from))
+from_start maps asking from kinds.Crate segments = rest maps from segments 0 (module_bound (crate_root from.map.krate))
+from_start maps asking from (kinds.DollarCrate c) segments =
+    cond (is_in_reach maps from c) (rest maps from segments 0 (module_bound (crate_root c))) (unresolved No)
+from_start maps asking from (kinds.Super n) segments = super_from maps from segments (climb maps n (nearest_non_block_module maps from))
 from_start maps asking from kinds.Plain [] = unresolved Yes
-from_start maps asking from kinds.Plain (s ∷ ss) =
-    cond (of_2015 (map_in maps from.map) && is_import asking.mode)
-    (rest maps from ss 1 (name_in_root maps asking.local from s))
-    (rest maps from ss 1 (name_in_module maps asking.local asking.sub_ns (shadow_before ss asking.shadow) from s))
+from_start maps asking from kinds.Plain (segment ∷ others) =
+    cond (is_in_edition_2015 (map_in maps from.map) && is_import asking.mode)
+    (rest maps from others 1 (name_in_crate_root_or_extern_prelude maps asking.local from segment))
+    (rest maps from others 1 (name_in_module maps asking.local asking.sub_ns (shadow_before others asking.shadow) from segment))
 from_start maps asking from kinds.Abs [] = unresolved Yes
-from_start maps asking from kinds.Abs (s ∷ ss) =
-    cond (of_2015 (map_in maps from.map))
-    (rest maps from ss 1 (name_in_root maps asking.local from s))
-    (abs_from maps from ss (extern_name asking.local s))
+from_start maps asking from kinds.Abs (segment ∷ others) =
+    cond (is_in_edition_2015 (map_in maps from.map))
+    (rest maps from others 1 (name_in_crate_root_or_extern_prelude maps asking.local from segment))
+    (abs_from maps from others (extern_name asking.local segment))

@@ -8,7 +8,7 @@ use Rattle.hir_scope.specs.declared.per_ns.Item.{Item}
 use Rattle.hir_scope.specs.declared.per_ns.PerNs.{PerNs}
 use Rattle.hir_scope.specs.ModuleTree.{same_crate}
 use Rattle.hir_def_map.specs.State.{Maps}
-use Rattle.hir_def_map.specs.Scoping.Segments.{crossing, nearest_in, seen}
+use Rattle.hir_def_map.specs.Scoping.Segments.{crossing, nearest_non_block_module, seen}
 use Rattle.hir_def_map.specs.declared.nameres.path_resolution.ResolvePathResult.{ResolvePathResult}
 
 -- where segments end: the module that asks from there on, what they name, whether they led into another crate
@@ -27,21 +27,21 @@ crossed_by false r = r
 
 -- a segment after what names a module
 abbrev pub walked_module : (AnyModule → PerNs → Option Walked) → Maps → AnyModule → List ℕ → AnyModule → Option Walked
-walked_module further maps from s m =
+walked_module further maps from segment m =
     cond (same_crate m.map.krate from.map.krate)
-    (further from (seen maps from m s))
-    (option_map into_other_crate (further (nearest_in maps m) (seen maps (nearest_in maps m) (nearest_in maps m) s)))
+    (further from (seen maps from m segment))
+    (option_map into_other_crate (further (nearest_non_block_module maps m) (seen maps (nearest_non_block_module maps m) (nearest_non_block_module maps m) segment)))
 
 -- a segment after what names a definition; only a module leads on
 abbrev pub walked_through : (AnyModule → PerNs → Option Walked) → Maps → AnyModule → List ℕ → ModuleDefId → Option Walked
-walked_through further maps from s (definitions.ModuleId m) = walked_module further maps from s m
-walked_through further maps from s _ = None
+walked_through further maps from segment (definitions.ModuleId m) = walked_module further maps from segment m
+walked_through further maps from segment _ = None
 
 abbrev pub walked_type : (AnyModule → PerNs → Option Walked) → Maps → AnyModule → List ℕ → Option (Item ModuleDefId ImportOrExternCrate) → Option Walked
-walked_type further maps from s None = None
-walked_type further maps from s (Some item) = walked_through further maps from s item.def
+walked_type further maps from segment None = None
+walked_type further maps from segment (Some item) = walked_through further maps from segment item.def
 
 -- the segments after what names these items, asked from a module, where each but the last names a module
 abbrev pub walked : Maps → AnyModule → List (List ℕ) → PerNs → Option Walked
 walked maps from [] now = Some (record { from = from; now = now; crossed = false })
-walked maps from (s ∷ ss) now = walked_type (λ next_from next. walked maps next_from ss next) maps from s now.types
+walked maps from (segment ∷ others) now = walked_type (λ next_from next. walked maps next_from others next) maps from segment now.types

@@ -2,10 +2,9 @@
 ghost use Rattle.std.specs.Prelude.{◌≡◌, None, option_copied};
 ghost use Rattle.hir_def_map.specs.DefMaps.{maps_of};
 ghost use Rattle.hir_def_map.specs.Scoping.{resolution_of};
-ghost use Rattle.hir_def_map.specs.Scoping.Asking.{local_of};
+ghost use Rattle.hir_def_map.specs.Scoping.Asking.{by_other, local_of};
 ghost use Rattle.hir_def_map.specs.Scoping.Start.{from_start};
 ghost use Rattle.hir_def_map.specs.Reaches.{reached_items};
-ghost use Rattle.hir_def_map.specs.declared.nameres.path_resolution.ResolveMode.TheVariants.{Other};
 
 use crate::def_maps::DefMaps;
 use crate::nameres::local_def_map::LocalDefMap;
@@ -52,7 +51,7 @@ impl DefMaps<'_> {
         shadow: BuiltinShadowMode,
     ) -> ResolvePathResult
         ensures resolves { result ≡ from_start (maps_of self.now)
-            (record { local = local_of (option_copied local.entry); mode = Other; shadow = shadow; sub_ns = None }) at path.now.kind path.now.segments }
+            (by_other (local_of (option_copied local.entry)) shadow None) at path.now.kind path.now.segments }
     {
         let query = Query {
             maps: *self,

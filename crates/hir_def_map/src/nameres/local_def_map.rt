@@ -6,6 +6,7 @@ use hir_base::ids::{ExternCrateId, ModuleId};
 use hir_base::name::Name;
 use std::alloc::{AllocError, Global};
 use std::collections::{BTreeMap, btree_map};
+use std::hash::{Hash, Hasher};
 use std::marker::Model;
 
 /// The extern prelude of a crate, which only the crate itself asks, after rust-analyzer's `LocalDefMap`.
@@ -78,4 +79,17 @@ impl Eq for LocalDefMap {
     ghost use Rattle.hir_def_map.specs.Same.{same_local_equiv};
 
     ghost laws = { same_local_equiv };
+}
+
+/// Equal values hash alike, as `respects_eq` says.
+impl Hash for LocalDefMap {
+    ghost use Rattle.hir_def_map.specs.LocalHash.{fed_local, local_alike};
+
+    ghost hash_input = { fed_local };
+
+    ghost respects_eq = { local_alike.fed };
+
+    fn hash<H: Hasher>(&self, state: &mut H) {
+        self.extern_prelude.hash(state);
+    }
 }

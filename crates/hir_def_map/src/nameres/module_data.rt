@@ -4,12 +4,14 @@ ghost use Rattle.hir_scope.specs.ItemScope.{binding_of, empty_scope};
 ghost use Rattle.hir_scope.specs.ScopeReads.{legacy_at};
 ghost use Rattle.hir_scope.specs.ScopePushes.{pushed_globs, push_changes};
 ghost use Rattle.hir_def_map.specs.Declaration.{listed};
+ghost use Rattle.hir_def_map.specs.Origins.{declaration_of, source_of};
 ghost use Rattle.hir_def_map.specs.Scoping.FirstSegment.{last_macro};
 ghost use Rattle.hir_def_map.specs.Same.{same_contents, same_place};
 ghost use Rattle.hir_def_map.specs.State.{at_name, pushed_module, with_child, with_module_scope};
 
 use crate::nameres::declaration::Declaration;
-use crate::nameres::origin::ModuleOrigin;
+use crate::nameres::origin::{ModuleOrigin, ModuleSource};
+use hir_base::ast_id::{AstId, HirFileId, InFile};
 use hir_base::ids::ModuleId;
 use hir_base::macro_kind::MacroId;
 use hir_base::name::Name;
@@ -64,6 +66,27 @@ impl ModuleData {
         ensures value { result ≡ self.now.origin }
     {
         self.origin
+    }
+
+    /// What its contents are written in, and the file of that.
+    pub fn definition_source(&self) -> InFile<ModuleSource>
+        ensures value { result ≡ source_of self.now.origin }
+    {
+        self.origin.definition_source()
+    }
+
+    /// The file in which its contents are written.
+    pub fn definition_source_file_id(&self) -> HirFileId
+        ensures value { result ≡ (source_of self.now.origin).file_id }
+    {
+        self.origin.definition_source().file_id
+    }
+
+    /// The `mod` item that declares it; none does a root.
+    pub fn declaration_source(&self) -> Option<AstId>
+        ensures value { result ≡ declaration_of self.now.origin }
+    {
+        self.origin.declaration()
     }
 
     /// Who may see the module.

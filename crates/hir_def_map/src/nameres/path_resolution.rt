@@ -3,10 +3,9 @@ ghost use Rattle.std.specs.Prelude.{◌≡◌, None, option_copied};
 ghost use Rattle.hir_def_map.specs.State.{beside};
 ghost use Rattle.hir_def_map.specs.World.{finished_in};
 ghost use Rattle.hir_def_map.specs.Scoping.{resolution_of};
-ghost use Rattle.hir_def_map.specs.Scoping.Asking.{local_of};
+ghost use Rattle.hir_def_map.specs.Scoping.Asking.{by_other, local_of};
 ghost use Rattle.hir_def_map.specs.Scoping.Start.{from_start};
 ghost use Rattle.hir_def_map.specs.Reaches.{reached_items};
-ghost use Rattle.hir_def_map.specs.declared.nameres.path_resolution.ResolveMode.TheVariants.{Other as in_body};
 
 mod blocks;
 mod first_segment;
@@ -103,9 +102,9 @@ impl DefMap {
         sub_ns: Option<MacroSubNs>,
     ) -> (PerNs, Option<usize>)
         ensures items { result.0 ≡ (resolution_of (beside (finished_in world.now.maps) self.now)
-            (record { local = local_of (option_copied local.entry); mode = in_body; shadow = shadow; sub_ns = sub_ns }) at path.now).resolved_def }
+            (by_other (local_of (option_copied local.entry)) shadow sub_ns) at path.now).resolved_def }
         ensures stop { result.1 ≡ (resolution_of (beside (finished_in world.now.maps) self.now)
-            (record { local = local_of (option_copied local.entry); mode = in_body; shadow = shadow; sub_ns = sub_ns }) at path.now).segment_index }
+            (by_other (local_of (option_copied local.entry)) shadow sub_ns) at path.now).segment_index }
     {
         let mode = ResolveMode::Other;
         let resolution = self.resolve_path_fp_with_macro(
@@ -124,11 +123,11 @@ impl DefMap {
         shadow: BuiltinShadowMode,
     ) -> (PerNs, Option<usize>, ResolvePathResultPrefixInfo)
         ensures items { result.0 ≡ (from_start (beside (finished_in world.now.maps) self.now)
-            (record { local = local_of (option_copied local.entry); mode = in_body; shadow = shadow; sub_ns = None }) at path.now.kind path.now.segments).resolved_def }
+            (by_other (local_of (option_copied local.entry)) shadow None) at path.now.kind path.now.segments).resolved_def }
         ensures stop { result.1 ≡ (from_start (beside (finished_in world.now.maps) self.now)
-            (record { local = local_of (option_copied local.entry); mode = in_body; shadow = shadow; sub_ns = None }) at path.now.kind path.now.segments).segment_index }
+            (by_other (local_of (option_copied local.entry)) shadow None) at path.now.kind path.now.segments).segment_index }
         ensures prefix { result.2 ≡ (from_start (beside (finished_in world.now.maps) self.now)
-            (record { local = local_of (option_copied local.entry); mode = in_body; shadow = shadow; sub_ns = None }) at path.now.kind path.now.segments).prefix_info }
+            (by_other (local_of (option_copied local.entry)) shadow None) at path.now.kind path.now.segments).prefix_info }
     {
         let maps = DefMaps::new(WorldPart::all(world), self);
         let resolution = maps.resolve_path_locally(local, at, path, shadow);

@@ -1,14 +1,24 @@
 //! What a def map says of itself, of its crate and of its modules.
 ghost use Rattle.std.specs.Prelude.{◌≡◌, ◌||◌, ◌&&◌, ◌<◌, Option, option_map, length, nat_lt, slice_get};
-ghost use Rattle.hir_scope.specs.PerNs.{first_of};
-ghost use Rattle.hir_def_map.specs.State.{at_name, module_at, parent_at, root_of};
-ghost use Rattle.hir_def_map.specs.Reads.{contains_module, feature_in, is_without_std};
+ghost use Rattle.hir_def_map.specs.State.{at_name, crate_root, module_at, parent_at};
+ghost use Rattle.hir_def_map.specs.Reads.{containing_module, contains_module, feature_in, is_without_std};
 
 use crate::nameres::DefMap;
 use crate::nameres::module_data::ModuleData;
 use hir_base::ast_id::BlockId;
 use hir_base::ids::{Crate, MapId, ModuleId};
 use hir_base::name::Name;
+use std::ops::Index;
+
+/// The root of a crate.
+pub fn crate_root(krate: Crate) -> ModuleId
+    ensures value { result ≡ crate_root krate }
+{
+    ModuleId {
+        map: MapId { krate, block: None },
+        index: 0,
+    }
+}
 
 impl DefMap {
     /// The crate of the map, also of a block's.
@@ -27,15 +37,9 @@ impl DefMap {
 
     /// The root of the crate, also asked of a block's map.
     pub fn crate_root(&self) -> ModuleId
-        ensures value { result ≡ root_of (record { krate = self.now.id.krate; block = None }) }
+        ensures value { result ≡ crate_root self.now.id.krate }
     {
-        ModuleId {
-            map: MapId {
-                krate: self.krate(),
-                block: None,
-            },
-            index: 0,
-        }
+        crate_root(self.krate())
     }
 
     /// Whether a module is one of the map's.
@@ -45,10 +49,14 @@ impl DefMap {
         module.map == self.id() && module.index < self.module_count()
     }
 
-    /// What a module is in: its parent, or for a root the module that holds the block.
+    /// What a module is in: its parent, or for a root the module that holds the block. A number that no module has is in
+    /// nothing.
     pub fn containing_module(&self, at: u32) -> Option<ModuleId>
-        ensures value { result ≡ first_of (parent_at self.now at) self.now.holder }
+        ensures value { result ≡ containing_module self.now at }
     {
+        if !self.has_module(at) {
+            return None;
+        }
         match self.parent_of(at) {
             Some(parent) => Some(parent),
             None => self.parent(),
@@ -95,5 +103,22 @@ impl DefMap {
         ensures value { result ≡ feature_in self.now.crate_data name.now }
     {
         self.crate_data().has_feature(name)
+    }
+}
+
+/// A module by its id, on the condition that the map has it.
+impl Index<ModuleId> for DefMap {
+    ghost use Rattle.std.specs.Prelude.{◌≡◌, true, Some};
+    ghost use Rattle.hir_def_map.specs.Reads.{contains_module};
+    ghost use Rattle.hir_def_map.specs.State.{module_at};
+
+    type Output = ModuleData;
+
+    ghost can_index = { λ map id. contains_module map id ≡ true };
+
+    ghost index_gives = { λ map id found. module_at map id.index ≡ Some found };
+
+    fn index(&self, id: ModuleId) -> &ModuleData {
+        &self.modules()[id.index as usize]
     }
 }

@@ -1,6 +1,6 @@
 //! When two def maps are equal: part by part, and in each list entry by entry, in order.
 ghost use Rattle.std.specs.Prelude.{◌≡◌};
-ghost use Rattle.hir_def_map.specs.Same.{same_def_map, same_items, same_macro_use, same_prelude, same_preludes};
+ghost use Rattle.hir_def_map.specs.Same.{same_def_map, same_items, same_macro_use, same_macros, same_prelude, same_preludes, same_reports};
 
 use crate::nameres::DefMap;
 use hir_base::ids::{ModuleId, UseId};
@@ -39,6 +39,20 @@ impl DefMap {
     {
         self.has_same_macro_use(other) && is_same_prelude(self.prelude, other.prelude)
     }
+
+    fn has_same_macros(&self, other: &DefMap) -> bool
+        ensures value { result ≡ same_macros self.now other.now }
+    {
+        self.macro_ids == other.macro_ids
+            && self.proc_macros == other.proc_macros
+            && self.derive_helpers == other.derive_helpers
+    }
+
+    fn has_same_reports(&self, other: &DefMap) -> bool
+        ensures value { result ≡ same_reports self.now other.now }
+    {
+        self.has_same_macros(other) && self.diagnostics == other.diagnostics
+    }
 }
 
 impl PartialEq for DefMap {
@@ -53,6 +67,7 @@ impl PartialEq for DefMap {
     fn eq(&self, other: &DefMap) -> bool {
         self.has_same_items(other)
             && self.has_same_preludes(other)
+            && self.has_same_reports(other)
             && self.crate_data == other.crate_data
     }
 }

@@ -4,12 +4,13 @@ ghost use Rattle.hir_def_map.specs.DefMaps.{maps_of};
 ghost use Rattle.hir_def_map.specs.Scoping.Query.{asking_of};
 ghost use Rattle.hir_def_map.specs.Scoping.Blocks.{either_reached, from_blocks, in_preludes, joined, later_stop, with_preludes};
 
-use crate::nameres::path_resolution::first_segment::{crate_root, is_block_root};
+use crate::nameres::path_resolution::first_segment::is_block_root;
 use crate::nameres::path_resolution::query::Query;
 use crate::nameres::path_resolution::start::is_import;
 use crate::nameres::path_resolution::{
     ReachedFixedPoint, ResolvePathResult, ResolvePathResultPrefixInfo,
 };
+use crate::nameres::reads::crate_root;
 use hir_base::ids::ModuleId;
 use hir_base::mod_path::PathKind;
 use hir_base::name::Name;
@@ -62,7 +63,7 @@ impl Query<'_> {
         };
         match kind {
             PathKind::Plain => {
-                if self.maps.is_2015(root.map) && is_import(self.mode) {
+                if self.maps.is_in_edition_2015(root.map) && is_import(self.mode) {
                     let names = self.extern_name(first);
                     self.maps.resolve_rest(root, others, 1, names)
                 } else {
@@ -72,7 +73,7 @@ impl Query<'_> {
             }
             PathKind::Abs => {
                 let names = self.extern_name(first);
-                if self.maps.is_2015(root.map) {
+                if self.maps.is_in_edition_2015(root.map) {
                     self.maps.resolve_rest(root, others, 1, names)
                 } else {
                     self.maps.abs_from(root, others, names)

@@ -2,13 +2,13 @@
 ghost use Rattle.std.specs.Prelude.{◌≡◌};
 ghost use Rattle.hir_def_map.specs.DefMaps.{maps_of};
 ghost use Rattle.hir_def_map.specs.Scoping.Query.{asking_of};
-ghost use Rattle.hir_def_map.specs.Scoping.FirstSegment.{builtin_name, extern_name, fits, is_block_root, keep_fitting, legacy_name, macro_use_name, name_in_module, name_in_preludes, name_in_root, names_module, of_style, prelude_name, scope_name, shadow_before, unless_block_root, with_builtin};
-ghost use Rattle.hir_def_map.specs.Scoping.Start.{crate_root};
+ghost use Rattle.hir_def_map.specs.Scoping.FirstSegment.{builtin_name, extern_name, fits, is_block_root, keep_fitting, legacy_name, macro_use_name, name_in_module, name_in_preludes, name_in_crate_root_or_extern_prelude, names_module, of_style, prelude_name, scope_name, shadow_before, unless_block_root, with_builtin};
 
 use crate::nameres::path_resolution::query::Query;
 use crate::nameres::path_resolution::{BuiltinShadowMode, MacroSubNs};
+use crate::nameres::reads::crate_root;
 use hir_base::builtin_type::BuiltinType;
-use hir_base::ids::{Crate, MapId, ModuleDefId, ModuleId};
+use hir_base::ids::{ModuleDefId, ModuleId};
 use hir_base::macro_kind::{MacroId, macro_styles_from_id};
 use hir_base::name::Name;
 use hir_scope::imports::ImportOrExternCrate;
@@ -51,16 +51,6 @@ fn of_style(sub_ns: Option<MacroSubNs>, items: PerNs) -> PerNs
         types: items.types,
         values: items.values,
         macros: keep_fitting(sub_ns, items.macros),
-    }
-}
-
-/// The root of a crate.
-pub fn crate_root(krate: Crate) -> ModuleId
-    ensures value { result ≡ crate_root krate }
-{
-    ModuleId {
-        map: MapId { krate, block: None },
-        index: 0,
     }
 }
 
@@ -249,8 +239,8 @@ impl Query<'_> {
     }
 
     /// What a name stands for in the root of a module's crate, or else among the crates.
-    pub fn name_in_root(&self, at: ModuleId, name: &Name) -> PerNs
-        ensures value { result ≡ name_in_root (maps_of self.now.maps) (asking_of self.now).local at name.now }
+    pub fn name_in_crate_root_or_extern_prelude(&self, at: ModuleId, name: &Name) -> PerNs
+        ensures value { result ≡ name_in_crate_root_or_extern_prelude (maps_of self.now.maps) (asking_of self.now).local at name.now }
     {
         let own = self.maps.entry(crate_root(at.map.krate), name);
         if own.is_full() {

@@ -4,7 +4,7 @@ ghost use Rattle.hir_scope.specs.PerNs.{keep_item};
 ghost use Rattle.hir_scope.specs.Visibility.{is_visible};
 ghost use Rattle.hir_def_map.specs.Chains.{above_in, holders_in};
 ghost use Rattle.hir_def_map.specs.DefMaps.{maps_of};
-ghost use Rattle.hir_def_map.specs.Scoping.Segments.{after_enum, after_variant, crossing, nearest_in, resolved, rest, seen, stopped, through_adt, unresolved, variant_bound};
+ghost use Rattle.hir_def_map.specs.Scoping.Segments.{after_enum, after_variant, crossing, nearest_non_block_module, resolved, rest, seen, stopped, through_adt, unresolved, variant_bound};
 
 use crate::def_maps::DefMaps;
 use crate::nameres::enum_variants::EnumVariant;
@@ -163,9 +163,9 @@ impl DefMaps<'_> {
     }
 
     /// The module, or the nearest of those that hold it that is no block's root.
-    #[tactic(auto, using(crate::proofs::Blocks::stops), unfolding(crate::specs::Scoping::Segments::nearest_in))]
-    pub fn nearest(&self, module: ModuleId) -> ModuleId
-        ensures value { result ≡ nearest_in (maps_of self.now) «module» }
+    #[tactic(auto, using(crate::proofs::Blocks::stops), unfolding(crate::specs::Scoping::Segments::nearest_non_block_module))]
+    pub fn nearest_non_block_module(&self, module: ModuleId) -> ModuleId
+        ensures value { result ≡ nearest_non_block_module (maps_of self.now) «module» }
     {
         let mut at = module;
         'out: while is_block_root(at) {
@@ -230,7 +230,7 @@ impl DefMaps<'_> {
             if below.map.krate == from.map.krate {
                 now = self.seen(from, below, segment);
             } else {
-                from = self.nearest(below);
+                from = self.nearest_non_block_module(below);
                 has_crossed = true;
                 now = self.seen(from, from, segment);
             }

@@ -5,9 +5,10 @@ ghost use Rattle.hir_def_map.specs.Scoping.Query.{asking_of};
 ghost use Rattle.hir_def_map.specs.Scoping.Start.{abs_from, climb, from_start, is_import, is_in_reach, module_bound, settled_in_block, super_from};
 
 use crate::def_maps::DefMaps;
-use crate::nameres::path_resolution::first_segment::{crate_root, is_block_root, shadow_before};
+use crate::nameres::path_resolution::first_segment::{is_block_root, shadow_before};
 use crate::nameres::path_resolution::query::Query;
 use crate::nameres::path_resolution::{ReachedFixedPoint, ResolveMode, ResolvePathResult};
+use crate::nameres::reads::crate_root;
 use hir_base::ids::{Crate, ModuleDefId, ModuleId};
 use hir_base::mod_path::PathKind;
 use hir_base::name::Name;
@@ -60,7 +61,7 @@ impl DefMaps<'_> {
         let mut left = levels;
         'up: while left > 0 {
             match self.parent_of(at) {
-                Some(parent) => at = self.nearest(parent),
+                Some(parent) => at = self.nearest_non_block_module(parent),
                 None => return None,
             }
             left -= 1;
@@ -120,14 +121,16 @@ impl Query<'_> {
                 }
             }
             PathKind::Super(levels) => {
-                let reached = self.maps.climb(levels, self.maps.nearest(from));
+                let reached = self
+                    .maps
+                    .climb(levels, self.maps.nearest_non_block_module(from));
                 self.maps.super_from(from, segments, reached)
             }
             PathKind::Plain => match segments {
                 [] => ResolvePathResult::unresolved(ReachedFixedPoint::Yes),
                 [first, others @ ..] => {
-                    if self.maps.is_2015(from.map) && is_import(self.mode) {
-                        let names = self.name_in_root(from, first);
+                    if self.maps.is_in_edition_2015(from.map) && is_import(self.mode) {
+                        let names = self.name_in_crate_root_or_extern_prelude(from, first);
                         self.maps.resolve_rest(from, others, 1, names)
                     } else {
                         let shadow = shadow_before(others, self.shadow);
@@ -139,8 +142,8 @@ impl Query<'_> {
             PathKind::Abs => match segments {
                 [] => ResolvePathResult::unresolved(ReachedFixedPoint::Yes),
                 [first, others @ ..] => {
-                    if self.maps.is_2015(from.map) {
-                        let names = self.name_in_root(from, first);
+                    if self.maps.is_in_edition_2015(from.map) {
+                        let names = self.name_in_crate_root_or_extern_prelude(from, first);
                         self.maps.resolve_rest(from, others, 1, names)
                     } else {
                         self.maps.abs_from(from, others, self.extern_name(first))

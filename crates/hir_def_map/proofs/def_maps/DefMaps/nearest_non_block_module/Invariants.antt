@@ -2,11 +2,11 @@
 use Rattle.std.proofs.Common.{◌≡◌, length}
 use Rattle.hir_def_map.specs.Chains.{holders_in}
 use Rattle.hir_def_map.specs.DefMaps.{maps_of}
-use Rattle.hir_def_map.specs.Scoping.Segments.{nearest_in}
-use Rattle.hir_def_map.proofs.def_maps.DefMaps.nearest.Given as goal
+use Rattle.hir_def_map.specs.Scoping.Segments.{nearest_non_block_module}
+use Rattle.hir_def_map.proofs.def_maps.DefMaps.nearest_non_block_module.Given as goal
 
 abbrev pub invariant-out : goal.invariant-out
-invariant-out l = nearest_in (maps_of l.self) l.fn.«module» ≡ nearest_in (maps_of l.self) l.at
+invariant-out l = nearest_non_block_module (maps_of l.self) l.fn.«module» ≡ nearest_non_block_module (maps_of l.self) l.at
 
 abbrev pub decreases-out : goal.decreases-out
 decreases-out l = length (holders_in (maps_of l.self) l.at)

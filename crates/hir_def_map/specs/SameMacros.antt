@@ -1,0 +1,24 @@
+-- When do two maps have the same diagnostics and the same derive helpers?
+use Rattle.std.specs.Prelude.{Bool, List}
+use Rattle.std.specs.Cmp.{IsEquivalence}
+use Rattle.std.specs.Cmp.Lexicographic.{pointwise, lists_equiv}
+use Rattle.hir_def_map.specs.declared.nameres.derive_helpers.DeriveHelper.{DeriveHelper}
+use Rattle.hir_def_map.specs.declared.nameres.diagnostics.DefDiagnostic.{DefDiagnostic}
+use Rattle.hir_def_map.specs.contracts.nameres.derive_helpers.DeriveHelperPartialEq.TheImpl as helper
+use Rattle.hir_def_map.specs.contracts.nameres.derive_helpers.DeriveHelperEq.TheImpl.Laws.{laws-law as helper_laws}
+use Rattle.hir_def_map.specs.contracts.nameres.diagnostics.DefDiagnosticPartialEq.TheImpl as diagnostic
+use Rattle.hir_def_map.specs.contracts.nameres.diagnostics.DefDiagnosticEq.TheImpl.Laws.{laws-law as diagnostic_laws}
+
+-- whether two lists have the same diagnostics in the same order
+abbrev pub same_diagnostics : List DefDiagnostic → List DefDiagnostic → Bool
+same_diagnostics = pointwise diagnostic.ghosts.eq
+
+pub same_diagnostics_equiv : IsEquivalence same_diagnostics
+same_diagnostics_equiv = lists_equiv diagnostic_laws
+
+-- and the same derive helpers
+abbrev pub same_helpers : List DeriveHelper → List DeriveHelper → Bool
+same_helpers = pointwise helper.ghosts.eq
+
+pub same_helpers_equiv : IsEquivalence same_helpers
+same_helpers_equiv = lists_equiv helper_laws

@@ -1,0 +1,253 @@
+//! What couldn't be resolved or read, after rust-analyzer's `nameres/diagnostics.rs`.
+ghost use Rattle.std.specs.Prelude.{◌≡◌, ◌++◌, ◌∷◌, [], OnOk, OnErr};
+ghost use Rattle.std.specs.Slice.Iter.{iter_rest};
+ghost use Rattle.hir_def_map.specs.declared.nameres.diagnostics.DefDiagnosticKind.TheVariants as kinds;
+
+use hir_base::ast_id::{AstId, AttrId};
+use hir_base::cfg::CfgExpr;
+use hir_base::cfg_options::CfgOptions;
+use hir_base::ids::{ModuleId, UseId};
+use hir_base::mod_path::ModPath;
+use hir_base::text::Text;
+use std::alloc::AllocError;
+use std::marker::Model;
+
+/// Where a macro is called: by a call, by a path of a `derive` attribute, or by an attribute.
+#[derive(Clone, Copy, Debug, PartialEq, Eq, Hash)]
+pub enum MacroCallKind {
+    FnLike {
+        ast: AstId,
+    },
+    /// The item, the attribute, and the number of the path in it.
+    Derive {
+        ast: AstId,
+        attr: AttrId,
+        index: u32,
+    },
+    Attr {
+        ast: AstId,
+        attr: AttrId,
+    },
+}
+
+#[derive(Drop, PartialEq, Eq)]
+pub enum DefDiagnosticKind {
+    /// A `mod` item, and the files that were looked for.
+    UnresolvedModule {
+        ast: AstId,
+        candidates: Vec<Text>,
+    },
+    UnresolvedExternCrate {
+        ast: AstId,
+    },
+    /// A `use` item, and the number of the import in it.
+    UnresolvedImport {
+        id: UseId,
+        index: u32,
+    },
+    /// An item that a condition leaves out: the first one that doesn't hold, and the options of the crate.
+    UnconfiguredCode {
+        ast_id: AstId,
+        cfg: CfgExpr,
+        opts: CfgOptions,
+    },
+    UnresolvedMacroCall {
+        ast: MacroCallKind,
+        path: ModPath,
+    },
+    UnimplementedBuiltinMacro {
+        ast: AstId,
+    },
+    /// A `derive` on an item that is no struct, enum or union.
+    InvalidDeriveTarget {
+        ast: AstId,
+        id: AttrId,
+    },
+    /// A `derive` without paths.
+    MalformedDerive {
+        ast: AstId,
+        id: AttrId,
+    },
+    MacroDefError {
+        ast: AstId,
+        message: Text,
+    },
+    /// A call whose macro is known and which didn't expand.
+    MacroError {
+        ast: AstId,
+        path: ModPath,
+        err: Text,
+    },
+}
+
+/// What went wrong, and the module in which it did.
+#[derive(Drop, PartialEq, Eq)]
+pub struct DefDiagnostic {
+    pub in_module: ModuleId,
+    pub kind: DefDiagnosticKind,
+}
+
+impl DefDiagnostic {
+    pub fn unresolved_module(
+        container: ModuleId,
+        declaration: AstId,
+        candidates: Vec<Text>,
+    ) -> DefDiagnostic
+        ensures value { result ≡ record { in_module = container; kind = kinds.UnresolvedModule declaration candidates } }
+    {
+        DefDiagnostic {
+            in_module: container,
+            kind: DefDiagnosticKind::UnresolvedModule {
+                ast: declaration,
+                candidates,
+            },
+        }
+    }
+
+    pub fn unresolved_extern_crate(container: ModuleId, declaration: AstId) -> DefDiagnostic
+        ensures value { result ≡ record { in_module = container; kind = kinds.UnresolvedExternCrate declaration } }
+    {
+        DefDiagnostic {
+            in_module: container,
+            kind: DefDiagnosticKind::UnresolvedExternCrate { ast: declaration },
+        }
+    }
+
+    pub fn unresolved_import(container: ModuleId, id: UseId, index: u32) -> DefDiagnostic
+        ensures value { result ≡ record { in_module = container; kind = kinds.UnresolvedImport id index } }
+    {
+        DefDiagnostic {
+            in_module: container,
+            kind: DefDiagnosticKind::UnresolvedImport { id, index },
+        }
+    }
+
+    pub fn unconfigured_code(
+        container: ModuleId,
+        ast_id: AstId,
+        cfg: CfgExpr,
+        opts: CfgOptions,
+    ) -> DefDiagnostic
+        ensures value { result ≡ record { in_module = container; kind = kinds.UnconfiguredCode ast_id cfg opts } }
+    {
+        DefDiagnostic {
+            in_module: container,
+            kind: DefDiagnosticKind::UnconfiguredCode { ast_id, cfg, opts },
+        }
+    }
+
+    pub fn unresolved_macro_call(
+        container: ModuleId,
+        ast: MacroCallKind,
+        path: ModPath,
+    ) -> DefDiagnostic
+        ensures value { result ≡ record { in_module = container; kind = kinds.UnresolvedMacroCall ast path } }
+    {
+        DefDiagnostic {
+            in_module: container,
+            kind: DefDiagnosticKind::UnresolvedMacroCall { ast, path },
+        }
+    }
+
+    pub fn unimplemented_builtin_macro(container: ModuleId, ast: AstId) -> DefDiagnostic
+        ensures value { result ≡ record { in_module = container; kind = kinds.UnimplementedBuiltinMacro ast } }
+    {
+        DefDiagnostic {
+            in_module: container,
+            kind: DefDiagnosticKind::UnimplementedBuiltinMacro { ast },
+        }
+    }
+
+    pub fn invalid_derive_target(container: ModuleId, ast: AstId, id: AttrId) -> DefDiagnostic
+        ensures value { result ≡ record { in_module = container; kind = kinds.InvalidDeriveTarget ast id } }
+    {
+        DefDiagnostic {
+            in_module: container,
+            kind: DefDiagnosticKind::InvalidDeriveTarget { ast, id },
+        }
+    }
+
+    pub fn malformed_derive(container: ModuleId, ast: AstId, id: AttrId) -> DefDiagnostic
+        ensures value { result ≡ record { in_module = container; kind = kinds.MalformedDerive ast id } }
+    {
+        DefDiagnostic {
+            in_module: container,
+            kind: DefDiagnosticKind::MalformedDerive { ast, id },
+        }
+    }
+
+    pub fn macro_error(container: ModuleId, ast: AstId, path: ModPath, err: Text) -> DefDiagnostic
+        ensures value { result ≡ record { in_module = container; kind = kinds.MacroError ast path err } }
+    {
+        DefDiagnostic {
+            in_module: container,
+            kind: DefDiagnosticKind::MacroError { ast, path, err },
+        }
+    }
+}
+
+/// What went wrong in a map, in the order in which it was met.
+#[derive(Drop)]
+pub struct DefDiagnostics {
+    diagnostics: Vec<DefDiagnostic>,
+}
+
+impl Model for DefDiagnostics {
+    ghost use Rattle.std.specs.Prelude.{List};
+    ghost use Rattle.hir_def_map.specs.Codes.{coded_diagnostics};
+    ghost use Rattle.hir_def_map.specs.declared.nameres.diagnostics.DefDiagnostic.{DefDiagnostic};
+
+    ghost Value = { List DefDiagnostic };
+
+    ghost coded = { coded_diagnostics };
+
+    ghost view = { λ d. d.diagnostics.items };
+}
+
+impl DefDiagnostics {
+    pub fn new(diagnostics: Vec<DefDiagnostic>) -> DefDiagnostics
+        ensures value { result ≡ diagnostics.items }
+    {
+        DefDiagnostics { diagnostics }
+    }
+
+    pub fn iter(&self) -> std::slice::Iter<'_, DefDiagnostic>
+        ensures value { iter_rest result ≡ self.now }
+    {
+        self.diagnostics.iter()
+    }
+
+    pub fn as_slice(&self) -> &[DefDiagnostic]
+        ensures value { result.now ≡ self.now }
+    {
+        self.diagnostics.as_slice()
+    }
+
+    /// Adds one behind the others.
+    pub fn push(&mut self, diagnostic: DefDiagnostic) -> Result<(), AllocError>
+        ensures ok { OnOk result (self.new ≡ self.old ++ diagnostic ∷ []) }
+        ensures err { OnErr result (self.new ≡ self.old) }
+    {
+        self.diagnostics.push(diagnostic)?;
+        Ok(())
+    }
+}
+
+impl PartialEq for DefDiagnostics {
+    ghost use Rattle.std.specs.Cmp.{partial_equiv_from_equiv};
+    ghost use Rattle.hir_def_map.specs.SameMacros.{same_diagnostics, same_diagnostics_equiv};
+
+    ghost eq = { same_diagnostics };
+
+    ghost laws = { partial_equiv_from_equiv same_diagnostics_equiv };
+
+    fn eq(&self, other: &DefDiagnostics) -> bool {
+        self.diagnostics == other.diagnostics
+    }
+}
+
+impl Eq for DefDiagnostics {
+    ghost use Rattle.hir_def_map.specs.SameMacros.{same_diagnostics_equiv};
+
+    ghost laws = { same_diagnostics_equiv };
+}
