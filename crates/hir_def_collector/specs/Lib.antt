@@ -2,6 +2,7 @@ pub mod BuiltinAttributes
 pub mod Workspace
 pub mod Keys
 pub mod State
+pub mod Codes
 pub mod ItemIds
 pub mod Items
 pub mod Imports
@@ -12,5 +13,6 @@ pub mod TreeReads
 pub mod Steps
 pub mod Causes
 pub mod Derivation
+pub mod CollectedCodes
 pub mod Moves
 pub mod Whole

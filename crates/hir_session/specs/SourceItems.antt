@@ -66,10 +66,12 @@ crate_of (container.ModuleId m) = m.map.krate
 crate_of (container.ImplId i) = i.container.map.krate
 crate_of (container.TraitId t) = t.container.map.krate
 
--- the crate's root, or the module's node
+-- the crate's root, or the module's node; a block is none
 abbrev pub module_by : List (List ℕ) → Crate → ModuleOrigin → Option Definition
 module_by paths krate (origin.CrateRoot file) = Some (definition.CrateRoot krate)
-module_by paths krate (origin.Inline file at) = item_of paths krate (source.Node kind.Module) at.file_id None at.id
+module_by paths krate (origin.File is_mod_rs at tree file) = item_of paths krate (source.Node kind.Module) at.file_id tree.block at.id
+module_by paths krate (origin.Inline tree at) = item_of paths krate (source.Node kind.Module) at.file_id tree.block at.id
+module_by paths krate (origin.BlockExpr id block) = None
 
 -- a module, by its node
 abbrev pub module_definition : List (List ℕ) → Map → ModuleId → Option Definition

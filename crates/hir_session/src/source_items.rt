@@ -72,7 +72,7 @@ fn crate_at(container: ItemContainerId) -> Crate
     }
 }
 
-/// The crate's root, or the module's node.
+/// The crate's root, or the module's node; a block is none.
 fn module_with(
     alloc: Global,
     paths: &Vec<FilePath>,
@@ -83,11 +83,19 @@ fn module_with(
 {
     match origin {
         ModuleOrigin::CrateRoot { .. } => Ok(Some(Definition::CrateRoot(krate))),
-        ModuleOrigin::Inline { definition, .. } => {
-            let kind = SourceKind::Node(AstKind::Module);
-            let file = definition.file_id;
-            item_at(alloc, paths, krate, kind, file, None, definition.id)
+        ModuleOrigin::File {
+            declaration: node,
+            declaration_tree_id: tree,
+            ..
         }
+        | ModuleOrigin::Inline {
+            definition_tree_id: tree,
+            definition: node,
+        } => {
+            let kind = SourceKind::Node(AstKind::Module);
+            item_at(alloc, paths, krate, kind, node.file_id, tree.block, node.id)
+        }
+        ModuleOrigin::BlockExpr { .. } => Ok(None),
     }
 }
 

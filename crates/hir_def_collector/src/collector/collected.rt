@@ -18,9 +18,12 @@ pub struct Collected {
 }
 
 impl Model for Collected {
+    ghost use Rattle.hir_def_collector.specs.CollectedCodes.{coded_collected};
     ghost use Rattle.hir_def_collector.specs.Derivation.{CollectedValue};
 
     ghost Value = { CollectedValue };
+
+    ghost coded = { coded_collected };
 
     ghost view = { λ c. record { map = c.map; local = c.local; leftover = c.leftover.items; asked = c.asked.items } };
 }

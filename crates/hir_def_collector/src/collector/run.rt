@@ -53,10 +53,13 @@ pub struct Run {
 impl Model for Run {
     ghost use Rattle.std.specs.Prelude.{◌≡◌, ◌≤◌};
     ghost use Rattle.hir_def_map.specs.State.{no_globs};
+    ghost use Rattle.hir_def_collector.specs.Codes.{coded_core};
     ghost use Rattle.hir_def_collector.specs.State.{Core};
     ghost use Rattle.hir_def_collector.specs.declared.collector.TheConstants.{STEP_LIMIT};
 
     ghost Value = { Core };
+
+    ghost coded = { coded_core };
 
     ghost view = { λ r. record { map = r.map; local = r.local; reached = r.reached.items; taken = r.taken.items; asked = r.asked.items; count = r.count } };
 

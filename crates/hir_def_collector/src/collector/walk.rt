@@ -30,6 +30,7 @@ use hir_def_map::world::part::WorldPart;
 use hir_item_tree::item_tree::ItemTree;
 use hir_item_tree::kinds::{Mod, ModItemKind, ModKind};
 use hir_item_tree::rows::ModItemId;
+use hir_item_tree::tree_id::TreeId;
 use hir_scope::per_ns::PerNs;
 
 /// Items of a tree that are visited next, and where they are written.
@@ -106,7 +107,7 @@ fn open(run: &mut Run, site: Site, head: ItemHead<'_>, name: &Name) -> Result<Si
     ensures many { result ≡ Err CollectError.TooMany → IsFull run.old.count run.old.map }
 {
     let origin = ModuleOrigin::Inline {
-        definition_tree_id: site.file,
+        definition_tree_id: TreeId::new(site.file, None),
         definition: AstId {
             file_id: site.file,
             kind: AstKind::Module,
