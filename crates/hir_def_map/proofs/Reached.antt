@@ -32,9 +32,9 @@ use Rattle.hir_def_map.specs.Closed.{AreThere, IsClosed, IsThere, LocalIsThere, 
 use Rattle.hir_def_map.specs.Named.{crate_map}
 use Rattle.hir_def_map.specs.Scoping.Asking.{Asking}
 use Rattle.hir_def_map.specs.Scoping.Blocks.{from_blocks, in_preludes, inherited, joined, with_preludes}
-use Rattle.hir_def_map.specs.Scoping.FirstSegment.{builtin_bound, builtin_name, extern_bound, extern_name, fits, is_block_root, legacy_bound, legacy_name, legacy_of, macro_use_bound, macro_use_name, macro_use_of, name_in_module, name_in_preludes, name_in_root, names_module, of_style, prelude_bound, prelude_name, prelude_of, scope_name, shadow_before, unless_block_root, with_builtin}
-use Rattle.hir_def_map.specs.Scoping.Segments.{after_enum, crossing, nearest, nearest_in, rest, seen, stopped, through, through_adt, through_module, through_type, unresolved, variant_in}
-use Rattle.hir_def_map.specs.Scoping.Start.{abs_from, climb, crate_root, from_start, is_dependency, is_import, is_in_reach, module_bound, of_2015, settled_in_block, super_from}
+use Rattle.hir_def_map.specs.Scoping.FirstSegment.{builtin_bound, builtin_name, extern_bound, extern_name, fits, is_block_root, legacy_bound, legacy_name, legacy_of, macro_use_bound, macro_use_name, macro_use_of, name_in_module, name_in_preludes, name_in_crate_root_or_extern_prelude, names_module, of_style, prelude_bound, prelude_name, prelude_of, scope_name, shadow_before, unless_block_root, with_builtin}
+use Rattle.hir_def_map.specs.Scoping.Segments.{after_enum, crossing, nearest_non_block_among, nearest_non_block_module, rest, seen, stopped, through, through_adt, through_module, through_type, unresolved, variant_in}
+use Rattle.hir_def_map.specs.Scoping.Start.{abs_from, climb, crate_root, from_start, is_dependency, is_import, is_in_reach, module_bound, is_in_edition_2015, settled_in_block, super_from}
 use Rattle.hir_def_map.specs.declared.nameres.enum_variants.EnumVariant.{EnumVariant}
 use Rattle.hir_def_map.specs.declared.nameres.path_resolution.BuiltinShadowMode.{BuiltinShadowMode}
 use Rattle.hir_def_map.specs.declared.nameres.path_resolution.BuiltinShadowMode.TheVariants as shadow_modes
@@ -146,7 +146,7 @@ module _ (maps : Maps) where
         (or_there (extern_name asking.local name) (macro_use_name maps at name) (extern_there name) (macro_use_there (macro_use_of (map_in maps at.map) name)))
         (prelude_there (prelude_of (map_in maps at.map)) name)
 
-    root_there : (at : AnyModule) (name : List ℕ) → There (name_in_root maps asking.local at name)
+    root_there : (at : AnyModule) (name : List ℕ) → There (name_in_crate_root_or_extern_prelude maps asking.local at name)
     root_there at name =
         or_there (entry_in maps (crate_root at.map.krate) name) (unless_block_root at (extern_name asking.local name))
         (closed.types (crate_root at.map.krate) name) (unless_there at (extern_name asking.local name) (extern_there name))
@@ -171,9 +171,9 @@ module _ (maps : Maps) where
     through_there further below from ss i s None f = tt
     through_there further below from ss i s (Some item) f = go item.def
       where
-        here : (m : AnyModule) (b : Bool) → Answers (cond b (further from (seen maps from m s)) (crossing (further (nearest_in maps m) (seen maps (nearest_in maps m) (nearest_in maps m) s))))
+        here : (m : AnyModule) (b : Bool) → Answers (cond b (further from (seen maps from m s)) (crossing (further (nearest_non_block_module maps m) (seen maps (nearest_non_block_module maps m) (nearest_non_block_module maps m) s))))
         here m true = below from (seen maps from m s) (seen_there from m s)
-        here m false = below (nearest_in maps m) (seen maps (nearest_in maps m) (nearest_in maps m) s) (seen_there (nearest_in maps m) (nearest_in maps m) s)
+        here m false = below (nearest_non_block_module maps m) (seen maps (nearest_non_block_module maps m) (nearest_non_block_module maps m) s) (seen_there (nearest_non_block_module maps m) (nearest_non_block_module maps m) s)
 
         adt : (a : AdtId) → Answers (through_adt maps ss i s item a)
         adt (adts.EnumId id) = enum_there ss i item f (variant_in maps id s)
@@ -202,12 +202,12 @@ module _ (maps : Maps) where
     either_module true m n f g = f
     either_module false m n f g = g
 
-    near_there : (hs : List AnyModule) (m : AnyModule) → ModuleIsThere maps m → All (ModuleIsThere maps) hs → ModuleIsThere maps (nearest m hs)
+    near_there : (hs : List AnyModule) (m : AnyModule) → ModuleIsThere maps m → All (ModuleIsThere maps) hs → ModuleIsThere maps (nearest_non_block_among m hs)
     near_there [] m e all = e
-    near_there (h ∷ hs) m e all = either_module (is_block_root m) (nearest h hs) m (near_there hs h (All-head (ModuleIsThere maps) h hs all) (All-tail (ModuleIsThere maps) h hs all)) e
+    near_there (h ∷ hs) m e all = either_module (is_block_root m) (nearest_non_block_among h hs) m (near_there hs h (All-head (ModuleIsThere maps) h hs all) (All-tail (ModuleIsThere maps) h hs all)) e
 
-    nearest_there : (m : AnyModule) → ModuleIsThere maps m → ModuleIsThere maps (nearest_in maps m)
-    unfolding nearest_in
+    nearest_there : (m : AnyModule) → ModuleIsThere maps m → ModuleIsThere maps (nearest_non_block_module maps m)
+    unfolding nearest_non_block_module
     nearest_there m e = near_there (holders_in maps m) m e (closed.holders m)
 
     climb_there : (n : ℕ) (m : AnyModule) → ModuleIsThere maps m → (to : AnyModule) → climb maps n m ≡ Some to → ModuleIsThere maps to
@@ -215,9 +215,9 @@ module _ (maps : Maps) where
     climb_there (suc n) m e to f = go (λ q there g. climb_there n q there to g) (parent_in maps m) refl f
       where
         go : ((q : AnyModule) → ModuleIsThere maps q → climb maps n q ≡ Some to → ModuleIsThere maps to)
-            → (o : Option AnyModule) → parent_in maps m ≡ o → option_and_then (λ p. climb maps n (nearest_in maps p)) o ≡ Some to → ModuleIsThere maps to
+            → (o : Option AnyModule) → parent_in maps m ≡ o → option_and_then (λ p. climb maps n (nearest_non_block_module maps p)) o ≡ Some to → ModuleIsThere maps to
         go further None s g = absurd cc
-        go further (Some p) s g = further (nearest_in maps p) (nearest_there p (closed.parents m p s)) g
+        go further (Some p) s g = further (nearest_non_block_module maps p) (nearest_there p (closed.parents m p s)) g
 
     settled_there : (m : AnyModule) (r : ResolvePathResult) → Answers r → Answers (settled_in_block m r)
     settled_there m r f = either_answer (is_some m.map.block && not (is_block_root m)) (record r { reached_fixedpoint = Yes }) r f f
@@ -251,18 +251,18 @@ module _ (maps : Maps) where
     start_there : (from : AnyModule) → ModuleIsThere maps from → (kind : PathKind) (ss : List (List ℕ)) → Answers (from_start maps asking from kind ss)
     start_there from e kinds.Crate ss = rest_there from ss 0 (module_bound (crate_root from.map.krate)) (crate_there from.map.krate (closed.crates from e))
     start_there from e (kinds.DollarCrate c) ss = reach_there from e c ss
-    start_there from e (kinds.Super n) ss = super_there from ss (climb maps n (nearest_in maps from)) (λ m f. climb_there n (nearest_in maps from) (nearest_there from e) m f)
+    start_there from e (kinds.Super n) ss = super_there from ss (climb maps n (nearest_non_block_module maps from)) (λ m f. climb_there n (nearest_non_block_module maps from) (nearest_there from e) m f)
     start_there from e kinds.Plain [] = tt
-    start_there from e kinds.Plain (s ∷ ss) = either_answer (of_2015 (map_in maps from.map) && is_import asking.mode)
-        (rest maps from ss 1 (name_in_root maps asking.local from s))
+    start_there from e kinds.Plain (s ∷ ss) = either_answer (is_in_edition_2015 (map_in maps from.map) && is_import asking.mode)
+        (rest maps from ss 1 (name_in_crate_root_or_extern_prelude maps asking.local from s))
         (rest maps from ss 1 (name_in_module maps asking.local asking.sub_ns (shadow_before ss asking.shadow) from s))
-        (rest_there from ss 1 (name_in_root maps asking.local from s) (root_there from s))
+        (rest_there from ss 1 (name_in_crate_root_or_extern_prelude maps asking.local from s) (root_there from s))
         (rest_there from ss 1 (name_in_module maps asking.local asking.sub_ns (shadow_before ss asking.shadow) from s) (name_there asking.sub_ns (shadow_before ss asking.shadow) from s))
     start_there from e kinds.Abs [] = tt
-    start_there from e kinds.Abs (s ∷ ss) = either_answer (of_2015 (map_in maps from.map))
-        (rest maps from ss 1 (name_in_root maps asking.local from s))
+    start_there from e kinds.Abs (s ∷ ss) = either_answer (is_in_edition_2015 (map_in maps from.map))
+        (rest maps from ss 1 (name_in_crate_root_or_extern_prelude maps asking.local from s))
         (abs_from maps from ss (extern_name asking.local s))
-        (rest_there from ss 1 (name_in_root maps asking.local from s) (root_there from s))
+        (rest_there from ss 1 (name_in_crate_root_or_extern_prelude maps asking.local from s) (root_there from s))
         (abs_there from ss (extern_name asking.local s) (extern_there s))
 
     -- ---- blocks
@@ -272,13 +272,13 @@ module _ (maps : Maps) where
     in_preludes_there root (kinds.DollarCrate c) ss = tt
     in_preludes_there root (kinds.Super n) ss = tt
     in_preludes_there root kinds.Plain [] = tt
-    in_preludes_there root kinds.Plain (s ∷ ss) = either_answer (of_2015 (map_in maps root.map) && is_import asking.mode)
+    in_preludes_there root kinds.Plain (s ∷ ss) = either_answer (is_in_edition_2015 (map_in maps root.map) && is_import asking.mode)
         (rest maps root ss 1 (extern_name asking.local s))
         (rest maps root ss 1 (name_in_preludes maps asking.local root s))
         (rest_there root ss 1 (extern_name asking.local s) (extern_there s))
         (rest_there root ss 1 (name_in_preludes maps asking.local root s) (preludes_there root s))
     in_preludes_there root kinds.Abs [] = tt
-    in_preludes_there root kinds.Abs (s ∷ ss) = either_answer (of_2015 (map_in maps root.map))
+    in_preludes_there root kinds.Abs (s ∷ ss) = either_answer (is_in_edition_2015 (map_in maps root.map))
         (rest maps root ss 1 (extern_name asking.local s))
         (abs_from maps root ss (extern_name asking.local s))
         (rest_there root ss 1 (extern_name asking.local s) (extern_there s))
