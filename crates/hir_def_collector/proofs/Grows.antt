@@ -7,7 +7,7 @@ use Rattle.hir_item_tree.specs.KeptForest.{Head}
 use Rattle.hir_scope.specs.declared.imports.ImportId.{ImportId}
 use Rattle.hir_scope.specs.declared.per_ns.PerNs.{PerNs}
 use Rattle.hir_scope.specs.declared.visibility.Visibility.{Visibility}
-use Rattle.hir_def_map.specs.State.{Map, Maps, ModuleValue, entry_at, new_id, new_module, with_module, with_declared, with_extern_block}
+use Rattle.hir_def_map.specs.State.{Local, Map, Maps, ModuleValue, entry_at, new_id, new_module, with_module, with_declared, with_extern_block}
 use Rattle.hir_def_map.specs.Grown.{entry_at-with_module}
 use Rattle.hir_def_map.specs.Listed.{KeepsNames, KeepsNames-listed}
 use Rattle.hir_def_map.specs.declared.nameres.declaration.Declaration.TheVariants as declaration
@@ -109,8 +109,8 @@ longer_by_block old new home id is h =
     let same : length (with_extern_block old.map home id).modules ≡ length old.map.modules = (KeepsNames-listed old.map home (declaration.ExternBlock id)).count in
     rw is (omega arith)
 
-pub Grows-after_import : (finished : Maps) (m : Map) (r : ReachedImport) → Grows m (after_import finished m r)
-Grows-after_import finished m r = Grows-bound_as m r.home (name_of r) (offered_by finished m r) r.id
+pub Grows-after_import : (finished : Maps) (local : Local) (m : Map) (r : ReachedImport) → Grows m (after_import finished local m r)
+Grows-after_import finished local m r = Grows-bound_as m r.home (name_of r) (offered_by finished local m r) r.id
 
 Grows-by : (s new : State) (m : Map) → new.map ≡ m → Grows s.map m → Grows s.map new.map
 Grows-by s new m e g = subst (Grows s.map) (sym e) g
@@ -135,7 +135,7 @@ Grows-Step {old = old} {new = new} (enters_block site head items rest next is) =
 Grows-Step {old = old} {new = new} (reaches_imports site head tree rest next is) =
     Grows-by old new _ (ap (λ (s : State). s.map) is)
     (Grows-KeepsNames old.map _ (KeepsNames-listed old.map site.home (declaration.Use (use_id old.map site head.id))))
-Grows-Step {finished = finished} {old = old} {new = new} (takes_import i r t can is) = Grows-by old new _ (ap (λ (s : State). s.map) is) (Grows-after_import finished old.map r)
+Grows-Step {finished = finished} {old = old} {new = new} (takes_import i r t can is) = Grows-by old new _ (ap (λ (s : State). s.map) is) (Grows-after_import finished old.local old.map r)
 
 pub Grows-Steps : {w : Workspace} {finished : Maps} {from to : State} → Steps w finished from to → Grows from.map to.map
 Grows-Steps {from = from} none = Grows-same from.map

@@ -1,5 +1,5 @@
 -- What holds of each state that steps lead to.
-use Rattle.std.proofs.Common.{◌≡◌, ◌∙◌, ℕ, zero, suc, ◌<◌, ◌≤◌, Bool, true, false, List, [], ◌∷◌, ◌++◌, length, map, slice_get, slice_set, Some, inl, inr, refl, sym, ap, subst, arith}
+use Rattle.std.proofs.Common.{◌≡◌, ◌∙◌, ℕ, zero, suc, ◌<◌, ◌≤◌, Bool, true, false, ◌||◌, List, [], ◌∷◌, ◌++◌, length, map, slice_get, slice_set, Some, inl, inr, refl, sym, ap, subst, arith}
 use Rattle.std.proofs.lemmas.Bool.{cases_lt}
 use Rattle.hir_base.specs.declared.ids.UseId.{UseId}
 use Rattle.hir_item_tree.specs.Collected.{is_enabled}
@@ -7,22 +7,25 @@ use Rattle.hir_item_tree.specs.declared.expand.Import.{Import}
 use Rattle.hir_item_tree.specs.ItemTree.{Tree}
 use Rattle.hir_item_tree.specs.KeptForest.{KeptForest, no_items, item}
 use Rattle.hir_item_tree.specs.declared.raw_visibility.RawVisibility.{RawVisibility}
-use Rattle.hir_def_map.specs.State.{Map, Maps, entry_at, with_use, with_impl, with_unnamed_const, with_extern_block}
+use Rattle.hir_def_map.specs.State.{Local, Map, Maps, entry_at, with_use, with_impl, with_unnamed_const, with_extern_block}
+use Rattle.hir_scope.specs.declared.per_ns.PerNs.{PerNs}
+use Rattle.hir_def_map.specs.Scoping.{Resolution}
 use Rattle.hir_def_map.specs.Listed.{KeepsNames-listed}
 use Rattle.hir_def_map.specs.declared.nameres.declaration.Declaration.TheVariants as declaration
 use Rattle.hir_def_collector.specs.declared.collector.Start.{Start}
 use Rattle.hir_def_collector.specs.declared.collector.imports.ReachedImport.{ReachedImport}
 use Rattle.hir_def_collector.specs.declared.collector.imports.Namespaces.{Namespaces}
+use Rattle.hir_def_collector.specs.declared.collector.imports.Taken.{Taken}
 use Rattle.hir_def_collector.specs.declared.collector.site.Site.{Site}
 use Rattle.hir_def_collector.specs.Workspace.{Workspace}
-use Rattle.hir_def_collector.specs.State.{Visit, State, visits, ticked, no_namespaces, not_taken}
+use Rattle.hir_def_collector.specs.State.{Visit, State, visits, ticked, no_namespaces, nothing_taken, not_taken}
 use Rattle.hir_def_collector.specs.ItemIds.{const_id, impl_id, extern_block_id, use_id}
-use Rattle.hir_def_collector.specs.Imports.{AreAmong, namespaces_of, both_of, name_of, reached_by, kept_by, reached_import, imports_by, after_import, bound_as, offered_by}
-use Rattle.hir_def_collector.specs.Start.{start_of, root_site, root_file, tree_visits}
+use Rattle.hir_def_collector.specs.Imports.{AreAmong, namespaces_of, name_of, answer_to, kept_by, reached_import, imports_by, after_import, bound_as, offered_by, taken_after}
+use Rattle.hir_def_collector.specs.Start.{start_of, root_site, root_tree, tree_visits}
 use Rattle.hir_def_collector.specs.Steps.{Step, Steps, none, more, drops_item, passes_over, declares_item, lists_constant, lists_impl, opens_module, enters_block, reaches_imports, takes_import, after_take, CanTake, with_declaration, with_bound_module, inside_module, inside_block}
 use Rattle.hir_def_collector.proofs.Lists.{get_left, get_right, get_inside, get_set_same, get_set_other, length_set, length_both, length_mapped, get_same}
 use Rattle.hir_def_collector.proofs.Bound.{AreAmong-trans, AreAmong-both, AreAmong-nothing, number_same_or_not, kept-bound_as, length-bound_as, namespaces_of-imported, taken-bound_in}
-use Rattle.hir_def_collector.proofs.Kept.{kept_namespaces, kept_namespaces-both, kept_namespaces-none, namespaces_of-kept}
+use Rattle.hir_def_collector.proofs.Kept.{kept_namespaces, kept_namespaces-both, kept_namespaces-none, kept_of-own, namespaces_of-kept}
 use Rattle.hir_def_collector.proofs.Grows.{Grows, Grows-same, Grows-KeepsNames, Grows-with_declaration, Grows-with_bound_module, longer_by_one}
 
 -- each item to be visited is in one of so many modules
@@ -30,13 +33,14 @@ abbrev pub AllIn : ℕ → List Visit → Type 0
 AllIn n [] = Unit {0}
 AllIn n (v ∷ vs) = (v.site.home < n) × AllIn n vs
 
--- the namespaces that an import keeps of those that its takings reached are bound under its name
+-- the namespaces that an import keeps of those that its takings reached are bound under its name, unless one was answered
+-- through another crate
 pub record Holds (s : State) : Type 0 where
   pub paired : length s.taken ≡ length s.reached
   pub visiting : AllIn (length s.map.modules) s.agenda
   pub homes : (i : ℕ) (r : ReachedImport) → slice_get s.reached i ≡ Some r → r.home < length s.map.modules
-  pub bound : (i : ℕ) (r : ReachedImport) (t : Namespaces) (name : List ℕ) → slice_get s.reached i ≡ Some r → slice_get s.taken i ≡ Some t → name_of r ≡ Some name
-      → AreAmong (kept_namespaces r.kind t) (namespaces_of (entry_at s.map r.home name))
+  pub bound : (i : ℕ) (r : ReachedImport) (t : Taken) (name : List ℕ) → slice_get s.reached i ≡ Some r → slice_get s.taken i ≡ Some t → t.crossed ≡ false → name_of r ≡ Some name
+      → AreAmong (kept_namespaces r.kind t.namespaces) (namespaces_of (entry_at s.map r.home name))
 
 -- ---- visits
 
@@ -66,7 +70,7 @@ Holds-visit s m v inside rest next grows all h =
       paired = h.paired;
       visiting = AllIn-append (length m.modules) inside rest (all home) (AllIn-more (length s.map.modules) (length m.modules) rest longer here.1);
       homes = λ i r at. omega (arith, h.homes i r at);
-      bound = λ i r t name at before gives. AreAmong-trans (h.bound i r t name at before gives) (grows.kept r.home name);
+      bound = λ i r t name at before own gives. AreAmong-trans (h.bound i r t name at before own gives) (grows.kept r.home name);
     }
 
 -- the same where nothing is inside
@@ -89,8 +93,8 @@ Holds-reach : (s : State) (home : ℕ) (imports : List ReachedImport) → home <
     → ((k : ℕ) (r : ReachedImport) → slice_get imports k ≡ Some r → home ≡ r.home) → Holds s
     → Holds (record s { reached = s.reached ++ imports; taken = s.taken ++ not_taken imports })
 Holds-reach s home imports here each h =
-    let fresh : List Namespaces = not_taken imports in
-    let as_long : length fresh ≡ length imports = length_mapped (λ _. no_namespaces) imports in
+    let fresh : List Taken = not_taken imports in
+    let as_long : length fresh ≡ length imports = length_mapped (λ _. nothing_taken) imports in
     let pairs : length s.taken ≡ length s.reached = h.paired in
     record {
       paired = length_both s.taken fresh ∙ (omega arith) ∙ sym (length_both s.reached imports);
@@ -102,39 +106,47 @@ Holds-reach s home imports here each h =
             let same : home ≡ r.home = each right.0 r (sym right.1 ∙ at) in
             omega arith
       ];
-      bound = λ i r t name at before gives. elim (cases_lt i (length s.reached)) [
-        | inl inside ↦ h.bound i r t name (sym (get_left s.reached imports i inside) ∙ at) (sym (get_left s.taken fresh i (omega arith)) ∙ before) gives
+      bound = λ i r t name at before own gives. elim (cases_lt i (length s.reached)) [
+        | inl inside ↦ h.bound i r t name (sym (get_left s.reached imports i inside) ∙ at) (sym (get_left s.taken fresh i (omega arith)) ∙ before) own gives
         | inr past ↦
             let right = get_right s.taken fresh i (omega arith) in
-            AreAmong-none r.kind t (namespaces_of (entry_at s.map r.home name)) (get_same no_namespaces imports right.0 t (sym right.1 ∙ before))
+            AreAmong-none r.kind t.namespaces (namespaces_of (entry_at s.map r.home name)) (ap (λ (x : Taken). x.namespaces) (get_same nothing_taken imports right.0 t (sym right.1 ∙ before)))
       ];
     }
 
 -- ---- takings
 
 -- what is kept of what a taking reached is bound under the name that it gives
-bound_taken : (finished : Maps) (m : Map) (r : ReachedImport) (name : List ℕ) → name_of r ≡ Some name → r.home < length m.modules
-    → AreAmong (namespaces_of (kept_by finished m r)) (namespaces_of (entry_at (after_import finished m r) r.home name))
-bound_taken finished m r name gives inside =
+bound_taken : (finished : Maps) (local : Local) (m : Map) (r : ReachedImport) (name : List ℕ) → name_of r ≡ Some name → r.home < length m.modules
+    → AreAmong (namespaces_of (kept_by finished local m r)) (namespaces_of (entry_at (after_import finished local m r) r.home name))
+bound_taken finished local m r name gives inside =
     rw gives (
-    subst (λ (x : Namespaces). AreAmong x (namespaces_of (entry_at (bound_as m r.home (Some name) (offered_by finished m r) r.id) r.home name)))
-    (namespaces_of-imported finished m _ (kept_by finished m r))
-    (taken-bound_in m r.home name (offered_by finished m r) (Some r.id) inside)
+    subst (λ (x : Namespaces). AreAmong x (namespaces_of (entry_at (bound_as m r.home (Some name) (offered_by finished local m r) r.id) r.home name)))
+    (namespaces_of-imported finished m _ (kept_by finished local m r))
+    (taken-bound_in m r.home name (offered_by finished local m r) (Some r.id) inside)
     )
 
-Holds-take : (finished : Maps) (s : State) (i : ℕ) (r : ReachedImport) (t : Namespaces) → CanTake finished s i r t → Holds s → Holds (after_take finished s i r t)
+neither : (a b : Bool) → (a || b) ≡ false → (a ≡ false) × (b ≡ false)
+neither false false h = (refl, refl)
+neither false true h = absurd cc
+neither true b h = absurd cc
+
+Holds-take : (finished : Maps) (s : State) (i : ℕ) (r : ReachedImport) (t : Taken) → CanTake finished s i r t → Holds s → Holds (after_take finished s i r t)
 Holds-take finished s i r t can h =
-    let same : length (after_import finished s.map r).modules ≡ length s.map.modules = length-bound_as s.map r.home (name_of r) (offered_by finished s.map r) r.id in
-    let gain : Namespaces = namespaces_of (reached_by finished s.map r) in
-    let now : Namespaces = both_of t gain in
+    let after : Map = after_import finished s.local s.map r in
+    let offered : PerNs = offered_by finished s.local s.map r in
+    let same : length after.modules ≡ length s.map.modules = length-bound_as s.map r.home (name_of r) offered r.id in
+    let answer : Resolution = answer_to finished s.local s.map r in
+    let gain : Namespaces = namespaces_of answer.resolved_def in
+    let now : Taken = taken_after t answer in
     let as_long : length (slice_set s.taken i now) ≡ length s.taken = length_set s.taken i now in
     let pairs : length s.taken ≡ length s.reached = h.paired in
     record {
       paired = as_long ∙ pairs;
       visiting = AllIn-more (length s.map.modules) _ s.agenda (omega arith) h.visiting;
       homes = λ j q at. omega (arith, h.homes j q at);
-      bound = λ j q u name at before gives. elim (number_same_or_not j i) [
-        | inr ne ↦ AreAmong-trans (h.bound j q u name at (sym (get_set_other s.taken i j now ne) ∙ before) gives) (kept-bound_as s.map r.home (name_of r) (offered_by finished s.map r) r.id q.home name)
+      bound = λ j q u name at before own gives. elim (number_same_or_not j i) [
+        | inr ne ↦ AreAmong-trans (h.bound j q u name at (sym (get_set_other s.taken i j now ne) ∙ before) own gives) (kept-bound_as s.map r.home (name_of r) offered r.id q.home name)
         | inl here ↦
             let at_i : slice_get s.reached i ≡ Some q = subst (λ (k : ℕ). slice_get s.reached k ≡ Some q) here at in
             let r_at : slice_get s.reached i ≡ Some r = can.import in
@@ -143,16 +155,19 @@ Holds-take finished s i r t can h =
             let set_at : slice_get (slice_set s.taken i now) i ≡ Some now = get_set_same s.taken i now inside in
             let u_at : slice_get (slice_set s.taken i now) i ≡ Some u = subst (λ (k : ℕ). slice_get (slice_set s.taken i now) k ≡ Some u) here before in
             let two : now ≡ u = cc in
+            let stays : now.crossed ≡ false = ap (λ (x : Taken). x.crossed) two ∙ own in
+            let within = neither t.crossed answer.prefix_info.differing_crate stays in
             let named : name_of r ≡ Some name = subst (λ (x : ReachedImport). name_of x ≡ Some name) (sym one) gives in
-            let entry : Namespaces = namespaces_of (entry_at (after_import finished s.map r) r.home name) in
+            let entry : Namespaces = namespaces_of (entry_at after r.home name) in
+            let kept : namespaces_of (kept_by finished s.local s.map r) ≡ kept_namespaces r.kind gain = ap namespaces_of (kept_of-own r.kind answer within.1) ∙ namespaces_of-kept r.kind answer.resolved_def in
             let gained : AreAmong (kept_namespaces r.kind gain) entry =
-            subst (λ (x : Namespaces). AreAmong x entry) (namespaces_of-kept r.kind (reached_by finished s.map r)) (bound_taken finished s.map r name named (h.homes i r can.import)) in
-            let had : AreAmong (kept_namespaces r.kind t) entry =
-            AreAmong-trans (h.bound i r t name can.import can.before named) (kept-bound_as s.map r.home (name_of r) (offered_by finished s.map r) r.id r.home name) in
-            let both : AreAmong (kept_namespaces r.kind now) entry =
-            subst (λ (x : Namespaces). AreAmong x entry) (sym (kept_namespaces-both r.kind t gain)) (AreAmong-both had gained) in
-            subst (λ (x : ReachedImport). AreAmong (kept_namespaces x.kind u) (namespaces_of (entry_at (after_import finished s.map r) x.home name))) one
-            (subst (λ (x : Namespaces). AreAmong (kept_namespaces r.kind x) entry) two both)
+            subst (λ (x : Namespaces). AreAmong x entry) kept (bound_taken finished s.local s.map r name named (h.homes i r can.import)) in
+            let had : AreAmong (kept_namespaces r.kind t.namespaces) entry =
+            AreAmong-trans (h.bound i r t name can.import can.before within.0 named) (kept-bound_as s.map r.home (name_of r) offered r.id r.home name) in
+            let both : AreAmong (kept_namespaces r.kind now.namespaces) entry =
+            subst (λ (x : Namespaces). AreAmong x entry) (sym (kept_namespaces-both r.kind t.namespaces gain)) (AreAmong-both had gained) in
+            subst (λ (x : ReachedImport). AreAmong (kept_namespaces x.kind u.namespaces) (namespaces_of (entry_at after x.home name))) one
+            (subst (λ (x : Taken). AreAmong (kept_namespaces r.kind x.namespaces) entry) two both)
       ];
     }
 
@@ -204,10 +219,10 @@ AllIn-tree n site tree h = go (is_enabled tree.attributes) refl
     go true e = rw e (AllIn-visits n site tree.items h)
     go false e = rw e tt
 
-pub Holds-start : (w : Workspace) (start : Start) → Holds (start_of w start)
-Holds-start w start = record {
+pub Holds-start : (w : Workspace) (finished : Maps) (start : Start) → Holds (start_of w finished start)
+Holds-start w finished start = record {
   paired = refl;
-  visiting = AllIn-tree 1 (root_site start) (w.tree start.krate (root_file start)).tree (omega arith);
+  visiting = AllIn-tree 1 (root_site start) (root_tree w start) (omega arith);
   homes = λ i r at. absurd (let no : ⊥ = cc in no);
-  bound = λ i r t name at before gives. absurd (let no : ⊥ = cc in no);
+  bound = λ i r t name at before own gives. absurd (let no : ⊥ = cc in no);
 }

@@ -6,6 +6,9 @@ pub mod Moves
 pub mod Settled
 pub mod Leftovers
 pub mod Holds
+pub mod Digits
+pub mod Stays
+pub mod Asked
 pub mod Derived
 pub mod Walked
 pub mod Reached

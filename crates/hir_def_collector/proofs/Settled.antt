@@ -3,13 +3,14 @@ use Rattle.std.proofs.Common.{◌≡◌, ℕ, ◌<◌, ◌≤◌, Bool, true, fa
 use Rattle.std.specs.Option.{option_and_then}
 use Rattle.std.proofs.lemmas.Option.{slice_get_past}
 use Rattle.std.proofs.lemmas.Bool.{cases_lt}
-use Rattle.hir_def_map.specs.State.{Map, Maps}
+use Rattle.hir_def_map.specs.State.{Local, Map, Maps}
 use Rattle.hir_def_collector.specs.declared.collector.imports.ReachedImport.{ReachedImport}
 use Rattle.hir_def_collector.specs.declared.collector.imports.Namespaces.{Namespaces}
+use Rattle.hir_def_collector.specs.declared.collector.imports.Taken.{Taken}
 use Rattle.hir_def_collector.specs.declared.collector.imports.Taking.{Taking}
 use Rattle.hir_def_collector.specs.Workspace.{Workspace}
 use Rattle.hir_def_collector.specs.State.{Core, State, at_rest, with_map, with_taken, counted}
-use Rattle.hir_def_collector.specs.Imports.{goes_beyond, AreAmong, namespaces_of, reached_by, taking_of, taking_at, both_of, offered_by, name_of, bound_as}
+use Rattle.hir_def_collector.specs.Imports.{goes_beyond, AreAmong, namespaces_of, answer_to, reached_by, taking_of, taking_at, taken_after, offered_by, name_of, bound_as}
 use Rattle.hir_def_collector.specs.Steps.{Step, takes_import}
 use Rattle.hir_def_collector.specs.Derivation.{IsSettled}
 
@@ -43,22 +44,24 @@ due true x y h = (refl, cc)
 due false x y h = absurd cc
 
 -- of an import of which no taking is due, all is taken
-pub AreAmong-none_due : (finished : Maps) (m : Map) (r : ReachedImport) (t : Namespaces) → taking_of finished m r t ≡ None → AreAmong (namespaces_of (reached_by finished m r)) t
-AreAmong-none_due finished m r t h = AreAmong-not_beyond (namespaces_of (reached_by finished m r)) t (not_due (goes_beyond (namespaces_of (reached_by finished m r)) t) _ h)
+pub AreAmong-none_due : (finished : Maps) (local : Local) (m : Map) (r : ReachedImport) (t : Taken) → taking_of finished local m r t ≡ None
+    → AreAmong (namespaces_of (reached_by finished local m r)) t.namespaces
+AreAmong-none_due finished local m r t h =
+    let reached : Namespaces = namespaces_of (reached_by finished local m r) in AreAmong-not_beyond reached t.namespaces (not_due (goes_beyond reached t.namespaces) _ h)
 
-none_at : (finished : Maps) (c : Core) (r : ReachedImport) (t : Namespaces) (o : Option ReachedImport) (p : Option Namespaces) → o ≡ Some r → p ≡ Some t
-    → option_and_then (λ r. option_and_then (λ t. taking_of finished c.map r t) p) o ≡ None → taking_of finished c.map r t ≡ None
+none_at : (finished : Maps) (c : Core) (r : ReachedImport) (t : Taken) (o : Option ReachedImport) (p : Option Taken) → o ≡ Some r → p ≡ Some t
+    → option_and_then (λ r. option_and_then (λ t. taking_of finished c.local c.map r t) p) o ≡ None → taking_of finished c.local c.map r t ≡ None
 none_at finished c r t None p e f h = absurd cc
 none_at finished c r t (Some q) None e f h = absurd cc
 none_at finished c r t (Some q) (Some u) e f h =
     let same : q ≡ r = cc in
     let same_taken : u ≡ t = cc in
-    subst (λ (x : ReachedImport). taking_of finished c.map x t ≡ None) same (subst (λ (x : Namespaces). taking_of finished c.map q x ≡ None) same_taken h)
+    subst (λ (x : ReachedImport). taking_of finished c.local c.map x t ≡ None) same (subst (λ (x : Taken). taking_of finished c.local c.map q x ≡ None) same_taken h)
 
 -- the import at a place is settled where none is due there
 pub settled_none : {finished : Maps} (c : Core) (i : ℕ) → taking_at finished c i ≡ None → IsSettled finished (at_rest c) i
 settled_none {finished} c i h = record {
-  among = λ r t at before. AreAmong-none_due finished c.map r t (none_at finished c r t (slice_get c.reached i) (slice_get c.taken i) at before h);
+  among = λ r t at before. AreAmong-none_due finished c.local c.map r t (none_at finished c r t (slice_get c.reached i) (slice_get c.taken i) at before h);
 }
 
 -- no import was reached from the place on
@@ -75,33 +78,33 @@ settled_all {finished} s n long below i =
 -- what is due at a place: the import there, what was taken of it, and what is to be done
 pub record IsDue (finished : Maps) (c : Core) (i : ℕ) (taking : Taking) : Type 0 where
   pub r : ReachedImport
-  pub t : Namespaces
+  pub t : Taken
   pub at : slice_get c.reached i ≡ Some r
   pub before : slice_get c.taken i ≡ Some t
-  pub gains : goes_beyond (namespaces_of (reached_by finished c.map r)) t ≡ true
+  pub gains : goes_beyond (namespaces_of (reached_by finished c.local c.map r)) t.namespaces ≡ true
   pub is : taking ≡ record {
     home = r.home;
     name = name_of r;
-    items = offered_by finished c.map r;
+    items = offered_by finished c.local c.map r;
     import = r.id;
-    namespaces = both_of t (namespaces_of (reached_by finished c.map r));
+    taken = taken_after t (answer_to finished c.local c.map r);
   }
 
-due_at : {finished : Maps} (c : Core) (i : ℕ) (taking : Taking) (o : Option ReachedImport) (p : Option Namespaces) → slice_get c.reached i ≡ o → slice_get c.taken i ≡ p
-    → option_and_then (λ r. option_and_then (λ t. taking_of finished c.map r t) p) o ≡ Some taking → IsDue finished c i taking
+due_at : {finished : Maps} (c : Core) (i : ℕ) (taking : Taking) (o : Option ReachedImport) (p : Option Taken) → slice_get c.reached i ≡ o → slice_get c.taken i ≡ p
+    → option_and_then (λ r. option_and_then (λ t. taking_of finished c.local c.map r t) p) o ≡ Some taking → IsDue finished c i taking
 due_at c i taking None p e f h = absurd cc
 due_at c i taking (Some r) None e f h = absurd cc
 due_at {finished} c i taking (Some r) (Some t) e f h =
-    let d = due (goes_beyond (namespaces_of (reached_by finished c.map r)) t) _ taking h in
+    let d = due (goes_beyond (namespaces_of (reached_by finished c.local c.map r)) t.namespaces) _ taking h in
     record { r = r; t = t; at = e; before = f; gains = d.0; is = sym d.1 }
 
 same_step : {w : Workspace} {finished : Maps} (c new : Core) (i : ℕ) (taking : Taking) → IsDue finished c i taking
-    → new ≡ counted (with_taken (with_map c (bound_as c.map taking.home taking.name taking.items taking.import)) i taking.namespaces)
+    → new ≡ counted (with_taken (with_map c (bound_as c.map taking.home taking.name taking.items taking.import)) i taking.taken)
     → Step w finished (at_rest c) (at_rest new)
 same_step c new i taking d is = takes_import i d.r d.t (record { import = d.at; before = d.before; gains = d.gains }) (rw (is, d.is) refl)
 
 -- the taking of an import is a step
 pub takes : {w : Workspace} {finished : Maps} (c new : Core) (i : ℕ) (taking : Taking) → taking_at finished c i ≡ Some taking
-    → new ≡ counted (with_taken (with_map c (bound_as c.map taking.home taking.name taking.items taking.import)) i taking.namespaces)
+    → new ≡ counted (with_taken (with_map c (bound_as c.map taking.home taking.name taking.items taking.import)) i taking.taken)
     → Step w finished (at_rest c) (at_rest new)
 takes c new i taking h is = same_step c new i taking (due_at c i taking (slice_get c.reached i) (slice_get c.taken i) refl refl h) is

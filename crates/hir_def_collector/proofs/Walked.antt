@@ -4,22 +4,24 @@ use Rattle.std.specs.List.{All}
 use Rattle.std.specs.Option.{IfSome}
 use Rattle.std.proofs.lemmas.List.Elements.{All-head, All-tail}
 use Rattle.hir_item_tree.specs.Collected.{is_enabled}
-use Rattle.hir_item_tree.specs.ItemTree.{Tree}
+use Rattle.hir_item_tree.specs.ItemTree.{Tree, empty_tree}
 use Rattle.hir_item_tree.specs.Kinds.{item_head}
 use Rattle.hir_item_tree.specs.KeptForest.{Head, Leaf, KeptItem, KeptForest, leaf, all_items, no_items}
 use Rattle.hir_item_tree.specs.Rows.{Content, numbers_of, items_at, item_of, and_found}
 use Rattle.hir_item_tree.specs.declared.raw_visibility.RawVisibility.{RawVisibility}
 use Rattle.hir_item_tree.specs.declared.rows.ModItemId.{ModItemId}
+use Rattle.hir_base.specs.declared.ids.Crate.{Crate}
 use Rattle.hir_base.specs.declared.ids.ModuleId.{ModuleId}
 use Rattle.hir_scope.specs.Visibility.{visibility_of}
 use Rattle.hir_scope.specs.declared.visibility.Visibility.{Visibility}
 use Rattle.hir_def_map.specs.State.{Map, Maps}
 use Rattle.hir_def_collector.specs.declared.collector.Start.{Start}
+use Rattle.hir_def_collector.specs.declared.source_database.Dependency.{Dependency}
 use Rattle.hir_def_collector.specs.declared.collector.site.Site.{Site}
-use Rattle.hir_def_collector.specs.Workspace.{Workspace, TreeLook, tree_look}
+use Rattle.hir_def_collector.specs.Workspace.{Workspace}
 use Rattle.hir_def_collector.specs.State.{Visit, State, Core, at_rest, joined, visits, counted}
 use Rattle.hir_def_collector.specs.Items.{meet_of, lesser_in, is_passed_over}
-use Rattle.hir_def_collector.specs.Start.{start_of, start_core, root_file, root_site, tree_visits}
+use Rattle.hir_def_collector.specs.Start.{core_of, root_site, root_tree, start_by, tree_visits}
 use Rattle.hir_def_collector.specs.Steps.{Steps, none, drops_item, passes_over, visit}
 use Rattle.hir_def_collector.specs.TreeReads.{visits_at, above}
 use Rattle.hir_def_collector.specs.Derivation.{IsFull, IsSpent}
@@ -30,7 +32,7 @@ use Rattle.hir_def_collector.proofs.Grows.{Grows-Step, Grows-Steps}
 
 -- a workspace without crates and sources
 abbrev pub no_workspace : Workspace
-no_workspace = record { crates = []; tree = λ krate file. tree_look None }
+no_workspace = record { crates = []; tree = λ krate file. record { present = false; tree = empty_tree }; variants = λ id. None }
 
 -- a meet goes on from the lesser of the next
 pub meet_next : (finished : Maps) (m : Map) (at : ModuleId) (least next : Visibility) (raws : List RawVisibility) (i : ℕ) (raw : RawVisibility) → i < length raws → raw ≡ get_or raws i raw
@@ -215,47 +217,31 @@ append_nil : (vs : List Visit) → vs ++ [] ≡ vs
 append_nil [] = refl
 append_nil (v ∷ vs) = ap (λ (us : List Visit). v ∷ us) (append_nil vs)
 
--- a run that has nothing to visit begins at rest
-pub begins_empty : (w : Workspace) {finished : Maps} (start : Start) (run : Core) (found : Option Tree) → run ≡ start_core start → tree_look found ≡ w.tree start.krate (root_file start)
-    → tree_visits (root_site start) (tree_look found).tree ≡ [] → Steps w finished (start_of w start) (at_rest run)
-begins_empty w {finished} start run found is seen nothing =
-    let begin : start_of w start ≡ joined (start_core start) (tree_visits (root_site start) (tree_look found).tree)
-    = ap (λ (t : TreeLook). joined (start_core start) (tree_visits (root_site start) t.tree)) (sym seen) in
-    let same : start_of w start ≡ at_rest run = begin ∙ ap (joined (start_core start)) nothing ∙ ap at_rest (sym is) in
-    subst (λ (s : State). Steps w finished s (at_rest run)) (sym same) none
-
--- a file that is absent has no items
-pub begins_absent : (w : Workspace) {finished : Maps} (start : Start) (run : Core) (found : Option Tree) → run ≡ start_core start → tree_look found ≡ w.tree start.krate (root_file start) → found ≡ None
-    → Steps w finished (start_of w start) (at_rest run)
-begins_absent w start run found is seen absent =
-    begins_empty w start run found is seen (ap (λ (o : Option Tree). tree_visits (root_site start) (tree_look o).tree) absent)
-
 disabled_visits : (site : Site) (tree : Tree) → is_enabled tree.attributes ≡ false → tree_visits site tree ≡ []
 disabled_visits site tree e = rw e refl
 
 enabled_visits : (site : Site) (tree : Tree) → is_enabled tree.attributes ≡ true → tree_visits site tree ≡ visits site tree.items
 enabled_visits site tree e = rw e refl
 
--- one that is disabled at its top declares nothing
-pub begins_disabled : (w : Workspace) {finished : Maps} (start : Start) (run : Core) (found : Option Tree) (tree : Tree) → run ≡ start_core start → tree_look found ≡ w.tree start.krate (root_file start)
-    → found ≡ Some tree → is_enabled tree.attributes ≡ false → Steps w finished (start_of w start) (at_rest run)
-begins_disabled w start run found tree is seen there disabled =
-    begins_empty w start run found is seen
-    (ap (λ (o : Option Tree). tree_visits (root_site start) (tree_look o).tree) there ∙ disabled_visits (root_site start) tree disabled)
+module _ (finished : Maps) (site : Site) (tree : Tree) (old : Core) where
+  -- of a tree that is disabled at its top nothing is visited
+  pub walks_disabled : (w : Workspace) → is_enabled tree.attributes ≡ false → Steps w finished (joined old (tree_visits site tree)) (at_rest old)
+  walks_disabled w disabled = subst (λ (vs : List Visit). Steps w finished (joined old vs) (at_rest old)) (sym (disabled_visits site tree disabled)) none
 
--- another has the items of its tree
-module _ (w : Workspace) (finished : Maps) (start : Start) (run : Core) (found : Option Tree) (tree : Tree) (ids : List ModItemId) (is : run ≡ start_core start)
-    (seen : tree_look found ≡ w.tree start.krate (root_file start)) (there : found ≡ Some tree) (enabled : is_enabled tree.attributes ≡ true)
-    (all : items_at (all_items tree.items) (numbers_of ids) ≡ tree.items) where
-  present_start : joined run (visits_at tree (root_site start) (numbers_of ids) ++ []) ≡ start_of w start
-  present_start =
-      let look : tree_look (Some tree) ≡ w.tree start.krate (root_file start) = ap tree_look (sym there) ∙ seen in
-      ap (joined run) (append_nil (visits_at tree (root_site start) (numbers_of ids)) ∙ ap (visits (root_site start)) all ∙ sym (enabled_visits (root_site start) tree enabled))
-      ∙ ap (λ (c : Core). joined c (tree_visits (root_site start) tree)) is
-      ∙ ap (λ (t : TreeLook). joined (start_core start) (tree_visits (root_site start) t.tree)) look
+  -- of another its items are
+  module _ (ids : List ModItemId) (enabled : is_enabled tree.attributes ≡ true) (all : items_at (all_items tree.items) (numbers_of ids) ≡ tree.items) where
+    present_visits : visits_at tree site (numbers_of ids) ++ [] ≡ tree_visits site tree
+    present_visits = append_nil (visits_at tree site (numbers_of ids)) ∙ ap (visits site) all ∙ sym (enabled_visits site tree enabled)
 
-  pub begins_present : (new : Core) → Walks finished run new (visits_at tree (root_site start) (numbers_of ids)) → Steps w finished (start_of w start) (at_rest new)
-  begins_present new walks = subst (λ (s : State). Steps w finished s (at_rest new)) present_start (walks.steps w [])
+    pub walks_present : (new : Core) → Walks finished old new (visits_at tree site (numbers_of ids)) → (w : Workspace) → Steps w finished (joined old (tree_visits site tree)) (at_rest new)
+    walks_present new walks w = subst (λ (vs : List Visit). Steps w finished (joined old vs) (at_rest new)) present_visits (walks.steps w [])
 
-  pub begins_spent : WalksTooFar finished run (visits_at tree (root_site start) (numbers_of ids)) → IsSpent w finished (start_of w start)
-  begins_spent far = subst (λ (s : State). IsSpent w finished s) present_start (far.spent w [])
+    pub spent_present : WalksTooFar finished old (visits_at tree site (numbers_of ids)) → (w : Workspace) → IsSpent w finished (joined old (tree_visits site tree))
+    spent_present far w = subst (λ (vs : List Visit). IsSpent w finished (joined old vs)) present_visits (far.spent w [])
+
+-- a run whose root file has this tree begins so
+pub began : (w : Workspace) (finished : Maps) (start : Start) (dependencies : List Dependency) (behind : List Crate) (tree : Tree) (run : Core) → run ≡ core_of finished tree dependencies behind start
+    → tree ≡ root_tree w start → joined run (tree_visits (root_site start) tree) ≡ start_by finished (root_tree w start) dependencies behind start
+began w finished start dependencies behind tree run is seen =
+    ap (λ (c : Core). joined c (tree_visits (root_site start) tree)) is
+    ∙ ap (λ (t : Tree). start_by finished t dependencies behind start) seen

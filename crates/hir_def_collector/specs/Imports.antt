@@ -1,5 +1,5 @@
 -- What a reached import brings.
-use Rattle.std.specs.Prelude.{◌≡◌, ℕ, ◌-◌, length, Bool, true, ◌||◌, ◌&&◌, not, is_some, List, Option, None, Some, map, option_map, unwrap_or, slice_get, cond}
+use Rattle.std.specs.Prelude.{◌≡◌, ℕ, ◌-◌, length, Bool, true, false, ◌||◌, ◌&&◌, not, is_some, List, Option, None, Some, map, option_map, unwrap_or, slice_get, cond}
 use Rattle.std.specs.Option.{option_and_then}
 use Rattle.hir_base.specs.ModPath.{Path}
 use Rattle.hir_base.specs.declared.ids.ModuleId.{ModuleId}
@@ -13,7 +13,7 @@ use Rattle.hir_item_tree.specs.declared.shape.ImportAlias.{ImportAlias}
 use Rattle.hir_item_tree.specs.declared.shape.ImportAlias.TheVariants.{Underscore, Alias}
 use Rattle.hir_item_tree.specs.declared.shape.ImportKind.{ImportKind}
 use Rattle.hir_item_tree.specs.declared.shape.ImportKind.TheVariants as kinds
-use Rattle.hir_scope.specs.PerNs.{nothing}
+use Rattle.hir_scope.specs.PerNs.{keep_of}
 use Rattle.hir_scope.specs.Visibility.{visibility_of}
 use Rattle.hir_scope.specs.declared.imports.ImportId.{ImportId}
 use Rattle.hir_scope.specs.declared.imports.ImportOrExternCrate.{ImportOrExternCrate}
@@ -21,13 +21,18 @@ use Rattle.hir_scope.specs.declared.imports.ImportOrExternCrate.TheVariants as w
 use Rattle.hir_scope.specs.declared.per_ns.Item.{Item}
 use Rattle.hir_scope.specs.declared.per_ns.PerNs.{PerNs}
 use Rattle.hir_scope.specs.declared.visibility.Visibility.{Visibility}
-use Rattle.hir_def_map.specs.Reaches.{reached_items}
-use Rattle.hir_def_map.specs.State.{Map, Maps, beside, no_globs, pushed}
+use Rattle.hir_scope.specs.declared.visibility.Visibility.TheVariants as visibilities
+use Rattle.hir_def_map.specs.Reaches.{by_import}
+use Rattle.hir_def_map.specs.Scoping.{Resolution, resolution_of}
+use Rattle.hir_def_map.specs.Scoping.Segments.{unresolved}
+use Rattle.hir_def_map.specs.State.{Local, Map, Maps, beside, no_globs, pushed}
+use Rattle.hir_def_map.specs.declared.nameres.path_resolution.ReachedFixedPoint.TheVariants.{No}
 use Rattle.hir_def_collector.specs.declared.collector.imports.ReachedImport.{ReachedImport}
 use Rattle.hir_def_collector.specs.declared.collector.imports.Namespaces.{Namespaces}
+use Rattle.hir_def_collector.specs.declared.collector.imports.Taken.{Taken}
 use Rattle.hir_def_collector.specs.declared.collector.imports.Taking.{Taking}
 use Rattle.hir_def_collector.specs.declared.collector.site.Site.{Site}
-use Rattle.hir_def_collector.specs.State.{Core, no_crates}
+use Rattle.hir_def_collector.specs.State.{Core}
 use Rattle.hir_def_collector.specs.ItemIds.{module_id, use_id}
 use Rattle.hir_def_collector.specs.Items.{lesser_in}
 
@@ -59,29 +64,51 @@ name_by None segments = last_of segments
 abbrev pub name_of : ReachedImport → Option (List ℕ)
 name_of i = name_by i.alias i.path.segments
 
--- what a path reaches that an import of the module names
-unfoldable pub reached_in : Maps → Map → ModuleId → Path → PerNs
-reached_in finished m at path = reached_items (beside finished m) no_crates at path
+-- what a path means that an import of the module names
+unfoldable pub answer_in : Maps → Local → Map → ModuleId → Path → Resolution
+answer_in finished local m at path = resolution_of (beside finished m) (by_import local) at path
 
--- what an import of this kind reaches, where its path reaches these items: a glob reaches nothing yet
-abbrev pub reached_by_kind : ImportKind → PerNs → PerNs
-reached_by_kind kinds.Plain items = items
-reached_by_kind kinds.TypeOnly items = items
-reached_by_kind kinds.Glob items = nothing
+-- the answer to an import of this kind, where this is the one to its path: a glob has none yet
+abbrev pub answer_by_kind : ImportKind → Resolution → Resolution
+answer_by_kind kinds.Plain answer = answer
+answer_by_kind kinds.TypeOnly answer = answer
+answer_by_kind kinds.Glob answer = unresolved No
+
+-- the answer to an import
+abbrev pub answer_to : Maps → Local → Map → ReachedImport → Resolution
+answer_to finished local m i = answer_by_kind i.kind (answer_in finished local m (module_id m i.home) i.path)
 
 -- what an import reaches
-abbrev pub reached_by : Maps → Map → ReachedImport → PerNs
-reached_by finished m i = reached_by_kind i.kind (reached_in finished m (module_id m i.home) i.path)
+abbrev pub reached_by : Maps → Local → Map → ReachedImport → PerNs
+reached_by finished local m i = (answer_to finished local m i).resolved_def
 
--- what an import of this kind keeps of what it reaches: `self` in a list keeps types alone
+-- whether it is answered through another crate
+abbrev pub is_crossing : Maps → Local → Map → ReachedImport → Bool
+is_crossing finished local m i = (answer_to finished local m i).prefix_info.differing_crate
+
+-- whether all may see
+abbrev pub is_public : Visibility → Bool
+is_public visibilities.Public = true
+is_public (visibilities.PubCrate krate) = false
+is_public (visibilities.Module m explicitness) = false
+
+-- what may be taken of items: through another crate those alone that all may see
+abbrev pub open_items : Bool → PerNs → PerNs
+open_items crossing items = cond crossing (keep_of is_public items) items
+
+-- what an import of this kind keeps of what it may take: `self` in a list keeps types alone
 abbrev pub kept_by_kind : ImportKind → PerNs → PerNs
 kept_by_kind kinds.Plain items = items
 kept_by_kind kinds.TypeOnly items = record { types = items.types; values = None; macros = None }
 kept_by_kind kinds.Glob items = items
 
+-- what an import keeps of an answer
+abbrev pub kept_of : ImportKind → Resolution → PerNs
+kept_of kind answer = kept_by_kind kind (open_items answer.prefix_info.differing_crate answer.resolved_def)
+
 -- what an import keeps of what it reaches
-abbrev pub kept_by : Maps → Map → ReachedImport → PerNs
-kept_by finished m i = kept_by_kind i.kind (reached_by finished m i)
+abbrev pub kept_by : Maps → Local → Map → ReachedImport → PerNs
+kept_by finished local m i = kept_of i.kind (answer_to finished local m i)
 
 -- the namespaces in which something is bound
 abbrev pub namespaces_of : PerNs → Namespaces
@@ -131,23 +158,30 @@ bound_as m home None items import = m
 bound_as m home (Some name) items import = bound_in m home name items (Some import)
 
 -- what an import offers
-abbrev pub offered_by : Maps → Map → ReachedImport → PerNs
-offered_by finished m i = imported finished m (visibility_of (module_id m i.home) i.visibility) (kept_by finished m i)
+abbrev pub offered_by : Maps → Local → Map → ReachedImport → PerNs
+offered_by finished local m i = imported finished m (visibility_of (module_id m i.home) i.visibility) (kept_by finished local m i)
 
 -- the map once the import is taken
-abbrev pub after_import : Maps → Map → ReachedImport → Map
-after_import finished m i = bound_as m i.home (name_of i) (offered_by finished m i) i.id
+abbrev pub after_import : Maps → Local → Map → ReachedImport → Map
+after_import finished local m i = bound_as m i.home (name_of i) (offered_by finished local m i) i.id
 
--- the taking of an import of which these namespaces were reached before, where it reaches another
-abbrev pub taking_of : Maps → Map → ReachedImport → Namespaces → Option Taking
-taking_of finished m r t = cond (goes_beyond (namespaces_of (reached_by finished m r)) t) (Some (record {
+-- what takings reached, one with this answer among them
+abbrev pub taken_after : Taken → Resolution → Taken
+taken_after t answer = record {
+  namespaces = both_of t.namespaces (namespaces_of answer.resolved_def);
+  crossed = t.crossed || answer.prefix_info.differing_crate;
+}
+
+-- the taking of an import of which these were the takings before, where it reaches another namespace
+abbrev pub taking_of : Maps → Local → Map → ReachedImport → Taken → Option Taking
+taking_of finished local m r t = cond (goes_beyond (namespaces_of (reached_by finished local m r)) t.namespaces) (Some (record {
   home = r.home;
   name = name_of r;
-  items = offered_by finished m r;
+  items = offered_by finished local m r;
   import = r.id;
-  namespaces = both_of t (namespaces_of (reached_by finished m r));
+  taken = taken_after t (answer_to finished local m r);
 })) None
 
 -- the taking that is due of the import at the place, if one is
 abbrev pub taking_at : Maps → Core → ℕ → Option Taking
-taking_at finished c i = option_and_then (λ r. option_and_then (λ t. taking_of finished c.map r t) (slice_get c.taken i)) (slice_get c.reached i)
+taking_at finished c i = option_and_then (λ r. option_and_then (λ t. taking_of finished c.local c.map r t) (slice_get c.taken i)) (slice_get c.reached i)

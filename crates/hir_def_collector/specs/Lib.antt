@@ -5,6 +5,8 @@ pub mod State
 pub mod ItemIds
 pub mod Items
 pub mod Imports
+pub mod CrateTop
+pub mod Preludes
 pub mod Start
 pub mod TreeReads
 pub mod Steps

@@ -4,6 +4,7 @@ use Rattle.hir_item_tree.specs.KeptForest.{KeptItem, KeptForest, no_items, item}
 use Rattle.hir_def_map.specs.State.{Local, Map}
 use Rattle.hir_def_collector.specs.declared.collector.imports.ReachedImport.{ReachedImport}
 use Rattle.hir_def_collector.specs.declared.collector.imports.Namespaces.{Namespaces}
+use Rattle.hir_def_collector.specs.declared.collector.imports.Taken.{Taken}
 use Rattle.hir_def_collector.specs.declared.collector.site.Site.{Site}
 use Rattle.hir_def_collector.specs.declared.source_database.Key.{Key}
 
@@ -16,13 +17,15 @@ pub record Visit : Type 0 where
 pub record State : Type 0 where
   -- the modules so far, and what each binds
   pub map : Map
+  -- the crates that paths may begin with
+  pub local : Local
   -- what is still to be visited, the next item first
   pub agenda : List Visit
   -- the imports that were come upon, in order
   pub reached : List ReachedImport
-  -- for each of them the namespaces that its takings reached
-  pub taken : List Namespaces
-  -- the keys that were asked for
+  -- for each of them what its takings reached
+  pub taken : List Taken
+  -- the keys that were asked for, those of finished maps aside
   pub asked : List Key
   -- how many steps were taken
   pub count : ℕ
@@ -30,39 +33,40 @@ pub record State : Type 0 where
 -- the same, the agenda aside
 pub record Core : Type 0 where
   pub map : Map
+  pub local : Local
   pub reached : List ReachedImport
-  pub taken : List Namespaces
+  pub taken : List Taken
   pub asked : List Key
   pub count : ℕ
-
--- the crates that paths may begin with; there are none yet
-abbrev pub no_crates : Local
-no_crates = []
 
 -- no namespace
 abbrev pub no_namespaces : Namespaces
 no_namespaces = record { types = false; values = false; macros = false }
 
+-- no taking
+abbrev pub nothing_taken : Taken
+nothing_taken = record { namespaces = no_namespaces; crossed = false }
+
 -- of none of these imports a taking reached anything
-abbrev pub not_taken : List ReachedImport → List Namespaces
-not_taken imports = map (λ _. no_namespaces) imports
+abbrev pub not_taken : List ReachedImport → List Taken
+not_taken imports = map (λ _. nothing_taken) imports
 
 -- a core and what is still to be visited
 abbrev pub joined : Core → List Visit → State
-joined c agenda = record { map = c.map; agenda = agenda; reached = c.reached; taken = c.taken; asked = c.asked; count = c.count }
+joined c agenda = record { map = c.map; local = c.local; agenda = agenda; reached = c.reached; taken = c.taken; asked = c.asked; count = c.count }
 
--- the core with another map, with more imports, with other namespaces at a place, with one more step
+-- the core with another map, with more imports, with other takings at a place, with one more step
 abbrev pub with_map : Core → Map → Core
-with_map c m = record { map = m; reached = c.reached; taken = c.taken; asked = c.asked; count = c.count }
+with_map c m = record c { map = m }
 
 abbrev pub with_imports : Core → List ReachedImport → Core
-with_imports c rs = record { map = c.map; reached = c.reached ++ rs; taken = c.taken ++ not_taken rs; asked = c.asked; count = c.count }
+with_imports c rs = record c { reached = c.reached ++ rs; taken = c.taken ++ not_taken rs }
 
-abbrev pub with_taken : Core → ℕ → Namespaces → Core
-with_taken c i t = record { map = c.map; reached = c.reached; taken = slice_set c.taken i t; asked = c.asked; count = c.count }
+abbrev pub with_taken : Core → ℕ → Taken → Core
+with_taken c i t = record c { taken = slice_set c.taken i t }
 
 abbrev pub counted : Core → Core
-counted c = record { map = c.map; reached = c.reached; taken = c.taken; asked = c.asked; count = c.count + 1 }
+counted c = record c { count = c.count + 1 }
 
 -- a core with nothing to be visited
 abbrev pub at_rest : Core → State

@@ -8,13 +8,13 @@ use Rattle.hir_item_tree.specs.UseTree.{UseTree}
 use Rattle.hir_def_map.specs.State.{Map, Maps, new_id, new_module, with_module, with_declared, with_use, with_impl, with_extern_block, with_unnamed_const}
 use Rattle.hir_def_collector.specs.declared.collector.declaration.Declaration.{Declaration}
 use Rattle.hir_def_collector.specs.declared.collector.imports.ReachedImport.{ReachedImport}
-use Rattle.hir_def_collector.specs.declared.collector.imports.Namespaces.{Namespaces}
+use Rattle.hir_def_collector.specs.declared.collector.imports.Taken.{Taken}
 use Rattle.hir_def_collector.specs.declared.collector.site.Site.{Site}
 use Rattle.hir_def_collector.specs.Workspace.{Workspace}
 use Rattle.hir_def_collector.specs.State.{Visit, State, visits, ticked, not_taken}
 use Rattle.hir_def_collector.specs.ItemIds.{module_id, const_id, impl_id, extern_block_id, use_id}
 use Rattle.hir_def_collector.specs.Items.{declaration_of, declared_module, inline_origin, is_passed_over, own_visibility}
-use Rattle.hir_def_collector.specs.Imports.{bound_in, imports_by, reached_by, namespaces_of, both_of, goes_beyond, after_import}
+use Rattle.hir_def_collector.specs.Imports.{answer_to, bound_in, imports_by, reached_by, namespaces_of, taken_after, goes_beyond, after_import}
 
 -- ---- what the steps make of a state
 
@@ -78,10 +78,10 @@ after_reach s site head imports rest = ticked (record s {
 })
 
 -- the import at the place is bound, and what it reached is noted
-abbrev pub after_take : Maps → State → ℕ → ReachedImport → Namespaces → State
+abbrev pub after_take : Maps → State → ℕ → ReachedImport → Taken → State
 after_take finished s i r t = ticked (record s {
-  map = after_import finished s.map r;
-  taken = slice_set s.taken i (both_of t (namespaces_of (reached_by finished s.map r)));
+  map = after_import finished s.local s.map r;
+  taken = slice_set s.taken i (taken_after t (answer_to finished s.local s.map r));
 })
 
 -- ---- when a step may be taken
@@ -92,10 +92,10 @@ pub record IsNext (s : State) (v : Visit) (rest : List Visit) : Type 0 where
   pub enabled : is_enabled (item_head v.item).attributes ≡ true
 
 -- the import at the place reaches a namespace that none of its takings reached
-pub record CanTake (finished : Maps) (s : State) (i : ℕ) (r : ReachedImport) (t : Namespaces) : Type 0 where
+pub record CanTake (finished : Maps) (s : State) (i : ℕ) (r : ReachedImport) (t : Taken) : Type 0 where
   pub import : slice_get s.reached i ≡ Some r
   pub before : slice_get s.taken i ≡ Some t
-  pub gains : goes_beyond (namespaces_of (reached_by finished s.map r)) t ≡ true
+  pub gains : goes_beyond (namespaces_of (reached_by finished s.local s.map r)) t.namespaces ≡ true
 
 -- an item that is written at a site
 abbrev pub visit : Site → KeptItem → Visit
@@ -129,7 +129,7 @@ pub data Step (w : Workspace) (finished : Maps) (old new : State) : Type 0 where
   reaches_imports : (site : Site) (head : Head) (tree : UseTree) (rest : List Visit) → IsNext old (visit site (leaf head (import tree))) rest
       → new ≡ after_reach old site head (imports_by old.map site head tree) rest → Step w finished old new
   -- an import binds what it reaches now
-  takes_import : (i : ℕ) (r : ReachedImport) (t : Namespaces) → CanTake finished old i r t
+  takes_import : (i : ℕ) (r : ReachedImport) (t : Taken) → CanTake finished old i r t
       → new ≡ after_take finished old i r t → Step w finished old new
 
 -- steps one after another

@@ -1,34 +1,45 @@
 //! Runs of the import rules, after rust-analyzer's `DefCollector`.
-ghost use Rattle.std.specs.Prelude.{◌≡◌, IfOk};
+ghost use Rattle.std.specs.Prelude.{◌≡◌, ◌<◌, IfOk, OnOk, length, option_map};
+ghost use Rattle.hir_def_map.specs.Parts.{part_of};
+ghost use Rattle.hir_def_map.specs.State.{Maps};
 ghost use Rattle.hir_def_map.specs.World.{finished_in};
-ghost use Rattle.hir_def_collector.specs.Workspace.{Workspace};
+ghost use Rattle.hir_def_collector.specs.Workspace.{Workspace, behind_of, dependencies_of};
 ghost use Rattle.hir_def_collector.specs.Keys.{AgreeOn};
-ghost use Rattle.hir_def_collector.specs.Start.{start_of};
-ghost use Rattle.hir_def_collector.specs.State.{at_rest};
+ghost use Rattle.hir_def_collector.specs.Start.{root_site, root_tree, start_by, tree_visits};
+ghost use Rattle.hir_def_collector.specs.State.{at_rest, joined};
 ghost use Rattle.hir_def_collector.specs.Steps.{Steps};
-ghost use Rattle.hir_def_collector.specs.Derivation.{CollectedValue, Ends, IsSpent};
+ghost use Rattle.hir_def_collector.specs.Derivation.{CollectedValue, Ends, IsOverlong, IsSpent, keys_of};
 
 pub mod collected;
+mod crate_top;
 pub mod declaration;
 mod declare;
 pub mod imports;
+mod known_name;
 mod leftovers;
 mod passes;
+mod preludes;
 mod reach;
 mod run;
 pub mod site;
 mod walk;
 
-use crate::source_database::SourceDatabase;
+use crate::source_database::{CrateData, Dependency, SourceDatabase};
 use collected::Collected;
+use crate_top::top_data;
 use hir_base::ast_id::{EditionedFileId, HirFileId};
 use hir_base::ids::Crate;
 use hir_def_map::nameres::AddModuleError;
 use hir_def_map::world::World;
+use hir_def_map::world::part::WorldPart;
+use hir_item_tree::item_tree::ItemTree;
 use passes::settle;
+use preludes::extern_prelude;
 use run::Run;
 use site::Site;
 use std::alloc::{AllocError, Global};
+use std::collections::BTreeSet;
+use std::rc::Rc;
 use walk::walk_all;
 
 /// Where a run begins: a crate, and its root file.
@@ -74,7 +85,7 @@ impl From<AddModuleError> for CollectError {
     }
 }
 
-/// Finds what the names of a crate's modules stand for, beside the finished maps.
+/// Finds what the names of a crate's modules stand for, beside the finished maps of the crates on which it stands.
 ///
 /// A crate of one file: its items of all kinds but enums, `extern crate` items, modules in files of their
 /// own, macro calls and macros, which are passed over, and its imports but globs, which are left over. After
@@ -85,40 +96,84 @@ pub fn collect_defs<D: SourceDatabase>(
     world: &World,
     start: Start,
 ) -> Result<Collected, CollectError>
-    // The answer is the end of a derivation over each workspace that agrees on what was asked for.
-    ensures ends { IfOk result (λ c. (w : Workspace) → AgreeOn c.asked (D.workspace db.now) w → Ends w (finished_in world.now.maps) start c) }
+    // The answer is the end of a derivation over each workspace, beside finished maps, that agrees on what was asked for.
+    ensures ends { IfOk result (λ c. (w : Workspace) (finished : Maps) → AgreeOn (keys_of c) (D.workspace db.now) (finished_in world.now.maps) w finished → Ends w finished start c) }
     // Steps lead on from the start to as many as are counted.
-    ensures many { result ≡ Err CollectError.TooMany → IsSpent (D.workspace db.now) (finished_in world.now.maps) (start_of (D.workspace db.now) start) }
+    ensures many { result ≡ Err CollectError.TooMany → IsOverlong (D.workspace db.now) (finished_in world.now.maps) start }
 {
-    let mut run = begin(alloc, db, world, start)?;
+    let krate = db.krate(start.krate);
+    let behind = behind_of(alloc, krate)?;
+    let world = WorldPart::among(world, &behind);
+    let mut run = begin(alloc, db, world, dependencies_of(krate), &behind, start)?;
     settle(&mut run, world)?;
     let leftover = run.leftover(alloc)?;
     Ok(run.finish(leftover))
 }
 
-/// The root module, with all items of its file handled.
+/// What a crate depends on; nothing where it isn't there.
+fn dependencies_of(krate: Option<&CrateData>) -> &[Dependency]
+    ensures value { result.now ≡ dependencies_of (option_map (λ c. c.now) krate.entry) }
+{
+    match krate {
+        Some(krate) => krate.dependencies(),
+        None => &[],
+    }
+}
+
+/// The crates on which a crate stands; none where it isn't there.
+fn behind_of(alloc: Global, krate: Option<&CrateData>) -> Result<Rc<BTreeSet<Crate>>, AllocError>
+    ensures value { IfOk result (λ behind. behind.value.keys ≡ behind_of (option_map (λ c. c.now) krate.entry)) }
+{
+    match krate {
+        Some(krate) => Ok(krate.behind().clone()?),
+        None => Ok(Rc::new(alloc, BTreeSet::new(alloc))?),
+    }
+}
+
+/// The root module with what all modules find, and with all items of its file handled.
 fn begin<D: SourceDatabase>(
     alloc: Global,
     db: &D,
-    world: &World,
+    world: WorldPart<'_>,
+    dependencies: &[Dependency],
+    behind: &Rc<BTreeSet<Crate>>,
     start: Start,
 ) -> Result<Run, CollectError>
-    ensures ok { IfOk result (λ run. Steps (D.workspace db.now) (finished_in world.now.maps) (start_of (D.workspace db.now) start) (at_rest run)) }
-    ensures many { result ≡ Err CollectError.TooMany → IsSpent (D.workspace db.now) (finished_in world.now.maps) (start_of (D.workspace db.now) start) }
+    ensures ok { IfOk result (λ run. Steps (D.workspace db.now) (part_of world.entry) (start_by (part_of world.entry) (root_tree (D.workspace db.now) start) dependencies.now behind.now.value.keys start) (at_rest run)) }
+    ensures many { result ≡ Err CollectError.TooMany → IsSpent (D.workspace db.now) (part_of world.entry) (start_by (part_of world.entry) (root_tree (D.workspace db.now) start) dependencies.now behind.now.value.keys start) }
 {
-    let mut run = Run::start(alloc, start)?;
-    let file = HirFileId::File(start.root);
-    let Some(tree) = db.tree(alloc, start.krate, file)? else {
-        return Ok(run);
-    };
+    let tree = db.tree(alloc, start.krate, HirFileId::File(start.root))?;
+    let data = top_data(
+        alloc,
+        start.root.edition,
+        tree.top_level_attrs(),
+        behind.clone()?,
+    )?;
+    let local = extern_prelude(alloc, &data, dependencies)?;
+    let mut run = Run::start(alloc, world, data, local, start)?;
+    walk_root(&mut run, world, &tree, start)?;
+    Ok(run)
+}
+
+/// Handles the items of a tree that are written in the root module; one that is disabled at its top declares nothing.
+fn walk_root(
+    run: &mut Run,
+    world: WorldPart<'_>,
+    tree: &ItemTree,
+    start: Start,
+) -> Result<(), CollectError>
+    requires in_range { 0 < length run.old.map.modules }
+    ensures ok { OnOk result ((w : Workspace) → Steps w (part_of world.entry) (joined run.old (tree_visits (root_site start) tree.now)) (at_rest run.new)) }
+    ensures many { result ≡ Err CollectError.TooMany → (w : Workspace) → IsSpent w (part_of world.entry) (joined run.old (tree_visits (root_site start) tree.now)) }
+{
     if !tree.top_level_attrs().is_enabled() {
-        return Ok(run);
+        return Ok(());
     }
     let site = Site {
         home: 0,
-        file,
+        file: HirFileId::File(start.root),
         extern_block: None,
     };
-    walk_all(&mut run, world, &tree, site, tree.top_level_items())?;
-    Ok(run)
+    walk_all(run, world, tree, site, tree.top_level_items())?;
+    Ok(())
 }

@@ -2,14 +2,15 @@
 use hir_base::ast_id::{EditionedFileId, FileId, HirFileId};
 use hir_base::cfg_options::CfgOptions;
 use hir_base::edition::Edition;
-use hir_base::ids::{Crate, ItemContainerId, ModuleDefId};
+use hir_base::ids::{Crate, EnumId, ItemContainerId, ModuleDefId};
 use hir_base::name::Name;
 use hir_def_collector::collector::collected::Collected;
 use hir_def_collector::collector::{Start, collect_defs};
-use hir_def_collector::source_database::SourceDatabase;
+use hir_def_collector::source_database::{CrateData, SourceDatabase};
 use hir_def_map::nameres::DefMap;
 use hir_def_map::world::World;
 use hir_item_tree::item_tree::{ItemTree, source_tree};
+use hir_item_tree::side_lists::VariantItem;
 use hir_item_tree::source::Source;
 use hir_scope::imports::ImportOrGlob;
 use hir_scope::per_ns::PerNs;
@@ -27,23 +28,36 @@ struct OneSource {
 }
 
 impl SourceDatabase for OneSource {
-    ghost use Rattle.std.specs.Prelude.{[], Some, false};
+    ghost use Rattle.std.specs.Prelude.{[], None, true, false};
     ghost use Rattle.hir_item_tree.specs.Attributes.{no_attributes};
     ghost use Rattle.hir_item_tree.specs.ItemTree.{tree_of};
     ghost use Rattle.hir_item_tree.specs.Source.{source_view};
-    ghost use Rattle.hir_def_collector.specs.Workspace.{tree_look};
 
-    ghost workspace = { λ d. record { crates = []; tree = λ krate file. tree_look (Some (tree_of (λ _. false) no_attributes (source_view d.source))) } };
+    ghost workspace = { λ d. record {
+      crates = [];
+      tree = λ krate file. record { present = true; tree = tree_of (λ _. false) no_attributes (source_view d.source) };
+      variants = λ id. None;
+    } };
 
-    fn tree(
-        &self,
-        alloc: Global,
-        _krate: Crate,
-        _file: HirFileId,
-    ) -> Result<Option<ItemTree>, AllocError> {
+    fn krate(&self, _krate: Crate) -> Option<&CrateData> {
+        None
+    }
+
+    fn tree(&self, alloc: Global, _krate: Crate, _file: HirFileId) -> Result<ItemTree, AllocError> {
         let front = Vec::new(alloc);
-        let tree = source_tree(alloc, &self.source, &front, &CfgOptions::new(alloc))?;
-        Ok(Some(tree))
+        source_tree(alloc, &self.source, &front, &CfgOptions::new(alloc))
+    }
+
+    fn present(&self, _krate: Crate, _file: HirFileId) -> bool {
+        true
+    }
+
+    fn variants(
+        &self,
+        _alloc: Global,
+        _id: EnumId,
+    ) -> Result<Option<Vec<VariantItem>>, AllocError> {
+        Ok(None)
     }
 }
 

@@ -12,7 +12,6 @@ use Rattle.hir_base.specs.declared.ids.ModuleId.{ModuleId}
 use Rattle.hir_base.specs.contracts.ids.MapIdOrd.TheImpl as map_order
 use Rattle.hir_base.specs.contracts.ids.MapIdPartialEq.TheImpl as map_id
 use Rattle.hir_scope.specs.ModuleTree.{same_crate}
-use Rattle.hir_scope.specs.PerNs.{first_of}
 use Rattle.hir_def_map.specs.declared.world.finished.Finished.{Finished}
 use Rattle.hir_def_map.specs.State.{Maps, Placed, beside, holders_of, holders_under, placed_in}
 use Rattle.hir_def_map.specs.Chains.{HolderLeads, IsPlaced, frame_of, frames_of, holders_of_frame}
@@ -192,7 +191,7 @@ module _ (old : Store) (checked : IsChecked old) where
   named_there k f s j e =
       let h = finds_some f.map f.local (lies_in j) (second_so (not (is_at (map_order.ghosts.cmp f.map.id) j)) (names_some (lies_in j) f.map f.local) e) in
       let P : MapId → Type 0 = λ x. is_some (beside (finished_in old) f.map x) ≡ true in
-      found (at old j) (subst P (same_id (map_named h.0) j h.1) (there_in (beside (finished_in old) f.map) h.0 (there h.0 h.2 (is_there (beside (finished_in old) f.map) h.0) refl)))
+      found (map_id.ghosts.eq j f.map.id) refl (subst P (same_id (map_named h.0) j h.1) (there_in (beside (finished_in old) f.map) h.0 (there h.0 h.2 (is_there (beside (finished_in old) f.map) h.0) refl)))
     where
       there : (n : _) → ((other : _ → Bool) → other n ≡ true → names_some other f.map f.local ≡ true) → (b : Bool) → is_there (beside (finished_in old) f.map) n ≡ b → is_there (beside (finished_in old) f.map) n ≡ true
       there n named true t = t
@@ -201,15 +200,11 @@ module _ (old : Store) (checked : IsChecked old) where
       other : not (is_at (map_order.ghosts.cmp f.map.id) j) ≡ true
       other = first_so (not (is_at (map_order.ghosts.cmp f.map.id) j)) (names_some (lies_in j) f.map f.local) e
 
-      apart : (b : Bool) → map_id.ghosts.eq j f.map.id ≡ b → is_some (cond b (Some (placed_in (finished_in old) f.map)) None) ≡ true → ⊥
-      apart true u v =
+      found : (b : Bool) → map_id.ghosts.eq j f.map.id ≡ b → is_some (cond b (Some (placed_in (finished_in old) f.map)) (option_map placed_of (at old j))) ≡ true → is_some (at old j) ≡ true
+      found true u v =
           let Q : MapId → Type 0 = λ x. is_at (map_order.ghosts.cmp f.map.id) x ≡ true in
-          true≢false (sym other ∙ ap not (subst Q (sym (exact_map j f.map.id u)) (own_id f.map.id)))
-      apart false u v = absurd cc
-
-      found : (o : Option Finished) → is_some (first_of (option_map placed_of o) (cond (map_id.ghosts.eq j f.map.id) (Some (placed_in (finished_in old) f.map)) None)) ≡ true → is_some o ≡ true
-      found None v = absurd (apart (map_id.ghosts.eq j f.map.id) refl v)
-      found (Some g) v = refl
+          absurd (true≢false (sym other ∙ ap not (subst Q (sym (exact_map j f.map.id u)) (own_id f.map.id))))
+      found false u v = placed_some (at old j) v
 
   pub checked_closed : IsClosed old
   checked_closed k = go (lacks_some old (at old k)) refl

@@ -15,11 +15,10 @@ use Rattle.hir_base.specs.contracts.ids.MapIdOrd.TheImpl as map_order
 use Rattle.hir_base.specs.contracts.ids.MapIdOrd.TheImpl.Laws.{total-law as order_total, matches_eq-law as order_ties}
 use Rattle.hir_base.specs.contracts.ids.MapIdPartialEq.TheImpl as map_id
 use Rattle.hir_scope.specs.ModuleTree.{same_crate}
-use Rattle.hir_scope.specs.PerNs.{first_of}
 use Rattle.hir_def_map.specs.declared.world.finished.Finished.{Finished}
 use Rattle.hir_def_map.specs.declared.world.named.Named.{Named}
 use Rattle.hir_def_map.specs.declared.world.named.Named.TheVariants as named
-use Rattle.hir_def_map.specs.State.{Local, Map, Maps, ModuleValue, Placed, beside, holders_of, holders_under, module_at, module_in, placed_in, variants_at}
+use Rattle.hir_def_map.specs.State.{Local, Map, Maps, ModuleValue, Placed, beside, holders_of, holders_or, holders_under, module_at, module_in, placed_in, variants_at}
 use Rattle.hir_def_map.specs.Chains.{IsPlaced}
 use Rattle.hir_def_map.specs.Beside.{exact_map, IsPlaced-beside}
 use Rattle.hir_def_map.specs.Named.{each_leads_to_root, has_its_parents, is_complete, is_holder_for, is_missing, is_there, lies_in, map_named, named_by, names_in_module, names_own_crate, names_some, prelude_named, test_child, test_crate, test_extern, test_of, test_type}
@@ -120,13 +119,22 @@ module _ (map : Map) (local : Local) where
 
 -- ---- what is there in maps stays so in others that have the same where it matters
 
-first_found : (o other : Option Placed) → is_some o ≡ true → first_of o other ≡ o
-first_found None other e = absurd cc
-first_found (Some p) other e = refl
+-- beside one map, maps that have the same finished map of an id have the same there
+beside_alike : (A B : Maps) (m : Map) (k : MapId) → A k ≡ B k → is_some (A k) ≡ true → beside A m k ≡ beside B m k
+beside_alike A B m k e t = go (map_id.ghosts.eq k m.id) refl
+  where
+    either : (o : Option Placed) → is_some o ≡ true → (one other : List ModuleId) → holders_or o one ≡ holders_or o other
+    either None f one other = absurd cc
+    either (Some p) f one other = refl
 
-first_none : (o : Option Placed) → first_of o None ≡ o
-first_none None = refl
-first_none (Some p) = refl
+    go : (b : Bool) → map_id.ghosts.eq k m.id ≡ b → cond b (Some (placed_in A m)) (A k) ≡ cond b (Some (placed_in B m)) (B k)
+    go true s =
+        let here : m.id ≡ k = sym (exact_map k m.id s) in
+        let same : A m.id ≡ B m.id = ap A here ∙ e ∙ ap B (sym here) in
+        ap (λ (hs : List ModuleId). Some (record { map = m; holders = hs }))
+        (either (A m.id) (ap is_some (ap A here) ∙ t) (holders_under A m.id m.holder) (holders_under B m.id m.holder)
+        ∙ ap (λ (o : Option Placed). holders_or o (holders_under B m.id m.holder)) same)
+    go false s = e
 
 there_same : (A B : Maps) (n : Named) → A (map_named n) ≡ B (map_named n) → is_there A n ≡ is_there B n
 there_same A B (named.Module m) e = ap (λ (o : Option Placed). is_some (option_and_then (λ (placed : Placed). module_at placed.map m.index) o)) e
@@ -224,18 +232,13 @@ module _ (A : Maps) (map : Map) (local : Local) (e : is_complete A map local ≡
 module _ (A B : Maps) (id : MapId) (g : Finished) (finished : IsFinished A id g) (here : is_some (A id) ≡ true)
     (same : (k : MapId) → names_some (lies_in k) g.map g.local ≡ true → IsSameAt A B k) where
   beside_same : (k : MapId) → names_some (lies_in k) g.map g.local ≡ true → IsSameAt (beside A g.map) (beside B g.map) k
-  beside_same k named t = go (A k) refl t
+  beside_same k named t =
+      let some : is_some (A k) ≡ true = go (map_id.ghosts.eq k g.map.id) refl t in
+      beside_alike A B g.map k (same k named some) some
     where
-      own : A k ≡ None → (b : Bool) → map_id.ghosts.eq k g.map.id ≡ b → is_some (cond b (Some (placed_in A g.map)) None) ≡ true → beside A g.map k ≡ beside B g.map k
-      own s true u v = absurd (true≢false (sym here ∙ ap is_some (ap A (sym (exact_map k g.map.id u ∙ finished.own)) ∙ s)))
-      own s false u v = absurd cc
-
-      go : (o : Option Placed) → A k ≡ o → is_some (first_of o (cond (map_id.ghosts.eq k g.map.id) (Some (placed_in A g.map)) None)) ≡ true → beside A g.map k ≡ beside B g.map k
-      go None s v = own s (map_id.ghosts.eq k g.map.id) refl v
-      go (Some p) s v =
-          let some : is_some (A k) ≡ true = ap is_some s in
-          let e : A k ≡ B k = same k named some in
-          first_found (A k) _ some ∙ e ∙ sym (first_found (B k) _ (ap is_some (sym e) ∙ some))
+      go : (b : Bool) → map_id.ghosts.eq k g.map.id ≡ b → is_some (cond b (Some (placed_in A g.map)) (A k)) ≡ true → is_some (A k) ≡ true
+      go true s u = ap (λ (x : MapId). is_some (A x)) (exact_map k g.map.id s ∙ finished.own) ∙ here
+      go false s u = u
 
   pub finished_kept : IsFinished B id g
   finished_kept =
@@ -264,15 +267,19 @@ module _ (maps maps' : BTreeMap MapId Finished) (f : Finished) (may : may_join (
   abbrev before : Maps
   before = finished_in maps
 
+  not_there : is_some (before f.map.id) ≡ false
+  not_there = not_so (is_some (before f.map.id)) (first_so (not (is_some (before f.map.id))) (is_complete before f.map f.local) may)
+
   absent : get map_order.ghosts.cmp maps f.map.id ≡ None
   unfolding finished_in
-  absent = not_placed (get map_order.ghosts.cmp maps f.map.id) (not_so (is_some (before f.map.id)) (first_so (not (is_some (before f.map.id))) (is_complete before f.map f.local) may))
+  absent = not_placed (get map_order.ghosts.cmp maps f.map.id) not_there
 
   complete : is_complete before f.map f.local ≡ true
   complete = second_so (not (is_some (before f.map.id))) (is_complete before f.map f.local) may
 
-  absent_at : (id : MapId) → f.map.id ≡ id → get map_order.ghosts.cmp maps id ≡ None
-  absent_at id e = let P : MapId → Type 0 = λ x. get map_order.ghosts.cmp maps x ≡ None in subst P e absent
+  placed_new : (placed_in before f.map).holders ≡ holders_under before f.map.id f.map.holder
+  unfolding finished_in
+  placed_new = ap (λ (o : Option Finished). holders_or (option_map placed_of o) (holders_under before f.map.id f.map.holder)) absent
 
   -- the finished maps are those that were, and beside them this one
   pub joined : (id : MapId) → finished_in maps' id ≡ beside before f.map id
@@ -287,25 +294,36 @@ module _ (maps maps' : BTreeMap MapId Finished) (f : Finished) (may : may_join (
 
       go : (b : Bool) → is_at (map_order.ghosts.cmp f.map.id) id ≡ b → option_map placed_of (cond b (Some f) (get map_order.ghosts.cmp maps id)) ≡ beside before f.map id
       go true s =
-          let same : f.map.id ≡ id = same_id f.map.id id s in
-          ap (λ (hs : List ModuleId). Some (record { map = f.map; holders = hs })) holders
-          ∙ sym (ap (λ (b : Bool). cond b (Some (placed_in before f.map)) None) (equal_id f.map.id id same))
-          ∙ sym (ap (λ (o : Option Finished). first_of (option_map placed_of o) (cond (map_id.ghosts.eq id f.map.id) (Some (placed_in before f.map)) None)) (absent_at id same))
-      go false s =
-          sym (first_none (option_map placed_of (get map_order.ghosts.cmp maps id)))
-          ∙ sym (ap (λ (b : Bool). first_of (option_map placed_of (get map_order.ghosts.cmp maps id)) (cond b (Some (placed_in before f.map)) None)) (apart s (map_id.ghosts.eq id f.map.id) refl))
+          ap (λ (hs : List ModuleId). Some (record { map = f.map; holders = hs })) (holders ∙ sym placed_new)
+          ∙ sym (ap (λ (b : Bool). cond b (Some (placed_in before f.map)) (before id)) (equal_id f.map.id id (same_id f.map.id id s)))
+      go false s = sym (ap (λ (b : Bool). cond b (Some (placed_in before f.map)) (before id)) (apart s (map_id.ghosts.eq id f.map.id) refl))
 
   abbrev after : Maps
   after = beside before f.map
 
   grows : (k : MapId) → IsSameAt before after k
-  grows k e = sym (first_found (before k) _ e)
+  grows k e = go (map_id.ghosts.eq k f.map.id) refl
+    where
+      go : (b : Bool) → map_id.ghosts.eq k f.map.id ≡ b → before k ≡ cond b (Some (placed_in before f.map)) (before k)
+      go true s = absurd (true≢false (sym e ∙ ap (λ (x : MapId). is_some (before x)) (exact_map k f.map.id s) ∙ not_there))
+      go false s = refl
+
+  -- a map that has joined is beside itself what it was
+  twice : (k : MapId) → after k ≡ beside after f.map k
+  twice k = go (map_id.ghosts.eq k f.map.id)
+    where
+      own : after f.map.id ≡ Some (placed_in before f.map)
+      own = ap (λ (b : Bool). cond b (Some (placed_in before f.map)) (before f.map.id)) (equal_id f.map.id f.map.id refl)
+
+      go : (b : Bool) → cond b (Some (placed_in before f.map)) (before k) ≡ cond b (Some (placed_in after f.map)) (cond b (Some (placed_in before f.map)) (before k))
+      go true = ap (λ (o : Option Placed). Some (record { map = f.map; holders = holders_or o (holders_under after f.map.id f.map.holder) })) (sym own)
+      go false = refl
 
   new_finished : IsFinished after f.map.id f
   new_finished = record {
     own = refl;
     holders = holders ∙ holders_kept before after f.map.id f.map.holder (λ h e. grows h.map) (holder before f.map f.local complete);
-    complete = complete_kept before f.map f.local complete after (λ k n e. sym (first_found (after k) _ e)) (λ h e. grows h.map);
+    complete = complete_kept before f.map f.local complete after (λ k n e. twice k) (λ h e. grows h.map);
     named = named;
   }
 

@@ -7,6 +7,7 @@ pub mod Steps
 pub mod Agreement
 pub mod LastSegment
 pub mod LookUps
+pub mod Parts
 pub mod Gaining
 pub mod Joined
 pub mod Falling

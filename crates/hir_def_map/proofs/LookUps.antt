@@ -1,12 +1,12 @@
 -- What look-ups find in several maps.
-use Rattle.std.proofs.Common.{◌≡◌, ◌∙◌, ap, refl, ℕ, true, false, List, Option, Some, None, cond}
+use Rattle.std.proofs.Common.{◌≡◌, ◌∙◌, ap, refl, ℕ, Bool, true, false, List, Option, Some, None, cond}
 use Rattle.std.specs.Option.{option_and_then, option_map}
 use Rattle.hir_base.specs.declared.ids.EnumId.{EnumId}
 use Rattle.hir_base.specs.declared.ids.MapId.{MapId}
 use Rattle.hir_base.specs.declared.ids.ModuleId.{ModuleId}
 use Rattle.hir_base.specs.contracts.ids.MapIdPartialEq.TheImpl as map_id
-use Rattle.hir_scope.specs.PerNs.{first_of, nothing}
-use Rattle.hir_def_map.specs.State.{Map, Maps, ModuleValue, Placed, Variants, at_name, beside, entry_at, entry_in, entry_of, holders_under, map_in, module_at, module_in, numbered, parent_at, parent_in, parent_of, placed_in, variants_at, variants_in}
+use Rattle.hir_scope.specs.PerNs.{nothing}
+use Rattle.hir_def_map.specs.State.{Map, Maps, ModuleValue, Placed, Variants, at_name, beside, entry_at, entry_in, entry_of, holders_or, holders_under, map_in, module_at, module_in, numbered, parent_at, parent_in, parent_of, placed_in, variants_at, variants_in}
 use Rattle.hir_def_map.specs.Chains.{frame_of, frames_of, head_of, holder_in, holders_of_frame, leads_to_root, own_frame, step_in, step_of, up_in}
 use Rattle.hir_def_map.specs.Scoping.FirstSegment.{legacy_of}
 use Rattle.hir_def_map.specs.Scoping.Segments.{variant_in}
@@ -99,55 +99,35 @@ pub ruleset found = (entry-found, entry-none, parent-found, parent-none, variant
 -- ---- finished maps, and one beside them
 
 module _ (finished : Maps) (own : Map) where
-  pub map-finished : (id : MapId) (map : Map) → map_in finished id ≡ Some map → map_in (beside finished own) id ≡ Some map
-  map-finished id map e = go (finished id) e
-    where
-      go : (o : Option Placed) → option_map (λ (p : Placed). p.map) o ≡ Some map
-          → option_map (λ (p : Placed). p.map) (first_of o (cond (map_id.ghosts.eq id own.id) (Some (placed_in finished own)) None)) ≡ Some map
-      go None f = absurd cc
-      go (Some p) f = f
+  pub map-own : (id : MapId) → map_id.ghosts.eq id own.id ≡ true → map_in (beside finished own) id ≡ Some own
+  map-own id same = ap (λ (b : Bool). option_map (λ (p : Placed). p.map) (cond b (Some (placed_in finished own)) (finished id))) same
 
-  pub map-own : (id : MapId) → map_in finished id ≡ None → map_id.ghosts.eq id own.id ≡ true → map_in (beside finished own) id ≡ Some own
-  map-own id e same = go (finished id) e
-    where
-      go : (o : Option Placed) → option_map (λ (p : Placed). p.map) o ≡ None
-          → option_map (λ (p : Placed). p.map) (first_of o (cond (map_id.ghosts.eq id own.id) (Some (placed_in finished own)) None)) ≡ Some own
-      go None f = rw same refl
-      go (Some p) f = absurd cc
+  pub map-other : (id : MapId) → map_id.ghosts.eq id own.id ≡ false → map_in (beside finished own) id ≡ map_in finished id
+  map-other id other = ap (λ (b : Bool). option_map (λ (p : Placed). p.map) (cond b (Some (placed_in finished own)) (finished id))) other
 
-  pub map-none : (id : MapId) → map_in finished id ≡ None → map_id.ghosts.eq id own.id ≡ false → map_in (beside finished own) id ≡ None
-  map-none id e other = go (finished id) e
-    where
-      go : (o : Option Placed) → option_map (λ (p : Placed). p.map) o ≡ None
-          → option_map (λ (p : Placed). p.map) (first_of o (cond (map_id.ghosts.eq id own.id) (Some (placed_in finished own)) None)) ≡ None
-      go None f = rw other refl
-      go (Some p) f = absurd cc
-
-  pub holder-finished : (m : ModuleId) (map : Map) → map_in finished m.map ≡ Some map → holder_in (beside finished own) m ≡ head_of (holders_of_frame (frames_of finished m.map))
+  pub holder-own : (m : ModuleId) → map_id.ghosts.eq m.map own.id ≡ true → holder_in (beside finished own) m ≡ head_of (placed_in finished own).holders
   unfolding frames_of
-  holder-finished m map e = go (finished m.map) e
+  holder-own m same = ap (λ (b : Bool). head_of (holders_of_frame (option_map frame_of (cond b (Some (placed_in finished own)) (finished m.map))))) same
+
+  pub holder-other : (m : ModuleId) → map_id.ghosts.eq m.map own.id ≡ false → holder_in (beside finished own) m ≡ head_of (holders_of_frame (frames_of finished m.map))
+  unfolding frames_of
+  holder-other m other = ap (λ (b : Bool). head_of (holders_of_frame (option_map frame_of (cond b (Some (placed_in finished own)) (finished m.map))))) other
+
+  -- where a map of its id is finished, it lies in the place of that
+  pub placed-finished : (map : Map) → map_in finished own.id ≡ Some map → head_of (placed_in finished own).holders ≡ head_of (holders_of_frame (frames_of finished own.id))
+  unfolding frames_of
+  placed-finished map e = go (finished own.id) e
     where
-      go : (o : Option Placed) → option_map (λ (p : Placed). p.map) o ≡ Some map
-          → head_of (holders_of_frame (option_map frame_of (first_of o (cond (map_id.ghosts.eq m.map own.id) (Some (placed_in finished own)) None)))) ≡ head_of (holders_of_frame (option_map frame_of o))
+      go : (o : Option Placed) → option_map (λ (p : Placed). p.map) o ≡ Some map → head_of (holders_or o (holders_under finished own.id own.holder)) ≡ head_of (holders_of_frame (option_map frame_of o))
       go None f = absurd cc
       go (Some p) f = refl
 
-  pub holder-own : (m : ModuleId) → map_in finished m.map ≡ None → map_id.ghosts.eq m.map own.id ≡ true → holder_in (beside finished own) m ≡ head_of (holders_under finished own.id own.holder)
-  unfolding frames_of
-  holder-own m e same = go (finished m.map) e
+  -- and elsewhere in its own
+  pub placed-new : map_in finished own.id ≡ None → head_of (placed_in finished own).holders ≡ head_of (holders_under finished own.id own.holder)
+  placed-new e = go (finished own.id) e
     where
-      go : (o : Option Placed) → option_map (λ (p : Placed). p.map) o ≡ None
-          → head_of (holders_of_frame (option_map frame_of (first_of o (cond (map_id.ghosts.eq m.map own.id) (Some (placed_in finished own)) None)))) ≡ head_of (holders_under finished own.id own.holder)
-      go None f = rw same refl
+      go : (o : Option Placed) → option_map (λ (p : Placed). p.map) o ≡ None → head_of (holders_or o (holders_under finished own.id own.holder)) ≡ head_of (holders_under finished own.id own.holder)
+      go None f = refl
       go (Some p) f = absurd cc
 
-  pub holder-none : (m : ModuleId) → map_in finished m.map ≡ None → map_id.ghosts.eq m.map own.id ≡ false → holder_in (beside finished own) m ≡ None
-  unfolding frames_of
-  holder-none m e other = go (finished m.map) e
-    where
-      go : (o : Option Placed) → option_map (λ (p : Placed). p.map) o ≡ None
-          → head_of (holders_of_frame (option_map frame_of (first_of o (cond (map_id.ghosts.eq m.map own.id) (Some (placed_in finished own)) None)))) ≡ None
-      go None f = rw other refl
-      go (Some p) f = absurd cc
-
-pub ruleset beside_found = (map-finished, map-own, map-none, holder-finished, holder-own, holder-none)
+pub ruleset beside_found = (map-own, map-other, holder-own, holder-other, placed-finished, placed-new)

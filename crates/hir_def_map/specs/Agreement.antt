@@ -1,6 +1,5 @@
 -- Which finished maps do two worlds have alike?
-use Rattle.std.specs.Prelude.{Bool, List, ◌&&◌}
-use Rattle.std.specs.List.{list_all}
+use Rattle.std.specs.Prelude.{Bool, ◌&&◌}
 use Rattle.std.specs.Option.{option_eq}
 use Rattle.std.specs.BTreeMap.{BTreeMap}
 use Rattle.hir_base.specs.declared.ids.MapId.{MapId}

@@ -8,9 +8,8 @@ use Rattle.hir_base.specs.declared.ids.Crate.{Crate}
 use Rattle.hir_base.specs.declared.ids.MapId.{MapId}
 use Rattle.hir_base.specs.declared.ids.ModuleId.{ModuleId}
 use Rattle.hir_base.specs.contracts.ids.MapIdPartialEq.TheImpl as map_id
-use Rattle.hir_scope.specs.PerNs.{first_of}
 use Rattle.hir_scope.specs.ModuleTree.{same_crate}
-use Rattle.hir_def_map.specs.State.{Map, Maps, Placed, beside, holders_of, holders_under, no_maps, placed_in}
+use Rattle.hir_def_map.specs.State.{Map, Maps, Placed, beside, holders_of, holders_or, holders_under, no_maps, placed_in}
 use Rattle.hir_def_map.specs.Chains.{frame_of, frames_of, holders_of_frame, HolderLeads, IsPlaced}
 
 -- ---- equal by the tests
@@ -44,22 +43,35 @@ there None = refl
 there (Some p) = refl
 
 module _ (finished : Maps) (map : Map) where
-  -- what is finished is found as it is
-  same_there : (id : MapId) → is_some (finished id) ≡ true → beside finished map id ≡ finished id
-  same_there id e = go (finished id) e
+  -- where a map is finished, one of its id is there
+  pub still_there : (id : MapId) → is_some (finished id) ≡ true → is_some (beside finished map id) ≡ true
+  still_there id e = go (map_id.ghosts.eq id map.id)
     where
-      go : (o : Option Placed) → is_some o ≡ true → first_of o (cond (map_id.ghosts.eq id map.id) (Some (placed_in finished map)) None) ≡ o
-      go None f = absurd cc
-      go (Some p) f = refl
+      go : (b : Bool) → is_some (cond b (Some (placed_in finished map)) (finished id)) ≡ true
+      go true = refl
+      go false = e
+
+  -- and has its holders
+  same_holders : (id : MapId) → is_some (finished id) ≡ true → holders_of (beside finished map id) ≡ holders_of (finished id)
+  same_holders id e = go (map_id.ghosts.eq id map.id) refl
+    where
+      own : (o : Option Placed) → is_some o ≡ true → holders_or o (holders_under finished map.id map.holder) ≡ holders_of o
+      own None f = absurd cc
+      own (Some p) f = refl
+
+      go : (b : Bool) → map_id.ghosts.eq id map.id ≡ b → holders_of (cond b (Some (placed_in finished map)) (finished id)) ≡ holders_of (finished id)
+      go true s =
+          let same : finished map.id ≡ finished id = ap finished (sym (exact_map id map.id s)) in
+          own (finished map.id) (ap is_some same ∙ e) ∙ ap holders_of same
+      go false s = refl
 
   leads_beside : (id : MapId) (h : ModuleId) (hs : List ModuleId) → HolderLeads (frames_of finished) id h hs → HolderLeads (frames_of (beside finished map)) id h hs
   unfolding frames_of
   leads_beside id h hs l =
-      let is_there : is_some (finished h.map) ≡ true = sym (there (finished h.map)) ∙ l.1 in
-      let same : beside finished map h.map ≡ finished h.map = same_there h.map is_there in (
+      let is_there : is_some (finished h.map) ≡ true = sym (there (finished h.map)) ∙ l.1 in (
         l.0,
-        ap (λ (o : Option Placed). is_some (option_map frame_of o)) same ∙ l.1,
-        ap (λ (o : Option Placed). holders_of_frame (option_map frame_of o)) same ∙ l.2,
+        there (beside finished map h.map) ∙ still_there h.map is_there,
+        frame_holders (beside finished map h.map) ∙ same_holders h.map is_there ∙ sym (frame_holders (finished h.map)) ∙ l.2,
       )
 
   under : (id : MapId) → id ≡ map.id → (o : Option ModuleId) (h : ModuleId) (hs : List ModuleId) → holders_under finished map.id o ≡ h ∷ hs → HolderLeads (frames_of (beside finished map)) id h hs
@@ -74,25 +86,24 @@ module _ (finished : Maps) (map : Map) where
       go true s true t f =
           let first : k ≡ h = cc in
           let left : holders_of (finished k.map) ≡ hs = cc in
-          let same : beside finished map k.map ≡ finished k.map = same_there k.map t in
           subst (λ (x : ModuleId). HolderLeads (frames_of (beside finished map)) id x hs) first (
             exact_crate k.map.krate map.id.krate s ∙ ap (λ (x : MapId). x.krate) (sym e),
-            ap (λ (o : Option Placed). is_some (option_map frame_of o)) same ∙ there (finished k.map) ∙ t,
-            ap (λ (o : Option Placed). holders_of_frame (option_map frame_of o)) same ∙ frame_holders (finished k.map) ∙ left,
+            there (beside finished map k.map) ∙ still_there k.map t,
+            frame_holders (beside finished map k.map) ∙ same_holders k.map t ∙ left,
           )
 
   -- a map beside finished ones that are in their places is in its own
   pub IsPlaced-beside : IsPlaced finished → IsPlaced (beside finished map)
   unfolding frames_of
-  IsPlaced-beside placed id h hs e = go (finished id) refl e
+  IsPlaced-beside placed id h hs e = go (map_id.ghosts.eq id map.id) refl e
     where
-      own : (b : Bool) → map_id.ghosts.eq id map.id ≡ b → holders_of_frame (option_map frame_of (cond b (Some (placed_in finished map)) None)) ≡ h ∷ hs → HolderLeads (frames_of (beside finished map)) id h hs
-      own true s f = under id (exact_map id map.id s) map.holder h hs f
-      own false s f = absurd cc
+      own : id ≡ map.id → (o : Option Placed) → finished map.id ≡ o → holders_or o (holders_under finished map.id map.holder) ≡ h ∷ hs → HolderLeads (frames_of (beside finished map)) id h hs
+      own same None s f = under id same map.holder h hs f
+      own same (Some p) s f = leads_beside id h hs (placed id h hs (frame_holders (finished id) ∙ ap (λ (x : MapId). holders_of (finished x)) same ∙ ap holders_of s ∙ f))
 
-      go : (o : Option Placed) → finished id ≡ o → holders_of_frame (option_map frame_of (first_of o (cond (map_id.ghosts.eq id map.id) (Some (placed_in finished map)) None))) ≡ h ∷ hs → HolderLeads (frames_of (beside finished map)) id h hs
-      go None s f = own (map_id.ghosts.eq id map.id) refl f
-      go (Some p) s f = leads_beside id h hs (placed id h hs (ap (λ (x : Option Placed). holders_of_frame (option_map frame_of x)) s ∙ f))
+      go : (b : Bool) → map_id.ghosts.eq id map.id ≡ b → holders_of_frame (option_map frame_of (cond b (Some (placed_in finished map)) (finished id))) ≡ h ∷ hs → HolderLeads (frames_of (beside finished map)) id h hs
+      go true s f = own (exact_map id map.id s) (finished map.id) refl f
+      go false s f = leads_beside id h hs (placed id h hs f)
 
 pub IsPlaced-no_maps : IsPlaced no_maps
 unfolding frames_of

@@ -25,7 +25,7 @@ use Rattle.hir_scope.specs.declared.per_ns.Item.{Item}
 use Rattle.hir_scope.specs.declared.per_ns.PerNs.{PerNs}
 use Rattle.hir_scope.specs.declared.push.Push.{Push}
 use Rattle.hir_scope.specs.declared.visibility.Visibility.{Visibility}
-use Rattle.hir_scope.specs.PerNs.{first_of, item_of, value_import}
+use Rattle.hir_scope.specs.PerNs.{item_of, value_import}
 use Rattle.hir_scope.specs.GlobImports.{GlobNames, Place}
 use Rattle.hir_scope.specs.ImportRecords.{with_entry, has_key, is_glob}
 use Rattle.hir_scope.specs.ItemScope.{ScopeValue, item_at, binding_of}
@@ -33,7 +33,7 @@ use Rattle.hir_scope.specs.Pushes.{after_push, slot_after, gives_way, takes}
 use Rattle.hir_scope.specs.Offers.{macro_offer, offered_globs, offered_items, taken, type_offer, value_offer}
 use Rattle.hir_scope.specs.ScopePushes.{offered_scope, pushed_globs, pushed_scope, taken_offers}
 use Rattle.hir_def_map.specs.declared.nameres.origin.ModuleOrigin.{ModuleOrigin}
-use Rattle.hir_def_map.specs.State.{Map, Maps, ModuleValue, Placed, at_name, beside, holders_under, placed_in, with_name, changed_at, entry_of, entry_at, globs_in, globs_after, module_at, new_id, new_module, no_globs, numbered, place_at, pushed, pushed_module, with_child, with_module}
+use Rattle.hir_def_map.specs.State.{Map, Maps, ModuleValue, at_name, beside, holders_or, holders_under, placed_in, with_name, changed_at, entry_of, entry_at, globs_in, globs_after, module_at, new_id, new_module, no_globs, numbered, place_at, pushed, pushed_module, with_child, with_module}
 use Rattle.hir_def_map.specs.Chains.{frame_of, frames_of}
 
 -- ---- a list by names, with one more value
@@ -333,21 +333,18 @@ pub frames_of-beside : (finished : Maps) (one other : Map) → one.id ≡ other.
     → ((holders : List ModuleId) → frame_of (record { map = one; holders = holders }) ≡ frame_of (record { map = other; holders = holders }))
     → (id : MapId) → frames_of (beside finished one) id ≡ frames_of (beside finished other) id
 unfolding frames_of
-frames_of-beside finished one other same_id same_place same id = go (finished id)
+frames_of-beside finished one other same_id same_place same id =
+    ap (λ (x : MapId). option_map frame_of (cond (map_id.ghosts.eq id x) (Some (placed_in finished one)) (finished id))) same_id ∙ on (map_id.ghosts.eq id other.id)
   where
-    held : holders_under finished one.id one.holder ≡ holders_under finished other.id other.holder
-    held = λ i. holders_under finished (same_id i) (same_place i)
+    held : (placed_in finished one).holders ≡ (placed_in finished other).holders
+    held = λ i. holders_or (finished (same_id i)) (holders_under finished (same_id i) (same_place i))
 
     whole : frame_of (placed_in finished one) ≡ frame_of (placed_in finished other)
-    whole = ap (λ (hs : List ModuleId). frame_of (record { map = one; holders = hs })) held ∙ same (holders_under finished other.id other.holder)
+    whole = ap (λ (hs : List ModuleId). frame_of (record { map = one; holders = hs })) held ∙ same (placed_in finished other).holders
 
-    on : (b : Bool) → option_map frame_of (cond b (Some (placed_in finished one)) None) ≡ option_map frame_of (cond b (Some (placed_in finished other)) None)
+    on : (b : Bool) → option_map frame_of (cond b (Some (placed_in finished one)) (finished id)) ≡ option_map frame_of (cond b (Some (placed_in finished other)) (finished id))
     on true = ap Some whole
     on false = refl
-
-    go : (o : Option Placed) → option_map frame_of (first_of o (cond (map_id.ghosts.eq id one.id) (Some (placed_in finished one)) None)) ≡ option_map frame_of (first_of o (cond (map_id.ghosts.eq id other.id) (Some (placed_in finished other)) None))
-    go (Some p) = refl
-    go None = ap (λ (x : MapId). option_map frame_of (cond (map_id.ghosts.eq id x) (Some (placed_in finished one)) None)) same_id ∙ on (map_id.ghosts.eq id other.id)
 
 -- a push leaves what lies above each module
 pub frames_of-pushed : (finished : Maps) (map : Map) (globs : GlobNames) (at : ℕ) (name : List ℕ) (items : PerNs) (import : Option ImportOrExternCrate) (id : MapId)

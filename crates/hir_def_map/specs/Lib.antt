@@ -11,7 +11,9 @@ pub mod Visibilities
 pub mod Grown
 pub mod Listed
 pub mod Named
+pub mod Among
 pub mod World
+pub mod Parts
 pub mod Laws
 pub mod DefMaps
 pub mod Inserted

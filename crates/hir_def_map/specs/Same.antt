@@ -1,9 +1,8 @@
 -- When are two def maps equal? Part by part, and in each list entry by entry in order.
-use Rattle.std.specs.Prelude.{ℕ, Bool, nat_eq, List, Option, ◌&&◌}
+use Rattle.std.specs.Prelude.{ℕ, Bool, nat_eq, List, Option}
 use Rattle.std.specs.Bool.{beq}
 use Rattle.std.specs.Option.{option_eq}
 use Rattle.std.specs.Ordering.{on, eq_of_both}
-use Rattle.std.specs.BTreeMap.{BTreeMap}
 use Rattle.std.specs.Cmp.{IsEquivalence, on_equiv, and_equiv, bool_eq_equiv, nat_eq_equiv}
 use Rattle.std.specs.Cmp.Lexicographic.{pointwise, lists_equiv, options_equiv, nat_list_eq_equiv}
 use Rattle.hir_base.specs.contracts.edition.EditionPartialEq.TheImpl as edition

@@ -22,7 +22,7 @@ use Rattle.hir_scope.specs.ModuleTree.{same_crate}
 use Rattle.hir_scope.specs.declared.imports.ImportOrExternCrate.{ImportOrExternCrate}
 use Rattle.hir_scope.specs.declared.per_ns.PerNs.{PerNs}
 use Rattle.hir_scope.specs.declared.visibility.Visibility.{Visibility}
-use Rattle.hir_scope.specs.PerNs.{first_of, nothing}
+use Rattle.hir_scope.specs.PerNs.{nothing}
 use Rattle.hir_scope.specs.GlobImports.{GlobNames, Place}
 use Rattle.hir_scope.specs.ItemScope.{ScopeValue, binding_of, empty_scope}
 use Rattle.hir_scope.specs.ScopePushes.{pushed_scope, pushed_globs, push_changes as scope_changes}
@@ -160,13 +160,18 @@ abbrev pub holders_under : Maps → MapId → Option ModuleId → List ModuleId
 holders_under finished id None = []
 holders_under finished id (Some h) = cond (same_crate h.map.krate id.krate && is_some (finished h.map)) (h ∷ holders_of (finished h.map)) []
 
--- a map in its place among finished ones
-abbrev pub placed_in : Maps → Map → Placed
-placed_in finished map = record { map = map; holders = holders_under finished map.id map.holder }
+-- a map's holders where one of its id is finished, and otherwise these
+abbrev pub holders_or : Option Placed → List ModuleId → List ModuleId
+holders_or None holders = holders
+holders_or (Some placed) holders = placed.holders
 
--- finished maps, and beside them one that may still be being built; a finished one of its id comes before it
+-- a map in its place among finished ones: in that of the finished map of its id, where there is one
+abbrev pub placed_in : Maps → Map → Placed
+placed_in finished map = record { map = map; holders = holders_or (finished map.id) (holders_under finished map.id map.holder) }
+
+-- finished maps, and beside them one that may still be being built, which comes before a finished one of its id
 abbrev pub beside : Maps → Map → Maps
-beside finished map id = first_of (finished id) (cond (map_id.ghosts.eq id map.id) (Some (placed_in finished map)) None)
+beside finished map id = cond (map_id.ghosts.eq id map.id) (Some (placed_in finished map)) (finished id)
 
 -- no map
 abbrev pub no_maps : Maps

@@ -1,18 +1,21 @@
 //! Finished maps and one beside them, seen at once.
 ghost use Rattle.std.specs.Prelude.{◌≡◌, option_map};
 ghost use Rattle.hir_scope.specs.ModuleTree.{chain_from};
-ghost use Rattle.hir_def_map.specs.State.{entry_in, holders_under, map_in, module_in, parent_in};
+ghost use Rattle.hir_def_map.specs.State.{beside, entry_in, holders_under, map_in, module_in, parent_in, placed_in};
 ghost use Rattle.hir_def_map.specs.Chains.{above_in, head_of, holder_in, holders_in, up_in};
 ghost use Rattle.hir_def_map.specs.Above.{above_in_crate, above_up, holders_up, same_holder};
 ghost use Rattle.hir_def_map.specs.Scoping.FirstSegment.{legacy_of, macro_use_of, prelude_of};
 ghost use Rattle.hir_def_map.specs.Scoping.Segments.{variant_in};
 ghost use Rattle.hir_def_map.specs.Scoping.Start.{is_dependency, of_2015};
-ghost use Rattle.hir_def_map.specs.World.{finished_in};
+ghost use Rattle.hir_def_map.specs.Parts.{part_of};
 ghost use Rattle.hir_def_map.specs.DefMaps.{maps_of, maps_placed};
+
+mod paths;
+mod visibilities;
 
 use crate::nameres::DefMap;
 use crate::nameres::enum_variants::EnumVariant;
-use crate::world::World;
+use crate::world::part::WorldPart;
 use hir_base::edition::Edition;
 use hir_base::ids::{Crate, EnumId, ExternCrateId, MapId, ModuleId, UseId};
 use hir_base::macro_kind::MacroId;
@@ -20,31 +23,36 @@ use hir_base::name::Name;
 use hir_scope::module_tree::ModuleTree;
 use hir_scope::per_ns::PerNs;
 
-/// The finished maps, and one that may still be being built; a finished one of its id comes before it.
+/// Finished maps, and one that may still be being built, which comes before a finished one of its id.
 #[derive(Clone, Copy)]
 pub struct DefMaps<'a> {
-    pub world: &'a World,
+    pub world: WorldPart<'a>,
     pub own: &'a DefMap,
 }
 
-impl DefMaps<'_> {
-    /// The map of an id.
-    #[tactic(auto, using(crate::proofs::LookUps::beside_found), unfolding(crate::specs::DefMaps::maps_of))]
-    pub fn map(&self, id: MapId) -> Option<&DefMap>
-        ensures value { option_map (λ m. m.now) result ≡ map_in (maps_of self.now) id }
+impl<'a> DefMaps<'a> {
+    #[tactic(auto, unfolding(crate::specs::DefMaps::maps_of))]
+    pub fn new(world: WorldPart<'a>, own: &'a DefMap) -> DefMaps<'a>
+        ensures value { maps_of result ≡ beside (part_of world.entry) own.now }
+        ensures own { result.own.now ≡ own.now }
     {
-        match self.world.map(id) {
-            Some(map) => Some(map),
-            None => {
-                if id == self.own.id() {
-                    Some(self.own)
-                } else {
-                    None
-                }
-            }
-        }
+        DefMaps { world, own }
     }
 
+    /// The map of an id.
+    #[tactic(auto, using(crate::proofs::LookUps::beside_found), unfolding(crate::specs::DefMaps::maps_of))]
+    pub fn map(&self, id: MapId) -> Option<&'a DefMap>
+        ensures value { option_map (λ m. m.now) result ≡ map_in (maps_of self.now) id }
+    {
+        if id == self.own.id() {
+            Some(self.own)
+        } else {
+            self.world.map(id)
+        }
+    }
+}
+
+impl DefMaps<'_> {
     /// What a name stands for in a module; nothing where the module isn't there.
     #[tactic(auto, using(crate::proofs::LookUps::found))]
     pub fn entry(&self, at: ModuleId, name: &Name) -> PerNs
@@ -140,9 +148,9 @@ impl DefMaps<'_> {
         self.holder(at)
     }
 
-    /// The holder of the map that may still be being built, where it lies in a finished map of the crate.
-    fn own_holder(&self) -> Option<ModuleId>
-        ensures value { result ≡ head_of (holders_under (finished_in self.now.world.now.maps) self.now.own.now.id self.now.own.now.holder) }
+    /// The holder that a map of the own id would have among the finished ones.
+    fn new_holder(&self) -> Option<ModuleId>
+        ensures value { result ≡ head_of (holders_under (part_of self.now.world) self.now.own.now.id self.now.own.now.holder) }
     {
         match self.own.parent() {
             Some(holder) => {
@@ -153,6 +161,19 @@ impl DefMaps<'_> {
                 }
             }
             None => None,
+        }
+    }
+
+    /// The holder of the own map: that of the finished map of its id, where there is one.
+    #[tactic(auto, using(crate::proofs::LookUps::beside_found))]
+    fn own_holder(&self) -> Option<ModuleId>
+        ensures value { result ≡ head_of (placed_in (part_of self.now.world) self.now.own.now).holders }
+    {
+        let id = self.own.id();
+        if self.world.map(id).is_some() {
+            self.world.holder(id)
+        } else {
+            self.new_holder()
         }
     }
 }
@@ -187,15 +208,10 @@ impl ModuleTree for DefMaps<'_> {
 
     #[tactic(auto, using(crate::proofs::LookUps::beside_found), unfolding(crate::specs::DefMaps::maps_of))]
     fn holder(&self, of: ModuleId) -> Option<ModuleId> {
-        match self.world.map(of.map) {
-            Some(_) => self.world.holder(of.map),
-            None => {
-                if of.map == self.own.id() {
-                    self.own_holder()
-                } else {
-                    None
-                }
-            }
+        if of.map == self.own.id() {
+            self.own_holder()
+        } else {
+            self.world.holder(of.map)
         }
     }
 }

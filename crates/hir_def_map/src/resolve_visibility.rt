@@ -10,8 +10,8 @@ ghost use Rattle.hir_def_map.specs.Visibilities.{module_seen, path_seen, resolve
 use crate::def_maps::DefMaps;
 use crate::nameres::DefMap;
 use crate::nameres::local_def_map::LocalDefMap;
-use crate::nameres::path_resolution::BuiltinShadowMode;
 use crate::world::World;
+use crate::world::part::WorldPart;
 use hir_base::ids::{MapId, ModuleDefId, ModuleId};
 use hir_item_tree::raw_visibility::{RawVisibility, VisibilityExplicitness};
 use hir_scope::per_ns::PerNs;
@@ -37,7 +37,7 @@ fn module_seen(
 }
 
 /// The visibility in the module that a path reaches, where it reaches one.
-fn path_seen(
+pub fn path_seen(
     within_impl: bool,
     map: MapId,
     explicitness: VisibilityExplicitness,
@@ -78,34 +78,24 @@ impl DefMap {
     ) -> Option<Visibility>
         ensures value { result ≡ resolved_visibility (beside (finished_in world.now.maps) self.now) (local_of (option_copied local.entry)) at within_impl raw.now }
     {
-        match raw {
-            RawVisibility::Module(path, explicitness) => {
-                let shadow = BuiltinShadowMode::Module;
-                let (items, stop) = self.resolve_path(local, world, at, path, shadow, None);
-                path_seen(within_impl, at.map, *explicitness, stop, items)
-            }
-            RawVisibility::PubSelf(explicitness) => Some(Visibility::Module(at, *explicitness)),
-            RawVisibility::PubCrate => Some(Visibility::PubCrate(at.map.krate)),
-            RawVisibility::Public => Some(Visibility::Public),
-        }
+        let maps = DefMaps::new(WorldPart::all(world), self);
+        maps.resolve_visibility(local, at, raw, within_impl)
     }
 
     /// The lesser of two visibilities, if one has all that the other has.
-    #[tactic(auto, unfolding(crate::specs::DefMaps::maps_of))]
     pub fn lesser(&self, world: &World, one: Visibility, other: Visibility) -> Option<Visibility>
         ensures value { result ≡ lesser_of (above_in (beside (finished_in world.now.maps) self.now)) self.now.id one other }
         ensures meet { IfSome result (λ least. IsMeet (is_visible (above_in (beside (finished_in world.now.maps) self.now))
             (holders_in (beside (finished_in world.now.maps) self.now))) least one other) }
     {
-        one.min(&DefMaps { world, own: self }, other, self.id())
+        DefMaps::new(WorldPart::all(world), self).lesser(one, other)
     }
 
     /// Whether a module may see what has this visibility.
-    #[tactic(auto, unfolding(crate::specs::DefMaps::maps_of))]
     pub fn is_visible(&self, world: &World, vis: Visibility, from: ModuleId) -> bool
         ensures value { result ≡ is_visible (above_in (beside (finished_in world.now.maps) self.now))
             (holders_in (beside (finished_in world.now.maps) self.now)) vis from }
     {
-        vis.is_visible_from(&DefMaps { world, own: self }, from)
+        DefMaps::new(WorldPart::all(world), self).is_visible(vis, from)
     }
 }

@@ -10,6 +10,7 @@ pub mod insert;
 pub mod look_up;
 pub mod named;
 mod names;
+pub mod part;
 pub mod remove;
 
 use finished::Finished;

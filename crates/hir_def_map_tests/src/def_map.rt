@@ -24,7 +24,9 @@ use hir_scope::imports::{GlobId, ImportId, ImportOrExternCrate, ImportOrGlob};
 use hir_scope::per_ns::{Item, PerNs};
 use hir_scope::visibility::Visibility;
 use std::alloc::Global;
+use std::collections::BTreeSet;
 use std::process::Abort;
+use std::rc::Rc;
 use std::test::Fail;
 
 const MAP: MapId = MapId {
@@ -259,11 +261,25 @@ fn filled(alloc: Global, map: &mut DefMap) -> Result<(), Fail> {
     fill(alloc, map, &mut globs)
 }
 
+/// What a crate's top says that says nothing and stands on these.
+fn data_over(alloc: Global, crates: &[Crate]) -> Result<DefMapCrateData, Fail> {
+    let mut dependencies = BTreeSet::new(alloc);
+    for krate in crates {
+        dependencies.insert(*krate)?;
+    }
+    let dependencies = Rc::new(alloc, dependencies)?;
+    Ok(DefMapCrateData::new(
+        alloc,
+        Edition::Edition2021,
+        dependencies,
+    ))
+}
+
 /// `pub mod a { pub struct S; struct P; pub fn f() {} pub mod b {} } pub mod u8 { pub struct X; } pub use crate as l;`,
 /// with `a`, `b` and `u8` the modules 1, 2 and 3, and the items numbered 1 to 4.
 fn sample(alloc: Global) -> Result<DefMap, Fail> {
     let origin = ModuleOrigin::CrateRoot { definition: FILE };
-    let data = DefMapCrateData::new(alloc, Edition::Edition2021);
+    let data = data_over(alloc, &[])?;
     let root = ModuleData::new(alloc, origin, Visibility::Public, None);
     let mut map = DefMap::empty(alloc, Crate(0), data, root, None)?;
     filled(alloc, &mut map)?;

@@ -1,5 +1,6 @@
 use Rattle.std.proofs.Common.{◌≡◌, ◌⊎◌, inl, inr, ℕ, false, List, Option, refl, sym, subst, ap, ◌∙◌, Contains}
 use Rattle.hir_base.specs.declared.ids.Crate.{Crate}
+use Rattle.hir_def_map.specs.State.{no_maps}
 use Rattle.hir_def_collector.specs.Workspace.{Workspace}
 use Rattle.hir_def_collector.specs.Keys.{look}
 use Rattle.hir_def_collector.specs.declared.source_database.Key.{Key}
@@ -66,7 +67,7 @@ same_or_altered sound off none = inl (record { crates = refl; paths = refl; off 
 same_or_altered {from} {k} sound off (edit mid to e earlier is) = elim (same_or_altered sound off earlier) [
   | inl same ↦ on_bool (is_marked to k)
       (λ on. let hit = what_marked (workspace_of (with_files mid (edited_files mid e))) same (is.only k on) itself in
-      inr (hit.0, hit.1, inl (λ h. hit.2 (subst (λ (w : Workspace). look w hit.0 ≡ look (workspace_of mid) hit.0) (workspace-becomes is) h))))
+      inr (hit.0, hit.1, inl (λ h. hit.2 (subst (λ (w : Workspace). look w no_maps hit.0 ≡ look (workspace_of mid) no_maps hit.0) (workspace-becomes is) h))))
       (λ still. inl (record {
         crates = is.crates ∙ same.crates;
         paths = is.paths ∙ same.paths;

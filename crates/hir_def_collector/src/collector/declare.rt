@@ -4,7 +4,7 @@ ghost use Rattle.hir_item_tree.specs.Collected.{is_enabled};
 ghost use Rattle.hir_item_tree.specs.KeptForest.{leaf, function, structure, union_structure, constant, static_item, trait_item, type_alias};
 ghost use Rattle.hir_scope.specs.Visibility.{visibility_of};
 ghost use Rattle.hir_def_map.specs.State.{Maps};
-ghost use Rattle.hir_def_map.specs.World.{finished_in};
+ghost use Rattle.hir_def_map.specs.Parts.{part_of};
 ghost use Rattle.hir_def_collector.specs.State.{with_map, counted};
 ghost use Rattle.hir_def_collector.specs.ItemIds.{module_id};
 ghost use Rattle.hir_def_collector.specs.Items.{constructor_of, declared_struct, meet_of, own_visibility, type_declaration, value_declaration};
@@ -23,7 +23,7 @@ use hir_base::ids::{
 };
 use hir_base::name::Name;
 use hir_def_map::nameres::DefMap;
-use hir_def_map::world::World;
+use hir_def_map::world::part::WorldPart;
 use hir_item_tree::kinds::Struct;
 use hir_item_tree::raw_visibility::RawVisibility;
 use hir_item_tree::shape::FieldsShape;
@@ -215,12 +215,12 @@ pub fn declare_union(
 /// The meet of visibilities, if none of them are unrelated.
 fn meet(
     defs: &DefMap,
-    world: &World,
+    world: WorldPart<'_>,
     at: ModuleId,
     own: Visibility,
     others: &[RawVisibility],
 ) -> Option<Visibility>
-    ensures value { result ≡ meet_of (finished_in world.now.maps) defs.now own (map (visibility_of at) others.now) }
+    ensures value { result ≡ meet_of (part_of world.entry) defs.now own (map (visibility_of at) others.now) }
 {
     let mut least = own;
     for other in others {
@@ -232,13 +232,13 @@ fn meet(
 /// The visibility of a struct's constructor, if its shape has one.
 fn constructor(
     defs: &DefMap,
-    world: &World,
+    world: WorldPart<'_>,
     at: ModuleId,
     own: Visibility,
     shape: FieldsShape,
     fields: &[RawVisibility],
 ) -> Option<Visibility>
-    ensures value { result ≡ constructor_of (finished_in world.now.maps) defs.now own shape (map (visibility_of at) fields.now) }
+    ensures value { result ≡ constructor_of (part_of world.entry) defs.now own shape (map (visibility_of at) fields.now) }
 {
     match shape {
         FieldsShape::Record => None,
@@ -277,13 +277,13 @@ fn struct_items(def: ModuleDefId, own: Visibility, constructor: Option<Visibilit
 /// Declares a struct: a type, and by its shape a value.
 pub fn declare_struct(
     run: &mut Run,
-    world: &World,
+    world: WorldPart<'_>,
     site: Site,
     head: ItemHead<'_>,
     item: Struct<'_>,
 ) -> Result<(), CollectError>
     requires enabled { is_enabled (head_of head).attributes ≡ true }
-    ensures ok { OnOk result (Handles (finished_in world.now.maps) run.old run.new (visit site (leaf (head_of head.entry) (structure item.entry.name.now item.entry.shape item.entry.fields.now))) []) }
+    ensures ok { OnOk result (Handles (part_of world.entry) run.old run.new (visit site (leaf (head_of head.entry) (structure item.entry.name.now item.entry.shape item.entry.fields.now))) []) }
     ensures many { result ≡ Err CollectError.TooMany → STEP_LIMIT ≤ run.old.count }
 {
     let at = run.module_id(site.home);

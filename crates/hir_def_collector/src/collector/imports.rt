@@ -1,14 +1,18 @@
 //! Imports that a run has come upon, and what they bring.
 ghost use Rattle.std.specs.Prelude.{◌≡◌, IfOk, option_map};
-ghost use Rattle.hir_def_map.specs.World.{finished_in};
-ghost use Rattle.hir_def_collector.specs.Imports.{brought, both_of, goes_beyond, imported, is_empty, kept_by_kind, name_of, namespaces_of, reached_in};
+ghost use Rattle.hir_def_map.specs.Parts.{part_of};
+ghost use Rattle.hir_def_collector.specs.Imports.{answer_in, brought, both_of, goes_beyond, imported, is_empty, is_public, kept_by_kind, kept_of, name_of, namespaces_of, open_items, taken_after};
 ghost use Rattle.hir_def_collector.specs.Items.{lesser_in};
 
 use hir_base::ids::ModuleId;
 use hir_base::mod_path::ModPath;
 use hir_base::name::Name;
+use hir_def_map::def_maps::DefMaps;
 use hir_def_map::nameres::DefMap;
-use hir_def_map::world::World;
+use hir_def_map::nameres::local_def_map::LocalDefMap;
+use hir_def_map::nameres::path_resolution::query::Query;
+use hir_def_map::nameres::path_resolution::{BuiltinShadowMode, ResolveMode, ResolvePathResult};
+use hir_def_map::world::part::WorldPart;
 use hir_item_tree::raw_visibility::RawVisibility;
 use hir_item_tree::shape::{ImportAlias, ImportKind};
 use hir_scope::imports::ImportId;
@@ -36,6 +40,15 @@ pub struct Namespaces {
     pub macros: bool,
 }
 
+/// What the takings of an import reached.
+#[derive(Clone, Copy, Debug, PartialEq, Eq)]
+pub struct Taken {
+    /// The namespaces in which they reached something.
+    pub namespaces: Namespaces,
+    /// Whether one of them was answered through another crate.
+    pub crossed: bool,
+}
+
 /// What is to be done to take an import.
 #[derive(Drop)]
 pub struct Taking {
@@ -47,8 +60,8 @@ pub struct Taking {
     pub items: PerNs,
     /// The import itself, which the bindings keep.
     pub import: ImportId,
-    /// The namespaces that its takings will have reached.
-    pub namespaces: Namespaces,
+    /// What its takings will have reached.
+    pub taken: Taken,
 }
 
 impl Namespaces {
@@ -105,24 +118,73 @@ impl ReachedImport {
     }
 }
 
+impl Taken {
+    /// What takings reached, one with this answer among them.
+    pub fn and(self, answer: ResolvePathResult) -> Taken
+        ensures value { result ≡ taken_after self answer }
+    {
+        Taken {
+            namespaces: self.namespaces.or(Namespaces::of(answer.resolved_def)),
+            crossed: self.crossed || answer.prefix_info.differing_crate,
+        }
+    }
+}
+
 /// The lesser of two visibilities in the map beside finished ones, if they aren't unrelated.
-#[tactic(auto, unfolding(crate::specs::Items::lesser_in))]
-pub fn lesser(map: &DefMap, world: &World, one: Visibility, other: Visibility) -> Option<Visibility>
-    ensures value { result ≡ lesser_in (finished_in world.now.maps) map.now one other }
+#[tactic(auto, unfolding(crate::specs::Items::lesser_in, hir_def_map::specs::DefMaps::maps_of))]
+pub fn lesser(
+    map: &DefMap,
+    world: WorldPart<'_>,
+    one: Visibility,
+    other: Visibility,
+) -> Option<Visibility>
+    ensures value { result ≡ lesser_in (part_of world.entry) map.now one other }
 {
-    map.lesser(world, one, other)
+    let maps = DefMaps::new(world, map);
+    one.min(&maps, other, map.id())
 }
 
-/// What a path reaches that a module's import asks for.
-#[tactic(auto, unfolding(crate::specs::Imports::reached_in))]
-pub fn reached(map: &DefMap, world: &World, at: ModuleId, path: &ModPath) -> PerNs
-    ensures value { result ≡ reached_in (finished_in world.now.maps) map.now at path.now }
+/// What a path means that a module's import names.
+#[tactic(auto, unfolding(crate::specs::Imports::answer_in))]
+pub fn answer(
+    map: &DefMap,
+    local: &LocalDefMap,
+    world: WorldPart<'_>,
+    at: ModuleId,
+    path: &ModPath,
+) -> ResolvePathResult
+    ensures value { result ≡ answer_in (part_of world.entry) local.now map.now at path.now }
 {
-    map.reached_items(None, world, at, path)
+    let query = Query {
+        maps: DefMaps::new(world, map),
+        local: Some(local),
+        mode: ResolveMode::Import,
+        shadow: BuiltinShadowMode::Module,
+        sub_ns: None,
+    };
+    query.resolve(at, path.kind(), path.segments())
 }
 
-/// What an import of this kind keeps of what it reaches.
-pub fn kept(kind: ImportKind, items: PerNs) -> PerNs
+/// Whether all may see.
+fn is_public(vis: Visibility) -> bool
+    ensures value { result ≡ is_public vis }
+{
+    matches!(vis, Visibility::Public)
+}
+
+/// What may be taken of items: through another crate those alone that all may see.
+fn open_items(crossing: bool, items: PerNs) -> PerNs
+    ensures value { result ≡ open_items crossing items }
+{
+    if crossing {
+        items.filter_visibility(is_public)
+    } else {
+        items
+    }
+}
+
+/// What an import of this kind keeps of what it may take.
+fn kept_by_kind(kind: ImportKind, items: PerNs) -> PerNs
     ensures value { result ≡ kept_by_kind kind items }
 {
     match kind {
@@ -135,14 +197,24 @@ pub fn kept(kind: ImportKind, items: PerNs) -> PerNs
     }
 }
 
+/// What an import of this kind keeps of an answer.
+pub fn kept(kind: ImportKind, answer: ResolvePathResult) -> PerNs
+    ensures value { result ≡ kept_of kind answer }
+{
+    kept_by_kind(
+        kind,
+        open_items(answer.prefix_info.differing_crate, answer.resolved_def),
+    )
+}
+
 /// An item as an import of this visibility offers it.
 fn brought<Def: Copy, Import: Copy>(
     map: &DefMap,
-    world: &World,
+    world: WorldPart<'_>,
     own: Visibility,
     item: Option<Item<Def, Import>>,
 ) -> Option<Item<Def, Import>>
-    ensures value { result ≡ option_map (brought (finished_in world.now.maps) map.now own) item }
+    ensures value { result ≡ option_map (brought (part_of world.entry) map.now own) item }
 {
     let Some(item) = item else {
         return None;
@@ -159,8 +231,8 @@ fn brought<Def: Copy, Import: Copy>(
 }
 
 /// What an import of this visibility offers of what it reaches.
-pub fn imported(map: &DefMap, world: &World, own: Visibility, items: PerNs) -> PerNs
-    ensures value { result ≡ imported (finished_in world.now.maps) map.now own items }
+pub fn imported(map: &DefMap, world: WorldPart<'_>, own: Visibility, items: PerNs) -> PerNs
+    ensures value { result ≡ imported (part_of world.entry) map.now own items }
 {
     PerNs {
         types: brought(map, world, own, items.types),

@@ -1,6 +1,6 @@
 //! Passes over the imports, until one moves nothing.
 ghost use Rattle.std.specs.Prelude.{◌≡◌, ℕ, ◌≤◌, Some, OnOk, IfOk};
-ghost use Rattle.hir_def_map.specs.World.{finished_in};
+ghost use Rattle.hir_def_map.specs.Parts.{part_of};
 ghost use Rattle.hir_def_collector.specs.Workspace.{Workspace};
 ghost use Rattle.hir_def_collector.specs.State.{at_rest};
 ghost use Rattle.hir_def_collector.specs.Imports.{taking_at};
@@ -11,23 +11,23 @@ ghost use Rattle.hir_def_collector.specs.Moves.{Moves};
 use crate::collector::imports::Taking;
 use crate::collector::run::Run;
 use crate::collector::{CollectError, STEP_LIMIT};
-use hir_def_map::world::World;
+use hir_def_map::world::part::WorldPart;
 
 /// Takes an import.
-fn take(run: &mut Run, world: &World, i: usize, taking: Taking) -> Result<(), CollectError>
-    requires due { taking_at (finished_in world.now.maps) run.old i ≡ Some taking }
-    ensures ok { OnOk result ((w : Workspace) → Step w (finished_in world.now.maps) (at_rest run.old) (at_rest run.new)) }
+fn take(run: &mut Run, world: WorldPart<'_>, i: usize, taking: Taking) -> Result<(), CollectError>
+    requires due { taking_at (part_of world) run.old i ≡ Some taking }
+    ensures ok { OnOk result ((w : Workspace) → Step w (part_of world.entry) (at_rest run.old) (at_rest run.new)) }
     ensures many { result ≡ Err CollectError.TooMany → STEP_LIMIT ≤ run.old.count }
 {
     run.bind_as(taking.home, taking.name, taking.items, taking.import)?;
-    run.note(i, taking.namespaces);
+    run.note(i, taking.taken);
     run.tick()?;
     Ok(())
 }
 
 /// Takes the import at the place, if its path reaches a namespace that no taking of it reached; whether it did.
-fn try_import(run: &mut Run, world: &World, i: usize) -> Result<bool, CollectError>
-    ensures ok { IfOk result (λ moved. (w : Workspace) → Moves w (finished_in world.now.maps) (at_rest run.old) (at_rest run.new) moved (λ s. IsSettled (finished_in world.now.maps) s i)) }
+fn try_import(run: &mut Run, world: WorldPart<'_>, i: usize) -> Result<bool, CollectError>
+    ensures ok { IfOk result (λ moved. (w : Workspace) → Moves w (part_of world.entry) (at_rest run.old) (at_rest run.new) moved (λ s. IsSettled (part_of world.entry) s i)) }
     ensures many { result ≡ Err CollectError.TooMany → STEP_LIMIT ≤ run.old.count }
 {
     let Some(taking) = run.taking(world, i)? else {
@@ -38,10 +38,10 @@ fn try_import(run: &mut Run, world: &World, i: usize) -> Result<bool, CollectErr
 }
 
 /// Tries each import once, in the order in which they were come upon; whether one was taken.
-fn pass(run: &mut Run, world: &World) -> Result<bool, CollectError>
-    ensures ok { IfOk result (λ moved. (w : Workspace) → Moves w (finished_in world.now.maps) (at_rest run.old) (at_rest run.new) moved (λ s. (i : ℕ) → IsSettled (finished_in world.now.maps) s i)) }
+fn pass(run: &mut Run, world: WorldPart<'_>) -> Result<bool, CollectError>
+    ensures ok { IfOk result (λ moved. (w : Workspace) → Moves w (part_of world.entry) (at_rest run.old) (at_rest run.new) moved (λ s. (i : ℕ) → IsSettled (part_of world.entry) s i)) }
     ensures small { IfOk result (λ _. run.new.count ≤ STEP_LIMIT) }
-    ensures many { result ≡ Err CollectError.TooMany → (w : Workspace) → IsSpent w (finished_in world.now.maps) (at_rest run.old) }
+    ensures many { result ≡ Err CollectError.TooMany → (w : Workspace) → IsSpent w (part_of world.entry) (at_rest run.old) }
 {
     let mut moved = false;
     for i in 0..run.reached_len() {
@@ -52,10 +52,10 @@ fn pass(run: &mut Run, world: &World) -> Result<bool, CollectError>
 }
 
 /// Tries the imports until none is taken.
-pub fn settle(run: &mut Run, world: &World) -> Result<(), CollectError>
-    ensures derived { OnOk result ((w : Workspace) → Steps w (finished_in world.now.maps) (at_rest run.old) (at_rest run.new)) }
-    ensures settled { OnOk result ((i : ℕ) → IsSettled (finished_in world.now.maps) (at_rest run.new) i) }
-    ensures many { result ≡ Err CollectError.TooMany → (w : Workspace) → IsSpent w (finished_in world.now.maps) (at_rest run.old) }
+pub fn settle(run: &mut Run, world: WorldPart<'_>) -> Result<(), CollectError>
+    ensures derived { OnOk result ((w : Workspace) → Steps w (part_of world.entry) (at_rest run.old) (at_rest run.new)) }
+    ensures settled { OnOk result ((i : ℕ) → IsSettled (part_of world.entry) (at_rest run.new) i) }
+    ensures many { result ≡ Err CollectError.TooMany → (w : Workspace) → IsSpent w (part_of world.entry) (at_rest run.old) }
 {
     let _ = run.count();
     while pass(run, world)? {}

@@ -2,18 +2,19 @@
 ghost use Rattle.std.specs.Prelude.{◌≡◌, ◌<◌, ◌≤◌, length, OnOk, IfOk};
 ghost use Rattle.std.specs.Prelude.{◌∷◌, []};
 ghost use Rattle.hir_def_map.specs.State.{with_module, new_id, new_module, with_declared, with_use, with_impl, with_extern_block, with_unnamed_const};
-ghost use Rattle.hir_def_map.specs.World.{finished_in};
+ghost use Rattle.hir_def_map.specs.Parts.{part_of};
 ghost use Rattle.hir_def_collector.specs.State.{with_map, with_imports, with_taken, counted};
 ghost use Rattle.hir_def_collector.specs.ItemIds.{container_of, module_id};
 ghost use Rattle.hir_def_collector.specs.Items.{own_visibility};
 ghost use Rattle.hir_def_collector.specs.TreeReads.{head_of};
-ghost use Rattle.hir_def_collector.specs.Imports.{bound_as, bound_in, pushing, reached_by, taking_at};
-ghost use Rattle.hir_def_collector.specs.Start.{start_core};
+ghost use Rattle.hir_def_collector.specs.Imports.{answer_to, bound_as, bound_in, pushing, taking_at};
+ghost use Rattle.hir_def_collector.specs.Start.{core_by};
 ghost use Rattle.hir_def_collector.specs.Derivation.{leftover_among};
 
 use crate::collector::collected::Collected;
-use crate::collector::imports::{Namespaces, ReachedImport, Taking, imported, kept, reached};
+use crate::collector::imports::{Namespaces, ReachedImport, Taken, Taking, answer, imported, kept};
 use crate::collector::leftovers::untaken;
+use crate::collector::preludes::prelude;
 use crate::collector::site::{ItemHead, Site};
 use crate::collector::{CollectError, STEP_LIMIT, Start};
 use crate::source_database::Key;
@@ -24,9 +25,11 @@ use hir_base::ids::{
 use hir_base::name::Name;
 use hir_def_map::nameres::DefMap;
 use hir_def_map::nameres::crate_data::DefMapCrateData;
+use hir_def_map::nameres::local_def_map::LocalDefMap;
 use hir_def_map::nameres::module_data::ModuleData;
 use hir_def_map::nameres::origin::ModuleOrigin;
-use hir_def_map::world::World;
+use hir_def_map::nameres::path_resolution::{ReachedFixedPoint, ResolvePathResult};
+use hir_def_map::world::part::WorldPart;
 use hir_item_tree::shape::ImportKind;
 use hir_scope::glob_imports::PerNsGlobImports;
 use hir_scope::imports::{ImportId, ImportOrExternCrate};
@@ -39,9 +42,10 @@ use std::marker::Model;
 #[derive(Drop)]
 pub struct Run {
     map: DefMap,
+    local: LocalDefMap,
     from_glob_import: PerNsGlobImports,
     reached: Vec<ReachedImport>,
-    taken: Vec<Namespaces>,
+    taken: Vec<Taken>,
     asked: Vec<Key>,
     count: u32,
 }
@@ -54,7 +58,7 @@ impl Model for Run {
 
     ghost Value = { Core };
 
-    ghost view = { λ r. record { map = r.map; reached = r.reached.items; taken = r.taken.items; asked = r.asked.items; count = r.count } };
+    ghost view = { λ r. record { map = r.map; local = r.local; reached = r.reached.items; taken = r.taken.items; asked = r.asked.items; count = r.count } };
 
     // No glob brings anything yet.
     ghost invariant = { λ r. (r.count ≤ STEP_LIMIT) × (r.from_glob_import ≡ no_globs) };
@@ -71,20 +75,28 @@ fn pushing(import: Option<ImportId>) -> Option<ImportOrExternCrate>
 }
 
 impl Run {
-    /// The root module alone, its tree asked for.
-    pub fn start(alloc: Global, start: Start) -> Result<Run, AllocError>
-        ensures value { IfOk result (λ run. run ≡ start_core start) }
+    /// The root module alone, beside what all modules find, its tree asked for.
+    pub fn start(
+        alloc: Global,
+        world: WorldPart<'_>,
+        crate_data: DefMapCrateData,
+        local: LocalDefMap,
+        start: Start,
+    ) -> Result<Run, AllocError>
+        ensures value { IfOk result (λ run. run ≡ core_by (part_of world.entry) crate_data local start) }
     {
         let origin = ModuleOrigin::CrateRoot {
             definition: start.root,
         };
-        let crate_data = DefMapCrateData::new(alloc, start.root.edition);
         let root = ModuleData::new(alloc, origin, Visibility::Public, None);
-        let map = DefMap::empty(alloc, start.krate, crate_data, root, None)?;
+        let mut map = DefMap::empty(alloc, start.krate, crate_data, root, None)?;
+        let found = prelude(alloc, world, &map, &local)?;
+        map.set_prelude(found);
         let mut asked = Vec::new(alloc);
         asked.push(Key::Tree(start.krate, HirFileId::File(start.root)))?;
         Ok(Run {
             map,
+            local,
             from_glob_import: PerNsGlobImports::new(alloc),
             reached: Vec::new(alloc),
             taken: Vec::new(alloc),
@@ -257,38 +269,43 @@ impl Run {
         ensures ok { OnOk result (self.new ≡ with_imports self.old (import ∷ [])) }
     {
         self.reached.push(import)?;
-        self.taken.push(Namespaces {
-            types: false,
-            values: false,
-            macros: false,
+        self.taken.push(Taken {
+            namespaces: Namespaces {
+                types: false,
+                values: false,
+                macros: false,
+            },
+            crossed: false,
         })?;
         Ok(())
     }
 
-    /// Notes the namespaces that the takings of an import have reached.
-    pub fn note(&mut self, i: usize, namespaces: Namespaces)
-        ensures value { self.new ≡ with_taken self.old i namespaces }
+    /// Notes what the takings of an import have reached.
+    pub fn note(&mut self, i: usize, taken: Taken)
+        ensures value { self.new ≡ with_taken self.old i taken }
     {
         if i < self.taken.len() {
-            self.taken[i] = namespaces;
+            self.taken[i] = taken;
         }
     }
 
-    /// What an import reaches now.
-    fn reached_by(&self, world: &World, import: &ReachedImport) -> PerNs
-        ensures value { result ≡ reached_by (finished_in world.now.maps) self.now.map import.now }
+    /// The answer to an import now.
+    fn answer_to(&self, world: WorldPart<'_>, import: &ReachedImport) -> ResolvePathResult
+        ensures value { result ≡ answer_to (part_of world.entry) self.now.local self.now.map import.now }
     {
         let at = self.module_id(import.home);
         match import.kind {
-            ImportKind::Plain | ImportKind::TypeOnly => reached(&self.map, world, at, &import.path),
-            ImportKind::Glob => PerNs::none(),
+            ImportKind::Plain | ImportKind::TypeOnly => {
+                answer(&self.map, &self.local, world, at, &import.path)
+            }
+            ImportKind::Glob => ResolvePathResult::unresolved(ReachedFixedPoint::No),
         }
     }
 
     /// The taking that is due of the import at the place: where its path reaches a namespace that no
     /// taking of it reached, all that it reaches now is bound.
-    pub fn taking(&self, world: &World, i: usize) -> Result<Option<Taking>, AllocError>
-        ensures value { IfOk result (λ taking. taking ≡ taking_at (finished_in world.now.maps) self.now i) }
+    pub fn taking(&self, world: WorldPart<'_>, i: usize) -> Result<Option<Taking>, AllocError>
+        ensures value { IfOk result (λ taking. taking ≡ taking_at (part_of world.entry) self.now i) }
     {
         let Some(import) = self.reached.get(i) else {
             return Ok(None);
@@ -296,32 +313,31 @@ impl Run {
         let Some(before) = self.taken.get(i) else {
             return Ok(None);
         };
-        let items = self.reached_by(world, import);
-        let namespaces = Namespaces::of(items);
-        if !namespaces.goes_beyond(*before) {
+        let answer = self.answer_to(world, import);
+        if !Namespaces::of(answer.resolved_def).goes_beyond(before.namespaces) {
             return Ok(None);
         }
         let own = Visibility::of_raw(self.module_id(import.home), &import.visibility);
         Ok(Some(Taking {
             home: import.home,
             name: import.name()?,
-            items: imported(&self.map, world, own, kept(import.kind, items)),
+            items: imported(&self.map, world, own, kept(import.kind, answer)),
             import: import.id,
-            namespaces: before.or(namespaces),
+            taken: before.and(answer),
         }))
     }
 
     /// The imports that were never taken, in the order in which they were come upon.
-    pub fn leftover(&self, alloc: Global) -> Result<Vec<ImportId>, AllocError>
+    pub fn leftover(&self, alloc: Global) -> Result<Vec<ImportOrExternCrate>, AllocError>
         ensures value { IfOk result (λ ids. ids.items ≡ leftover_among self.now.reached self.now.taken) }
     {
         untaken(alloc, &self.reached, &self.taken)
     }
 
     /// What a run comes to.
-    pub fn finish(self, leftover: Vec<ImportId>) -> Collected
-        ensures value { result ≡ record { map = self.map; leftover = leftover.items; asked = self.asked } }
+    pub fn finish(self, leftover: Vec<ImportOrExternCrate>) -> Collected
+        ensures value { result ≡ record { map = self.map; local = self.local; leftover = leftover.items; asked = self.asked } }
     {
-        Collected::new(self.map, leftover, self.asked)
+        Collected::new(self.map, self.local, leftover, self.asked)
     }
 }

@@ -6,7 +6,7 @@ ghost use Rattle.hir_item_tree.specs.KeptForest.{KeptItem, Leaf, KeptForest, all
 ghost use Rattle.hir_item_tree.specs.Kinds.{kind_content};
 ghost use Rattle.hir_item_tree.specs.Rows.{held_numbers, item_of, items_at, numbers_of};
 ghost use Rattle.hir_def_map.specs.State.{Maps};
-ghost use Rattle.hir_def_map.specs.World.{finished_in};
+ghost use Rattle.hir_def_map.specs.Parts.{part_of};
 ghost use Rattle.hir_def_collector.specs.State.{visits};
 ghost use Rattle.hir_def_collector.specs.Steps.{visit};
 ghost use Rattle.hir_def_collector.specs.TreeReads.{head_of, visits_at};
@@ -26,7 +26,7 @@ use hir_base::ast_id::{AstId, AstKind};
 use hir_base::ids::{ConstId, ExternBlockId, ImplId, ModuleDefId};
 use hir_base::name::Name;
 use hir_def_map::nameres::origin::ModuleOrigin;
-use hir_def_map::world::World;
+use hir_def_map::world::part::WorldPart;
 use hir_item_tree::item_tree::ItemTree;
 use hir_item_tree::kinds::{Mod, ModItemKind, ModKind};
 use hir_item_tree::rows::ModItemId;
@@ -184,14 +184,14 @@ fn visit_mod<'a>(
 /// Handles an item that isn't disabled; which items are visited next: those that it holds.
 fn visit_item<'a>(
     run: &mut Run,
-    world: &World,
+    world: WorldPart<'_>,
     site: Site,
     head: ItemHead<'_>,
     item: ModItemKind<'a>,
 ) -> Result<Inside<'a>, CollectError>
     requires in_range { site.home < length run.old.map.modules }
     requires enabled { is_enabled (head_of head).attributes ≡ true }
-    ensures ok { IfOk result (λ inside. (items : List KeptItem) → Handles (finished_in world.now.maps) run.old run.new
+    ensures ok { IfOk result (λ inside. (items : List KeptItem) → Handles (part_of world.entry) run.old run.new
         (visit site (item_of items (head_of head.entry) (kind_content item.entry)))
         (visits inside.site (items_at items (numbers_of inside.ids.now)))) }
     ensures numbers { IfOk result (λ inside. numbers_of inside.ids.now ≡ held_numbers (kind_content item.entry)) }
@@ -259,15 +259,15 @@ fn visit_item<'a>(
 #[cycle(walk)]
 fn walk_item(
     run: &mut Run,
-    world: &World,
+    world: WorldPart<'_>,
     tree: &ItemTree,
     site: Site,
     id: ModItemId,
 ) -> Result<(), CollectError>
     requires in_range { site.home < length run.old.map.modules }
     requires there { id.0 < length (all_items tree.now.items) }
-    ensures ok { OnOk result (Walks (finished_in world.now.maps) run.old run.new (visits_at tree.now site (id.0 ∷ []))) }
-    ensures many { result ≡ Err CollectError.TooMany → WalksTooFar (finished_in world.now.maps) run.old (visits_at tree.now site (id.0 ∷ [])) }
+    ensures ok { OnOk result (Walks (part_of world.entry) run.old run.new (visits_at tree.now site (id.0 ∷ []))) }
+    ensures many { result ≡ Err CollectError.TooMany → WalksTooFar (part_of world.entry) run.old (visits_at tree.now site (id.0 ∷ [])) }
 {
     let head = head_at(tree, id);
     if !head.attrs.is_enabled() {
@@ -283,15 +283,15 @@ fn walk_item(
 #[cycle(walk)]
 pub fn walk_all(
     run: &mut Run,
-    world: &World,
+    world: WorldPart<'_>,
     tree: &ItemTree,
     site: Site,
     ids: &[ModItemId],
 ) -> Result<(), CollectError>
     requires in_range { site.home < length run.old.map.modules }
     requires there { All (λ n. n < length (all_items tree.now.items)) (numbers_of ids.now) }
-    ensures ok { OnOk result (Walks (finished_in world.now.maps) run.old run.new (visits_at tree.now site (numbers_of ids.now))) }
-    ensures many { result ≡ Err CollectError.TooMany → WalksTooFar (finished_in world.now.maps) run.old (visits_at tree.now site (numbers_of ids.now)) }
+    ensures ok { OnOk result (Walks (part_of world.entry) run.old run.new (visits_at tree.now site (numbers_of ids.now))) }
+    ensures many { result ≡ Err CollectError.TooMany → WalksTooFar (part_of world.entry) run.old (visits_at tree.now site (numbers_of ids.now)) }
 {
     for id in ids {
         walk_item(run, world, tree, site, *id)?;

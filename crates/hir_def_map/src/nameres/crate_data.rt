@@ -4,7 +4,6 @@ ghost use Rattle.std.specs.Ordering.{nat_cmp};
 ghost use Rattle.std.specs.Cmp.Lexicographic.{slice_cmp};
 ghost use Rattle.std.specs.List.{list_any};
 ghost use Rattle.std.specs.BTreeSet.{insert_key};
-ghost use Rattle.hir_base.specs.contracts.ids.CrateOrd.TheImpl as crate_order;
 ghost use Rattle.hir_scope.specs.ModuleTree.{same_crate};
 ghost use Rattle.hir_def_map.specs.State.{new_data};
 ghost use Rattle.hir_def_map.specs.Reads.{feature_in};
@@ -13,8 +12,9 @@ use hir_base::edition::Edition;
 use hir_base::ids::Crate;
 use hir_base::name::Name;
 use std::alloc::{AllocError, Global};
-use std::collections::{BTreeSet, btree_set};
+use std::collections::BTreeSet;
 use std::marker::Model;
+use std::rc::Rc;
 
 /// What a crate's top says, and the crates on which it stands, after rust-analyzer's `DefMapCrateData`.
 ///
@@ -28,7 +28,7 @@ pub struct DefMapCrateData {
     no_core: bool,
     no_std: bool,
     recursion_limit: u32,
-    dependencies: BTreeSet<Crate>,
+    dependencies: Rc<BTreeSet<Crate>>,
 }
 
 impl Model for DefMapCrateData {
@@ -44,14 +44,18 @@ impl Model for DefMapCrateData {
       no_core = d.no_core;
       no_std = d.no_std;
       recursion_limit = d.recursion_limit;
-      dependencies = d.dependencies.keys;
+      dependencies = d.dependencies.value.keys;
     } };
 }
 
 impl DefMapCrateData {
-    /// The data of a crate that says nothing at its top and stands on no other.
-    pub fn new(alloc: Global, edition: Edition) -> DefMapCrateData
-        ensures value { result ≡ new_data edition }
+    /// The data of a crate that says nothing at its top and stands, directly or through others, on these.
+    pub fn new(
+        alloc: Global,
+        edition: Edition,
+        dependencies: Rc<BTreeSet<Crate>>,
+    ) -> DefMapCrateData
+        ensures value { result ≡ record (new_data edition) { dependencies = dependencies.value.keys } }
     {
         DefMapCrateData {
             edition,
@@ -61,7 +65,7 @@ impl DefMapCrateData {
             no_core: false,
             no_std: false,
             recursion_limit: 128,
-            dependencies: BTreeSet::new(alloc),
+            dependencies,
         }
     }
 
@@ -79,19 +83,10 @@ impl DefMapCrateData {
     }
 
     /// The crates on which this one stands, directly or through others.
-    pub fn dependencies(&self) -> btree_set::Iter<'_, Crate>
-        ensures value { result ≡ self.now.dependencies }
+    pub fn dependencies(&self) -> &BTreeSet<Crate>
+        ensures value { result.now.keys ≡ self.now.dependencies }
     {
-        self.dependencies.iter()
-    }
-
-    /// Adds a crate on which this one stands, directly or through others.
-    pub fn add_dependency(&mut self, krate: Crate) -> Result<(), AllocError>
-        ensures ok { OnOk result (self.new ≡ record self.old { dependencies = insert_key crate_order.ghosts.cmp self.old.dependencies krate }) }
-        ensures err { OnErr result (self.new ≡ self.old) }
-    {
-        self.dependencies.insert(krate)?;
-        Ok(())
+        &self.dependencies
     }
 
     /// How deep calls of macros may be nested.

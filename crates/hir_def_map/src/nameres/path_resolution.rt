@@ -18,10 +18,10 @@ use crate::def_maps::DefMaps;
 use crate::nameres::DefMap;
 use crate::nameres::local_def_map::LocalDefMap;
 use crate::world::World;
+use crate::world::part::WorldPart;
 use hir_base::ids::ModuleId;
 use hir_base::mod_path::ModPath;
 use hir_scope::per_ns::PerNs;
-use query::Query;
 
 /// Whether an import asks, or something else.
 #[derive(Clone, Copy, Debug, PartialEq, Eq)]
@@ -75,7 +75,6 @@ impl DefMap {
     /// What a path means, asked from a module.
     ///
     /// Without a local map the extern prelude is empty.
-    #[tactic(auto, unfolding(crate::specs::DefMaps::maps_of))]
     pub fn resolve_path_fp_with_macro(
         &self,
         local: Option<&LocalDefMap>,
@@ -89,14 +88,8 @@ impl DefMap {
         ensures resolves { result ≡ resolution_of (beside (finished_in world.now.maps) self.now)
             (record { local = local_of (option_copied local.entry); mode = mode; shadow = shadow; sub_ns = sub_ns }) at path.now }
     {
-        let query = Query {
-            maps: DefMaps { world, own: self },
-            local,
-            mode,
-            shadow,
-            sub_ns,
-        };
-        query.resolve(at, path.kind(), path.segments())
+        let maps = DefMaps::new(WorldPart::all(world), self);
+        maps.resolve_path_fp_with_macro(local, mode, at, path, shadow, sub_ns)
     }
 
     /// What a path means where no import asks, and the number of the segment at which it stopped, if it did.
@@ -122,7 +115,6 @@ impl DefMap {
     }
 
     /// What a path means where no import asks, a block's root having nothing of what its holder has.
-    #[tactic(auto, unfolding(crate::specs::DefMaps::maps_of))]
     pub fn resolve_path_locally(
         &self,
         local: Option<&LocalDefMap>,
@@ -138,14 +130,8 @@ impl DefMap {
         ensures prefix { result.2 ≡ (from_start (beside (finished_in world.now.maps) self.now)
             (record { local = local_of (option_copied local.entry); mode = in_body; shadow = shadow; sub_ns = None }) at path.now.kind path.now.segments).prefix_info }
     {
-        let query = Query {
-            maps: DefMaps { world, own: self },
-            local,
-            mode: ResolveMode::Other,
-            shadow,
-            sub_ns: None,
-        };
-        let resolution = query.from_start(at, path.kind(), path.segments());
+        let maps = DefMaps::new(WorldPart::all(world), self);
+        let resolution = maps.resolve_path_locally(local, at, path, shadow);
         (
             resolution.resolved_def,
             resolution.segment_index,
@@ -163,9 +149,7 @@ impl DefMap {
     ) -> PerNs
         ensures value { result ≡ reached_items (beside (finished_in world.now.maps) self.now) (local_of (option_copied local.entry)) at path.now }
     {
-        let mode = ResolveMode::Import;
-        let shadow = BuiltinShadowMode::Module;
-        self.resolve_path_fp_with_macro(local, world, mode, at, path, shadow, None)
-            .resolved_def
+        let maps = DefMaps::new(WorldPart::all(world), self);
+        maps.reached_items(local, at, path)
     }
 }

@@ -21,9 +21,12 @@ impl World {
     fn has_module(&self, map: &DefMap, id: ModuleId) -> bool
         ensures value { result ≡ is_some (module_in (beside (finished_in self.now.maps) map.now) id) }
     {
+        if id.map == map.id() {
+            return map.has_module(id.index);
+        }
         match self.maps.get(&id.map) {
             Some(finished) => finished.map.has_module(id.index),
-            None => id.map == map.id() && map.has_module(id.index),
+            None => false,
         }
     }
 
@@ -32,9 +35,12 @@ impl World {
     fn has_enum(&self, map: &DefMap, id: EnumId) -> bool
         ensures value { result ≡ is_some (variants_in (beside (finished_in self.now.maps) map.now) id) }
     {
+        if id.container.map == map.id() {
+            return map.enum_variants(id).is_some();
+        }
         match self.maps.get(&id.container.map) {
             Some(finished) => finished.map.enum_variants(id).is_some(),
-            None => id.container.map == map.id() && map.enum_variants(id).is_some(),
+            None => false,
         }
     }
 
@@ -42,7 +48,7 @@ impl World {
     fn has_map(&self, map: &DefMap, id: MapId) -> bool
         ensures value { result ≡ is_some (beside (finished_in self.now.maps) map.now id) }
     {
-        self.maps.contains_key(&id) || id == map.id()
+        id == map.id() || self.maps.contains_key(&id)
     }
 
     fn is_missing(&self, map: &DefMap, named: Named) -> bool
@@ -127,7 +133,7 @@ impl World {
     fn is_dependency_missing(&self, map: &DefMap, crate_data: &DefMapCrateData) -> bool
         ensures value { result ≡ list_any (test_crate (is_missing (beside (finished_in self.now.maps) map.now))) crate_data.now.dependencies }
     {
-        let mut left = crate_data.dependencies();
+        let mut left = crate_data.dependencies().iter();
         'next: while let Some(krate) = left.next() {
             if self.is_crate_missing(map, *krate) {
                 return true;

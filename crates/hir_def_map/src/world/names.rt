@@ -101,7 +101,7 @@ fn add_dependencies(
 ) -> Result<(), AllocError>
     ensures ok { OnOk result (Gains maps.old maps.new (λ id. list_any (test_crate (lies_in id)) crate_data.now.dependencies)) }
 {
-    let mut left = crate_data.dependencies();
+    let mut left = crate_data.dependencies().iter();
     'next: while let Some(krate) = left.next() {
         add_crate(maps, *krate)?;
     }

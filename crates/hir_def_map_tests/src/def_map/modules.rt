@@ -7,6 +7,7 @@ use hir_def_map::def_maps::DefMaps;
 use hir_def_map::nameres::DefMap;
 use hir_def_map::nameres::module_data::ModuleData;
 use hir_def_map::world::World;
+use hir_def_map::world::part::WorldPart;
 use hir_scope::per_ns::PerNs;
 use std::alloc::Global;
 use std::process::Abort;
@@ -58,10 +59,7 @@ fn elsewhere(rt: &impl Abort, maps: DefMaps<'_>, a: &Name) {
 
 fn by_ids(rt: &impl Abort, alloc: Global, map: &DefMap, a: &Name) {
     let world = World::new(alloc);
-    let maps = DefMaps {
-        world: &world,
-        own: map,
-    };
+    let maps = DefMaps::new(WorldPart::all(&world), map);
     is_module(rt, maps.parent_of(module(2)), Some(module(1)), "by id");
     elsewhere(rt, maps, a);
 }

@@ -1,7 +1,6 @@
 //! Several maps: what paths lead to over a world, and which maps join it.
-use super::{FILE, are_items, both, inline, node, types};
+use super::{FILE, are_items, both, data_over, inline, node, types};
 use hir_base::ast_id::{BlockId, HirFileId};
-use hir_base::edition::Edition;
 use hir_base::ids::{AdtId, Crate, EnumId, EnumVariantId, MapId, ModuleDefId, ModuleId, StructId};
 use hir_base::mod_path::ModPath;
 use hir_base::name::Name;
@@ -133,7 +132,7 @@ fn name_variants(alloc: Global, map: &mut DefMap) -> Result<(), Fail> {
 
 /// `pub mod a { pub struct S; struct P; } pub enum E { A(), B {} }`
 fn crate_zero(alloc: Global) -> Result<DefMap, Fail> {
-    let data = DefMapCrateData::new(alloc, Edition::Edition2021);
+    let data = data_over(alloc, &[])?;
     let mut map = rooted(alloc, data, Crate(0), None)?;
     name_module(alloc, &mut map, "a", 10)?;
     name_items(alloc, &mut map, 1, "S", both(item(ZERO, 1), PUBLIC))?;
@@ -147,8 +146,7 @@ fn crate_zero(alloc: Global) -> Result<DefMap, Fail> {
 
 /// `pub struct T; pub mod m { pub struct V; }` over crate 0, the module `a` of which is the prelude.
 fn crate_one(alloc: Global) -> Result<DefMap, Fail> {
-    let mut data = DefMapCrateData::new(alloc, Edition::Edition2021);
-    data.add_dependency(Crate(0))?;
+    let data = data_over(alloc, &[Crate(0)])?;
     let mut map = rooted(alloc, data, Crate(1), None)?;
     map.set_prelude(Some((at(ZERO, 1), None)));
     name_items(alloc, &mut map, 0, "T", both(item(ONE, 1), PUBLIC))?;
@@ -159,7 +157,7 @@ fn crate_one(alloc: Global) -> Result<DefMap, Fail> {
 
 /// `pub struct U; pub mod n {}` in a block in the module `m` of crate 1.
 fn block(alloc: Global) -> Result<DefMap, Fail> {
-    let data = DefMapCrateData::new(alloc, Edition::Edition2021);
+    let data = data_over(alloc, &[])?;
     let info = BlockInfo {
         block: BlockId(7),
         parent: at(ONE, 1),
@@ -333,7 +331,7 @@ fn stay_out(rt: &impl Abort, alloc: Global) -> Result<(), Fail> {
 
 fn stays_out(rt: &impl Abort, alloc: Global) -> Result<(), Fail> {
     let mut world = World::new(alloc);
-    let data = DefMapCrateData::new(alloc, Edition::Edition2021);
+    let data = data_over(alloc, &[])?;
     let mut map = rooted(alloc, data, Crate(0), None)?;
     let def = ModuleDefId::AdtId(AdtId::EnumId(choice()));
     name_items(alloc, &mut map, 0, "E", types(def, PUBLIC))?;

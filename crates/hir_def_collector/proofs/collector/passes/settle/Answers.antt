@@ -1,5 +1,5 @@
 use Rattle.std.proofs.Common.{rules, arith, sym, subst, ◌≤◌, ℕ}
-use Rattle.hir_def_map.specs.World.{finished_in}
+use Rattle.hir_def_map.specs.Parts.{part_of}
 use Rattle.hir_def_collector.specs.declared.collector.TheConstants.{STEP_LIMIT}
 use Rattle.hir_def_collector.specs.Steps.{none}
 use Rattle.hir_def_collector.proofs.Moves.{Steps-append, spent_after}
@@ -26,4 +26,4 @@ returns-clause-derived c = λ w. Steps-append (c.loop.invariant.0 w) (c.in_ok-pa
 pub returns-clause-settled : goal.returns-clause-settled
 returns-clause-settled c =
     let p = c.in_ok-pass.ensures.ok no_workspace in
-    subst (λ (s : State). (i : ℕ) → IsSettled (finished_in c.args.world.now.maps) s i) (sym (p.same c.if-branch.false)) (p.rests c.if-branch.false)
+    subst (λ (s : State). (i : ℕ) → IsSettled (part_of c.args.world) s i) (sym (p.same c.if-branch.false)) (p.rests c.if-branch.false)

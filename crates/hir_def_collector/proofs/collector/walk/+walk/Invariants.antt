@@ -1,13 +1,13 @@
 use Rattle.std.proofs.Common.{◌<◌, ◌+◌, ◌*◌, length}
 use Rattle.hir_item_tree.specs.Rows.{numbers_of}
-use Rattle.hir_def_map.specs.World.{finished_in}
+use Rattle.hir_def_map.specs.Parts.{part_of}
 use Rattle.hir_def_collector.specs.TreeReads.{above}
 use Rattle.hir_def_collector.proofs.Walked.{WalksTo}
 use Rattle.hir_def_collector.proofs.collector.walk.+walk.Given as goal
 
 abbrev pub invariant-walk_all-loop-id : goal.invariant-walk_all-loop-id
 invariant-walk_all-loop-id l = record {
-  walked : WalksTo l.tree l.site (finished_in l.world.maps) l.ids l.initial.run l.run l.id-index;
+  walked : WalksTo l.tree l.site (part_of l.world) l.ids l.initial.run l.run l.id-index;
   in_range : l.site.home < length l.run.map.modules;
 }
 

@@ -1,5 +1,5 @@
 -- Where the children are the same, the scopes decide.
-use Rattle.std.proofs.Common.{◌≡◌, ◌∙◌, ap, sym, Bool, true, ◌&&◌, nat_eq}
+use Rattle.std.proofs.Common.{◌≡◌, ◌∙◌, ap, sym, Bool, true, ◌&&◌}
 use Rattle.hir_base.specs.contracts.ids.ModuleIdPartialEq.TheImpl as module_id
 use Rattle.hir_scope.specs.SameScope.{same_scope}
 use Rattle.hir_def_map.specs.State.{ModuleValue}

@@ -1,0 +1,30 @@
+use Rattle.std.proofs.Common.{rules, ◌∙◌, ◌<◌, length, ap, sym}
+use Rattle.std.proofs.lemmas.List.Elements.{All-map}
+use Rattle.hir_item_tree.specs.Collected.{is_enabled}
+use Rattle.hir_item_tree.specs.KeptForest.{all_items}
+use Rattle.hir_item_tree.specs.declared.rows.ModItemId.{ModItemId}
+use Rattle.hir_def_map.specs.Parts.{part_of}
+use Rattle.hir_def_collector.specs.Start.{root_site}
+use Rattle.hir_def_collector.proofs.Walked.{spent_present, walks_disabled, walks_present}
+use Rattle.hir_def_collector.proofs.collector.walk_root.Goals as goal
+
+pub returns-then-not-is_enabled-clause-ok : goal.returns-then-not-is_enabled-clause-ok
+returns-then-not-is_enabled-clause-ok c = λ w.
+    walks_disabled (part_of c.args.world) (root_site c.args.start) c.args.tree.now c.args.run.now w
+    (ap is_enabled (sym c.top_level_attrs.ensures.value) ∙ sym c.is_enabled.ensures.value ∙ c.if-not-is_enabled.true)
+
+pub returns-clause-ok : goal.returns-clause-ok
+returns-clause-ok c =
+    walks_present (part_of c.args.world) (root_site c.args.start) c.args.tree.now c.args.run.now c.top_level_items.result.now
+    (ap is_enabled (sym c.top_level_attrs.ensures.value) ∙ sym c.is_enabled.ensures.value ∙ c.if-not-is_enabled.false) c.top_level_items.ensures.value
+    c.walk_all.new.run c.in_ok-walk_all.ensures.ok
+
+pub returns-in_err-walk_all-clause-many : goal.returns-in_err-walk_all-clause-many
+returns-in_err-walk_all-clause-many c h =
+    spent_present (part_of c.args.world) (root_site c.args.start) c.args.tree.now c.args.run.now c.top_level_items.result.now
+    (ap is_enabled (sym c.top_level_attrs.ensures.value) ∙ sym c.is_enabled.ensures.value ∙ c.if-not-is_enabled.false) c.top_level_items.ensures.value
+    (c.in_err-walk_all.ensures.many (search rules))
+
+pub walk_all-requires-clause-there : goal.walk_all-requires-clause-there
+walk_all-requires-clause-there c =
+    All-map (λ n. n < length (all_items c.args.tree.now.items)) (λ (id : ModItemId). id.0) c.top_level_items.result.now c.top_level_items.ensures.there

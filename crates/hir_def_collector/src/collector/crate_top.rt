@@ -1,0 +1,174 @@
+//! What a crate's top says.
+ghost use Rattle.std.specs.Prelude.{◌≡◌, ◌++◌, [], IfOk, OnOk, map, option_map};
+ghost use Rattle.hir_item_tree.specs.Attributes.{input_view};
+ghost use Rattle.hir_item_tree.specs.Collected.{collected_of, numbered};
+ghost use Rattle.hir_def_collector.specs.CrateTop.{builtin_tools, crate_data_of, is_keyed, limit_after, limit_by, limit_in, listed_under, name_alone, names_among, names_in, says, with_names};
+
+use crate::collector::known_name::known_name;
+use hir_base::edition::Edition;
+use hir_base::ids::Crate;
+use hir_base::mod_path::{ModPath, PathKind};
+use hir_base::name::Name;
+use hir_def_map::nameres::crate_data::DefMapCrateData;
+use hir_item_tree::attrs::{Attr, AttrsOrCfg};
+use hir_item_tree::raw_attr::{AttrInput, TokenTree};
+use std::alloc::{AllocError, Global};
+use std::collections::BTreeSet;
+use std::rc::Rc;
+
+/// Whether an attribute's path is this name alone.
+fn is_keyed(attr: &Attr, key: &str) -> bool
+    ensures value { result ≡ is_keyed key.now (numbered attr.now) }
+{
+    match (attr.meta.path.kind(), attr.meta.path.segments()) {
+        (PathKind::Plain, [name]) => name.as_str() == key,
+        _ => false,
+    }
+}
+
+/// Whether there is an attribute of this name.
+fn says(attrs: &[Attr], key: &str) -> bool
+    ensures value { result ≡ says key.now (map numbered attrs.now) }
+{
+    for attr in attrs {
+        if is_keyed(attr, key) {
+            return true;
+        }
+    }
+    false
+}
+
+/// The limit that an attribute gives, if it can be read.
+fn limit_in(input: &Option<AttrInput>) -> Option<u32>
+    ensures value { result ≡ limit_in (option_map input_view input.now) }
+{
+    match input {
+        Some(AttrInput::Literal(text)) => text.as_str().parse::<u32>().ok(),
+        Some(AttrInput::TokenTree(_)) | None => None,
+    }
+}
+
+/// The limit that an attribute gives, or else the one before.
+fn limit_by(before: u32, attr: &Attr) -> u32
+    ensures value { result ≡ limit_by before (numbered attr.now) }
+{
+    if !is_keyed(attr, "recursion_limit") {
+        return before;
+    }
+    match limit_in(&attr.meta.input) {
+        Some(limit) => limit,
+        None => before,
+    }
+}
+
+/// The last limit on the nesting of macro calls that can be read.
+fn recursion_limit(attrs: &[Attr]) -> u32
+    ensures value { result ≡ limit_after 128 (map numbered attrs.now) }
+{
+    let mut limit = 128;
+    for attr in attrs {
+        limit = limit_by(limit, attr);
+    }
+    limit
+}
+
+/// Adds the name that a path is alone.
+fn push_name(names: &mut Vec<Name>, path: &ModPath) -> Result<(), AllocError>
+    ensures ok { OnOk result (names.new.items ≡ names.old.items ++ name_alone path.now.kind path.now.segments) }
+{
+    match (path.kind(), path.segments()) {
+        (PathKind::Plain, [name]) => {
+            names.push(name.clone()?)?;
+            Ok(())
+        }
+        _ => Ok(()),
+    }
+}
+
+/// Adds the names that paths are alone.
+fn push_names(names: &mut Vec<Name>, paths: &Vec<ModPath>) -> Result<(), AllocError>
+    ensures ok { OnOk result (names.new.items ≡ names.old.items ++ names_among paths.now.items) }
+{
+    for path in paths {
+        push_name(names, path)?;
+    }
+    Ok(())
+}
+
+/// Adds the names that an attribute lists.
+fn push_listed(names: &mut Vec<Name>, input: &Option<AttrInput>) -> Result<(), AllocError>
+    ensures ok { OnOk result (names.new.items ≡ names.old.items ++ names_in (option_map input_view input.now)) }
+{
+    match input {
+        Some(AttrInput::TokenTree(TokenTree::Paths(paths))) => push_names(names, paths),
+        _ => Ok(()),
+    }
+}
+
+/// The names that the attributes of a key list.
+fn listed(alloc: Global, attrs: &[Attr], key: &str) -> Result<Vec<Name>, AllocError>
+    ensures value { IfOk result (λ names. names.items ≡ listed_under key.now (map numbered attrs.now)) }
+{
+    let mut names = Vec::new(alloc);
+    for attr in attrs {
+        if is_keyed(attr, key) {
+            push_listed(&mut names, &attr.meta.input)?;
+        }
+    }
+    Ok(names)
+}
+
+fn add_features(crate_data: &mut DefMapCrateData, names: &[Name]) -> Result<(), AllocError>
+    ensures ok { OnOk result (crate_data.new ≡ record crate_data.old { features = with_names crate_data.old.features names.now }) }
+{
+    for name in names {
+        crate_data.add_feature(name.clone()?)?;
+    }
+    Ok(())
+}
+
+fn add_tools(crate_data: &mut DefMapCrateData, names: &[Name]) -> Result<(), AllocError>
+    ensures ok { OnOk result (crate_data.new ≡ record crate_data.old { registered_tools = crate_data.old.registered_tools ++ names.now }) }
+{
+    for name in names {
+        crate_data.register_tool(name.clone()?)?;
+    }
+    Ok(())
+}
+
+/// The tools whose attributes are inert in each crate.
+fn builtin_tools(alloc: Global) -> Result<Vec<Name>, AllocError>
+    ensures value { IfOk result (λ tools. tools.items ≡ builtin_tools) }
+{
+    let mut tools = Vec::new(alloc);
+    tools.push(known_name(alloc, "clippy")?)?;
+    tools.push(known_name(alloc, "rustfmt")?)?;
+    tools.push(known_name(alloc, "diagnostic")?)?;
+    tools.push(known_name(alloc, "miri")?)?;
+    tools.push(known_name(alloc, "rust_analyzer")?)?;
+    Ok(tools)
+}
+
+/// The crate_data of a crate with these attributes at its top, which stands on these crates.
+pub fn top_data(
+    alloc: Global,
+    edition: Edition,
+    attrs: &AttrsOrCfg,
+    behind: Rc<BTreeSet<Crate>>,
+) -> Result<DefMapCrateData, AllocError>
+    ensures value { IfOk result (λ crate_data. crate_data ≡ crate_data_of edition (collected_of attrs.now).attributes behind.value.keys) }
+{
+    let attrs = attrs.attrs.as_slice();
+    let mut crate_data = DefMapCrateData::new(alloc, edition, behind);
+    crate_data.set_rustc_coherence_is_core(says(attrs, "rustc_coherence_is_core"));
+    crate_data.set_no_core(says(attrs, "no_core"));
+    crate_data.set_no_std(says(attrs, "no_std"));
+    crate_data.set_recursion_limit(recursion_limit(attrs));
+    add_features(&mut crate_data, listed(alloc, attrs, "feature")?.as_slice())?;
+    add_tools(&mut crate_data, builtin_tools(alloc)?.as_slice())?;
+    add_tools(
+        &mut crate_data,
+        listed(alloc, attrs, "register_tool")?.as_slice(),
+    )?;
+    Ok(crate_data)
+}

@@ -1,0 +1,180 @@
+//! What a run finds of the crates on which its crate stands.
+use hir_base::ast_id::{EditionedFileId, FileId, HirFileId};
+use hir_base::cfg_options::CfgOptions;
+use hir_base::edition::Edition;
+use hir_base::ids::{Crate, EnumId};
+use hir_base::name::Name;
+use hir_def_collector::collector::collected::Collected;
+use hir_def_collector::collector::{Start, collect_defs};
+use hir_def_collector::source_database::{CrateData, Dependency, SourceDatabase};
+use hir_def_map::nameres::DefMap;
+use hir_def_map::world::World;
+use hir_item_tree::item_tree::{ItemTree, source_tree};
+use hir_item_tree::side_lists::VariantItem;
+use hir_item_tree::source::Source;
+use hir_wire::command::Command;
+use hir_wire::edit::Edit;
+use hir_wire::read::line::read_command;
+use std::alloc::{AllocError, Global};
+use std::collections::BTreeSet;
+use std::rc::Rc;
+use std::test::Fail;
+
+/// Crates by number, and the source of each crate's root.
+#[derive(Drop)]
+struct Crates {
+    crates: Vec<CrateData>,
+    roots: Vec<Source>,
+}
+
+impl SourceDatabase for Crates {
+    ghost use Rattle.std.specs.Prelude.{None, option_map, slice_get, true, unwrap_or};
+    ghost use Rattle.hir_item_tree.specs.Attributes.{no_attributes};
+    ghost use Rattle.hir_item_tree.specs.ItemTree.{tree_of};
+    ghost use Rattle.hir_item_tree.specs.Source.{broken, source_view};
+
+    ghost workspace = { λ d. record {
+      crates = d.crates.items;
+      tree = λ krate file. record {
+        present = true;
+        tree = tree_of (λ _. false) no_attributes (unwrap_or (option_map source_view (slice_get d.roots.items krate.0)) broken);
+      };
+      variants = λ id. None;
+    } };
+
+    fn krate(&self, krate: Crate) -> Option<&CrateData> {
+        self.crates.get(krate.0 as usize)
+    }
+
+    fn tree(&self, alloc: Global, krate: Crate, _file: HirFileId) -> Result<ItemTree, AllocError> {
+        let front = Vec::new(alloc);
+        let options = CfgOptions::new(alloc);
+        match self.roots.get(krate.0 as usize) {
+            Some(source) => source_tree(alloc, source, &front, &options),
+            None => source_tree(alloc, &Source::Broken, &front, &options),
+        }
+    }
+
+    fn present(&self, _krate: Crate, _file: HirFileId) -> bool {
+        true
+    }
+
+    fn variants(
+        &self,
+        _alloc: Global,
+        _id: EnumId,
+    ) -> Result<Option<Vec<VariantItem>>, AllocError> {
+        Ok(None)
+    }
+}
+
+/// `pub struct S; struct Hidden; pub mod prelude { pub mod rust_2021 { pub struct Option; } }`
+const LOWER: &str = r#"{"do":"set file","file":"a.rs","unit":{"nodes":[
+{"kind":"Struct","id":[1,0],"name":"S","shape":"unit","vis":"pub"},
+{"kind":"Struct","id":[2,0],"name":"Hidden","shape":"unit"},
+{"kind":"Module","id":[3,0],"name":"prelude","vis":"pub","nodes":[
+    {"kind":"Module","id":[4,0],"name":"rust_2021","vis":"pub","nodes":[
+        {"kind":"Struct","id":[5,0],"name":"Option","shape":"unit","vis":"pub"}]}]}]}}"#;
+
+/// `use core::S; use core::Hidden; use Option as O; use nope::S as T;`
+const UPPER: &str = r#"{"do":"set file","file":"b.rs","unit":{"nodes":[
+{"kind":"Use","id":[1,0],"tree":{"single":"core::S"}},
+{"kind":"Use","id":[2,0],"tree":{"single":"core::Hidden"}},
+{"kind":"Use","id":[3,0],"tree":{"single":"Option","as":"O"}},
+{"kind":"Use","id":[4,0],"tree":{"single":"nope::S","as":"T"}}]}}"#;
+
+/// The same in a crate without the core library.
+const WITHOUT_CORE: &str =
+    r#"{"do":"set file","file":"b.rs","unit":{"attrs":[{"path":"no_core"}],"nodes":[
+{"kind":"Use","id":[1,0],"tree":{"single":"core::S"}},
+{"kind":"Use","id":[2,0],"tree":{"single":"core::Hidden"}},
+{"kind":"Use","id":[3,0],"tree":{"single":"Option","as":"O"}},
+{"kind":"Use","id":[4,0],"tree":{"single":"nope::S","as":"T"}}]}}"#;
+
+/// The source that a line hands in.
+fn source(alloc: Global, line: &str) -> Result<Source, Fail> {
+    match read_command(alloc, line.as_bytes()) {
+        Ok(Command::Edit(Edit::SetFile { file: _, source })) => Ok(source),
+        Ok(_) => Err("another command")?,
+        Err(error) => Err(error)?,
+    }
+}
+
+fn root(number: u32) -> EditionedFileId {
+    EditionedFileId {
+        file_id: FileId(number),
+        edition: Edition::Edition2021,
+    }
+}
+
+fn start(number: u32) -> Start {
+    Start {
+        krate: Crate(number),
+        root: root(number),
+    }
+}
+
+/// Crate 0, and crate 1, which depends on it under the name `core`.
+fn crates(alloc: Global, upper: &str, is_prelude: bool) -> Result<Crates, Fail> {
+    let none = Rc::new(alloc, BTreeSet::new(alloc))?;
+    let mut behind = BTreeSet::new(alloc);
+    behind.insert(Crate(0))?;
+    let mut dependencies = Vec::new(alloc);
+    dependencies.push(Dependency {
+        krate: Crate(0),
+        name: Name::new(alloc, "core")?,
+        is_prelude,
+    })?;
+    let mut crates = Vec::new(alloc);
+    crates.push(CrateData::new(root(0), Vec::new(alloc), none, false))?;
+    let behind = Rc::new(alloc, behind)?;
+    crates.push(CrateData::new(root(1), dependencies, behind, false))?;
+    let mut roots = Vec::new(alloc);
+    roots.push(source(alloc, LOWER)?)?;
+    roots.push(source(alloc, upper)?)?;
+    Ok(Crates { crates, roots })
+}
+
+/// What the upper crate comes to beside the lower one.
+fn collected(alloc: Global, db: &Crates) -> Result<Collected, Fail> {
+    let mut world = World::new(alloc);
+    let lower = collect_defs(alloc, db, &world, start(0))?;
+    let (map, local, _, _) = lower.into_parts();
+    if world.insert(map, local).is_err() {
+        return Err("a map that names nothing else")?;
+    }
+    Ok(collect_defs(alloc, db, &world, start(1))?)
+}
+
+/// What the names of the root stand for.
+fn page(alloc: Global, map: &DefMap) -> Result<String, Fail> {
+    let mut page = String::new(alloc);
+    let scope = map.scope(0).ok_or("the root")?;
+    scope.dump(&mut page)?;
+    Ok(page)
+}
+
+/// What a crate finds of another by name, by the prelude, and past what may be seen.
+#[test]
+fn names_of_another_crate(rt: HostRuntime) -> Result<(), Fail> {
+    let rows = [
+        (
+            "marked",
+            UPPER,
+            true,
+            "- Hidden : _\n- O : type value (import)\n- S : type value (import)\n",
+            1,
+        ),
+        ("unmarked", UPPER, false, "", 4),
+        ("no core", WITHOUT_CORE, true, "", 4),
+    ];
+    for (row, upper, is_prelude, expected, leftover) in rows {
+        let alloc = rt.alloc();
+        let found = collected(alloc, &crates(alloc, upper, is_prelude)?)?;
+        assert_eq!(rt; page(alloc, found.map())?.as_str(), expected, "{row}");
+        assert_eq!(rt; found.leftover().len(), leftover, "{row}");
+        assert_eq!(rt; found.asked().len(), 1, "{row}");
+        assert_eq!(rt; found.map().crate_data().dependencies().len(), 1, "{row}");
+    }
+    Ok(())
+}

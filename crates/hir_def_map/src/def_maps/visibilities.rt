@@ -1,0 +1,61 @@
+//! What visibilities mean over several maps.
+ghost use Rattle.std.specs.Prelude.{◌≡◌, IfSome, option_copied};
+ghost use Rattle.hir_scope.specs.Visibility.{is_visible, lesser_of, IsMeet};
+ghost use Rattle.hir_def_map.specs.Chains.{above_in, holders_in};
+ghost use Rattle.hir_def_map.specs.DefMaps.{maps_of};
+ghost use Rattle.hir_def_map.specs.Scoping.Asking.{local_of};
+ghost use Rattle.hir_def_map.specs.Visibilities.{resolved_visibility};
+
+use crate::def_maps::DefMaps;
+use crate::nameres::local_def_map::LocalDefMap;
+use crate::nameres::path_resolution::{BuiltinShadowMode, ResolveMode};
+use crate::resolve_visibility::path_seen;
+use hir_base::ids::ModuleId;
+use hir_item_tree::raw_visibility::RawVisibility;
+use hir_scope::visibility::Visibility;
+
+impl DefMaps<'_> {
+    /// What a visibility means that is written in a module; none where its path doesn't lead to one.
+    pub fn resolve_visibility(
+        &self,
+        local: Option<&LocalDefMap>,
+        at: ModuleId,
+        raw: &RawVisibility,
+        within_impl: bool,
+    ) -> Option<Visibility>
+        ensures value { result ≡ resolved_visibility (maps_of self.now) (local_of (option_copied local.entry)) at within_impl raw.now }
+    {
+        match raw {
+            RawVisibility::Module(path, explicitness) => {
+                let mode = ResolveMode::Other;
+                let shadow = BuiltinShadowMode::Module;
+                let answer = self.resolve_path_fp_with_macro(local, mode, at, path, shadow, None);
+                path_seen(
+                    within_impl,
+                    at.map,
+                    *explicitness,
+                    answer.segment_index,
+                    answer.resolved_def,
+                )
+            }
+            RawVisibility::PubSelf(explicitness) => Some(Visibility::Module(at, *explicitness)),
+            RawVisibility::PubCrate => Some(Visibility::PubCrate(at.map.krate)),
+            RawVisibility::Public => Some(Visibility::Public),
+        }
+    }
+
+    /// The lesser of two visibilities, if one has all that the other has.
+    pub fn lesser(&self, one: Visibility, other: Visibility) -> Option<Visibility>
+        ensures value { result ≡ lesser_of (above_in (maps_of self.now)) self.now.own.now.id one other }
+        ensures meet { IfSome result (λ least. IsMeet (is_visible (above_in (maps_of self.now)) (holders_in (maps_of self.now))) least one other) }
+    {
+        one.min(self, other, self.own.id())
+    }
+
+    /// Whether a module may see what has this visibility.
+    pub fn is_visible(&self, vis: Visibility, from: ModuleId) -> bool
+        ensures value { result ≡ is_visible (above_in (maps_of self.now)) (holders_in (maps_of self.now)) vis from }
+    {
+        vis.is_visible_from(self, from)
+    }
+}
