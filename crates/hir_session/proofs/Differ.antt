@@ -2,6 +2,7 @@ use Rattle.std.proofs.Common.{◌≡◌, ◌⊎◌, inl, inr, ℕ, false, List, 
 use Rattle.hir_base.specs.ModPath.{Path}
 use Rattle.hir_base.specs.Place.{PlaceValue}
 use Rattle.hir_base.specs.declared.ids.Crate.{Crate}
+use Rattle.hir_def_map.specs.State.{no_maps}
 use Rattle.hir_def_collector.specs.Workspace.{Workspace}
 use Rattle.hir_def_collector.specs.Keys.{look}
 use Rattle.hir_def_collector.specs.declared.source_database.Key.{Key}
@@ -71,7 +72,7 @@ pub same_after_edit : {from mid to : SessionState} {k : ℕ} (e : EditValue) →
     → IsSame from to k ⊎ ((key : Key) × IsAskedBehind from k key × IsAltered (workspace_of mid) (workspace_of to) key)
 same_after_edit {from} {mid} {to} {k} e same is = on_bool (is_marked to k)
     (λ on. let hit = what_marked (workspace_of (with_files mid (edited_files mid e))) same (is.only k on) itself in
-    inr (hit.0, hit.1, λ h. hit.2 (subst (λ (w : Workspace). look w hit.0 ≡ look (workspace_of mid) hit.0) (workspace-becomes is) h)))
+    inr (hit.0, hit.1, λ h. hit.2 (subst (λ (w : Workspace). look w no_maps hit.0 ≡ look (workspace_of mid) no_maps hit.0) (workspace-becomes is) h)))
     (λ still. inl (record {
       crates = is.crates ∙ same.crates;
       paths = is.paths ∙ same.paths;

@@ -1,17 +1,17 @@
-use Rattle.std.proofs.Common.{◌≡◌, ◌≢◌, ℕ, Bool, true, false, cond, Ordering, Less, Equal, Greater, List, [], ◌∷◌, Option, Some, None, refl, sym, ap, ◌∙◌, option_and_then, option_map}
+use Rattle.std.proofs.Common.{◌≡◌, ◌≢◌, ℕ, true, false, cond, Ordering, Less, Equal, Greater, List, [], ◌∷◌, Option, Some, None, refl, sym, ap, ◌∙◌, option_and_then}
 use Rattle.std.specs.Ordering.{nat_cmp, match_ordering, is_eq}
 use Rattle.std.specs.Cmp.Lexicographic.{slice_cmp, bytes_decides}
 use Rattle.std.specs.BTreeMap.{is_at}
 use Rattle.std.proofs.lemmas.Map.Text.{is_eq-slice_cmp}
 use Rattle.hir_base.specs.declared.ast_id.HirFileId.{HirFileId}
 use Rattle.hir_base.specs.declared.ids.Crate.{Crate}
-use Rattle.hir_item_tree.specs.ItemTree.{Tree}
 use Rattle.hir_item_tree.specs.Source.{SourceValue}
-use Rattle.hir_def_collector.specs.Workspace.{tree_look}
+use Rattle.hir_def_map.specs.State.{no_maps}
+use Rattle.hir_def_collector.specs.Workspace.{TreeLook}
 use Rattle.hir_def_collector.specs.Keys.{Look, of_tree, look}
 use Rattle.hir_def_collector.specs.declared.source_database.Key.TheVariants as keys
 use Rattle.hir_session.specs.Crates.{CrateValue}
-use Rattle.hir_session.specs.Files.{Files, file_at, path_in, with_file, without_file, edited_at, tree_under, tree_at, workspace_in}
+use Rattle.hir_session.specs.Files.{Files, file_at, path_in, with_file, without_file, edited_at, shown, workspace_in}
 use Rattle.hir_session.specs.Marking.{is_path}
 use Rattle.hir_session.proofs.Truth.{clash, on_bool}
 
@@ -76,24 +76,13 @@ pub file_at-edited_at : (files : Files) (path : List ℕ) (there : Option Source
 file_at-edited_at files path (Some source) q = file_at-with_file files path source q
 file_at-edited_at files path None q = file_at-without_file files path q
 
--- whether what is seen is there
-abbrev is_there : Look → Bool
-is_there (of_tree l) = l.present
-
--- the tree that is seen
-abbrev seen_tree : Look → Tree
-seen_tree (of_tree l) = l.tree
-
--- what is seen tells what there is
-tree_look-same : (o p : Option Tree) → of_tree (tree_look o) ≡ of_tree (tree_look p) → o ≡ p
-tree_look-same None None h = refl
-tree_look-same None (Some u) h = clash (ap is_there h) refl
-tree_look-same (Some t) None h = clash refl (ap is_there h)
-tree_look-same (Some t) (Some u) h = ap (λ (x : Tree). Some x) (ap seen_tree h)
+-- what is seen tells what is shown
+pub shown-same : (a b : TreeLook) → of_tree a ≡ of_tree b → a ≡ b
+shown-same a b h = cc
 
 -- what is seen of a file of this path under a crate, if of any
 abbrev pub seen : List CrateValue → Files → ℕ → Option (List ℕ) → Look
-seen crates files k o = of_tree (tree_look (option_and_then (tree_at crates files k) o))
+seen crates files k o = of_tree (shown crates k (option_and_then (file_at files) o))
 
 module _ (crates : List CrateValue) (F : Files) (path : List ℕ) (there : Option SourceValue) (k : ℕ) where
   at_other : (q : List ℕ) → is_at (slice_cmp nat_cmp path) q ≡ false → file_at (edited_at F path there) q ≡ file_at F q
@@ -106,39 +95,39 @@ module _ (crates : List CrateValue) (F : Files) (path : List ℕ) (there : Optio
   seen-other None h = refl
   seen-other (Some q) h = on_bool (is_at (slice_cmp nat_cmp path) q)
       (λ on. clash ((bytes_decides q path).1 (sym (is_at-same path q on))) h)
-      (λ off. ap (λ (x : Option SourceValue). of_tree (tree_look (option_map (tree_under crates k) x))) (at_other q off))
+      (λ off. ap (λ (x : Option SourceValue). of_tree (shown crates k x)) (at_other q off))
 
-  pub seen-same : option_map (tree_under crates k) there ≡ option_map (tree_under crates k) (file_at F path) → (o : Option (List ℕ)) → is_path path o ≡ true
+  pub seen-same : shown crates k there ≡ shown crates k (file_at F path) → (o : Option (List ℕ)) → is_path path o ≡ true
       → seen crates (edited_at F path there) k o ≡ seen crates F k o
   seen-same alike None h = clash h refl
   seen-same alike (Some q) h =
       let same : q ≡ path = (bytes_decides q path).0 h in
-      ap (λ (x : Option Tree). of_tree (tree_look x))
-      (ap (λ (x : Option SourceValue). option_map (tree_under crates k) x) (at_path q (same-is_at path q (sym same)))
-      ∙ alike ∙ ap (λ (p : List ℕ). option_map (tree_under crates k) (file_at F p)) (sym same))
+      ap (λ (x : TreeLook). of_tree x)
+      (ap (λ (x : Option SourceValue). shown crates k x) (at_path q (same-is_at path q (sym same)))
+      ∙ alike ∙ ap (λ (p : List ℕ). shown crates k (file_at F p)) (sym same))
 
-  pub seen-differs : option_map (tree_under crates k) there ≢ option_map (tree_under crates k) (file_at F path) → (o : Option (List ℕ)) → is_path path o ≡ true
+  pub seen-differs : shown crates k there ≢ shown crates k (file_at F path) → (o : Option (List ℕ)) → is_path path o ≡ true
       → seen crates (edited_at F path there) k o ≢ seen crates F k o
   seen-differs other None h e = clash h refl
   seen-differs other (Some q) h e =
       let same : q ≡ path = (bytes_decides q path).0 h in
-      other (ap (λ (x : Option SourceValue). option_map (tree_under crates k) x) (sym (at_path q (same-is_at path q (sym same))))
-      ∙ tree_look-same _ _ e ∙ ap (λ (p : List ℕ). option_map (tree_under crates k) (file_at F p)) same)
+      other (ap (λ (x : Option SourceValue). shown crates k x) (sym (at_path q (same-is_at path q (sym same))))
+      ∙ shown-same _ _ e ∙ ap (λ (p : List ℕ). shown crates k (file_at F p)) same)
 
 module _ (crates : List CrateValue) (paths : List (List ℕ)) (F : Files) (path : List ℕ) (there : Option SourceValue) (krate : Crate) (file : HirFileId) where
   -- a key of another file
   pub look-other : is_path path (path_in paths file) ≡ false
-      → look (workspace_in crates paths (edited_at F path there)) (keys.Tree krate file) ≡ look (workspace_in crates paths F) (keys.Tree krate file)
+      → look (workspace_in crates paths (edited_at F path there)) no_maps (keys.Tree krate file) ≡ look (workspace_in crates paths F) no_maps (keys.Tree krate file)
   look-other h = seen-other crates F path there krate.0 (path_in paths file) h
 
   -- a key of the file, under a crate for which its tree stays
   pub look-same : is_path path (path_in paths file) ≡ true
-      → option_map (tree_under crates krate.0) there ≡ option_map (tree_under crates krate.0) (file_at F path)
-      → look (workspace_in crates paths (edited_at F path there)) (keys.Tree krate file) ≡ look (workspace_in crates paths F) (keys.Tree krate file)
+      → shown crates krate.0 there ≡ shown crates krate.0 (file_at F path)
+      → look (workspace_in crates paths (edited_at F path there)) no_maps (keys.Tree krate file) ≡ look (workspace_in crates paths F) no_maps (keys.Tree krate file)
   look-same h alike = seen-same crates F path there krate.0 alike (path_in paths file) h
 
   -- a key of the file, under a crate for which its tree becomes another
   pub look-differs : is_path path (path_in paths file) ≡ true
-      → option_map (tree_under crates krate.0) there ≢ option_map (tree_under crates krate.0) (file_at F path)
-      → look (workspace_in crates paths (edited_at F path there)) (keys.Tree krate file) ≢ look (workspace_in crates paths F) (keys.Tree krate file)
+      → shown crates krate.0 there ≢ shown crates krate.0 (file_at F path)
+      → look (workspace_in crates paths (edited_at F path there)) no_maps (keys.Tree krate file) ≢ look (workspace_in crates paths F) no_maps (keys.Tree krate file)
   look-differs h other = seen-differs crates F path there krate.0 other (path_in paths file) h

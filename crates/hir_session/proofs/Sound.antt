@@ -1,9 +1,11 @@
-use Rattle.std.proofs.Common.{◌≡◌, ◌≢◌, ℕ, ◌<◌, Bool, true, false, List, length, set, arith, Option, Some, None, refl, sym, ◌∙◌, subst}
+use Rattle.std.proofs.Common.{◌≡◌, ◌≢◌, ℕ, zero, suc, [], ◌∷◌, ◌++◌, ◌<◌, Bool, true, false, List, length, set, arith, Option, Some, None, refl, sym, ◌∙◌, subst, Contains}
 use Rattle.std.proofs.lemmas.List.{get_or-set_same, get_or-set_other, length-set}
 use Rattle.hir_base.specs.declared.ids.Crate.{Crate}
 use Rattle.hir_item_tree.specs.Source.{SourceValue}
 use Rattle.hir_def_collector.specs.Workspace.{Workspace}
-use Rattle.hir_def_collector.specs.Keys.{AgreeOn}
+use Rattle.hir_def_map.specs.State.{Maps, no_maps}
+use Rattle.hir_def_collector.specs.Keys.{AgreeOn, look, map_keys}
+use Rattle.hir_def_collector.specs.Derivation.{keys_of}
 use Rattle.hir_def_collector.specs.declared.source_database.Key.{Key}
 use Rattle.hir_def_collector.specs.declared.collector.Start.{Start}
 use Rattle.hir_session.specs.Files.{Files, edited_at, workspace_in}
@@ -18,15 +20,31 @@ use Rattle.hir_session.specs.Due.{resolved_at}
 use Rattle.hir_session.proofs.Truth.{clash, or_left, or_right, or_first, on_bool, on_same}
 use Rattle.hir_session.proofs.Spreading.{mark-set}
 
-pub AgreeOn-refl : {keys : List Key} {v : Workspace} → AgreeOn keys v v
-AgreeOn-refl = record { crates = refl; same = λ key h. refl }
+pub AgreeOn-trans : {keys : List Key} {u v w : Workspace} {f g h : Maps} → AgreeOn keys u f v g → AgreeOn keys v g w h → AgreeOn keys u f w h
+AgreeOn-trans a b = record { crates = b.crates ∙ a.crates; same = λ key c. b.same key c ∙ a.same key c }
 
-pub AgreeOn-trans : {keys : List Key} {u v w : Workspace} → AgreeOn keys u v → AgreeOn keys v w → AgreeOn keys u w
-AgreeOn-trans a b = record { crates = b.crates ∙ a.crates; same = λ key h. b.same key h ∙ a.same key h }
+-- where no map is finished, none is seen
+no_map_seen : (v w : Workspace) (crates : List Crate) (key : Key) → Contains (map_keys crates) key → look w no_maps key ≡ look v no_maps key
+no_map_seen v w [] key h = absurd (let past : h.0 < 0 = h.1 in omega arith)
+no_map_seen v w (c ∷ cs) key (zero, within, is) = subst (λ (k : Key). look w no_maps k ≡ look v no_maps k) is refl
+no_map_seen v w (c ∷ cs) key (suc n, within, is) = no_map_seen v w cs key (n, omega arith, is)
+
+-- one of two lists has what both have
+in_either : {A : Type 0} (xs ys : List Key) (key : Key) → Contains (xs ++ ys) key → (Contains xs key → A) → (Contains ys key → A) → A
+in_either [] ys key h f g = g h
+in_either (x ∷ xs) ys key (zero, within, is) f g = f (zero, omega arith, is)
+in_either (x ∷ xs) ys key (suc n, within, is) f g = in_either xs ys key (n, omega arith, is) (λ h. f (suc h.0, (let below : h.0 < length xs = h.1 in omega arith), h.2)) g
+
+-- what agrees on the keys that are kept one by one agrees on all, where no map is finished
+pub agrees_on_all : {v w : Workspace} (r : Resolution) → AgreeOn r.asked v no_maps w no_maps → AgreeOn (keys_of r) v no_maps w no_maps
+agrees_on_all {v} {w} r alike = record {
+  crates = alike.crates;
+  same = λ key h. in_either r.asked (map_keys r.map.crate_data.dependencies) key h (alike.same key) (no_map_seen v w r.map.crate_data.dependencies key);
+}
 
 -- a resolution stands over all that agrees on what it asked for
-pub IsResolved-transfer : {v w : Workspace} {start : Start} {r : Resolution} → IsResolved v start r → AgreeOn r.asked v w → IsResolved w start r
-IsResolved-transfer p alike = record { ends = λ u same. p.ends u (AgreeOn-trans alike same) }
+pub IsResolved-transfer : {v w : Workspace} {start : Start} {r : Resolution} → IsResolved v start r → AgreeOn r.asked v no_maps w no_maps → IsResolved w start r
+IsResolved-transfer {r = r} p alike = record { ends = λ u finished same. p.ends u finished (AgreeOn-trans (agrees_on_all r alike) same) }
 
 -- what is told of each crate says what was touched
 pub touched_from_seeded : (s : SessionState) (w : Workspace) (hits : List Bool) (j : ℕ) → IsJudged (workspace_of s) w s.kept hits

@@ -43,6 +43,6 @@ stands s place path shadow style a sound h =
       present = now.resolved;
       asked_from = m;
       named = some;
-      is = let e : a ≡ answer_in s.paths now.found.map m path shadow style = cc given in e;
+      is = let e : a ≡ answer_in s.paths now.found.map now.found.local m path shadow style = cc given in e;
     })))
     (λ past. absurd (let wrong : ⊥ = cc (rw past at h) in wrong))

@@ -1,10 +1,10 @@
 -- What is a path answered?
-use Rattle.std.specs.Prelude.{ℕ, List, [], Option, None, Some, Result, Ok, Err}
+use Rattle.std.specs.Prelude.{ℕ, List, Option, None, Some, Result, Ok, Err}
 use Rattle.std.specs.Option.{option_and_then}
 use Rattle.hir_base.specs.ModPath.{Path}
 use Rattle.hir_base.specs.Place.{PlaceValue}
 use Rattle.hir_base.specs.declared.ids.ModuleId.{ModuleId}
-use Rattle.hir_def_map.specs.State.{Map, alone}
+use Rattle.hir_def_map.specs.State.{Local, Map, alone}
 use Rattle.hir_def_map.specs.Scoping.{resolution_of}
 use Rattle.hir_def_map.specs.Scoping.Asking.{Asking}
 use Rattle.hir_def_map.specs.declared.nameres.path_resolution.ResolveMode.TheVariants as mode
@@ -37,9 +37,9 @@ sub_ns_of None = None
 sub_ns_of (Some style.Bang) = Some sub_ns.Bang
 sub_ns_of (Some style.Attr) = Some sub_ns.Attr
 
--- how a query asks; no path begins with a crate yet
-abbrev pub asking_of : Shadow → Option MacroStyle → Asking
-asking_of shadow style = record { local = []; mode = mode.Other; shadow = shadow_mode_of shadow; sub_ns = sub_ns_of style }
+-- how a query asks, where paths may begin with these crates
+abbrev pub asking_of : Local → Shadow → Option MacroStyle → Asking
+asking_of local shadow style = record { local = local; mode = mode.Other; shadow = shadow_mode_of shadow; sub_ns = sub_ns_of style }
 
 -- what a path means, in source items
 abbrev pub named_by : List (List ℕ) → Map → ResolvePathResult → Answer
@@ -51,14 +51,14 @@ named_by paths map r = record {
 }
 
 -- what a path means in a module of a map, in source items
-abbrev pub answer_in : List (List ℕ) → Map → ModuleId → Path → Shadow → Option MacroStyle → Answer
-answer_in paths map m path shadow style = named_by paths map (resolution_of (alone map) (asking_of shadow style) m path)
+abbrev pub answer_in : List (List ℕ) → Map → Local → ModuleId → Path → Shadow → Option MacroStyle → Answer
+answer_in paths map local m path shadow style = named_by paths map (resolution_of (alone map) (asking_of local shadow style) m path)
 
 -- the answer over what is kept, from a module of it
 abbrev pub answer_from : List (List ℕ) → Option Resolution → Option ModuleId → Path → Shadow → Option MacroStyle → Result Answer QueryError
 answer_from paths None m path shadow style = Err error.UnknownPlace
 answer_from paths (Some r) None path shadow style = Err error.UnknownPlace
-answer_from paths (Some r) (Some m) path shadow style = Ok (answer_in paths r.map m path shadow style)
+answer_from paths (Some r) (Some m) path shadow style = Ok (answer_in paths r.map r.local m path shadow style)
 
 -- the answer, where the place's answers stand so
 abbrev pub answer_by : Status → Result Answer QueryError → Result Answer QueryError

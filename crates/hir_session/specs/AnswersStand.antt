@@ -19,4 +19,4 @@ pub record AnswersStand (s : SessionState) (place : PlaceValue) (path : Path) (s
   pub present : IsResolved (workspace_of s) (start_of s place.krate.0) found
   pub asked_from : ModuleId
   pub named : module_below found.map (root_of found.map.id) place.elements ≡ Some asked_from
-  pub is : answer ≡ answer_in s.paths found.map asked_from path shadow style
+  pub is : answer ≡ answer_in s.paths found.map found.local asked_from path shadow style

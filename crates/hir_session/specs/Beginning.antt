@@ -2,6 +2,8 @@
 use Rattle.std.specs.Prelude.{◌≡◌, ◌↔◌, ℕ, ◌+◌, true, List, [], ◌∷◌, length, map, replicate, None}
 use Rattle.hir_base.specs.CfgOptions.{SetAlike}
 use Rattle.hir_wire.specs.CommandValue.{CrateInputValue}
+use Rattle.hir_wire.specs.declared.command.Dependency.{Dependency as HandedIn}
+use Rattle.hir_def_collector.specs.declared.source_database.Dependency.{Dependency}
 use Rattle.hir_base.specs.declared.ids.Crate.{Crate}
 use Rattle.hir_session.specs.Crates.{CrateValue, behind_in, dependencies_in}
 use Rattle.hir_session.specs.StandsOn.{StandsOn}
@@ -9,9 +11,15 @@ use Rattle.hir_session.specs.Behind.{has_crate}
 use Rattle.hir_session.specs.SessionState.{SessionState}
 use Rattle.hir_session.specs.Refusals.{dependency_crates}
 
+-- a dependency as a run sees it
+abbrev pub dependency_of : HandedIn → Dependency
+dependency_of d = record { krate = d.krate; name = d.name; is_prelude = d.prelude }
+
 -- the crate is as it was handed in: its root file has its number, and its options are a set
 pub record IsMade (k : ℕ) (input : CrateInputValue) (c : CrateValue) : Type 0 where
-  pub root : c.root ≡ record { file_id = record { 0 = k }; edition = input.edition }
+  pub root : c.own.root ≡ record { file_id = record { 0 = k }; edition = input.edition }
+  pub named : c.own.dependencies ≡ map dependency_of input.deps
+  pub is_proc_macro : c.own.is_proc_macro ≡ input.proc_macro
   pub dependencies : c.dependencies ≡ dependency_crates input.deps
   pub options : SetAlike c.options input.options
 

@@ -1,23 +1,24 @@
 -- What is a crate of a session?
-use Rattle.std.specs.Prelude.{ℕ, List, [], slice_index_or}
-use Rattle.hir_base.specs.declared.ast_id.EditionedFileId.{EditionedFileId}
+use Rattle.std.specs.Prelude.{ℕ, false, List, [], slice_index_or}
 use Rattle.hir_base.specs.declared.cfg.CfgAtom.{CfgAtom}
 use Rattle.hir_base.specs.declared.edition.Edition.TheVariants.{Edition2024}
 use Rattle.hir_base.specs.declared.ids.Crate.{Crate}
 use Rattle.hir_def_collector.specs.Workspace.{CrateData}
 use Rattle.hir_def_collector.specs.declared.collector.Start.{Start}
 
--- its root file, in its edition, the crates that it depends on, those on which it stands, directly or through others, by number,
--- and the options that are set
+-- what a run may ask of it, the crates that its dependencies name, and the options that are set
 pub record CrateValue : Type 0 where
-  pub root : EditionedFileId
+  pub own : CrateData
   pub dependencies : List Crate
-  pub behind : List Crate
   pub options : List CfgAtom
 
 -- what stands for a crate that isn't there
 abbrev pub no_crate : CrateValue
-no_crate = record { root = record { file_id = record { 0 = 0 }; edition = Edition2024 }; dependencies = []; behind = []; options = [] }
+no_crate = record {
+  own = record { root = record { file_id = record { 0 = 0 }; edition = Edition2024 }; dependencies = []; behind = []; is_proc_macro = false };
+  dependencies = [];
+  options = [];
+}
 
 -- the crate of this number
 abbrev pub crate_in : List CrateValue → ℕ → CrateValue
@@ -29,16 +30,12 @@ dependencies_in crates k = (crate_in crates k).dependencies
 
 -- on what it stands, directly or through others
 abbrev pub behind_in : List CrateValue → ℕ → List Crate
-behind_in crates k = (crate_in crates k).behind
+behind_in crates k = (crate_in crates k).own.behind
 
 -- the options that are set in it
 abbrev pub options_in : List CrateValue → ℕ → List CfgAtom
 options_in crates k = (crate_in crates k).options
 
--- a crate as a run of the import rules sees it
-abbrev pub crate_data : CrateValue → CrateData
-crate_data c = record { root = c.root }
-
 -- where the run for a crate begins
 abbrev pub start_in : List CrateValue → ℕ → Start
-start_in crates k = record { krate = record { 0 = k }; root = (crate_in crates k).root }
+start_in crates k = record { krate = record { 0 = k }; root = (crate_in crates k).own.root }

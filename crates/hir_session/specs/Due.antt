@@ -4,8 +4,7 @@ use Rattle.hir_base.specs.Place.{PlaceValue}
 use Rattle.hir_base.specs.declared.ids.Crate.{Crate}
 use Rattle.hir_def_map.specs.State.{no_maps}
 use Rattle.hir_def_collector.specs.Workspace.{Workspace}
-use Rattle.hir_def_collector.specs.Start.{start_of as run_start}
-use Rattle.hir_def_collector.specs.Derivation.{IsSpent}
+use Rattle.hir_def_collector.specs.Derivation.{IsOverlong as IsOverlongBeside}
 use Rattle.hir_def_collector.specs.declared.collector.Start.{Start}
 use Rattle.hir_def_collector.specs.declared.source_database.Key.{Key}
 use Rattle.hir_session.specs.SessionState.{SessionState, Resolution, workspace_of, start_of, dependencies_of, kept_of}
@@ -34,7 +33,7 @@ resolved_at s k r = record s { kept = slice_set s.kept k (Some r); marked = slic
 
 -- from where a run begins, steps lead on to as many steps or modules as are counted
 abbrev pub IsOverlong : Workspace → Start → Type 0
-IsOverlong w start = IsSpent w no_maps (run_start w start)
+IsOverlong w start = IsOverlongBeside w no_maps start
 
 -- the run for the first crate that is due goes on for too long
 pub record HasOverlongRun (s : SessionState) : Type 0 where

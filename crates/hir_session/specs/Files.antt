@@ -1,5 +1,5 @@
 -- What has a session of each file?
-use Rattle.std.specs.Prelude.{ℕ, not, List, filter, Option, Some, None, slice_get, map, option_map}
+use Rattle.std.specs.Prelude.{ℕ, not, List, filter, Option, Some, None, slice_get, map, is_some, unwrap_or}
 use Rattle.std.specs.Option.{option_and_then}
 use Rattle.std.specs.Ordering.{nat_cmp}
 use Rattle.std.specs.Cmp.Lexicographic.{slice_cmp}
@@ -10,9 +10,9 @@ use Rattle.hir_base.specs.declared.ast_id.HirFileId.{HirFileId}
 use Rattle.hir_base.specs.declared.ast_id.HirFileId.TheVariants.{File, Macro}
 use Rattle.hir_item_tree.specs.Attributes.{no_attributes}
 use Rattle.hir_item_tree.specs.ItemTree.{Tree, tree_of}
-use Rattle.hir_item_tree.specs.Source.{SourceValue}
-use Rattle.hir_def_collector.specs.Workspace.{Workspace, tree_look}
-use Rattle.hir_session.specs.Crates.{CrateValue, crate_data, options_in}
+use Rattle.hir_item_tree.specs.Source.{SourceValue, broken}
+use Rattle.hir_def_collector.specs.Workspace.{Workspace, TreeLook}
+use Rattle.hir_session.specs.Crates.{CrateValue, options_in}
 
 -- the sources of the files that are there, as they were handed in, in the order of their paths
 abbrev pub Files : Type 0
@@ -44,17 +44,18 @@ path_in paths (Macro call) = None
 abbrev pub tree_under : List CrateValue → ℕ → SourceValue → Tree
 tree_under crates k source = tree_of (is_set (options_in crates k)) no_attributes source
 
--- the tree of the file at a path under a crate, if the file is there
-abbrev pub tree_at : List CrateValue → Files → ℕ → List ℕ → Option Tree
-tree_at crates files k path = option_map (tree_under crates k) (file_at files path)
+-- what is seen of a source under a crate: one that is absent keeps what one that can't be read does
+abbrev pub shown : List CrateValue → ℕ → Option SourceValue → TreeLook
+shown crates k source = record { present = is_some source; tree = tree_under crates k (unwrap_or source broken) }
 
--- the tree of what holds syntax under a crate, if it is there
-abbrev pub tree_in : List CrateValue → List (List ℕ) → Files → ℕ → HirFileId → Option Tree
-tree_in crates paths files k file = option_and_then (tree_at crates files k) (path_in paths file)
+-- the source of what holds syntax, if it is there
+abbrev pub source_in : List (List ℕ) → Files → HirFileId → Option SourceValue
+source_in paths files file = option_and_then (file_at files) (path_in paths file)
 
--- the workspace for which crates, a table of paths and files stand
+-- the workspace for which crates, a table of paths and files stand; no source that has an enum is taken yet
 abbrev pub workspace_in : List CrateValue → List (List ℕ) → Files → Workspace
 workspace_in crates paths files = record {
-  crates = map crate_data crates;
-  tree = λ krate file. tree_look (tree_in crates paths files krate.0 file);
+  crates = map (λ c. c.own) crates;
+  tree = λ krate file. shown crates krate.0 (source_in paths files file);
+  variants = λ id. None;
 }

@@ -2,6 +2,7 @@
 use Rattle.std.specs.Prelude.{◌≡◌, ℕ, Bool, true, false, ◌||◌, List, length, Option, Some, None, Contains, nat_eq, slice_index_or}
 use Rattle.std.specs.Cmp.Lexicographic.{pointwise}
 use Rattle.hir_base.specs.declared.ids.Crate.{Crate}
+use Rattle.hir_def_map.specs.State.{no_maps}
 use Rattle.hir_def_collector.specs.Workspace.{Workspace}
 use Rattle.hir_def_collector.specs.Keys.{AgreeOn}
 use Rattle.hir_def_collector.specs.declared.source_database.Key.{Key}
@@ -30,7 +31,7 @@ pub record IsAsked (v w : Workspace) (kept : Option Resolution) : Type 0 where
 -- it is told right whether the run asked for something that is altered
 pub record IsTold (v w : Workspace) (kept : Option Resolution) (hit : Bool) : Type 0 where
   pub asked : hit ≡ true → IsAsked v w kept
-  pub missed : hit ≡ false → (r : Resolution) → kept ≡ Some r → AgreeOn r.asked v w
+  pub missed : hit ≡ false → (r : Resolution) → kept ≡ Some r → AgreeOn r.asked v no_maps w no_maps
 
 -- whether a list says that a crate's run asked for something that is altered
 abbrev pub hit_in : List Bool → ℕ → Bool

@@ -1,5 +1,6 @@
 -- Which crates does an edit mark?
 use Rattle.std.specs.Prelude.{◌≡◌, ◌≢◌, ℕ, true, Some, Contains}
+use Rattle.hir_def_map.specs.State.{no_maps}
 use Rattle.hir_def_collector.specs.Workspace.{Workspace}
 use Rattle.hir_def_collector.specs.Keys.{look}
 use Rattle.hir_def_collector.specs.declared.source_database.Key.{Key}
@@ -8,7 +9,7 @@ use Rattle.hir_session.specs.Spread.{Spread}
 
 -- the workspace becomes another at the key
 abbrev pub IsAltered : Workspace → Workspace → Key → Type 0
-IsAltered old new key = look new key ≢ look old key
+IsAltered old new key = look new no_maps key ≢ look old no_maps key
 
 -- the crate was marked, or asked for a key at which the workspace becomes another
 pub data IsTouched (s : SessionState) (w : Workspace) (k : ℕ) : Type 0 where

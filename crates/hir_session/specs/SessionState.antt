@@ -1,10 +1,10 @@
 -- Where does a session stand?
 use Rattle.std.specs.Prelude.{◌≡◌, ◌↔◌, ℕ, ◌<◌, ◌≤◌, Bool, true, false, List, length, Option, Some, None, slice_index_or, Contains}
 use Rattle.hir_base.specs.declared.ids.Crate.{Crate}
-use Rattle.hir_def_map.specs.State.{no_maps}
+use Rattle.hir_def_map.specs.State.{Maps, no_maps}
 use Rattle.hir_def_collector.specs.Workspace.{Workspace}
 use Rattle.hir_def_collector.specs.Keys.{AgreeOn}
-use Rattle.hir_def_collector.specs.Derivation.{CollectedValue, Ends}
+use Rattle.hir_def_collector.specs.Derivation.{CollectedValue, Ends, keys_of}
 use Rattle.hir_def_collector.specs.declared.collector.Start.{Start}
 use Rattle.hir_session.specs.Crates.{CrateValue, behind_in, dependencies_in, start_in}
 use Rattle.hir_session.specs.StandsOn.{StandsOn}
@@ -52,9 +52,10 @@ mark_in marked k = slice_index_or marked k true
 abbrev pub is_marked : SessionState → ℕ → Bool
 is_marked s k = mark_in s.marked k
 
--- a derivation without other maps ends in the resolution over every workspace that agrees with this one on the keys that it asked for
+-- a derivation ends in the resolution over every workspace, beside finished maps, that agrees with this one, beside none, on the
+-- keys that it asked for: no crate stands on another yet
 pub record IsResolved (w : Workspace) (start : Start) (r : Resolution) : Type 0 where
-  pub ends : (v : Workspace) → AgreeOn r.asked w v → Ends v no_maps start r
+  pub ends : (v : Workspace) (finished : Maps) → AgreeOn (keys_of r) w no_maps v finished → Ends v finished start r
 
 -- what is kept of the crate is what the import rules could have given just now
 pub record IsCurrent (s : SessionState) (k : ℕ) : Type 0 where

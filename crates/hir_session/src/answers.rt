@@ -12,6 +12,7 @@ use hir_base::ids::ModuleId;
 use hir_base::mod_path::ModPath;
 use hir_base::place::PlaceElement;
 use hir_def_map::nameres::DefMap;
+use hir_def_map::nameres::local_def_map::LocalDefMap;
 use hir_def_map::nameres::path_resolution::{BuiltinShadowMode, MacroSubNs};
 use hir_def_map::world::World;
 use hir_scope::imports::{ImportOrExternCrate, ImportOrGlob};
@@ -169,16 +170,17 @@ pub fn answer_at(
     alloc: Global,
     paths: &Vec<FilePath>,
     map: &DefMap,
+    local: &LocalDefMap,
     at: ModuleId,
     path: &ModPath,
     shadow: Shadow,
     style: Option<MacroStyle>,
 ) -> Result<Answer, AllocError>
-    ensures value { IfOk result (λ a. a ≡ answer_in paths.now.items map.now at path.now shadow style) }
+    ensures value { IfOk result (λ a. a ≡ answer_in paths.now.items map.now local.now at path.now shadow style) }
 {
     let world = World::new(alloc);
     let shadow = shadow_mode(shadow);
-    let (items, stop) = map.resolve_path(None, &world, at, path, shadow, sub_ns(style));
+    let (items, stop) = map.resolve_path(Some(local), &world, at, path, shadow, sub_ns(style));
     let types = type_at(alloc, paths, map, items.types)?;
     let values = value_at(alloc, paths, map, items.values)?;
     let macros = macro_item_at(alloc, paths, map, items.macros)?;

@@ -4,7 +4,7 @@ ghost use Rattle.hir_base.specs.CfgOptions.{SetAlike};
 ghost use Rattle.hir_wire.specs.CommandValue.{crate_input_view};
 ghost use Rattle.hir_session.specs.Refusals.{dependency_crates, has_late, first_out_of_order};
 ghost use Rattle.hir_session.specs.Behind.{AreBehind, AreBuilt};
-ghost use Rattle.hir_session.specs.Beginning.{IsMade, AreMade};
+ghost use Rattle.hir_session.specs.Beginning.{dependency_of, IsMade, AreMade};
 
 use crate::behind::behind_of;
 use crate::crate_info::CrateInfo;
@@ -14,8 +14,10 @@ use hir_base::cfg_options::CfgOptions;
 use hir_base::file_path::FilePath;
 use hir_base::ids::Crate;
 use hir_def_collector::collector::collected::Collected;
+use hir_def_collector::source_database::{CrateData, Dependency as RunDependency};
 use hir_wire::command::{CrateInput, Dependency};
 use std::alloc::{AllocError, Global};
+use std::rc::Rc;
 
 /// The crates that dependencies name.
 fn named_crates(alloc: Global, dependencies: &[Dependency]) -> Result<Vec<Crate>, AllocError>
@@ -26,6 +28,24 @@ fn named_crates(alloc: Global, dependencies: &[Dependency]) -> Result<Vec<Crate>
         crates.push(dependency.krate)?;
     }
     Ok(crates)
+}
+
+/// Dependencies as a run sees them.
+fn dependencies_of(
+    alloc: Global,
+    dependencies: &[Dependency],
+) -> Result<Vec<RunDependency>, AllocError>
+    ensures value { IfOk result (λ v. v.items ≡ map dependency_of dependencies.now) }
+{
+    let mut made = Vec::new(alloc);
+    for dependency in dependencies {
+        made.push(RunDependency {
+            krate: dependency.krate,
+            name: dependency.name.clone()?,
+            is_prelude: dependency.prelude,
+        })?;
+    }
+    Ok(made)
 }
 
 /// Whether a dependency doesn't come before the crate.
@@ -72,7 +92,7 @@ fn info_of(
     before: &Vec<CrateInfo>,
 ) -> Result<CrateInfo, AllocError>
     ensures made { IfOk result (λ c. IsMade k (crate_input_view input.now) c) }
-    ensures behind { IfOk result (λ c. AreBehind before.now.items c.dependencies c.behind) }
+    ensures behind { IfOk result (λ c. AreBehind before.now.items c.dependencies c.own.behind) }
 {
     let root = EditionedFileId {
         file_id: FileId(k),
@@ -80,8 +100,10 @@ fn info_of(
     };
     let dependencies = named_crates(alloc, input.deps.as_slice())?;
     let behind = behind_of(alloc, before, dependencies.as_slice())?;
+    let named = dependencies_of(alloc, input.deps.as_slice())?;
     let options = options_of(alloc, &input.cfg)?;
-    Ok(CrateInfo::new(root, dependencies, behind, options))
+    let own = CrateData::new(root, named, Rc::new(alloc, behind)?, input.proc_macro);
+    Ok(CrateInfo::new(own, dependencies, options))
 }
 
 /// The crates of a session.

@@ -5,15 +5,15 @@ ghost use Rattle.hir_session.specs.Crates.{crate_in, dependencies_in};
 use hir_base::ast_id::EditionedFileId;
 use hir_base::cfg_options::CfgOptions;
 use hir_base::ids::Crate;
+use hir_def_collector::source_database::CrateData;
 use std::collections::BTreeSet;
 use std::marker::Model;
 
-/// A crate: its root file, in its edition, the crates that it depends on, all on which it stands, and the options that are set.
+/// A crate: what a run may ask of it, the crates that its dependencies name, and the options that are set.
 #[derive(Drop)]
 pub struct CrateInfo {
-    root: EditionedFileId,
+    own: CrateData,
     dependencies: Vec<Crate>,
-    behind: BTreeSet<Crate>,
     options: CfgOptions,
 }
 
@@ -22,31 +22,32 @@ impl Model for CrateInfo {
 
     ghost Value = { CrateValue };
 
-    ghost view = { λ c. record { root = c.root; dependencies = c.dependencies.items; behind = c.behind.keys; options = c.options } };
+    ghost view = { λ c. record { own = c.own; dependencies = c.dependencies.items; options = c.options } };
 }
 
 impl CrateInfo {
-    pub fn new(
-        root: EditionedFileId,
-        dependencies: Vec<Crate>,
-        behind: BTreeSet<Crate>,
-        options: CfgOptions,
-    ) -> CrateInfo
-        ensures value { result ≡ record { root = root; dependencies = dependencies.items; behind = behind.keys; options = options } }
+    pub fn new(own: CrateData, dependencies: Vec<Crate>, options: CfgOptions) -> CrateInfo
+        ensures value { result ≡ record { own = own; dependencies = dependencies.items; options = options } }
     {
         CrateInfo {
-            root,
+            own,
             dependencies,
-            behind,
             options,
         }
     }
 
+    /// What a run may ask of it.
+    pub fn own(&self) -> &CrateData
+        ensures value { result.now ≡ self.now.own }
+    {
+        &self.own
+    }
+
     /// Its root file.
     pub fn root(&self) -> EditionedFileId
-        ensures value { result ≡ self.now.root }
+        ensures value { result ≡ self.now.own.root }
     {
-        self.root
+        self.own.root()
     }
 
     /// What it depends on.
@@ -58,9 +59,9 @@ impl CrateInfo {
 
     /// On what it stands, directly or through others.
     pub fn behind(&self) -> &BTreeSet<Crate>
-        ensures value { result.now.keys ≡ self.now.behind }
+        ensures value { result.now.keys ≡ self.now.own.behind }
     {
-        &self.behind
+        self.own.behind()
     }
 
     /// The options that are set in it.

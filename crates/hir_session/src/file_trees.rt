@@ -1,9 +1,9 @@
 //! The trees of files: how they are made of what is handed in, and how they are shown.
-ghost use Rattle.std.specs.Prelude.{◌≡◌, ◌⊎◌, IfOk, IfErr, OnOk, Ok, Err, string_bytes};
+ghost use Rattle.std.specs.Prelude.{◌≡◌, ◌⊎◌, IfOk, IfErr, OnOk, Ok, Err, option_map, string_bytes};
 ghost use Rattle.hir_item_tree.specs.Source.{source_view};
-ghost use Rattle.hir_session.specs.Files.{tree_under, tree_at};
+ghost use Rattle.hir_session.specs.Files.{file_at, tree_under, shown};
 ghost use Rattle.hir_session.specs.Refusals.{verdict_of_source, IsEditMemory};
-ghost use Rattle.hir_session.specs.TreeText.{page_of};
+ghost use Rattle.hir_item_tree.specs.Page.{page};
 
 use crate::crate_info::CrateInfo;
 use crate::error::EditError;
@@ -34,6 +34,21 @@ pub fn make_tree(
     }
 }
 
+/// The tree of a source under a crate; one that is absent keeps what one that can't be read does.
+pub fn shown_tree(
+    alloc: Global,
+    crates: &Vec<CrateInfo>,
+    krate: Crate,
+    source: Option<&Source>,
+) -> Result<ItemTree, AllocError>
+    ensures value { IfOk result (λ t. t ≡ (shown crates.now.items krate.0 (option_map (λ s. source_view s.now) source.entry)).tree) }
+{
+    match source {
+        Some(source) => make_tree(alloc, crates, krate, source),
+        None => make_tree(alloc, crates, krate, &Source::Broken),
+    }
+}
+
 /// Whether a source can be taken, is within the limits, and has each id once.
 pub fn check_source(alloc: Global, source: &Source) -> Result<(), EditError>
     ensures accepted { OnOk result (verdict_of_source (source_view source.now) ≡ Ok tt) }
@@ -46,7 +61,7 @@ pub fn check_source(alloc: Global, source: &Source) -> Result<(), EditError>
     Ok(())
 }
 
-/// The page of a file's tree under a crate; a file that isn't there has no items.
+/// The page of a file's tree under a crate.
 pub fn page_at(
     alloc: Global,
     crates: &Vec<CrateInfo>,
@@ -56,13 +71,8 @@ pub fn page_at(
     edition: Edition,
 ) -> Result<String, AllocError>
     ensures value { IfOk result (λ text. string_bytes text
-        ≡ page_of edition (tree_at crates.now.items files.now krate.0 path.now)) }
+        ≡ page edition (shown crates.now.items krate.0 (file_at files.now path.now)).tree) }
 {
-    match files.get(path) {
-        Some(source) => {
-            let tree = make_tree(alloc, crates, krate, source)?;
-            tree.pretty_print(edition)
-        }
-        None => ItemTree::empty(alloc).pretty_print(edition),
-    }
+    let tree = shown_tree(alloc, crates, krate, files.get(path))?;
+    tree.pretty_print(edition)
 }

@@ -1,9 +1,10 @@
 //! Which of what was asked for becomes another by an edit of a file.
 ghost use Rattle.std.specs.Prelude.{◌≡◌, ◌≢◌, ℕ, true, false, IfOk, Option, option_map};
 ghost use Rattle.hir_item_tree.specs.Source.{source_view};
+ghost use Rattle.hir_def_map.specs.State.{no_maps};
 ghost use Rattle.hir_def_collector.specs.Keys.{look, AgreeOn};
 ghost use Rattle.hir_def_collector.specs.declared.source_database.Key.TheVariants.{Tree};
-ghost use Rattle.hir_session.specs.Files.{path_in, tree_under, workspace_in, edited_at};
+ghost use Rattle.hir_session.specs.Files.{path_in, tree_under, shown, workspace_in, edited_at};
 ghost use Rattle.hir_session.specs.Marks.{IsAltered};
 ghost use Rattle.hir_session.specs.Marking.{is_path, HasAltered, IsTold, IsJudged};
 
@@ -55,11 +56,11 @@ fn becomes_another(
     new: Option<&Source>,
 ) -> Result<bool, AllocError>
     ensures same { IfOk result (λ other. other ≡ false
-        → option_map (tree_under crates.now.items krate.0) (option_map (λ s. source_view s.now) new.entry)
-        ≡ option_map (tree_under crates.now.items krate.0) (option_map (λ s. source_view s.now) old.entry)) }
+        → shown crates.now.items krate.0 (option_map (λ s. source_view s.now) new.entry)
+        ≡ shown crates.now.items krate.0 (option_map (λ s. source_view s.now) old.entry)) }
     ensures other { IfOk result (λ other. other ≡ true
-        → option_map (tree_under crates.now.items krate.0) (option_map (λ s. source_view s.now) new.entry)
-        ≢ option_map (tree_under crates.now.items krate.0) (option_map (λ s. source_view s.now) old.entry)) }
+        → shown crates.now.items krate.0 (option_map (λ s. source_view s.now) new.entry)
+        ≢ shown crates.now.items krate.0 (option_map (λ s. source_view s.now) old.entry)) }
 {
     match (old, new) {
         (Some(old), Some(new)) => differ(alloc, crates, krate, old, new),
@@ -91,8 +92,8 @@ fn is_tree_altered(
 ) -> Result<bool, AllocError>
     ensures same { IfOk result (λ altered. altered ≡ false
         → look (workspace_in crates.now.items paths.now.items (edited_at files.now path.now (option_map (λ s. source_view s.now) new.entry)))
-        (Tree krate file)
-        ≡ look (workspace_in crates.now.items paths.now.items files.now) (Tree krate file)) }
+        no_maps (Tree krate file)
+        ≡ look (workspace_in crates.now.items paths.now.items files.now) no_maps (Tree krate file)) }
     ensures other { IfOk result (λ altered. altered ≡ true → IsAltered (workspace_in crates.now.items paths.now.items files.now)
         (workspace_in crates.now.items paths.now.items (edited_at files.now path.now (option_map (λ s. source_view s.now) new.entry)))
         (Tree krate file)) }
@@ -115,8 +116,8 @@ fn is_altered(
     key: Key,
 ) -> Result<bool, AllocError>
     ensures same { IfOk result (λ altered. altered ≡ false
-        → look (workspace_in crates.now.items paths.now.items (edited_at files.now path.now (option_map (λ s. source_view s.now) new.entry))) key
-        ≡ look (workspace_in crates.now.items paths.now.items files.now) key) }
+        → look (workspace_in crates.now.items paths.now.items (edited_at files.now path.now (option_map (λ s. source_view s.now) new.entry))) no_maps key
+        ≡ look (workspace_in crates.now.items paths.now.items files.now) no_maps key) }
     ensures other { IfOk result (λ altered. altered ≡ true → IsAltered (workspace_in crates.now.items paths.now.items files.now)
         (workspace_in crates.now.items paths.now.items (edited_at files.now path.now (option_map (λ s. source_view s.now) new.entry))) key) }
 {
@@ -124,6 +125,7 @@ fn is_altered(
         Key::Tree(krate, file) => {
             is_tree_altered(alloc, crates, paths, files, path, new, krate, file)
         }
+        Key::Variants(_) | Key::Map(_) => Ok(false),
     }
 }
 
@@ -137,8 +139,8 @@ fn is_any_altered(
     new: Option<&Source>,
     keys: &[Key],
 ) -> Result<bool, AllocError>
-    ensures none { IfOk result (λ altered. altered ≡ false → AgreeOn keys.now (workspace_in crates.now.items paths.now.items files.now)
-        (workspace_in crates.now.items paths.now.items (edited_at files.now path.now (option_map (λ s. source_view s.now) new.entry)))) }
+    ensures none { IfOk result (λ altered. altered ≡ false → AgreeOn keys.now (workspace_in crates.now.items paths.now.items files.now) no_maps
+        (workspace_in crates.now.items paths.now.items (edited_at files.now path.now (option_map (λ s. source_view s.now) new.entry))) no_maps) }
     ensures some { IfOk result (λ altered. altered ≡ true → HasAltered (workspace_in crates.now.items paths.now.items files.now)
         (workspace_in crates.now.items paths.now.items (edited_at files.now path.now (option_map (λ s. source_view s.now) new.entry))) keys.now) }
 {

@@ -248,7 +248,16 @@ impl Session {
         };
         match module_below_root(found.map(), place.elements()) {
             Some(at) => {
-                let answer = answer_at(alloc, &self.paths, found.map(), at, path, shadow, style)?;
+                let answer = answer_at(
+                    alloc,
+                    &self.paths,
+                    found.map(),
+                    found.local(),
+                    at,
+                    path,
+                    shadow,
+                    style,
+                )?;
                 Ok(answer)
             }
             None => Err(QueryError::UnknownPlace),

@@ -1,24 +1,24 @@
 //! What a run of the import rules reads of a session.
 ghost use Rattle.std.specs.Prelude.{◌≡◌, ◌<◌, length, Err, IfOk, option_map, slice_get};
-ghost use Rattle.std.specs.Option.{option_and_then};
 ghost use Rattle.hir_item_tree.specs.Source.{source_view};
 ghost use Rattle.hir_session.specs.Crates.{start_in};
-ghost use Rattle.hir_session.specs.Files.{file_at, path_in, workspace_in};
+ghost use Rattle.hir_session.specs.Files.{path_in, source_in, workspace_in};
 ghost use Rattle.hir_session.specs.SessionState.{IsResolved};
 ghost use Rattle.hir_session.specs.Due.{IsOverlong};
 
 use crate::crate_info::CrateInfo;
 use crate::error::RefreshError;
-use crate::file_trees::make_tree;
+use crate::file_trees::shown_tree;
 use crate::files::Files;
 use hir_base::ast_id::HirFileId;
 use hir_base::file_path::FilePath;
-use hir_base::ids::Crate;
+use hir_base::ids::{Crate, EnumId};
 use hir_def_collector::collector::collected::Collected;
 use hir_def_collector::collector::{Start, collect_defs};
-use hir_def_collector::source_database::SourceDatabase;
+use hir_def_collector::source_database::{CrateData, SourceDatabase};
 use hir_def_map::world::World;
 use hir_item_tree::item_tree::ItemTree;
+use hir_item_tree::side_lists::VariantItem;
 use hir_item_tree::source::Source;
 use std::alloc::{AllocError, Global};
 
@@ -35,16 +35,32 @@ impl<'a> SourceDatabase for Sources<'a> {
 
     ghost workspace = { λ s. workspace_in s.crates.now.items s.paths.now.items s.files.now };
 
-    fn tree(
-        &self,
-        alloc: Global,
-        krate: Crate,
-        file: HirFileId,
-    ) -> Result<Option<ItemTree>, AllocError> {
-        match source_at(self.paths, self.files, file) {
-            Some(source) => Ok(Some(make_tree(alloc, self.crates, krate, source)?)),
-            None => Ok(None),
+    fn krate(&self, krate: Crate) -> Option<&CrateData> {
+        match self.crates.get(krate.0 as usize) {
+            Some(info) => Some(info.own()),
+            None => None,
         }
+    }
+
+    fn tree(&self, alloc: Global, krate: Crate, file: HirFileId) -> Result<ItemTree, AllocError> {
+        shown_tree(
+            alloc,
+            self.crates,
+            krate,
+            source_at(self.paths, self.files, file),
+        )
+    }
+
+    fn present(&self, _krate: Crate, file: HirFileId) -> bool {
+        source_at(self.paths, self.files, file).is_some()
+    }
+
+    fn variants(
+        &self,
+        _alloc: Global,
+        _id: EnumId,
+    ) -> Result<Option<Vec<VariantItem>>, AllocError> {
+        Ok(None)
     }
 }
 
@@ -60,7 +76,7 @@ pub fn path_at(paths: &Vec<FilePath>, file: HirFileId) -> Option<&FilePath>
 
 /// The source of what holds syntax, if it is there.
 fn source_at<'a>(paths: &'a Vec<FilePath>, files: &'a Files, file: HirFileId) -> Option<&'a Source>
-    ensures value { option_map (λ s. source_view s.now) result ≡ option_and_then (file_at files.now) (path_in paths.now.items file) }
+    ensures value { option_map (λ s. source_view s.now) result ≡ source_in paths.now.items files.now file }
 {
     match path_at(paths, file) {
         Some(path) => files.get(path),

@@ -3,11 +3,13 @@ use Rattle.std.proofs.Common.{refl}
 use Rattle.hir_session.proofs.beginning.info_of.Goals as goal
 
 pub returns : goal.returns
-returns c = record {
-  made = rw c.new.ensures.value (record {
+returns c = rw (c.new-2.ensures.value, c.new-own.ensures.value) (record {
+  made = record {
     root = refl;
+    named = rw c.as_slice-3.ensures.value at c.in_ok-named.ensures.value;
+    is_proc_macro = refl;
     dependencies = rw c.as_slice.ensures.value at c.in_ok-dependencies.ensures.value;
     options = c.in_ok-options.ensures.value;
-  });
-  behind = rw c.new.ensures.value (rw c.as_slice-2.ensures.value at c.in_ok-behind.ensures.behind);
-}
+  };
+  behind = rw c.in_ok-new.ensures.ok (rw c.as_slice-2.ensures.value at c.in_ok-behind.ensures.behind);
+})
