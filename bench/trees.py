@@ -1,39 +1,62 @@
 #!/usr/bin/env python3
-"""Times the program on large units of all kinds of items: edits of bodies alone, and units at the limit of nodes.
+"""Times the program on large units of all kinds of items: edits of bodies alone, units at the limit of nodes, and
+lines up to the limit of bytes. The seconds are of processor.
 
-Usage, at the top of the repository: bench/trees.py [NODES]
-The program must be built: `rt run < /dev/null` in crates/hir_session_main.
+Usage, at the top of the repository: bench/trees.py [NODES ..]
+Without sizes: 50,000 and 100,000 nodes. The program must be built: `rt run < /dev/null` in crates/hir_session_main.
 """
-import json
-import os
-import subprocess
 import sys
-import tempfile
-import time
 
-NODES = int(sys.argv[1]) if len(sys.argv) > 1 else 100_000
+from measure import best, memory, run, text
+
+SIZES = [int(it) for it in sys.argv[1:]] or [50_000, 100_000]
 MOST = 1_000_000
+LONGEST = 16_777_216
 SESSION = "crates/hir_session_main/out/hir_session_main"
+IN_MODULE = 21
+
+
+class Nodes:
+    """Makes nodes, each with an id of its own; a third are under a condition that holds, and a third have an attribute."""
+
+    def __init__(self):
+        self.number = 0
+
+    def make(self, kind, **more):
+        self.number += 1
+        attrs = [[], [{"path": "cfg", "cfg": "fast"}], [{"path": "doc", "literal": "What it is."}]][self.number % 3]
+        node = {"kind": kind, "id": [self.number % 65536, self.number // 65536], "vis": "pub", "attrs": attrs}
+        return node | more
+
+    def inside(self, body):
+        """The items of a module: 20 nodes, fields and use trees."""
+        make = self.make
+        tree = {"path": "self", "list": [{"single": "S", "as": "P"}]}
+        return [make("Fn", name="f", body=body), make("Struct", name="S"), make("Union", name="U", fields=["pub"]),
+                make("Const", name="C", body=body), make("Const", body=body), make("Static", name="X", body=body),
+                make("TypeAlias", name="A"), make("Trait", name="T", items=[make("Fn", name="g", body=body)]),
+                make("Impl", trait=True, items=[make("Fn", name="h", body=body)]),
+                make("Impl", trait=False, items=[make("TypeAlias", name="B")]),
+                make("ExternBlock", nodes=[make("Fn", name="e"), make("Static", name="Y")]), make("Use", tree=tree)]
 
 
 def unit(nodes, body):
-    """Modules of eight items each, of all kinds that are taken, a third of them under conditions that hold."""
-    number = 0
+    """Modules of all kinds of items that are taken, with their fields and use trees so many together."""
+    made = Nodes()
+    whole = [made.make("Module", name=f"m{m}", nodes=made.inside(body)) for m in range(nodes // IN_MODULE)]
+    rest = [made.make("Fn", name=f"f{k}", body=body) for k in range(nodes % IN_MODULE)]
+    return {"nodes": whole + rest}
 
-    def node(kind, name, **more):
-        nonlocal number
-        number += 1
-        attrs = [{"path": "cfg", "cfg": "fast"}] if number % 3 == 0 else []
-        return {"kind": kind, "id": [number % 65536, number // 65536], "name": name, "vis": "pub", "attrs": attrs} | more
 
-    made = []
-    for m in range(nodes // 12):
-        inside = [node("Fn", "f", body=body), node("Struct", "S"), node("Union", "U", fields=["pub"]),
-                  node("Const", "C", body=body), node("Static", "X", body=body), node("TypeAlias", "A"),
-                  node("Trait", "T", items=[node("Fn", "g", body=body)]),
-                  node("Use", "", tree={"path": "self", "list": [{"single": "S", "as": "P"}]})]
-        made.append(node("Module", f"m{m}", nodes=inside))
-    return {"nodes": made}
+def trees_in(tree):
+    return 1 + sum(trees_in(it) for it in tree.get("list", []))
+
+
+def size(nodes):
+    """How many nodes, fields and use trees there are, as the limit counts them."""
+    inner = [it for node in nodes for it in node.get("nodes", []) + node.get("items", [])]
+    more = sum(len(node.get("fields", [])) + (trees_in(node["tree"]) if "tree" in node else 0) for node in nodes)
+    return len(nodes) + more + (size(inner) if inner else 0)
 
 
 def crates():
@@ -44,48 +67,56 @@ def set_file(syntax):
     return {"do": "set file", "file": "lib.rs", "unit": syntax}
 
 
-def run(commands):
-    """Seconds, replies, and the most memory in MB."""
-    with tempfile.TemporaryFile() as script:
-        script.write("".join(json.dumps(c, separators=(",", ":")) + "\n" for c in commands).encode())
-        script.seek(0)
-        begin = time.perf_counter()
-        child = subprocess.Popen([SESSION], stdin=script, stdout=subprocess.PIPE)
-        replies = child.stdout.read().decode().splitlines()
-        _, status, used = os.wait4(child.pid, 0)
-        if status:
-            sys.exit(f"the program ended with {status}")
-        return time.perf_counter() - begin, replies, used.ru_maxrss / 1024
+REFRESH = {"do": "refresh"}
 
 
-def best(commands, tries=3):
-    return min(run(commands)[0] for _ in range(tries))
-
-
-def bodies():
-    begin = [crates(), set_file(unit(NODES, "{ 0 }")), {"do": "refresh"}]
-    once = best(begin)
+def bodies(nodes):
+    first = unit(nodes, "{ 0 }")
+    begin = [crates(), set_file(first), REFRESH]
+    once = best(SESSION, begin)
     edits = 4
-    more = [set_file(unit(NODES, f"{{ {k} }}")) for k in range(1, edits + 1)]
-    edited = (best(begin + more) - once) / edits
-    alone = best([crates(), set_file(unit(NODES, "{ 0 }"))])
-    replies = run(begin + more + [{"do": "refresh"}])[1]
-    print(f"unit of {NODES} nodes: read, checked and lowered in {alone:.3f} s, resolved in {once - alone:.3f} s; "
-          f"an edit of bodies alone takes {edited:.3f} s, and the refresh after it lists {replies[-1]}")
+    more = [it for k in range(1, edits + 1) for it in (set_file(unit(nodes, f"{{ {k} }}")), REFRESH)]
+    edited = (best(SESSION, begin + more) - once) / edits
+    alone = best(SESSION, [crates(), set_file(first)])
+    replies = run(SESSION, begin + more)[1]
+    print(f"unit of {size(first['nodes'])} nodes, {len(text([set_file(first)])) / 1e6:.1f} MB: read, checked and lowered in "
+          f"{alone:.3f} s, resolved in {once - alone:.3f} s; an edit of bodies alone and a refresh take {edited:.3f} s, "
+          f"and the refresh lists {replies[-1]}")
 
 
-def at_the_limit(label, syntax):
-    seconds, replies, memory = run([crates(), set_file(syntax)])
-    print(f"{label}: {replies[-1]}, {seconds:.2f} s, {memory:.0f} MB")
+def set_once(label, syntax):
+    commands = [crates(), set_file(syntax)]
+    seconds, replies = run(SESSION, commands)
+    print(f"{label}: {replies[-1]}, {seconds:.2f} s, {memory(SESSION, commands):.0f} MB")
+
+
+def limits():
+    field = {"kind": "Struct", "id": [1, 0], "name": "S", "shape": "tuple"}
+    set_once(f"{MOST} nodes as fields", {"nodes": [field | {"fields": [None] * (MOST - 1)}]})
+    set_once(f"{MOST + 1} nodes as fields", {"nodes": [field | {"fields": [None] * MOST}]})
+    leaves = {"kind": "Use", "id": [1, 0], "tree": {"list": [{"single": "a"}] * (MOST - 2)}}
+    set_once(f"{MOST} nodes as leaves of a use tree", {"nodes": [leaves]})
+
+
+def long_line(length):
+    """A line of so many bytes: one of a unit of functions, of which the last has a body that fills it."""
+    made, count = Nodes(), length // 120
+    nodes = [made.make("Fn", name=f"f{k}", body="{ 0 }") for k in range(count)]
+    nodes[-1]["body"] = ""
+    short = len(text([set_file({"nodes": nodes})])) - 1
+    nodes[-1]["body"] = "x" * (length - short)
+    line = text([set_file({"nodes": nodes})])
+    if len(line) != length + 1:
+        sys.exit(f"a line of {len(line) - 1} bytes in place of {length}")
+    set_once(f"a line of {length} bytes, {count} functions", {"nodes": nodes})
 
 
 def main():
-    bodies()
-    field = {"kind": "Struct", "id": [1, 0], "name": "S", "shape": "tuple"}
-    at_the_limit(f"{MOST} nodes as fields", {"nodes": [field | {"fields": [None] * (MOST - 1)}]})
-    at_the_limit(f"{MOST + 1} nodes as fields", {"nodes": [field | {"fields": [None] * MOST}]})
-    leaves = {"kind": "Use", "id": [1, 0], "tree": {"list": [{"single": "a"}] * (MOST - 2)}}
-    at_the_limit(f"{MOST} nodes as leaves of a use tree", {"nodes": [leaves]})
+    for nodes in SIZES:
+        bodies(nodes)
+    limits()
+    for length in (LONGEST // 4, LONGEST // 2, LONGEST, LONGEST + 1):
+        long_line(length)
 
 
 main()
