@@ -4,9 +4,9 @@ use Rattle.std.specs.List.{list_any}
 use Rattle.hir_base.specs.declared.ids.Crate.{Crate}
 use Rattle.hir_wire.specs.CommandValue.{CommandValue, CrateInputValue}
 use Rattle.hir_wire.specs.declared.reply.Reply.{Reply}
-use Rattle.hir_session.specs.SessionState.{SessionState, IsSound}
+use Rattle.hir_session.specs.SessionState.{SessionState, IsSound, max_crates}
 use Rattle.hir_session.specs.NotYet.{is_crate_taken}
-use Rattle.hir_session.specs.Refusals.{first_out_of_order, verdict_of_order, verdict_of_new}
+use Rattle.hir_session.specs.Refusals.{first_out_of_order, verdict_of_order, verdict_of_new, crate_numbers}
 use Rattle.hir_session.proofs.Truth.{on_bool}
 use Rattle.hir_session.proofs.Start.{begins_sound}
 use Rattle.hir_session.specs.Machine.{MachineState, Moves, AnswersCommand, AnswersLine, Runs}
@@ -89,22 +89,25 @@ history_sound sound none = sound
 history_sound sound (edit mid to e earlier is) = is.sound
 history_sound sound (refresh mid to done earlier is) = is.sound
 
--- crates that are accepted are few, and in order
-accepted_few : (inputs : List CrateInputValue) → verdict_of_new inputs ≡ Ok tt → length inputs ≤ 10000
-accepted_few inputs accepted = on_bool (nat_lt 1 (length inputs))
+-- crates that are accepted are in order, and few
+in_order : (inputs : List CrateInputValue) (late : Option Crate) → verdict_of_order inputs late ≡ Ok tt → (late ≡ None) × (length inputs ≤ 10000)
+in_order inputs None accepted = (refl, on_bool (nat_lt max_crates (length inputs))
     (λ many. absurd (let wrong : ⊥ = cc (rw many at accepted) in wrong))
-    (λ few. grind (arith, nat_tests))
-
-in_order : (inputs : List CrateInputValue) (late : Option Crate) → verdict_of_order inputs late ≡ Ok tt → late ≡ None
-in_order inputs None accepted = refl
+    (λ few. grind (arith, nat_tests)))
 in_order inputs (Some krate) accepted = absurd (let wrong : ⊥ = cc accepted in wrong)
 
+accepted_both : (inputs : List CrateInputValue) → verdict_of_new inputs ≡ Ok tt → (first_out_of_order 0 inputs ≡ None) × (length inputs ≤ 10000)
+accepted_both inputs accepted = on_bool (list_any (λ c. not (is_crate_taken c)) inputs)
+    (λ untaken. absurd (let wrong : ⊥ = cc (rw untaken at accepted) in wrong))
+    (λ taken. on_bool (nat_le crate_numbers (length inputs))
+    (λ huge. absurd (let wrong : ⊥ = cc (rw (taken, huge) at accepted) in wrong))
+    (λ small. in_order inputs (first_out_of_order 0 inputs) (rw (taken, small) at accepted)))
+
+accepted_few : (inputs : List CrateInputValue) → verdict_of_new inputs ≡ Ok tt → length inputs ≤ 10000
+accepted_few inputs accepted = (accepted_both inputs accepted).1
+
 accepted_in_order : (inputs : List CrateInputValue) → verdict_of_new inputs ≡ Ok tt → first_out_of_order 0 inputs ≡ None
-accepted_in_order inputs accepted = on_bool (nat_lt 1 (length inputs))
-    (λ many. absurd (let wrong : ⊥ = cc (rw many at accepted) in wrong))
-    (λ few. on_bool (list_any (λ c. not (is_crate_taken c)) inputs)
-    (λ untaken. absurd (let wrong : ⊥ = cc (rw (few, untaken) at accepted) in wrong))
-    (λ taken. in_order inputs (first_out_of_order 0 inputs) (rw (few, taken) at accepted)))
+accepted_in_order inputs accepted = (accepted_both inputs accepted).0
 
 -- no session yet, or one with a history
 abbrev MayHaveBegun : MachineState → Type 0
