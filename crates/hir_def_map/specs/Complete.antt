@@ -189,11 +189,11 @@ complete finished map local f begins =
     let p = test_of (is_missing maps) (prelude_named map.prelude) in
     let o = names_own_crate (is_missing maps) map.id in
     let nothing_missing : names_some (is_missing maps) map local ≡ false =
-        neither (list_any (names_in_module (is_missing maps)) map.modules) (p || (h || (e || (d || o)))) f.modules
-        (neither p (h || (e || (d || o))) f.prelude
-        (neither h (e || (d || o)) no_holder
-        (neither e (d || o) begins
-        (neither d o f.dependencies of_block)))) in
+    neither (list_any (names_in_module (is_missing maps)) map.modules) (p || (h || (e || (d || o)))) f.modules
+    (neither p (h || (e || (d || o))) f.prelude
+    (neither h (e || (d || o)) no_holder
+    (neither e (d || o) begins
+    (neither d o f.dependencies of_block)))) in
     let held : is_holder_for finished map.id map.holder ≡ true = ap (is_holder_for finished map.id) f.unheld in
     let leads : each_leads_to_root map ≡ true = all_lead map f.in_order (length map.modules) (omega arith) in
     rw (leads, parents_inside map f.in_order, held, nothing_missing) refl

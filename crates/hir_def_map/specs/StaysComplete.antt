@@ -64,7 +64,6 @@ Extends-beside finished map new n there = go n there
 
 module _ (finished : Maps) (old new : Map) (same : new.id ≡ old.id) (modules : (k : ℕ) → is_some (module_at old k) ≡ true → is_some (module_at new k) ≡ true)
     (enums : (e : EnumId) → is_some (variants_at old e) ≡ true → is_some (variants_at new e) ≡ true) where
-
   -- what was there stays there where a map grows
   pub Extends-grown : Extends (beside finished old) (beside finished new)
   Extends-grown (named.Module m) t = ap (λ (id : MapId). is_some (option_and_then (λ (p : Placed). module_at p.map m.index) (cond (map_id.ghosts.eq m.map id) (Some (placed_in finished new)) (finished m.map)))) same ∙ go (map_id.ghosts.eq m.map old.id) t

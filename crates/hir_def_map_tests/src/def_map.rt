@@ -270,11 +270,7 @@ fn data_over(alloc: Global, crates: &[Crate]) -> Result<DefMapCrateData, Fail> {
         dependencies.insert(*krate)?;
     }
     let dependencies = Rc::new(alloc, dependencies)?;
-    Ok(DefMapCrateData::new(
-        alloc,
-        Edition::Edition2021,
-        dependencies,
-    ))
+    Ok(DefMapCrateData::new(alloc, Edition::Edition2021, dependencies))
 }
 
 /// `pub mod a { pub struct S; struct P; pub fn f() {} pub mod b {} } pub mod u8 { pub struct X; } pub use crate as l;`,

@@ -91,9 +91,12 @@ history_sound sound (refresh mid to done earlier is) = is.sound
 
 -- crates that are accepted are in order, and few
 in_order : (inputs : List CrateInputValue) (late : Option Crate) → verdict_of_order inputs late ≡ Ok tt → (late ≡ None) × (length inputs ≤ 10000)
-in_order inputs None accepted = (refl, on_bool (nat_lt max_crates (length inputs))
-    (λ many. absurd (let wrong : ⊥ = cc (rw many at accepted) in wrong))
-    (λ few. grind (arith, nat_tests)))
+in_order inputs None accepted = (
+  refl,
+  on_bool (nat_lt max_crates (length inputs))
+      (λ many. absurd (let wrong : ⊥ = cc (rw many at accepted) in wrong))
+      (λ few. grind (arith, nat_tests)),
+)
 in_order inputs (Some krate) accepted = absurd (let wrong : ⊥ = cc accepted in wrong)
 
 accepted_both : (inputs : List CrateInputValue) → verdict_of_new inputs ≡ Ok tt → (first_out_of_order 0 inputs ≡ None) × (length inputs ≤ 10000)

@@ -64,11 +64,7 @@ fn lost_module(alloc: Global) -> Result<DefDiagnostic, Fail> {
     candidates.push(Text::from_str(alloc, "a.rs")?)?;
     candidates.push(Text::from_str(alloc, "a/mod.rs")?)?;
     let declaration = item(AstKind::Module, 8);
-    Ok(DefDiagnostic::unresolved_module(
-        module(1),
-        declaration,
-        candidates,
-    ))
+    Ok(DefDiagnostic::unresolved_module(module(1), declaration, candidates))
 }
 
 fn keeps_diagnostics(rt: &impl Abort, alloc: Global, map: &mut DefMap) -> Result<(), Fail> {
@@ -86,10 +82,19 @@ fn keeps_macros(rt: &impl Abort, map: &mut DefMap) -> Result<(), Fail> {
     let node = item(AstKind::MacroRules, 31);
     assert!(rt; map.macro_def_to_macro_id(node).is_none(), "none yet");
     map.add_macro_def(node, defined())?;
-    assert!(rt; map.macro_def_to_macro_id(node) == Some(defined()), "by item");
+    assert!(rt;
+        map.macro_def_to_macro_id(node) == Some(defined()),
+        "by item"
+    );
     map.export_proc_macro(exporter(), exported())?;
-    assert!(rt; map.fn_as_proc_macro(exporter()) == Some(exported()), "by function");
-    assert!(rt; map.proc_macro_as_fn(exported()) == Some(exporter()), "by macro");
+    assert!(rt;
+        map.fn_as_proc_macro(exporter()) == Some(exported()),
+        "by function"
+    );
+    assert!(rt;
+        map.proc_macro_as_fn(exported()) == Some(exporter()),
+        "by macro"
+    );
     Ok(())
 }
 
@@ -109,7 +114,10 @@ fn keeps_helpers(rt: &impl Abort, alloc: Global, map: &mut DefMap) -> Result<(),
     assert_eq!(rt; helpers.len(), 2);
     assert!(rt; helpers[1] == helper(alloc, "second")?, "in order");
     let other = item(AstKind::Struct, 33);
-    assert!(rt; map.derive_helpers_in_scope(other).is_none(), "of another item");
+    assert!(rt;
+        map.derive_helpers_in_scope(other).is_none(),
+        "of another item"
+    );
     Ok(())
 }
 
