@@ -23,6 +23,7 @@ pub record KeepsNames (old new : Map) : Type 0 where
 pub binding_of-listed : (d : Declaration) (scope : ScopeValue) (name : List ℕ) → binding_of (listed d scope) name ≡ binding_of scope name
 binding_of-listed (declaration.Def def) scope name = refl
 binding_of-listed (declaration.Use use_) scope name = refl
+binding_of-listed (declaration.ExternCrate extern_crate) scope name = refl
 binding_of-listed (declaration.Impl imp is_trait_impl) scope name = refl
 binding_of-listed (declaration.ExternBlock extern_block) scope name = refl
 binding_of-listed (declaration.UnnamedConst konst) scope name = refl

@@ -300,6 +300,10 @@ with_declared map at def = with_scope map at (listed (declaration.Def def))
 abbrev pub with_use : Map → ℕ → UseId → Map
 with_use map at use_ = with_scope map at (listed (declaration.Use use_))
 
+-- the map where a module has one more `extern crate` item
+abbrev pub with_extern_crate : Map → ℕ → ExternCrateId → Map
+with_extern_crate map at extern_crate = with_scope map at (listed (declaration.ExternCrate extern_crate))
+
 -- the map where a module has one more impl, of a trait or not
 abbrev pub with_impl : Map → ℕ → ImplId → Bool → Map
 with_impl map at imp is_trait_impl = with_scope map at (listed (declaration.Impl imp is_trait_impl))

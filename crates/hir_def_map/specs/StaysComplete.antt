@@ -170,6 +170,7 @@ module _ (finished : Maps) (map : Map) (at : ℕ) where
       types : (d : Declaration) (scope : ScopeValue) → list_any (test_type (is_missing (beside finished map))) scope.types ≡ false → list_any (test_type (is_missing (beside finished map))) (listed d scope).types ≡ false
       types (declaration.Def def) scope h = h
       types (declaration.Use use_) scope h = h
+      types (declaration.ExternCrate extern_crate) scope h = h
       types (declaration.Impl imp is_trait_impl) scope h = h
       types (declaration.ExternBlock extern_block) scope h = h
       types (declaration.UnnamedConst konst) scope h = h

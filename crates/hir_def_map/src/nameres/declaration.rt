@@ -2,12 +2,12 @@
 //!
 //! After rust-analyzer's `ModCollector`, which calls these methods of a module's `ItemScope`.
 ghost use Rattle.std.specs.Prelude.{◌≡◌, OnOk, OnErr};
-ghost use Rattle.hir_def_map.specs.State.{changed_at, with_declared, with_extern_block, with_impl, with_module_scope, with_scope, with_unnamed_const, with_use};
+ghost use Rattle.hir_def_map.specs.State.{changed_at, with_declared, with_extern_block, with_extern_crate, with_impl, with_module_scope, with_scope, with_unnamed_const, with_use};
 ghost use Rattle.hir_def_map.specs.Declaration.{listed};
 
 use crate::nameres::DefMap;
 use crate::nameres::module_data::ModuleData;
-use hir_base::ids::{ConstId, ExternBlockId, ImplId, ModuleDefId, UseId};
+use hir_base::ids::{ConstId, ExternBlockId, ExternCrateId, ImplId, ModuleDefId, UseId};
 use std::alloc::AllocError;
 
 /// What a module may declare.
@@ -15,6 +15,7 @@ use std::alloc::AllocError;
 pub enum Declaration {
     Def(ModuleDefId),
     Use(UseId),
+    ExternCrate(ExternCrateId),
     /// An impl, and whether it is of a trait.
     Impl(ImplId, bool),
     ExternBlock(ExternBlockId),
@@ -36,6 +37,18 @@ impl DefMap {
         ensures err { OnErr result (self.new ≡ self.old) }
     {
         self.list(at, Declaration::Use(use_))
+    }
+
+    /// Lists an `extern crate` item of a module; nothing happens where the module isn't there.
+    pub fn define_extern_crate_decl(
+        &mut self,
+        at: u32,
+        extern_crate: ExternCrateId,
+    ) -> Result<(), AllocError>
+        ensures ok { OnOk result (self.new ≡ with_extern_crate self.old at extern_crate) }
+        ensures err { OnErr result (self.new ≡ self.old) }
+    {
+        self.list(at, Declaration::ExternCrate(extern_crate))
     }
 
     /// Lists an impl of a module, and whether it is of a trait; nothing happens where the module isn't there.

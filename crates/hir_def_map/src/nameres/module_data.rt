@@ -181,6 +181,9 @@ impl ModuleData {
         match declaration {
             Declaration::Def(def) => self.scope.declare(def),
             Declaration::Use(use_) => self.scope.define_use(use_),
+            Declaration::ExternCrate(extern_crate) => {
+                self.scope.define_extern_crate_decl(extern_crate)
+            }
             Declaration::Impl(imp, is_trait_impl) => self.scope.define_impl(imp, is_trait_impl),
             Declaration::ExternBlock(extern_block) => self.scope.define_extern_block(extern_block),
             Declaration::UnnamedConst(konst) => self.scope.define_unnamed_const(konst),
