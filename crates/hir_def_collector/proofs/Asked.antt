@@ -2,15 +2,17 @@
 use Rattle.std.proofs.Common.{◌≡◌, ◌∙◌, ℕ, suc, zero, ◌<◌, ◌++◌, List, [], ◌∷◌, length, map, slice_get, Option, None, true, ◌⊎◌, inl, inr, refl, sym, ap, subst, arith, Contains}
 use Rattle.std.specs.List.{list_any}
 use Rattle.std.specs.Cmp.{unsigned_Decides}
-use Rattle.std.proofs.lemmas.List.Elements.{Contains-append_left, Contains-append_right, Contains-append_cases}
 use Rattle.std.proofs.lemmas.Map.Views.{Contains-from_any}
 use Rattle.hir_base.specs.declared.ids.Crate.{Crate}
+use Rattle.hir_base.specs.declared.ids.EnumId.{EnumId}
+use Rattle.hir_item_tree.specs.declared.side_lists.VariantItem.{VariantItem}
 use Rattle.hir_scope.specs.ModuleTree.{same_crate}
 use Rattle.hir_def_map.specs.Among.{among, among_agrees}
 use Rattle.hir_def_map.specs.Named.{crate_map}
 use Rattle.hir_def_map.specs.State.{Map, Maps, map_in}
 use Rattle.hir_def_collector.specs.declared.collector.Start.{Start}
 use Rattle.hir_def_collector.specs.declared.source_database.Key.{Key}
+use Rattle.hir_def_collector.specs.declared.source_database.Key.TheVariants.{Variants}
 use Rattle.hir_def_collector.specs.Workspace.{Workspace, CrateData, TreeLook, behind_in, behind_of, crate_in}
 use Rattle.hir_def_collector.specs.Keys.{Look, of_tree, of_map, of_variants, look, AgreeOn, map_key, map_keys}
 use Rattle.hir_def_collector.specs.Start.{root_file, root_key}
@@ -18,16 +20,12 @@ use Rattle.hir_def_collector.specs.Derivation.{read_by}
 
 -- ---- lists
 
-only : {A : Type 0} (x y : A) → Contains (x ∷ []) y → x ≡ y
-only x y (zero, below, is) = is
-only x y (suc n, below, is) = absurd (omega arith)
-
-mapped : {A B : Type 0} (f : A → B) (xs : List A) (x : A) → Contains xs x → Contains (map f xs) (f x)
+pub mapped : {A B : Type 0} (f : A → B) (xs : List A) (x : A) → Contains xs x → Contains (map f xs) (f x)
 mapped f [] x (n, below, is) = absurd (omega arith)
 mapped f (y ∷ ys) x (zero, below, is) = (0, omega arith, ap f is)
 mapped f (y ∷ ys) x (suc n, below, is) = let later = mapped f ys x (n, omega arith, is) in (suc later.0, omega (arith, later.1), later.2)
 
-mapped_from : {A B : Type 0} (f : A → B) (xs : List A) (y : B) → Contains (map f xs) y → (x : A) × Contains xs x × (f x ≡ y)
+pub mapped_from : {A B : Type 0} (f : A → B) (xs : List A) (y : B) → Contains (map f xs) y → (x : A) × Contains xs x × (f x ≡ y)
 mapped_from f [] y (n, below, is) = absurd (omega arith)
 mapped_from f (x ∷ xs) y (zero, below, is) = (x, (0, omega arith, refl), is)
 mapped_from f (x ∷ xs) y (suc n, below, is) =
@@ -38,32 +36,31 @@ mapped_from f (x ∷ xs) y (suc n, below, is) =
 exact_crate : (a b : Crate) → same_crate a b ≡ true → a ≡ b
 exact_crate a b e = λ i. record { 0 = (unsigned_Decides a.0 b.0).0 e i }
 
--- a key among those of a run is the root file's, or of the map of a crate behind
-pub asked_cases : (start : Start) (behind : List Crate) (key : Key) → Contains (root_key start ∷ [] ++ map_keys behind) key
-    → (key ≡ root_key start) ⊎ ((krate : Crate) × Contains behind krate × (key ≡ map_key krate))
-asked_cases start behind key h = elim (Contains-append_cases (root_key start ∷ []) (map_keys behind) key h) [
-  | inl own ↦ inl (sym (only (root_key start) key own))
-  | inr later ↦ let found = mapped_from map_key behind key later in inr (found.0, found.1, sym found.2)
-]
-
 abbrev seen_tree : Look → TreeLook → TreeLook
 seen_tree (of_tree t) other = t
 seen_tree (of_variants vs) other = other
 seen_tree (of_map m) other = other
+
+abbrev seen_variants : Look → Option (List VariantItem)
+seen_variants (of_tree t) = None
+seen_variants (of_variants vs) = vs
+seen_variants (of_map m) = None
 
 abbrev seen_map : Look → Option Map → Option Map
 seen_map (of_tree t) other = other
 seen_map (of_variants vs) other = other
 seen_map (of_map m) other = m
 
-module _ (start : Start) {keys : List Key} {v w : Workspace} {before finished : Maps} (is : keys ≡ root_key start ∷ [] ++ map_keys (behind_in v start.krate)) (agrees : AgreeOn keys v before w finished) where
-  asks : (key : Key) → Contains (root_key start ∷ [] ++ map_keys (behind_in v start.krate)) key → look w finished key ≡ look v before key
-  asks key h = agrees.same key (subst (λ (ks : List Key). Contains ks key) (sym is) h)
+-- the same variants are handed in of each enum whose key is among those
+pub same_variants : {keys : List Key} {v w : Workspace} {before finished : Maps} → AgreeOn keys v before w finished → (id : EnumId) → Contains keys (Variants id) → w.variants id ≡ v.variants id
+same_variants agrees id h = ap seen_variants (agrees.same (Variants id) h)
 
+module _ (start : Start) {keys : List Key} {v w : Workspace} {before finished : Maps} (agrees : AgreeOn keys v before w finished)
+    (root_asked : Contains keys (root_key start)) (maps_asked : (krate : Crate) → Contains (behind_in v start.krate) krate → Contains keys (map_key krate)) where
   pub same_tree : w.tree start.krate (root_file start) ≡ v.tree start.krate (root_file start)
   same_tree =
       let other = v.tree start.krate (root_file start) in
-      ap (λ (l : Look). seen_tree l other) (asks (root_key start) (0, omega arith, refl))
+      ap (λ (l : Look). seen_tree l other) (agrees.same (root_key start) root_asked)
 
   pub same_crate_data : crate_in w start.krate ≡ crate_in v start.krate
   same_crate_data = ap (λ (crates : List CrateData). slice_get crates start.krate.0) agrees.crates
@@ -72,7 +69,7 @@ module _ (start : Start) {keys : List Key} {v w : Workspace} {before finished : 
   same_map krate h =
       let behind = behind_in v start.krate in
       let among : Contains behind krate = Contains-from_any exact_crate krate behind h in
-      ap (λ (l : Look). seen_map l None) (asks (map_key krate) (Contains-append_right (root_key start ∷ []) (map_keys behind) (map_key krate) (mapped map_key behind krate among)))
+      ap (λ (l : Look). seen_map l None) (agrees.same (map_key krate) (maps_asked krate among))
 
   -- the maps that a run reads are the same
   pub same_read : read_by w finished start ≡ read_by v before start

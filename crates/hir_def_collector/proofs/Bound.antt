@@ -11,15 +11,16 @@ use Rattle.std.proofs.lemmas.Map.Lookups.{exact_bytes}
 use Rattle.hir_scope.specs.PerNs.{nothing}
 use Rattle.hir_scope.specs.Pushes.{slot_after, gives_way, after_push}
 use Rattle.hir_scope.specs.ImportRecords.{is_glob}
-use Rattle.hir_scope.specs.declared.imports.ImportId.{ImportId}
 use Rattle.hir_scope.specs.declared.imports.ImportOrExternCrate.{ImportOrExternCrate}
 use Rattle.hir_scope.specs.declared.per_ns.Item.{Item}
 use Rattle.hir_scope.specs.declared.per_ns.PerNs.{PerNs}
 use Rattle.hir_scope.specs.declared.visibility.Visibility.{Visibility}
 use Rattle.hir_def_map.specs.State.{Map, Maps, ModuleValue, changed_at, module_at, entry_at, no_globs, with_module}
 use Rattle.hir_def_map.specs.Grown.{items_by, entry_at-pushed, entry_at-pushed_other, entry_at-pushed_elsewhere}
+use Rattle.hir_def_collector.specs.declared.collector.imports.ImportSource.{ImportSource}
+use Rattle.hir_def_collector.specs.declared.collector.imports.ImportSource.TheVariants as sources
 use Rattle.hir_def_collector.specs.declared.collector.imports.Namespaces.{Namespaces}
-use Rattle.hir_def_collector.specs.Imports.{AreAmong, namespaces_of, both_of, brought, imported, bound_as, bound_in, pushing}
+use Rattle.hir_def_collector.specs.Imports.{AreAmong, namespaces_of, both_of, brought, brought_type, imported, bound_as, bound_in, pushing}
 
 -- ---- sets of namespaces
 
@@ -86,9 +87,10 @@ namespaces_of-items_by : (import : Option ImportOrExternCrate) (items : PerNs) �
 namespaces_of-items_by import items = rw (some_offered _ items.types, some_offered _ items.values, some_offered _ items.macros) refl
 
 -- neither an import of one name nor a declaration is a glob
-pub no_glob : (import : Option ImportId) → is_glob (pushing import) ≡ false
+pub no_glob : (source : Option ImportSource) → is_glob (pushing source) ≡ false
 no_glob None = refl
-no_glob (Some i) = refl
+no_glob (Some (sources.Use id kind)) = refl
+no_glob (Some (sources.ExternCrate id krate)) = refl
 
 -- ---- names are the same or not
 
@@ -97,7 +99,7 @@ itself Less e = absurd (let no : ⊥ = cc in no)
 itself Equal e = refl
 itself Greater e = absurd (let no : ⊥ = cc in no)
 
-cmp_itself : (x y : List ℕ) → x ≡ y → slice_cmp nat_cmp x y ≡ Equal
+pub cmp_itself : (x y : List ℕ) → x ≡ y → slice_cmp nat_cmp x y ≡ Equal
 cmp_itself x y e = subst (λ (z : List ℕ). slice_cmp nat_cmp x z ≡ Equal) e (itself (slice_cmp nat_cmp x x) (nat_list_cmp_total.antisymm x x))
 
 same_or_not : (o : Ordering) (x y : List ℕ) → slice_cmp nat_cmp x y ≡ o → (x ≡ y) ⊎ (x ≢ y)
@@ -110,22 +112,22 @@ number_same_or_not m n = elim (cases_lt m n) [ inl h ↦ inr (omega arith) | inr
 
 -- ---- what a push leaves bound
 
-kept_here : (m : Map) (at : ℕ) (name : List ℕ) (items : PerNs) (import : Option ImportId) (o : Option ModuleValue) → module_at m at ≡ o
-    → AreAmong (namespaces_of (entry_at m at name)) (namespaces_of (entry_at (bound_in m at name items import) at name))
-kept_here m at name items import None e = rw e (AreAmong-nothing (namespaces_of (entry_at (bound_in m at name items import) at name)))
-kept_here m at name items import (Some v) e =
-    AreAmong-by (ap namespaces_of (sym (entry_at-pushed m at name items (pushing import) v (no_glob import) e))) (kept_after_push (entry_at m at name) (items_by (pushing import) items))
+kept_here : (m : Map) (at : ℕ) (name : List ℕ) (items : PerNs) (source : Option ImportSource) (o : Option ModuleValue) → module_at m at ≡ o
+    → AreAmong (namespaces_of (entry_at m at name)) (namespaces_of (entry_at (bound_in m at name items source) at name))
+kept_here m at name items source None e = rw e (AreAmong-nothing (namespaces_of (entry_at (bound_in m at name items source) at name)))
+kept_here m at name items source (Some v) e =
+    AreAmong-by (ap namespaces_of (sym (entry_at-pushed m at name items (pushing source) v (no_glob source) e))) (kept_after_push (entry_at m at name) (items_by (pushing source) items))
 
-pub kept-bound_in : (m : Map) (at : ℕ) (name : List ℕ) (items : PerNs) (import : Option ImportId) (k : ℕ) (other : List ℕ)
-    → AreAmong (namespaces_of (entry_at m k other)) (namespaces_of (entry_at (bound_in m at name items import) k other))
-kept-bound_in m at name items import k other = elim (number_same_or_not k at) [
-  | inr ne ↦ AreAmong-by (ap namespaces_of (sym (entry_at-pushed_elsewhere m no_globs at name other items (pushing import) k ne))) (AreAmong-same (namespaces_of (entry_at m k other)))
+pub kept-bound_in : (m : Map) (at : ℕ) (name : List ℕ) (items : PerNs) (source : Option ImportSource) (k : ℕ) (other : List ℕ)
+    → AreAmong (namespaces_of (entry_at m k other)) (namespaces_of (entry_at (bound_in m at name items source) k other))
+kept-bound_in m at name items source k other = elim (number_same_or_not k at) [
+  | inr ne ↦ AreAmong-by (ap namespaces_of (sym (entry_at-pushed_elsewhere m no_globs at name other items (pushing source) k ne))) (AreAmong-same (namespaces_of (entry_at m k other)))
   | inl here ↦ elim (same_or_not (slice_cmp nat_cmp other name) other name refl) [
-    | inr ne ↦ AreAmong-by (ap namespaces_of (sym (entry_at-pushed_other m no_globs at name other items (pushing import) k ne))) (AreAmong-same (namespaces_of (entry_at m k other)))
+    | inr ne ↦ AreAmong-by (ap namespaces_of (sym (entry_at-pushed_other m no_globs at name other items (pushing source) k ne))) (AreAmong-same (namespaces_of (entry_at m k other)))
     | inl same ↦
-        let P : ℕ → Type 0 = λ j. AreAmong (namespaces_of (entry_at m j other)) (namespaces_of (entry_at (bound_in m at name items import) j other)) in
-        let Q : List ℕ → Type 0 = λ n. AreAmong (namespaces_of (entry_at m at n)) (namespaces_of (entry_at (bound_in m at name items import) at n)) in
-        subst P (sym here) (subst Q (sym same) (kept_here m at name items import (module_at m at) refl))
+        let P : ℕ → Type 0 = λ j. AreAmong (namespaces_of (entry_at m j other)) (namespaces_of (entry_at (bound_in m at name items source) j other)) in
+        let Q : List ℕ → Type 0 = λ n. AreAmong (namespaces_of (entry_at m at n)) (namespaces_of (entry_at (bound_in m at name items source) at n)) in
+        subst P (sym here) (subst Q (sym same) (kept_here m at name items source (module_at m at) refl))
   ]
 ]
 
@@ -138,28 +140,28 @@ length-one_more : (ms : List ModuleValue) (m : ModuleValue) → length (ms ++ m 
 length-one_more [] m = refl
 length-one_more (x ∷ xs) m = ap suc (length-one_more xs m)
 
-pub length-bound_in : (m : Map) (at : ℕ) (name : List ℕ) (items : PerNs) (import : Option ImportId)
-    → length (bound_in m at name items import).modules ≡ length m.modules
-length-bound_in m at name items import = length-changed_at m.modules at _
+pub length-bound_in : (m : Map) (at : ℕ) (name : List ℕ) (items : PerNs) (source : Option ImportSource)
+    → length (bound_in m at name items source).modules ≡ length m.modules
+length-bound_in m at name items source = length-changed_at m.modules at _
 
 pub length-with_module : (m : Map) (at : ℕ) (name : List ℕ) (new : ModuleValue) → length (with_module m at name new).modules ≡ suc (length m.modules)
 length-with_module m at name new = length-one_more (changed_at m.modules at _) _ ∙ ap suc (length-changed_at m.modules at _)
 
 -- ---- what a taking leaves bound
 
-pub namespaces_of-imported : (finished : Maps) (m : Map) (own : Visibility) (items : PerNs) → namespaces_of (imported finished m own items) ≡ namespaces_of items
-namespaces_of-imported finished m own items =
-    rw (some_offered (brought finished m own) items.types, some_offered (brought finished m own) items.values, some_offered (brought finished m own) items.macros) refl
+pub namespaces_of-imported : (finished : Maps) (m : Map) (own : Visibility) (alone : Bool) (items : PerNs) → namespaces_of (imported finished m own alone items) ≡ namespaces_of items
+namespaces_of-imported finished m own alone items =
+    rw (some_offered (brought_type finished m own alone) items.types, some_offered (brought finished m own) items.values, some_offered (brought finished m own) items.macros) refl
 
-pub kept-bound_as : (m : Map) (at : ℕ) (name : Option (List ℕ)) (items : PerNs) (import : ImportId) (k : ℕ) (other : List ℕ)
-    → AreAmong (namespaces_of (entry_at m k other)) (namespaces_of (entry_at (bound_as m at name items import) k other))
-kept-bound_as m at None items import k other = AreAmong-same (namespaces_of (entry_at m k other))
-kept-bound_as m at (Some name) items import k other = kept-bound_in m at name items (Some import) k other
+pub kept-bound_as : (m : Map) (at : ℕ) (name : Option (List ℕ)) (items : PerNs) (source : ImportSource) (k : ℕ) (other : List ℕ)
+    → AreAmong (namespaces_of (entry_at m k other)) (namespaces_of (entry_at (bound_as m at name items source) k other))
+kept-bound_as m at None items source k other = AreAmong-same (namespaces_of (entry_at m k other))
+kept-bound_as m at (Some name) items source k other = kept-bound_in m at name items (Some source) k other
 
-pub length-bound_as : (m : Map) (at : ℕ) (name : Option (List ℕ)) (items : PerNs) (import : ImportId)
-    → length (bound_as m at name items import).modules ≡ length m.modules
-length-bound_as m at None items import = refl
-length-bound_as m at (Some name) items import = length-bound_in m at name items (Some import)
+pub length-bound_as : (m : Map) (at : ℕ) (name : Option (List ℕ)) (items : PerNs) (source : ImportSource)
+    → length (bound_as m at name items source).modules ≡ length m.modules
+length-bound_as m at None items source = refl
+length-bound_as m at (Some name) items source = length-bound_in m at name items (Some source)
 
 there : (ms : List ModuleValue) (at : ℕ) → at < length ms → (m : ModuleValue) × (slice_get ms at ≡ Some m)
 there [] at h = absurd (omega arith)
@@ -167,11 +169,11 @@ there (m ∷ ms) zero h = (m, refl)
 there (m ∷ ms) (suc at) h = there ms at (omega arith)
 
 -- what is offered is bound
-pub taken-bound_in : (m : Map) (at : ℕ) (name : List ℕ) (items : PerNs) (import : Option ImportId) → at < length m.modules
-    → AreAmong (namespaces_of items) (namespaces_of (entry_at (bound_in m at name items import) at name))
-taken-bound_in m at name items import h =
+pub taken-bound_in : (m : Map) (at : ℕ) (name : List ℕ) (items : PerNs) (source : Option ImportSource) → at < length m.modules
+    → AreAmong (namespaces_of items) (namespaces_of (entry_at (bound_in m at name items source) at name))
+taken-bound_in m at name items source h =
     let v = there m.modules at h in
-    let offered : PerNs = items_by (pushing import) items in
-    let among : AreAmong (namespaces_of offered) (namespaces_of (entry_at (bound_in m at name items import) at name)) =
-    AreAmong-by (ap namespaces_of (sym (entry_at-pushed m at name items (pushing import) v.0 (no_glob import) v.1))) (taken_after_push (entry_at m at name) offered) in
-    subst (λ (x : Namespaces). AreAmong x (namespaces_of (entry_at (bound_in m at name items import) at name))) (namespaces_of-items_by (pushing import) items) among
+    let offered : PerNs = items_by (pushing source) items in
+    let among : AreAmong (namespaces_of offered) (namespaces_of (entry_at (bound_in m at name items source) at name)) =
+    AreAmong-by (ap namespaces_of (sym (entry_at-pushed m at name items (pushing source) v.0 (no_glob source) v.1))) (taken_after_push (entry_at m at name) offered) in
+    subst (λ (x : Namespaces). AreAmong x (namespaces_of (entry_at (bound_in m at name items source) at name))) (namespaces_of-items_by (pushing source) items) among

@@ -1,9 +1,9 @@
 -- Imports that were never taken, one after another.
 use Rattle.std.proofs.Common.{◌≡◌, ◌∙◌, ℕ, zero, suc, ◌+◌, ◌<◌, List, [], ◌∷◌, length, drop, get_or, slice_get, Option, Some, None, cond, refl, sym, ap, ◌++◌, append_assoc, Bool, true, false, add-one}
 use Rattle.hir_scope.specs.declared.imports.ImportOrExternCrate.{ImportOrExternCrate}
-use Rattle.hir_scope.specs.declared.imports.ImportOrExternCrate.TheVariants as ways
 use Rattle.hir_def_collector.specs.declared.collector.imports.ReachedImport.{ReachedImport}
 use Rattle.hir_def_collector.specs.declared.collector.imports.Taken.{Taken}
+use Rattle.hir_def_collector.specs.Imports.{way_of}
 use Rattle.hir_def_collector.specs.Derivation.{leftover_among, is_untaken}
 use Rattle.hir_def_collector.proofs.Lists.{drop_at, drop_some, drop_none}
 
@@ -21,11 +21,11 @@ drop-empty (suc i) (t ∷ ts) e = drop-empty i ts e
 -- the import at a place, if it was never taken, and those from there on
 pub leftover_step : (rs : List ReachedImport) (ts : List Taken) (i : ℕ) (r : ReachedImport) → i < length rs → r ≡ get_or rs i r
     → leftover_among (drop i rs) (drop i ts)
-    ≡ cond (is_untaken (slice_get ts i)) (ways.Import r.id ∷ leftover_among (drop (i + 1) rs) (drop (i + 1) ts)) (leftover_among (drop (i + 1) rs) (drop (i + 1) ts))
+    ≡ cond (is_untaken (slice_get ts i)) (way_of r.source ∷ leftover_among (drop (i + 1) rs) (drop (i + 1) ts)) (leftover_among (drop (i + 1) rs) (drop (i + 1) ts))
 leftover_step rs ts i r h e = rw (drop_at rs i r h e, add-one) (go (slice_get ts i) refl)
   where
     go : (o : Option Taken) → slice_get ts i ≡ o → leftover_among (r ∷ drop (suc i) rs) (drop i ts)
-        ≡ cond (is_untaken o) (ways.Import r.id ∷ leftover_among (drop (suc i) rs) (drop (suc i) ts)) (leftover_among (drop (suc i) rs) (drop (suc i) ts))
+        ≡ cond (is_untaken o) (way_of r.source ∷ leftover_among (drop (suc i) rs) (drop (suc i) ts)) (leftover_among (drop (suc i) rs) (drop (suc i) ts))
     go None f =
         let none : drop i ts ≡ [] = drop_none ts i f in
         let after : drop (suc i) ts ≡ [] = drop-empty i ts none in
@@ -36,11 +36,11 @@ module _ (out : List ImportOrExternCrate) (rs : List ReachedImport) (ts : List T
   -- an import that was never taken is left over
   pub untaken_next : i < length rs → r ≡ get_or rs i r → is_untaken (slice_get ts i) ≡ true
       → out ++ leftover_among (drop i rs) (drop i ts) ≡ leftover_among rs ts
-      → (out ++ ways.Import r.id ∷ []) ++ leftover_among (drop (i + 1) rs) (drop (i + 1) ts) ≡ leftover_among rs ts
+      → (out ++ way_of r.source ∷ []) ++ leftover_among (drop (i + 1) rs) (drop (i + 1) ts) ≡ leftover_among rs ts
   untaken_next h e is before =
       let rest = leftover_among (drop (i + 1) rs) (drop (i + 1) ts) in
-      let step : leftover_among (drop i rs) (drop i ts) ≡ ways.Import r.id ∷ rest = leftover_step rs ts i r h e ∙ ap (λ (b : Bool). cond b (ways.Import r.id ∷ rest) rest) is in
-      append_assoc out (ways.Import r.id ∷ []) rest ∙ ap (λ (ids : List ImportOrExternCrate). out ++ ids) (sym step) ∙ before
+      let step : leftover_among (drop i rs) (drop i ts) ≡ way_of r.source ∷ rest = leftover_step rs ts i r h e ∙ ap (λ (b : Bool). cond b (way_of r.source ∷ rest) rest) is in
+      append_assoc out (way_of r.source ∷ []) rest ∙ ap (λ (ids : List ImportOrExternCrate). out ++ ids) (sym step) ∙ before
 
   -- one that was taken isn't
   pub taken_next : i < length rs → r ≡ get_or rs i r → is_untaken (slice_get ts i) ≡ false
@@ -48,5 +48,5 @@ module _ (out : List ImportOrExternCrate) (rs : List ReachedImport) (ts : List T
       → out ++ leftover_among (drop (i + 1) rs) (drop (i + 1) ts) ≡ leftover_among rs ts
   taken_next h e is before =
       let rest = leftover_among (drop (i + 1) rs) (drop (i + 1) ts) in
-      let step : leftover_among (drop i rs) (drop i ts) ≡ rest = leftover_step rs ts i r h e ∙ ap (λ (b : Bool). cond b (ways.Import r.id ∷ rest) rest) is in
+      let step : leftover_among (drop i rs) (drop i ts) ≡ rest = leftover_step rs ts i r h e ∙ ap (λ (b : Bool). cond b (way_of r.source ∷ rest) rest) is in
       ap (λ (ids : List ImportOrExternCrate). out ++ ids) (sym step) ∙ before

@@ -1,6 +1,7 @@
 pub mod Lists
 pub mod Bound
 pub mod Kept
+pub mod Declared
 pub mod Grows
 pub mod Moves
 pub mod Settled
@@ -8,8 +9,11 @@ pub mod Leftovers
 pub mod Holds
 pub mod Digits
 pub mod Stays
+pub mod Asks
 pub mod Asked
 pub mod Derived
 pub mod Walked
 pub mod Reached
+pub mod LastVariants
+pub mod WholeEnums
 pub mod Whole

@@ -3,7 +3,7 @@ use Rattle.std.proofs.Common.{◌≡◌, ◌+◌, ◌≤◌, Bool, true, false, 
 use Rattle.hir_def_map.specs.State.{Maps}
 use Rattle.hir_def_collector.specs.Workspace.{Workspace}
 use Rattle.hir_def_collector.specs.State.{State}
-use Rattle.hir_def_collector.specs.Steps.{Step, Steps, none, more, drops_item, passes_over, declares_item, lists_constant, lists_impl, opens_module, enters_block, reaches_imports, takes_import}
+use Rattle.hir_def_collector.specs.Steps.{Step, Steps, none, more, drops_item, passes_over, declares_item, declares_enum, lists_constant, lists_impl, opens_module, enters_block, reaches_imports, reaches_crate, takes_import}
 use Rattle.hir_def_collector.specs.Derivation.{IsSpent}
 use Rattle.hir_def_collector.specs.Moves.{Moves}
 
@@ -12,11 +12,13 @@ pub count-Step : {w : Workspace} {finished : Maps} {old new : State} → Step w 
 count-Step (drops_item v rest next off is) = ap (λ (s : State). s.count) is
 count-Step (passes_over site head l rest next pass is) = ap (λ (s : State). s.count) is
 count-Step (declares_item v d rest next declares is) = ap (λ (s : State). s.count) is
+count-Step (declares_enum site head name rest next is) = ap (λ (s : State). s.count) is
 count-Step (lists_constant site head rest next is) = ap (λ (s : State). s.count) is
 count-Step (lists_impl site head of_trait rest next is) = ap (λ (s : State). s.count) is
 count-Step (opens_module site head name items rest next is) = ap (λ (s : State). s.count) is
 count-Step (enters_block site head items rest next is) = ap (λ (s : State). s.count) is
 count-Step (reaches_imports site head tree rest next is) = ap (λ (s : State). s.count) is
+count-Step (reaches_crate site head name alias rest next is) = ap (λ (s : State). s.count) is
 count-Step (takes_import i r t can is) = ap (λ (s : State). s.count) is
 
 -- the steps to a state, and those from there on

@@ -86,7 +86,7 @@ pub record IsDue (finished : Maps) (c : Core) (i : ℕ) (taking : Taking) : Type
     home = r.home;
     name = name_of r;
     items = offered_by finished c.local c.map r;
-    import = r.id;
+    source = r.source;
     taken = taken_after t (answer_to finished c.local c.map r);
   }
 
@@ -99,12 +99,12 @@ due_at {finished} c i taking (Some r) (Some t) e f h =
     record { r = r; t = t; at = e; before = f; gains = d.0; is = sym d.1 }
 
 same_step : {w : Workspace} {finished : Maps} (c new : Core) (i : ℕ) (taking : Taking) → IsDue finished c i taking
-    → new ≡ counted (with_taken (with_map c (bound_as c.map taking.home taking.name taking.items taking.import)) i taking.taken)
+    → new ≡ counted (with_taken (with_map c (bound_as c.map taking.home taking.name taking.items taking.source)) i taking.taken)
     → Step w finished (at_rest c) (at_rest new)
 same_step c new i taking d is = takes_import i d.r d.t (record { import = d.at; before = d.before; gains = d.gains }) (rw (is, d.is) refl)
 
 -- the taking of an import is a step
 pub takes : {w : Workspace} {finished : Maps} (c new : Core) (i : ℕ) (taking : Taking) → taking_at finished c i ≡ Some taking
-    → new ≡ counted (with_taken (with_map c (bound_as c.map taking.home taking.name taking.items taking.import)) i taking.taken)
+    → new ≡ counted (with_taken (with_map c (bound_as c.map taking.home taking.name taking.items taking.source)) i taking.taken)
     → Step w finished (at_rest c) (at_rest new)
 takes c new i taking h is = same_step c new i taking (due_at c i taking (slice_get c.reached i) (slice_get c.taken i) refl refl h) is

@@ -8,19 +8,15 @@ use Rattle.hir_item_tree.specs.ItemTree.{Tree, empty_tree}
 use Rattle.hir_item_tree.specs.Kinds.{item_head}
 use Rattle.hir_item_tree.specs.KeptForest.{Head, Leaf, KeptItem, KeptForest, leaf, all_items, no_items}
 use Rattle.hir_item_tree.specs.Rows.{Content, numbers_of, items_at, item_of, and_found}
-use Rattle.hir_item_tree.specs.declared.raw_visibility.RawVisibility.{RawVisibility}
 use Rattle.hir_item_tree.specs.declared.rows.ModItemId.{ModItemId}
 use Rattle.hir_base.specs.declared.ids.Crate.{Crate}
-use Rattle.hir_base.specs.declared.ids.ModuleId.{ModuleId}
-use Rattle.hir_scope.specs.Visibility.{visibility_of}
-use Rattle.hir_scope.specs.declared.visibility.Visibility.{Visibility}
-use Rattle.hir_def_map.specs.State.{Map, Maps}
+use Rattle.hir_def_map.specs.State.{Maps}
 use Rattle.hir_def_collector.specs.declared.collector.Start.{Start}
 use Rattle.hir_def_collector.specs.declared.source_database.Dependency.{Dependency}
 use Rattle.hir_def_collector.specs.declared.collector.site.Site.{Site}
 use Rattle.hir_def_collector.specs.Workspace.{Workspace}
 use Rattle.hir_def_collector.specs.State.{Visit, State, Core, at_rest, joined, visits, counted}
-use Rattle.hir_def_collector.specs.Items.{meet_of, lesser_in, is_passed_over}
+use Rattle.hir_def_collector.specs.Items.{is_passed_over}
 use Rattle.hir_def_collector.specs.Start.{core_of, root_site, root_tree, start_by, tree_visits}
 use Rattle.hir_def_collector.specs.Steps.{Steps, none, drops_item, passes_over, visit}
 use Rattle.hir_def_collector.specs.TreeReads.{visits_at, above}
@@ -33,17 +29,6 @@ use Rattle.hir_def_collector.proofs.Grows.{Grows-Step, Grows-Steps}
 -- a workspace without crates and sources
 abbrev pub no_workspace : Workspace
 no_workspace = record { crates = []; tree = λ krate file. record { present = false; tree = empty_tree }; variants = λ id. None }
-
--- a meet goes on from the lesser of the next
-pub meet_next : (finished : Maps) (m : Map) (at : ModuleId) (least next : Visibility) (raws : List RawVisibility) (i : ℕ) (raw : RawVisibility) → i < length raws → raw ≡ get_or raws i raw
-    → lesser_in finished m least (visibility_of at raw) ≡ Some next
-    → meet_of finished m least (map (visibility_of at) (drop i raws)) ≡ meet_of finished m next (map (visibility_of at) (drop (i + 1) raws))
-meet_next finished m at least next raws i raw h e found = rw (drop_at raws i raw h e, found) refl
-
--- and ends where there is none
-pub meet_stop : (finished : Maps) (m : Map) (at : ModuleId) (least : Visibility) (raws : List RawVisibility) (i : ℕ) (raw : RawVisibility) → i < length raws → raw ≡ get_or raws i raw
-    → lesser_in finished m least (visibility_of at raw) ≡ None → meet_of finished m least (map (visibility_of at) (drop i raws)) ≡ None
-meet_stop finished m at least raws i raw h e found = rw (drop_at raws i raw h e, found) refl
 
 -- ---- numbers
 
@@ -103,44 +88,44 @@ module _ (tree : Tree) (site : Site) where
       drop_past (x ∷ xs) zero h = absurd (omega arith)
       drop_past (x ∷ xs) (suc i) h = drop_past xs i (omega arith)
 
-  module _ (finished : Maps) (ids : List ModItemId) (old : Core) where
+  module _ (w : Workspace) (finished : Maps) (ids : List ModItemId) (old : Core) where
     -- steps through those before a place
     pub record WalksTo (c : Core) (i : ℕ) : Type 0 where
-      pub steps : (w : Workspace) (rest : List Visit) → Steps w finished (joined old (visits_at tree site (numbers_of ids) ++ rest)) (joined c (visits_at tree site (numbers_of (drop i ids)) ++ rest))
+      pub steps : (rest : List Visit) → Steps w finished (joined old (visits_at tree site (numbers_of ids) ++ rest)) (joined c (visits_at tree site (numbers_of (drop i ids)) ++ rest))
 
     pub WalksTo-none : WalksTo old 0
-    WalksTo-none = record { steps = λ w rest. none }
+    WalksTo-none = record { steps = λ rest. none }
 
-    steps_to : (c : Core) (i : ℕ) (x : ModItemId) → i < length ids → x ≡ get_or ids i x → WalksTo c i → (w : Workspace) (rest : List Visit)
+    steps_to : (c : Core) (i : ℕ) (x : ModItemId) → i < length ids → x ≡ get_or ids i x → WalksTo c i → (rest : List Visit)
         → Steps w finished (joined old (visits_at tree site (numbers_of ids) ++ rest)) (joined c (visits_at tree site (x.0 ∷ []) ++ (visits_at tree site (numbers_of (drop (i + 1) ids)) ++ rest)))
-    steps_to c i x h e before w rest =
-        subst (λ (agenda : List Visit). Steps w finished (joined old (visits_at tree site (numbers_of ids) ++ rest)) (joined c agenda)) (left_next ids i x rest h e) (before.steps w rest)
+    steps_to c i x h e before rest =
+        subst (λ (agenda : List Visit). Steps w finished (joined old (visits_at tree site (numbers_of ids) ++ rest)) (joined c agenda)) (left_next ids i x rest h e) (before.steps rest)
 
-    pub WalksTo-next : (c d : Core) (i : ℕ) (x : ModItemId) → i < length ids → x ≡ get_or ids i x → WalksTo c i → Walks finished c d (visits_at tree site (x.0 ∷ [])) → WalksTo d (i + 1)
+    pub WalksTo-next : (c d : Core) (i : ℕ) (x : ModItemId) → i < length ids → x ≡ get_or ids i x → WalksTo c i → Walks w finished c d (visits_at tree site (x.0 ∷ [])) → WalksTo d (i + 1)
     WalksTo-next c d i x h e before step = record {
-      steps = λ w rest. Steps-append (steps_to c i x h e before w rest) (step.steps w (visits_at tree site (numbers_of (drop (i + 1) ids)) ++ rest));
+      steps = λ rest. Steps-append (steps_to c i x h e before rest) (step.steps (visits_at tree site (numbers_of (drop (i + 1) ids)) ++ rest));
     }
 
-    pub Walks-all : (c : Core) (i : ℕ) → length ids ≤ i → WalksTo c i → Walks finished old c (visits_at tree site (numbers_of ids))
+    pub Walks-all : (c : Core) (i : ℕ) → length ids ≤ i → WalksTo c i → Walks w finished old c (visits_at tree site (numbers_of ids))
     Walks-all c i h before = record {
-      steps = λ w rest.
-          subst (λ (vs : List Visit). Steps w finished (joined old (visits_at tree site (numbers_of ids) ++ rest)) (joined c (vs ++ rest))) (left_past ids i h) (before.steps w rest);
+      steps = λ rest.
+          subst (λ (vs : List Visit). Steps w finished (joined old (visits_at tree site (numbers_of ids) ++ rest)) (joined c (vs ++ rest))) (left_past ids i h) (before.steps rest);
     }
 
-    pub WalksTooFar-next : (c : Core) (i : ℕ) (x : ModItemId) → i < length ids → x ≡ get_or ids i x → WalksTo c i → WalksTooFar finished c (visits_at tree site (x.0 ∷ []))
-        → WalksTooFar finished old (visits_at tree site (numbers_of ids))
+    pub WalksTooFar-next : (c : Core) (i : ℕ) (x : ModItemId) → i < length ids → x ≡ get_or ids i x → WalksTo c i → WalksTooFar w finished c (visits_at tree site (x.0 ∷ []))
+        → WalksTooFar w finished old (visits_at tree site (numbers_of ids))
     WalksTooFar-next c i x h e before far = record {
-      spent = λ w rest. spent_after (steps_to c i x h e before w rest) (far.spent w (visits_at tree site (numbers_of (drop (i + 1) ids)) ++ rest));
+      spent = λ rest. spent_after (steps_to c i x h e before rest) (far.spent (visits_at tree site (numbers_of (drop (i + 1) ids)) ++ rest));
     }
 
 -- steps take no module away
-pub longer_after : {finished : Maps} (old new : Core) (vs : List Visit) → Walks finished old new vs → length old.map.modules ≤ length new.map.modules
-longer_after old new vs walks = (Grows-Steps (walks.steps no_workspace [])).longer
+pub longer_after : {w : Workspace} {finished : Maps} (old new : Core) (vs : List Visit) → Walks w finished old new vs → length old.map.modules ≤ length new.map.modules
+longer_after old new vs walks = (Grows-Steps (walks.steps [])).longer
 
 -- nor does one step
-pub still_there : {finished : Maps} (old new : Core) (v : Visit) (inside : List Visit) (n : ℕ) → Handles finished old new v inside → n < length old.map.modules → n < length new.map.modules
+pub still_there : {w : Workspace} {finished : Maps} (old new : Core) (v : Visit) (inside : List Visit) (n : ℕ) → Handles w finished old new v inside → n < length old.map.modules → n < length new.map.modules
 still_there old new v inside n handles h =
-    let longer : length old.map.modules ≤ length new.map.modules = (Grows-Step (handles.step no_workspace [])).longer in
+    let longer : length old.map.modules ≤ length new.map.modules = (Grows-Step (handles.step [])).longer in
     omega arith
 
 pub still_there-counted : (old new : Core) (n : ℕ) → new ≡ counted old → n < length old.map.modules → n < length new.map.modules
@@ -170,43 +155,43 @@ module _ (tree : Tree) (site : Site) (n : ℕ) (h : Head) (c : Content) where
       ap (λ (o : Option KeptItem). visits site (and_found o no_items)) i.1 ∙ ap (λ (x : KeptItem). visit site x ∷ []) (sym whole)
 
 -- a step handles the item, and then those inside are walked
-pub Walks-first : {finished : Maps} (old mid new : Core) (v : Visit) (vs inside : List Visit) → vs ≡ v ∷ [] → Handles finished old mid v inside → Walks finished mid new inside → Walks finished old new vs
-Walks-first {finished} old mid new v vs inside e handles walks = record {
-  steps = λ w rest.
+pub Walks-first : {w : Workspace} {finished : Maps} (old mid new : Core) (v : Visit) (vs inside : List Visit) → vs ≡ v ∷ [] → Handles w finished old mid v inside → Walks w finished mid new inside → Walks w finished old new vs
+Walks-first {w} {finished} old mid new v vs inside e handles walks = record {
+  steps = λ rest.
       subst (λ (us : List Visit). Steps w finished (joined old (us ++ rest)) (joined new rest)) (sym e)
-      (Steps-first (handles.step w rest) (walks.steps w rest));
+      (Steps-first (handles.step rest) (walks.steps rest));
 }
 
 -- steps through those inside lead too far
-pub WalksTooFar-inside : {finished : Maps} (old mid : Core) (v : Visit) (vs inside : List Visit) → vs ≡ v ∷ [] → Handles finished old mid v inside → WalksTooFar finished mid inside → WalksTooFar finished old vs
-WalksTooFar-inside {finished} old mid v vs inside e handles far = record {
-  spent = λ w rest.
+pub WalksTooFar-inside : {w : Workspace} {finished : Maps} (old mid : Core) (v : Visit) (vs inside : List Visit) → vs ≡ v ∷ [] → Handles w finished old mid v inside → WalksTooFar w finished mid inside → WalksTooFar w finished old vs
+WalksTooFar-inside {w} {finished} old mid v vs inside e handles far = record {
+  spent = λ rest.
       subst (λ (us : List Visit). IsSpent w finished (joined old (us ++ rest))) (sym e)
-      (spent_after (Steps-one (handles.step w rest)) (far.spent w rest));
+      (spent_after (Steps-one (handles.step rest)) (far.spent rest));
 }
 
 -- as many as are counted were taken already
-pub WalksTooFar-here : {finished : Maps} (old : Core) (vs : List Visit) → IsFull old.count old.map → WalksTooFar finished old vs
-WalksTooFar-here old vs full = record { spent = λ w rest. record { at = joined old (vs ++ rest); steps = none; full = full } }
+pub WalksTooFar-here : {w : Workspace} {finished : Maps} (old : Core) (vs : List Visit) → IsFull old.count old.map → WalksTooFar w finished old vs
+WalksTooFar-here old vs full = record { spent = λ rest. record { at = joined old (vs ++ rest); steps = none; full = full } }
 
 -- an item of which the rules don't speak yet is passed over
-pub passed : {finished : Maps} (site : Site) (h : Head) (l : Leaf) (old new : Core) → is_enabled h.attributes ≡ true → is_passed_over l ≡ true → new ≡ counted old
-    → Handles finished old new (visit site (leaf h l)) []
+pub passed : {w : Workspace} {finished : Maps} (site : Site) (h : Head) (l : Leaf) (old new : Core) → is_enabled h.attributes ≡ true → is_passed_over l ≡ true → new ≡ counted old
+    → Handles w finished old new (visit site (leaf h l)) []
 passed site h l old new enabled over is = record {
-  step = λ w rest. passes_over site h l rest (record { next = refl; enabled = enabled }) over (rw is refl);
+  step = λ rest. passes_over site h l rest (record { next = refl; enabled = enabled }) over (rw is refl);
 }
 
 -- a disabled item is dropped
-pub Walks-dropped : {finished : Maps} (tree : Tree) (site : Site) (n : ℕ) (h : Head) (old new : Core) → n < length (all_items tree.items) → IfSome (slice_get (all_items tree.items) n) (λ i. h ≡ item_head i)
-    → is_enabled h.attributes ≡ false → new ≡ counted old → Walks finished old new (visits_at tree site (n ∷ []))
-Walks-dropped {finished} tree site n h old new there head disabled is =
+pub Walks-dropped : {w : Workspace} {finished : Maps} (tree : Tree) (site : Site) (n : ℕ) (h : Head) (old new : Core) → n < length (all_items tree.items) → IfSome (slice_get (all_items tree.items) n) (λ i. h ≡ item_head i)
+    → is_enabled h.attributes ≡ false → new ≡ counted old → Walks w finished old new (visits_at tree site (n ∷ []))
+Walks-dropped {w} {finished} tree site n h old new there head disabled is =
     let items = all_items tree.items in
     let i = there_at items n there in
     let same_head : h ≡ item_head i.0 = found (slice_get items n) i.0 (λ i. h ≡ item_head i) i.1 head in
     let off : is_enabled (item_head i.0).attributes ≡ false = ap (λ (g : Head). is_enabled g.attributes) (sym same_head) ∙ disabled in
     let one : visits_at tree site (n ∷ []) ≡ visit site i.0 ∷ [] = ap (λ (o : Option KeptItem). visits site (and_found o no_items)) i.1 in
     record {
-      steps = λ w rest.
+      steps = λ rest.
           subst (λ (us : List Visit). Steps w finished (joined old (us ++ rest)) (joined new rest)) (sym one)
           (Steps-one (drops_item (visit site i.0) rest refl off (rw is refl)));
     }
@@ -223,21 +208,21 @@ disabled_visits site tree e = rw e refl
 enabled_visits : (site : Site) (tree : Tree) → is_enabled tree.attributes ≡ true → tree_visits site tree ≡ visits site tree.items
 enabled_visits site tree e = rw e refl
 
-module _ (finished : Maps) (site : Site) (tree : Tree) (old : Core) where
+module _ (w : Workspace) (finished : Maps) (site : Site) (tree : Tree) (old : Core) where
   -- of a tree that is disabled at its top nothing is visited
-  pub walks_disabled : (w : Workspace) → is_enabled tree.attributes ≡ false → Steps w finished (joined old (tree_visits site tree)) (at_rest old)
-  walks_disabled w disabled = subst (λ (vs : List Visit). Steps w finished (joined old vs) (at_rest old)) (sym (disabled_visits site tree disabled)) none
+  pub walks_disabled : is_enabled tree.attributes ≡ false → Steps w finished (joined old (tree_visits site tree)) (at_rest old)
+  walks_disabled disabled = subst (λ (vs : List Visit). Steps w finished (joined old vs) (at_rest old)) (sym (disabled_visits site tree disabled)) none
 
   -- of another its items are
   module _ (ids : List ModItemId) (enabled : is_enabled tree.attributes ≡ true) (all : items_at (all_items tree.items) (numbers_of ids) ≡ tree.items) where
     present_visits : visits_at tree site (numbers_of ids) ++ [] ≡ tree_visits site tree
     present_visits = append_nil (visits_at tree site (numbers_of ids)) ∙ ap (visits site) all ∙ sym (enabled_visits site tree enabled)
 
-    pub walks_present : (new : Core) → Walks finished old new (visits_at tree site (numbers_of ids)) → (w : Workspace) → Steps w finished (joined old (tree_visits site tree)) (at_rest new)
-    walks_present new walks w = subst (λ (vs : List Visit). Steps w finished (joined old vs) (at_rest new)) present_visits (walks.steps w [])
+    pub walks_present : (new : Core) → Walks w finished old new (visits_at tree site (numbers_of ids)) → Steps w finished (joined old (tree_visits site tree)) (at_rest new)
+    walks_present new walks = subst (λ (vs : List Visit). Steps w finished (joined old vs) (at_rest new)) present_visits (walks.steps [])
 
-    pub spent_present : WalksTooFar finished old (visits_at tree site (numbers_of ids)) → (w : Workspace) → IsSpent w finished (joined old (tree_visits site tree))
-    spent_present far w = subst (λ (vs : List Visit). IsSpent w finished (joined old vs)) present_visits (far.spent w [])
+    pub spent_present : WalksTooFar w finished old (visits_at tree site (numbers_of ids)) → IsSpent w finished (joined old (tree_visits site tree))
+    spent_present far = subst (λ (vs : List Visit). IsSpent w finished (joined old vs)) present_visits (far.spent [])
 
 -- a run whose root file has this tree begins so
 pub began : (w : Workspace) (finished : Maps) (start : Start) (dependencies : List Dependency) (behind : List Crate) (tree : Tree) (run : Core) → run ≡ core_of finished tree dependencies behind start

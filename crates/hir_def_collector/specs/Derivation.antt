@@ -1,7 +1,6 @@
 -- What a run comes to: the end of a derivation by the import rules.
 use Rattle.std.specs.Prelude.{◌≡◌, ◌≤◌, ◌⊎◌, ℕ, Bool, false, List, [], ◌∷◌, ◌++◌, length, Option, None, Some, slice_get, Contains, cond}
 use Rattle.hir_scope.specs.declared.imports.ImportOrExternCrate.{ImportOrExternCrate}
-use Rattle.hir_scope.specs.declared.imports.ImportOrExternCrate.TheVariants as ways
 use Rattle.hir_def_map.specs.Among.{among}
 use Rattle.hir_def_map.specs.State.{Local, Map, Maps, entry_at}
 use Rattle.hir_def_collector.specs.declared.collector.Start.{Start}
@@ -12,7 +11,7 @@ use Rattle.hir_def_collector.specs.declared.source_database.Key.{Key}
 use Rattle.hir_def_collector.specs.Workspace.{Workspace, behind_in}
 use Rattle.hir_def_collector.specs.Keys.{map_keys}
 use Rattle.hir_def_collector.specs.State.{State}
-use Rattle.hir_def_collector.specs.Imports.{reached_by, kept_by, namespaces_of, AreAmong, is_empty, name_of}
+use Rattle.hir_def_collector.specs.Imports.{reached_by, kept_by, namespaces_of, AreAmong, is_empty, name_of, way_of}
 use Rattle.hir_def_collector.specs.Start.{start_of}
 use Rattle.hir_def_collector.specs.Steps.{Steps}
 use Rattle.hir_def_collector.specs.Causes.{HasCause}
@@ -32,7 +31,7 @@ pub record BindsWhatItReaches (finished : Maps) (s : State) (i : ℕ) : Type 0 w
 abbrev pub leftover_among : List ReachedImport → List Taken → List ImportOrExternCrate
 leftover_among [] ts = []
 leftover_among (r ∷ rs) [] = []
-leftover_among (r ∷ rs) (t ∷ ts) = cond (is_empty t.namespaces) (ways.Import r.id ∷ leftover_among rs ts) (leftover_among rs ts)
+leftover_among (r ∷ rs) (t ∷ ts) = cond (is_empty t.namespaces) (way_of r.source ∷ leftover_among rs ts) (leftover_among rs ts)
 
 -- no taking of the import at the place reached anything
 abbrev pub is_untaken : Option Taken → Bool

@@ -2,7 +2,9 @@
 use Rattle.std.specs.Prelude.{ℕ, Option, None, Some}
 use Rattle.hir_base.specs.declared.ast_id.SyntaxId.{SyntaxId}
 use Rattle.hir_base.specs.declared.ids.ConstId.{ConstId}
+use Rattle.hir_base.specs.declared.ids.EnumId.{EnumId}
 use Rattle.hir_base.specs.declared.ids.ExternBlockId.{ExternBlockId}
+use Rattle.hir_base.specs.declared.ids.ExternCrateId.{ExternCrateId}
 use Rattle.hir_base.specs.declared.ids.FunctionId.{FunctionId}
 use Rattle.hir_base.specs.declared.ids.ImplId.{ImplId}
 use Rattle.hir_base.specs.declared.ids.ItemContainerId.{ItemContainerId}
@@ -43,12 +45,15 @@ static_id m s id = record { container = container_of m s; file_id = s.file; bloc
 abbrev pub type_alias_id : Map → Site → SyntaxId → TypeAliasId
 type_alias_id m s id = record { container = container_of m s; file_id = s.file; block = None; id = id }
 
--- the struct, union, trait, impl, extern block or `use` item of a site's module that a node writes
+-- the struct, union, enum, trait, impl, extern block, `use` item or `extern crate` of a site's module that a node writes
 abbrev pub struct_id : Map → Site → SyntaxId → StructId
 struct_id m s id = record { container = module_id m s.home; file_id = s.file; block = None; id = id }
 
 abbrev pub union_id : Map → Site → SyntaxId → UnionId
 union_id m s id = record { container = module_id m s.home; file_id = s.file; block = None; id = id }
+
+abbrev pub enum_id : Map → Site → SyntaxId → EnumId
+enum_id m s id = record { container = module_id m s.home; file_id = s.file; block = None; id = id }
 
 abbrev pub trait_id : Map → Site → SyntaxId → TraitId
 trait_id m s id = record { container = module_id m s.home; file_id = s.file; block = None; id = id }
@@ -61,3 +66,6 @@ extern_block_id m s id = record { container = module_id m s.home; file_id = s.fi
 
 abbrev pub use_id : Map → Site → SyntaxId → UseId
 use_id m s id = record { container = module_id m s.home; file_id = s.file; block = None; id = id }
+
+abbrev pub extern_crate_id : Map → Site → SyntaxId → ExternCrateId
+extern_crate_id m s id = record { container = module_id m s.home; file_id = s.file; block = None; id = id }

@@ -7,14 +7,17 @@ use Rattle.hir_base.specs.declared.ast_id.SyntaxId.{SyntaxId}
 use Rattle.hir_base.specs.declared.ids.AdtId.TheVariants as adts
 use Rattle.hir_base.specs.declared.ids.ModuleDefId.{ModuleDefId}
 use Rattle.hir_base.specs.declared.ids.ModuleDefId.TheVariants as definitions
+use Rattle.hir_base.specs.declared.ids.ModuleId.{ModuleId}
 use Rattle.hir_item_tree.specs.KeptForest.{Head, Leaf, import, extern_crate, function, structure, union_structure, enumeration, constant, static_item, trait_item, implementation, type_alias, outline_module, macro_call, macro_rules, macro_def, KeptItem, leaf, holder}
+use Rattle.hir_item_tree.specs.declared.raw_visibility.RawVisibility.{RawVisibility}
 use Rattle.hir_item_tree.specs.declared.shape.FieldsShape.{FieldsShape}
 use Rattle.hir_item_tree.specs.declared.shape.FieldsShape.TheVariants.{Record, Tuple, Unit as UnitShape}
-use Rattle.hir_scope.specs.Visibility.{visibility_of, lesser_of}
+use Rattle.hir_scope.specs.Visibility.{lesser_of}
 use Rattle.hir_scope.specs.declared.per_ns.PerNs.{PerNs}
 use Rattle.hir_scope.specs.declared.visibility.Visibility.{Visibility}
 use Rattle.hir_def_map.specs.Chains.{above_in}
-use Rattle.hir_def_map.specs.State.{Map, Maps, beside, new_id}
+use Rattle.hir_def_map.specs.State.{Local, Map, Maps, beside, new_id}
+use Rattle.hir_def_map.specs.Visibilities.{written_visibility}
 use Rattle.hir_def_map.specs.declared.nameres.origin.ModuleOrigin.{ModuleOrigin}
 use Rattle.hir_def_map.specs.declared.nameres.origin.ModuleOrigin.TheVariants as origins
 use Rattle.hir_def_collector.specs.declared.collector.declaration.Declaration.{Declaration}
@@ -47,9 +50,13 @@ declared_struct def vis (Some constructor) = record {
 
 -- ---- visibilities
 
+-- what a visibility means that is written in a module of the map beside finished ones; one whose path leads to no module counts as public
+unfoldable pub visibility_in : Maps → Local → Map → ModuleId → RawVisibility → Visibility
+visibility_in finished local m at raw = written_visibility (beside finished m) local at false raw
+
 -- the visibility of an item at a site
-abbrev pub own_visibility : Map → Site → Head → Visibility
-own_visibility m s head = visibility_of (module_id m s.home) head.visibility
+abbrev pub own_visibility : Maps → Local → Map → Site → Head → Visibility
+own_visibility finished local m s head = visibility_in finished local m (module_id m s.home) head.visibility
 
 -- the lesser of two visibilities in the map beside finished ones, none where they are unrelated
 unfoldable pub lesser_in : Maps → Map → Visibility → Visibility → Option Visibility
@@ -78,46 +85,46 @@ abbrev pub value_declaration : List ℕ → ModuleDefId → Visibility → Decla
 value_declaration name def vis = record { name = name; def = def; items = declared_value def vis }
 
 -- a struct, with the visibilities that its constructor has to meet
-abbrev pub struct_declaration : Maps → Map → Site → Head → List ℕ → FieldsShape → List Visibility → Declaration
-struct_declaration finished m s head name shape fields =
+abbrev pub struct_declaration : Maps → Local → Map → Site → Head → List ℕ → FieldsShape → List Visibility → Declaration
+struct_declaration finished local m s head name shape fields =
     let def = definitions.AdtId (adts.StructId (struct_id m s head.id)) in
-    let own = own_visibility m s head in
+    let own = own_visibility finished local m s head in
     record { name = name; def = def; items = declared_struct def own (constructor_of finished m own shape fields) }
 
--- what an item that holds no others declares under its name
-abbrev pub declared_by_leaf : Maps → Map → Site → Head → Leaf → Option Declaration
-declared_by_leaf finished m s h (import tree) = None
-declared_by_leaf finished m s h (extern_crate name alias) = None
-declared_by_leaf finished m s h (function name) =
-    Some (value_declaration name (definitions.FunctionId (function_id m s h.id)) (own_visibility m s h))
-declared_by_leaf finished m s h (structure name shape fields) =
-    Some (struct_declaration finished m s h name shape (map (visibility_of (module_id m s.home)) fields))
-declared_by_leaf finished m s h (union_structure name fields) =
-    Some (type_declaration name (definitions.AdtId (adts.UnionId (union_id m s h.id))) (own_visibility m s h))
-declared_by_leaf finished m s h (enumeration name) = None
-declared_by_leaf finished m s h (constant None) = None
-declared_by_leaf finished m s h (constant (Some name)) =
-    Some (value_declaration name (definitions.ConstId (const_id m s h.id)) (own_visibility m s h))
-declared_by_leaf finished m s h (static_item name) =
-    Some (value_declaration name (definitions.StaticId (static_id m s h.id)) (own_visibility m s h))
-declared_by_leaf finished m s h (trait_item name) =
-    Some (type_declaration name (definitions.TraitId (trait_id m s h.id)) (own_visibility m s h))
-declared_by_leaf finished m s h (implementation of_trait) = None
-declared_by_leaf finished m s h (type_alias name) =
-    Some (type_declaration name (definitions.TypeAliasId (type_alias_id m s h.id)) (own_visibility m s h))
-declared_by_leaf finished m s h (outline_module name) = None
-declared_by_leaf finished m s h (macro_call path) = None
-declared_by_leaf finished m s h (macro_rules name expander helpers) = None
-declared_by_leaf finished m s h (macro_def name expander helpers) = None
+-- what an item that holds no others declares under its name, enums aside
+abbrev pub declared_by_leaf : Maps → Local → Map → Site → Head → Leaf → Option Declaration
+declared_by_leaf finished local m s h (import tree) = None
+declared_by_leaf finished local m s h (extern_crate name alias) = None
+declared_by_leaf finished local m s h (function name) =
+    Some (value_declaration name (definitions.FunctionId (function_id m s h.id)) (own_visibility finished local m s h))
+declared_by_leaf finished local m s h (structure name shape fields) =
+    Some (struct_declaration finished local m s h name shape (map (visibility_in finished local m (module_id m s.home)) fields))
+declared_by_leaf finished local m s h (union_structure name fields) =
+    Some (type_declaration name (definitions.AdtId (adts.UnionId (union_id m s h.id))) (own_visibility finished local m s h))
+declared_by_leaf finished local m s h (enumeration name) = None
+declared_by_leaf finished local m s h (constant None) = None
+declared_by_leaf finished local m s h (constant (Some name)) =
+    Some (value_declaration name (definitions.ConstId (const_id m s h.id)) (own_visibility finished local m s h))
+declared_by_leaf finished local m s h (static_item name) =
+    Some (value_declaration name (definitions.StaticId (static_id m s h.id)) (own_visibility finished local m s h))
+declared_by_leaf finished local m s h (trait_item name) =
+    Some (type_declaration name (definitions.TraitId (trait_id m s h.id)) (own_visibility finished local m s h))
+declared_by_leaf finished local m s h (implementation of_trait) = None
+declared_by_leaf finished local m s h (type_alias name) =
+    Some (type_declaration name (definitions.TypeAliasId (type_alias_id m s h.id)) (own_visibility finished local m s h))
+declared_by_leaf finished local m s h (outline_module name) = None
+declared_by_leaf finished local m s h (macro_call path) = None
+declared_by_leaf finished local m s h (macro_rules name expander helpers) = None
+declared_by_leaf finished local m s h (macro_def name expander helpers) = None
 
--- what an item of a site declares under its name, modules aside
-abbrev pub declared_by : Maps → Map → Site → KeptItem → Option Declaration
-declared_by finished m s (leaf head l) = declared_by_leaf finished m s head l
-declared_by finished m s (holder head k items) = None
+-- what an item of a site declares under its name, modules and enums aside
+abbrev pub declared_by : Maps → Local → Map → Site → KeptItem → Option Declaration
+declared_by finished local m s (leaf head l) = declared_by_leaf finished local m s head l
+declared_by finished local m s (holder head k items) = None
 
 -- what the visited item declares
-abbrev pub declaration_of : Maps → Map → Visit → Option Declaration
-declaration_of finished m v = declared_by finished m v.site v.item
+abbrev pub declaration_of : Maps → Local → Map → Visit → Option Declaration
+declaration_of finished local m v = declared_by finished local m v.site v.item
 
 -- the origin of a module that is written where it is declared
 abbrev pub inline_origin : HirFileId → SyntaxId → ModuleOrigin
@@ -128,11 +135,11 @@ inline_origin file id = origins.Inline (record { file = file; block = None }) (r
 -- whether items of this kind are passed over
 abbrev pub is_passed_over : Leaf → Bool
 is_passed_over (import tree) = false
-is_passed_over (extern_crate name alias) = true
+is_passed_over (extern_crate name alias) = false
 is_passed_over (function name) = false
 is_passed_over (structure name shape fields) = false
 is_passed_over (union_structure name fields) = false
-is_passed_over (enumeration name) = true
+is_passed_over (enumeration name) = false
 is_passed_over (constant name) = false
 is_passed_over (static_item name) = false
 is_passed_over (trait_item name) = false

@@ -5,6 +5,7 @@ pub mod State
 pub mod Codes
 pub mod ItemIds
 pub mod Items
+pub mod Enums
 pub mod Imports
 pub mod CrateTop
 pub mod Preludes

@@ -17,17 +17,17 @@ pub record Moves (w : Workspace) (finished : Maps) (old new : State) (moved : Bo
   pub same : moved ≡ false → new ≡ old
   pub rests : moved ≡ false → P old
 
--- one step handles the visit, and these visits come next
-pub record Handles (finished : Maps) (old new : Core) (v : Visit) (inside : List Visit) : Type 0 where
-  pub step : (w : Workspace) (rest : List Visit) → Step w finished (joined old (v ∷ rest)) (joined new (inside ++ rest))
+-- one step over the workspace handles the visit, and these visits come next
+pub record Handles (w : Workspace) (finished : Maps) (old new : Core) (v : Visit) (inside : List Visit) : Type 0 where
+  pub step : (rest : List Visit) → Step w finished (joined old (v ∷ rest)) (joined new (inside ++ rest))
 
 -- steps handle the visits, one after another
-pub record Walks (finished : Maps) (old new : Core) (vs : List Visit) : Type 0 where
-  pub steps : (w : Workspace) (rest : List Visit) → Steps w finished (joined old (vs ++ rest)) (joined new rest)
+pub record Walks (w : Workspace) (finished : Maps) (old new : Core) (vs : List Visit) : Type 0 where
+  pub steps : (rest : List Visit) → Steps w finished (joined old (vs ++ rest)) (joined new rest)
 
 -- steps that handle the visits lead to as many as are counted
-pub record WalksTooFar (finished : Maps) (old : Core) (vs : List Visit) : Type 0 where
-  pub spent : (w : Workspace) (rest : List Visit) → IsSpent w finished (joined old (vs ++ rest))
+pub record WalksTooFar (w : Workspace) (finished : Maps) (old : Core) (vs : List Visit) : Type 0 where
+  pub spent : (rest : List Visit) → IsSpent w finished (joined old (vs ++ rest))
 
 -- why a run is given up where a module can't be added
 abbrev pub refusal_of : AddModuleError → CollectError

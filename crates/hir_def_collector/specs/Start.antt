@@ -43,10 +43,11 @@ abbrev pub root_map : CrateData → Start → Map
 root_map crate_data start = empty_map start.krate crate_data (new_module (origins.CrateRoot start.root) visibilities.Public None) None
 
 -- the root module, and what all modules find; its tree asked for
-abbrev pub core_by : Maps → CrateData → Local → Start → Core
-core_by finished crate_data local start = record {
+abbrev pub core_by : Maps → CrateData → Local → List Dependency → Start → Core
+core_by finished crate_data local dependencies start = record {
   map = with_prelude_module finished (root_map crate_data start) local;
   local = local;
+  dependencies = dependencies;
   reached = [];
   taken = [];
   asked = root_key start ∷ [];
@@ -56,7 +57,7 @@ core_by finished crate_data local start = record {
 -- the same of a crate with this tree at its root and these dependencies, which stands on these crates
 abbrev pub core_of : Maps → Tree → List Dependency → List Crate → Start → Core
 core_of finished tree dependencies behind start =
-    let crate_data = start_data tree behind start in core_by finished crate_data (extern_prelude crate_data [] dependencies) start
+    let crate_data = start_data tree behind start in core_by finished crate_data (extern_prelude crate_data [] dependencies) dependencies start
 
 -- the items of a tree that is written at a site; one that is disabled at its top declares nothing
 abbrev pub tree_visits : Site → Tree → List Visit

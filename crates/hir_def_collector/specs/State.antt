@@ -6,6 +6,7 @@ use Rattle.hir_def_collector.specs.declared.collector.imports.ReachedImport.{Rea
 use Rattle.hir_def_collector.specs.declared.collector.imports.Namespaces.{Namespaces}
 use Rattle.hir_def_collector.specs.declared.collector.imports.Taken.{Taken}
 use Rattle.hir_def_collector.specs.declared.collector.site.Site.{Site}
+use Rattle.hir_def_collector.specs.declared.source_database.Dependency.{Dependency}
 use Rattle.hir_def_collector.specs.declared.source_database.Key.{Key}
 
 -- an item that was come upon and not handled yet, and where it is written
@@ -19,6 +20,8 @@ pub record State : Type 0 where
   pub map : Map
   -- the crates that paths may begin with
   pub local : Local
+  -- the crates that an `extern crate` may name: those on which the crate depends, in the order in which they were handed in
+  pub dependencies : List Dependency
   -- what is still to be visited, the next item first
   pub agenda : List Visit
   -- the imports that were come upon, in order
@@ -34,6 +37,7 @@ pub record State : Type 0 where
 pub record Core : Type 0 where
   pub map : Map
   pub local : Local
+  pub dependencies : List Dependency
   pub reached : List ReachedImport
   pub taken : List Taken
   pub asked : List Key
@@ -53,17 +57,33 @@ not_taken imports = map (λ _. nothing_taken) imports
 
 -- a core and what is still to be visited
 abbrev pub joined : Core → List Visit → State
-joined c agenda = record { map = c.map; local = c.local; agenda = agenda; reached = c.reached; taken = c.taken; asked = c.asked; count = c.count }
+joined c agenda = record {
+  map = c.map;
+  local = c.local;
+  dependencies = c.dependencies;
+  agenda = agenda;
+  reached = c.reached;
+  taken = c.taken;
+  asked = c.asked;
+  count = c.count;
+}
 
--- the core with another map, with more imports, with other takings at a place, with one more step
+-- the core with another map, with other crates that paths may begin with, with more imports, with other takings at a place, with one more step
 abbrev pub with_map : Core → Map → Core
 with_map c m = record c { map = m }
+
+abbrev pub with_local : Core → Local → Core
+with_local c local = record c { local = local }
 
 abbrev pub with_imports : Core → List ReachedImport → Core
 with_imports c rs = record c { reached = c.reached ++ rs; taken = c.taken ++ not_taken rs }
 
 abbrev pub with_taken : Core → ℕ → Taken → Core
 with_taken c i t = record c { taken = slice_set c.taken i t }
+
+-- the core with one more key asked for
+abbrev pub with_asked : Core → Key → Core
+with_asked c key = record c { asked = c.asked ++ key ∷ [] }
 
 abbrev pub counted : Core → Core
 counted c = record c { count = c.count + 1 }

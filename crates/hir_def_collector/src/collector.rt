@@ -15,6 +15,7 @@ pub mod collected;
 mod crate_top;
 pub mod declaration;
 mod declare;
+mod enums;
 pub mod imports;
 mod known_name;
 mod leftovers;
@@ -88,9 +89,8 @@ impl From<AddModuleError> for CollectError {
 
 /// Finds what the names of a crate's modules stand for, beside the finished maps of the crates on which it stands.
 ///
-/// A crate of one file: its items of all kinds but enums, `extern crate` items, modules in files of their
-/// own, macro calls and macros, which are passed over, and its imports but globs, which are left over. After
-/// rust-analyzer's `collect_defs`.
+/// A crate of one file: its items of all kinds but modules in files of their own, macro calls and macros, which
+/// are passed over, and its imports but globs, which are left over. After rust-analyzer's `collect_defs`.
 pub fn collect_defs<D: SourceDatabase>(
     alloc: Global,
     db: &D,
@@ -131,6 +131,17 @@ fn behind_of(alloc: Global, krate: Option<&CrateData>) -> Result<Rc<BTreeSet<Cra
     }
 }
 
+/// The same dependencies again.
+fn cloned(alloc: Global, dependencies: &[Dependency]) -> Result<Vec<Dependency>, AllocError>
+    ensures value { IfOk result (λ copies. copies.items ≡ dependencies.now) }
+{
+    let mut copies = Vec::new(alloc);
+    for dependency in dependencies {
+        copies.push(dependency.clone()?)?;
+    }
+    Ok(copies)
+}
+
 /// The root module with what all modules find, and with all items of its file handled.
 fn begin<D: SourceDatabase>(
     alloc: Global,
@@ -151,8 +162,9 @@ fn begin<D: SourceDatabase>(
         behind.clone()?,
     )?;
     let local = extern_prelude(alloc, &data, dependencies)?;
-    let mut run = Run::start(alloc, world, data, local, start)?;
-    walk_root(&mut run, world, &tree, start)?;
+    let dependencies = cloned(alloc, dependencies)?;
+    let mut run = Run::start(alloc, world, data, local, dependencies, start)?;
+    walk_root(&mut run, db, world, &tree, start)?;
     Ok(run)
 }
 
@@ -164,15 +176,16 @@ fn is_enabled_at_top(tree: &ItemTree) -> bool
 }
 
 /// Handles the items of a tree that are written in the root module; one that is disabled at its top declares nothing.
-fn walk_root(
+fn walk_root<D: SourceDatabase>(
     run: &mut Run,
+    db: &D,
     world: WorldPart<'_>,
     tree: &ItemTree,
     start: Start,
 ) -> Result<(), CollectError>
     requires in_range { 0 < length run.old.map.modules }
-    ensures ok { OnOk result ((w : Workspace) → Steps w (part_of world.entry) (joined run.old (tree_visits (root_site start) tree.now)) (at_rest run.new)) }
-    ensures many { result ≡ Err CollectError.TooMany → (w : Workspace) → IsSpent w (part_of world.entry) (joined run.old (tree_visits (root_site start) tree.now)) }
+    ensures ok { OnOk result (Steps (D.workspace db.now) (part_of world.entry) (joined run.old (tree_visits (root_site start) tree.now)) (at_rest run.new)) }
+    ensures many { result ≡ Err CollectError.TooMany → IsSpent (D.workspace db.now) (part_of world.entry) (joined run.old (tree_visits (root_site start) tree.now)) }
 {
     if !is_enabled_at_top(tree) {
         return Ok(());
@@ -182,6 +195,6 @@ fn walk_root(
         file: HirFileId::File(start.root),
         extern_block: None,
     };
-    walk_all(run, world, tree, site, tree.top_level_items())?;
+    walk_all(run, db, world, tree, site, tree.top_level_items())?;
     Ok(())
 }

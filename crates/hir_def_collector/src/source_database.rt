@@ -33,6 +33,19 @@ pub struct Dependency {
     pub is_prelude: bool,
 }
 
+impl Dependency {
+    /// The same dependency again.
+    pub fn clone(&self) -> Result<Dependency, AllocError>
+        ensures value { IfOk result (λ d. d ≡ self.now) }
+    {
+        Ok(Dependency {
+            krate: self.krate,
+            name: self.name.clone()?,
+            is_prelude: self.is_prelude,
+        })
+    }
+}
+
 /// A crate's own data, as they are handed in.
 #[derive(Drop)]
 pub struct CrateData {

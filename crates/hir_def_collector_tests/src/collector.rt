@@ -80,17 +80,18 @@ const LINE: &str = r#"{"do":"set file","file":"lib.rs","unit":{"nodes":[
 {"kind":"Impl","id":[0,0],"trait":true,"items":[],"vis":"pub"}]}}"#;
 
 /// The source that a line hands in.
-fn source(alloc: Global) -> Result<Source, Fail> {
-    match read_command(alloc, LINE.as_bytes()) {
+fn source(alloc: Global, line: &str) -> Result<Source, Fail> {
+    match read_command(alloc, line.as_bytes()) {
         Ok(Command::Edit(Edit::SetFile { file: _, source })) => Ok(source),
         Ok(_) => Err("another command")?,
         Err(error) => Err(error)?,
     }
 }
 
-fn collected(alloc: Global) -> Result<Collected, Fail> {
+/// What a run collects of the source that a line hands in.
+pub fn collected_of(alloc: Global, line: &str) -> Result<Collected, Fail> {
     let db = OneSource {
-        source: source(alloc)?,
+        source: source(alloc, line)?,
     };
     let start = Start {
         krate: Crate(0),
@@ -100,6 +101,10 @@ fn collected(alloc: Global) -> Result<Collected, Fail> {
         },
     };
     Ok(collect_defs(alloc, &db, &World::new(alloc), start)?)
+}
+
+fn collected(alloc: Global) -> Result<Collected, Fail> {
+    collected_of(alloc, LINE)
 }
 
 /// Asserts what the names of a module stand for.

@@ -12,6 +12,7 @@ use hir_def_map::world::World;
 use hir_item_tree::item_tree::{ItemTree, source_tree};
 use hir_item_tree::side_lists::VariantItem;
 use hir_item_tree::source::Source;
+use hir_scope::visibility::Visibility;
 use hir_wire::command::Command;
 use hir_wire::edit::Edit;
 use hir_wire::read::line::read_command;
@@ -91,6 +92,21 @@ const WITHOUT_CORE: &str =
 {"kind":"Use","id":[3,0],"tree":{"single":"Option","as":"O"}},
 {"kind":"Use","id":[4,0],"tree":{"single":"nope::S","as":"T"}}]}}"#;
 
+/// Extern crates: by name, under an alias, of the crate itself, without a name, of no crate, and in a module.
+const EXTERN: &str = r#"{"do":"set file","file":"b.rs","unit":{"nodes":[
+{"kind":"ExternCrate","id":[1,0],"name":"core","as":"low"},
+{"kind":"ExternCrate","id":[2,0],"name":"self","as":"me"},
+{"kind":"ExternCrate","id":[3,0],"name":"core","as":"_"},
+{"kind":"ExternCrate","id":[4,0],"name":"nope"},
+{"kind":"Module","id":[5,0],"name":"m","vis":"pub","nodes":[
+    {"kind":"ExternCrate","id":[6,0],"name":"core"},
+    {"kind":"Use","id":[7,0],"vis":"pub","tree":{"single":"core::S"}}]},
+{"kind":"Use","id":[8,0],"vis":"pub","tree":{"single":"low","as":"open"}},
+{"kind":"Use","id":[9,0],"vis":"pub","tree":{"single":"self::low","as":"closed"}},
+{"kind":"Use","id":[10,0],"tree":{"single":"::low::S","as":"T"}},
+{"kind":"Use","id":[11,0],"tree":{"single":"me::m::S","as":"U"}},
+{"kind":"Use","id":[12,0],"tree":{"single":"core::S","as":"V"}}]}}"#;
+
 /// The source that a line hands in.
 fn source(alloc: Global, line: &str) -> Result<Source, Fail> {
     match read_command(alloc, line.as_bytes()) {
@@ -167,6 +183,13 @@ fn names_of_another_crate(rt: HostRuntime) -> Result<(), Fail> {
         ),
         ("unmarked", UPPER, false, "", 4),
         ("no core", WITHOUT_CORE, true, "", 4),
+        (
+            "extern crates",
+            EXTERN,
+            false,
+            "- T : type (import) value (import)\n- U : type (import) value (import)\n- closed : type (import)\n- low : type (extern)\n- m : type\n- me : type (extern)\n- open : type (import)\n",
+            2,
+        ),
     ];
     for (row, upper, is_prelude, expected, leftover) in rows {
         let alloc = rt.alloc();
@@ -176,5 +199,24 @@ fn names_of_another_crate(rt: HostRuntime) -> Result<(), Fail> {
         assert_eq!(rt; found.asked().len(), 1, "{row}");
         assert_eq!(rt; found.map().crate_data().dependencies().len(), 1, "{row}");
     }
+    Ok(())
+}
+
+/// Who may see the type of a name of the root.
+fn seen(alloc: Global, map: &DefMap, text: &str) -> Result<Visibility, Fail> {
+    let entry = map.entry(0, &Name::new(alloc, text)?);
+    Ok(entry.types.ok_or("a type")?.vis)
+}
+
+/// A `use` of the name alone shows an `extern crate` to all whom the `use` says, another path doesn't.
+#[test]
+fn extern_crates_shown_again(rt: HostRuntime) -> Result<(), Fail> {
+    let alloc = rt.alloc();
+    let found = collected(alloc, &two_crates(alloc, EXTERN, false)?)?;
+    let map = found.map();
+    let own = seen(alloc, map, "low")?;
+    assert!(rt; own != Visibility::Public);
+    assert_eq!(rt; seen(alloc, map, "open")?, Visibility::Public);
+    assert_eq!(rt; seen(alloc, map, "closed")?, own);
     Ok(())
 }

@@ -5,3 +5,7 @@
 mod collector;
 #[cfg(test)]
 mod crates;
+#[cfg(test)]
+mod enums;
+#[cfg(test)]
+mod visibilities;

@@ -1,17 +1,20 @@
-use Rattle.std.proofs.Common.{◌≡◌, ◌⊎◌, inl, inr, ℕ, false, List, Option, refl, sym, subst, ap, ◌∙◌, Contains}
+use Rattle.std.proofs.Common.{◌≡◌, ◌⊎◌, inl, inr, ℕ, false, List, Option, option_map, refl, sym, subst, ap, ◌∙◌, Contains}
 use Rattle.hir_base.specs.ModPath.{Path}
 use Rattle.hir_base.specs.Place.{PlaceValue}
 use Rattle.hir_base.specs.declared.ids.Crate.{Crate}
-use Rattle.hir_def_map.specs.State.{no_maps}
+use Rattle.hir_def_map.specs.Among.{among, among_agrees, unheld}
+use Rattle.hir_def_map.specs.State.{Placed, no_maps}
 use Rattle.hir_def_collector.specs.Workspace.{Workspace}
 use Rattle.hir_def_collector.specs.Keys.{look}
 use Rattle.hir_def_collector.specs.declared.source_database.Key.{Key}
 use Rattle.hir_wire.specs.Edits.{EditValue}
 use Rattle.hir_wire.specs.declared.command.Shadow.{Shadow}
 use Rattle.hir_wire.specs.declared.command.MacroStyle.{MacroStyle}
-use Rattle.hir_session.specs.Crates.{CrateValue, dependencies_in}
+use Rattle.hir_session.specs.Crates.{CrateValue, behind_in, dependencies_in}
 use Rattle.hir_session.specs.Files.{Files}
-use Rattle.hir_session.specs.SessionState.{SessionState, Resolution, workspace_of, dependencies_of, kept_of, kept_in, is_marked, IsSound}
+use Rattle.hir_session.specs.SessionState.{SessionState, Resolution, workspace_of, dependencies_of, finished_of, read_of, kept_of, is_marked, IsSound}
+use Rattle.hir_session.specs.StandsOn.{StandsOn}
+use Rattle.hir_session.specs.StandsOn.StandsOn.{directly, through}
 use Rattle.hir_session.specs.Spread.{Spread}
 use Rattle.hir_session.specs.Spread.Spread.{here, depends}
 use Rattle.hir_session.specs.Marks.{IsAltered, IsTouched}
@@ -73,11 +76,13 @@ pub same_after_edit : {from mid to : SessionState} {k : ℕ} (e : EditValue) →
 same_after_edit {from} {mid} {to} {k} e same is = on_bool (is_marked to k)
     (λ on. let hit = what_marked (workspace_of (with_files mid (edited_files mid e))) same (is.only k on) itself in
     inr (hit.0, hit.1, λ h. hit.2 (subst (λ (w : Workspace). look w no_maps hit.0 ≡ look (workspace_of mid) no_maps hit.0) (workspace-becomes is) h)))
-    (λ still. inl (record {
+    (λ still.
+    let off = λ (j : ℕ) (behind : IsBehind from k j). unmarked_still (is.crates ∙ same.crates) (closed_after is) still behind in
+    inl (record {
       crates = is.crates ∙ same.crates;
       paths = is.paths ∙ same.paths;
-      off = λ j behind. unmarked_still (is.crates ∙ same.crates) (closed_after is) still behind;
-      kept = λ j behind. ap (λ (kept : List (Option Resolution)). kept_in kept j) is.kept ∙ same.kept j behind;
+      off = off;
+      kept = λ j behind. is.kept j (off j behind) ∙ same.kept j behind;
     }))
 
 -- and a refresh leaves it so
@@ -107,13 +112,27 @@ same_or_altered sound off (refresh mid to done earlier is) = elim (same_or_alter
   | inr hit ↦ inr (hit.0, hit.1, hit.2)
 ]
 
+-- what is behind a crate on which another stands is behind that
+behind_from : {s : SessionState} {k j i : ℕ} → IsBehind s k j → StandsOn (dependencies_of s) j i → IsBehind s k i
+behind_from behind (directly k d among) = next k d behind among
+behind_from behind (through k i d among rest) = behind_from (next k d behind among) rest
+
+-- the same finished maps are read
+same_read : {from to : SessionState} (k : ℕ) → IsSound from → IsSame from to k → read_of to k ≡ read_of from k
+same_read {from} {to} k sound same =
+    ap (λ (cs : List CrateValue). among (behind_in cs k) (finished_of to)) same.crates
+    ∙ among_agrees (behind_in from.crates k) (finished_of to) (finished_of from)
+    (λ c h. ap (λ (o : Option Resolution). option_map (λ (p : Placed). p.map) (option_map (λ (r : Resolution). unheld r.map) o))
+    (same.kept c.0 (behind_from itself ((sound.behind k c).0 h))))
+
 -- and then a query has the same answer
-pub same_answer : {from to : SessionState} (place : PlaceValue) (path : Path) (shadow : Shadow) (style : Option MacroStyle) → is_marked from place.krate.0 ≡ false
-    → IsSame from to place.krate.0 → answer_of to place path shadow style ≡ answer_of from place path shadow style
-same_answer place path shadow style off same = rw (same.crates, same.paths, same.off place.krate.0 itself, same.kept place.krate.0 itself, off) refl
+pub same_answer : {from to : SessionState} (place : PlaceValue) (path : Path) (shadow : Shadow) (style : Option MacroStyle) → IsSound from
+    → is_marked from place.krate.0 ≡ false → IsSame from to place.krate.0 → answer_of to place path shadow style ≡ answer_of from place path shadow style
+same_answer place path shadow style sound off same =
+    rw (same_read place.krate.0 sound same, same.crates, same.paths, same.off place.krate.0 itself, same.kept place.krate.0 itself, off) refl
 
 pub differ_only : DifferOnlyWhereAltered
 differ_only from to place path shadow style sound off h = elim (same_or_altered sound off h) [
-  | inl same ↦ inl (same_answer place path shadow style off same)
+  | inl same ↦ inl (same_answer place path shadow style sound off same)
   | inr hit ↦ inr hit
 ]

@@ -1,8 +1,9 @@
 use Rattle.std.proofs.Common.{append_assoc, append-nil, ◌≡◌, ℕ, zero, suc, ◌+◌, ◌<◌, ◌≤◌, Bool, true, false, List, [], ◌∷◌, length, get_or, set, arith, below_more, refl, sym, ◌∙◌, ap, ◌++◌, Some, None, map, Result, Ok, Err, IsErrAnd}
 use Rattle.std.proofs.lemmas.List.{get_or-set_same, get_or-set_other}
 use Rattle.hir_base.specs.Place.{PlaceValue}
-use Rattle.hir_session.specs.SessionState.{SessionState, Resolution, workspace_of, start_of, is_marked, IsResolved, IsSound}
-use Rattle.hir_session.specs.Due.{due_from, due_crates, due_places, crate_place, resolved_at, IsOverlong, HasOverlongRun}
+use Rattle.hir_def_collector.specs.Derivation.{IsOverlong}
+use Rattle.hir_session.specs.SessionState.{SessionState, Resolution, workspace_of, finished_of, start_of, is_marked, IsResolutionOf, IsSound}
+use Rattle.hir_session.specs.Due.{due_from, due_crates, due_places, crate_place, resolved_at, HasOverlongRun}
 use Rattle.hir_session.specs.Changes.{Resolves, Refreshes}
 use Rattle.hir_session.proofs.Truth.{clash}
 use Rattle.hir_session.proofs.Spreading.{mark-set}
@@ -45,9 +46,9 @@ refreshing-skip {old} {new} k p off = record {
 
 -- one that was due
 pub refreshing-more : {old new : SessionState} {done : List PlaceValue} (k : ℕ) (r : Resolution) → IsRefreshing old new done k → IsSound new
-    → k < length new.crates → is_marked new k ≡ true → IsResolved (workspace_of new) (start_of new k) r
+    → k < length new.crates → is_marked new k ≡ true → IsResolutionOf new k r
     → IsRefreshing old (resolved_at new k r) (done ++ crate_place k ∷ []) (k + 1)
-refreshing-more {old} {new} {done} k r p sound within on resolved =
+refreshing-more {old} {new} {done} k r p sound within on gives =
     let len : length new.marked ≡ length new.crates = sound.marked_len in
     let first : due_crates new ≡ (0 + k) ∷ due_crates (resolved_at new k r) = due-set new.marked 0 k p.below (omega arith) on in
     let zero_k : 0 + k ≡ k = omega arith in
@@ -63,7 +64,7 @@ refreshing-more {old} {new} {done} k r p sound within on resolved =
           mark-set new.marked k j false was.0,
           get_or-set_other new.kept k j (Some r) None (λ e. clash on (rw (sym e) was.0)) ∙ was.1,
         );
-        sound = resolved_sound new k r sound within p.below resolved;
+        sound = resolved_sound new k r sound within p.below on gives;
       };
       below = below_more _ k (λ j h. mark-set new.marked k j false (p.below j h)) (get_or-set_same new.marked k false true (omega arith));
     }
@@ -85,7 +86,7 @@ passed_on {E = E} given (Err x) e f was h is = let same : x ≡ f = cc in was �
 
 -- a run that goes on for too long is that of the first crate that is due
 pub overlong_first : {old new : SessionState} {done : List PlaceValue} (k : ℕ) → IsRefreshing old new done k → IsSound new
-    → k < length new.crates → is_marked new k ≡ true → IsOverlong (workspace_of new) (start_of new k) → HasOverlongRun new
+    → k < length new.crates → is_marked new k ≡ true → IsOverlong (workspace_of new) (finished_of new) (start_of new k) → HasOverlongRun new
 overlong_first {old} {new} k p sound within on overlong =
     let len : length new.marked ≡ length new.crates = sound.marked_len in
     let zero_k : 0 + k ≡ k = omega arith in

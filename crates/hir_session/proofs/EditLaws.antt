@@ -2,9 +2,10 @@ use Rattle.std.specs.Prelude.{is_some}
 use Rattle.std.proofs.Common.{◌≡◌, ◌≢◌, ℕ, true, Option, Some, None, refl, sym, subst, ap, ◌∙◌, Contains, List}
 use Rattle.std.specs.Cmp.Lexicographic.{bytes_decides}
 use Rattle.hir_base.specs.CfgOptions.{is_set}
+use Rattle.hir_base.specs.declared.ast_id.AstKind.TheVariants.{Enum}
 use Rattle.hir_base.specs.declared.ast_id.HirFileId.{HirFileId}
+use Rattle.hir_base.specs.declared.ast_id.SyntaxId.{SyntaxId}
 use Rattle.hir_base.specs.declared.ids.Crate.{Crate}
-use Rattle.hir_item_tree.specs.Attributes.{no_attributes}
 use Rattle.hir_item_tree.specs.BodyTexts.{BodyTextsLeaveTheTree}
 use Rattle.hir_item_tree.specs.ItemTree.{Tree}
 use Rattle.hir_item_tree.specs.Source.{SourceValue}
@@ -13,18 +14,19 @@ use Rattle.hir_def_collector.specs.Workspace.{Workspace, TreeLook}
 use Rattle.hir_def_collector.specs.Keys.{look}
 use Rattle.hir_def_collector.specs.declared.source_database.Key.{Key}
 use Rattle.hir_def_collector.specs.declared.source_database.Key.TheVariants as keys
-use Rattle.hir_session.specs.Crates.{CrateValue, options_in}
-use Rattle.hir_session.specs.Files.{Files, file_at, path_in, edited_at, tree_under, shown, workspace_in}
+use Rattle.hir_session.specs.Crates.{CrateValue, crate_in, options_in}
+use Rattle.hir_session.specs.Files.{Files, file_at, front_in, path_in, edited_at, tree_under, shown, variants_under, workspace_in}
 use Rattle.hir_session.specs.SessionState.{SessionState, Resolution, workspace_of, dependencies_of, kept_of, is_marked, IsSound}
 use Rattle.hir_session.specs.Spread.{Spread}
 use Rattle.hir_session.specs.Spread.Spread.{here, depends}
 use Rattle.hir_session.specs.Marks.{IsTouched}
 use Rattle.hir_session.specs.Marks.IsTouched.{before, asked_for}
-use Rattle.hir_session.specs.Marking.{is_path}
+use Rattle.hir_session.specs.Marking.{is_enum_at, is_path}
 use Rattle.hir_session.specs.Changes.{Becomes}
 use Rattle.hir_session.specs.Laws.{BodyEditsMarkNothing, SetAbsentFileMarks, RemovePresentFileMarks, RemoveAbsentFileMarksNothing}
 use Rattle.hir_session.proofs.Truth.{clash, on_bool}
-use Rattle.hir_session.proofs.FileLemmas.{look-other, look-same, look-differs}
+use Rattle.hir_session.proofs.BodyVariants.{same_variants}
+use Rattle.hir_session.proofs.FileLemmas.{enum-other, enum-same, look-other, look-same, look-differs}
 
 -- what the edit leaves alike at each key marks what was marked
 unspread : {s : SessionState} {w : Workspace} {k : ℕ} → IsSound s → ((key : Key) → look w no_maps key ≡ look (workspace_of s) no_maps key)
@@ -46,17 +48,20 @@ unaltered_marks {old} {new} sound is same k = on_bool (is_marked new k)
 
 -- a file whose trees become what they were leaves the workspace as it was
 same_looks : (s : SessionState) (path : List ℕ) (there : Option SourceValue)
-    → ((k : ℕ) → shown s.crates k there ≡ shown s.crates k (file_at s.files path))
+    → ((k : ℕ) → shown s.crates k (Some path) there ≡ shown s.crates k (Some path) (file_at s.files path))
+    → ((k : ℕ) (id : SyntaxId) → variants_under s.crates k there id ≡ variants_under s.crates k (file_at s.files path) id)
     → (key : Key) → look (workspace_in s.crates s.paths (edited_at s.files path there)) no_maps key ≡ look (workspace_of s) no_maps key
-same_looks s path there same (keys.Tree krate file) = on_bool (is_path path (path_in s.paths file))
+same_looks s path there same alike (keys.Tree krate file) = on_bool (is_path path (path_in s.paths file))
     (λ on. look-same s.crates s.paths s.files path there krate file on (same krate.0))
     (λ off. look-other s.crates s.paths s.files path there krate file off)
-same_looks s path there same (keys.Variants id) = refl
-same_looks s path there same (keys.Map id) = refl
+same_looks s path there same alike (keys.Variants id) = on_bool (is_enum_at s.paths path (keys.Variants id))
+    (λ on. enum-same s.crates s.paths s.files path there id on (alike id.container.map.krate.0 id.id))
+    (λ off. enum-other s.crates s.paths s.files path there id off)
+same_looks s path there same alike (keys.Map id) = refl
 
 -- a file whose trees become others marks what asked for it
 altered_marks : {old new : SessionState} (path : List ℕ) (there : Option SourceValue) (k : ℕ) (found : Resolution) (krate : Crate) (file : HirFileId)
-    → (shown old.crates krate.0 there ≢ shown old.crates krate.0 (file_at old.files path))
+    → (shown old.crates krate.0 (Some path) there ≢ shown old.crates krate.0 (Some path) (file_at old.files path))
     → Becomes old (edited_at old.files path there) new → kept_of old k ≡ Some found → Contains found.asked (keys.Tree krate file)
     → path_in old.paths file ≡ Some path → is_marked new k ≡ true
 altered_marks {old} {new} path there k found krate file other is kept asked at =
@@ -67,25 +72,32 @@ altered_marks {old} {new} path there k found krate file other is kept asked at =
 pub body_edits_mark_nothing : BodyTextsLeaveTheTree → BodyEditsMarkNothing
 body_edits_mark_nothing law old new path was source sound is_was alike is =
     unaltered_marks sound is (same_looks old path (Some source) (λ k.
-    let same : tree_under old.crates k source ≡ tree_under old.crates k was = law (is_set (options_in old.crates k)) no_attributes source was (sym alike) in
-    ap (λ (t : Tree). let look : TreeLook = record { present = true; tree = t } in look) same ∙ ap (λ (o : Option SourceValue). shown old.crates k o) (sym is_was)))
+    let same : tree_under old.crates k (Some path) source ≡ tree_under old.crates k (Some path) was =
+    law (is_set (options_in old.crates k)) (front_in (crate_in old.crates k) (Some path)) source was (sym alike) in
+    ap (λ (t : Tree). let look : TreeLook = record { present = true; tree = t } in look) same ∙ ap (λ (o : Option SourceValue). shown old.crates k (Some path) o) (sym is_was))
+    (λ k id. same_variants (is_set (options_in old.crates k)) (record { kind = Enum; id = id }) source was (sym alike)
+    ∙ ap (λ (o : Option SourceValue). variants_under old.crates k o id) (sym is_was)))
 
 pub remove_absent_file_marks_nothing : RemoveAbsentFileMarksNothing
 remove_absent_file_marks_nothing old new path sound absent is =
-    unaltered_marks sound is (same_looks old path None (λ k. ap (λ (o : Option SourceValue). shown old.crates k o) (sym absent)))
+    unaltered_marks sound is (same_looks old path None
+    (λ k. ap (λ (o : Option SourceValue). shown old.crates k (Some path) o) (sym absent))
+    (λ k id. ap (λ (o : Option SourceValue). variants_under old.crates k o id) (sym absent)))
 
 -- what is there is not absent
-there_is_none : (crates : List CrateValue) (k : ℕ) (x : SourceValue) (o : Option SourceValue) → o ≡ None → shown crates k (Some x) ≢ shown crates k o
-there_is_none crates k x o absent h = clash (sym (ap (λ (l : TreeLook). l.present) h)) (ap (λ (p : Option SourceValue). is_some p) absent)
+there_is_none : (crates : List CrateValue) (k : ℕ) (path : List ℕ) (x : SourceValue) (o : Option SourceValue) → o ≡ None
+    → shown crates k (Some path) (Some x) ≢ shown crates k (Some path) o
+there_is_none crates k path x o absent h = clash (sym (ap (λ (l : TreeLook). l.present) h)) (ap (λ (p : Option SourceValue). is_some p) absent)
 
 -- nor the other way round
-none_is_there : (crates : List CrateValue) (k : ℕ) (x : SourceValue) (o : Option SourceValue) → o ≡ Some x → shown crates k None ≢ shown crates k o
-none_is_there crates k x o there h = clash (ap (λ (p : Option SourceValue). is_some p) there) (sym (ap (λ (l : TreeLook). l.present) h))
+none_is_there : (crates : List CrateValue) (k : ℕ) (path : List ℕ) (x : SourceValue) (o : Option SourceValue) → o ≡ Some x
+    → shown crates k (Some path) None ≢ shown crates k (Some path) o
+none_is_there crates k path x o there h = clash (ap (λ (p : Option SourceValue). is_some p) there) (sym (ap (λ (l : TreeLook). l.present) h))
 
 pub set_absent_file_marks : SetAbsentFileMarks
 set_absent_file_marks old new path source k found krate file absent is kept asked at =
-    altered_marks path (Some source) k found krate file (there_is_none old.crates krate.0 source (file_at old.files path) absent) is kept asked at
+    altered_marks path (Some source) k found krate file (there_is_none old.crates krate.0 path source (file_at old.files path) absent) is kept asked at
 
 pub remove_present_file_marks : RemovePresentFileMarks
 remove_present_file_marks old new path was k found krate file there is kept asked at =
-    altered_marks path None k found krate file (none_is_there old.crates krate.0 was (file_at old.files path) there) is kept asked at
+    altered_marks path None k found krate file (none_is_there old.crates krate.0 path was (file_at old.files path) there) is kept asked at

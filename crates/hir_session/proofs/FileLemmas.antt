@@ -1,18 +1,20 @@
-use Rattle.std.proofs.Common.{◌≡◌, ◌≢◌, ℕ, true, false, cond, Ordering, Less, Equal, Greater, List, [], ◌∷◌, Option, Some, None, refl, sym, ap, ◌∙◌, option_and_then}
+use Rattle.std.proofs.Common.{◌≡◌, ◌≢◌, ℕ, Bool, true, false, ◌&&◌, is_none, cond, Ordering, Less, Equal, Greater, List, [], ◌∷◌, Option, Some, None, refl, sym, ap, ◌∙◌, option_and_then}
 use Rattle.std.specs.Ordering.{nat_cmp, match_ordering, is_eq}
 use Rattle.std.specs.Cmp.Lexicographic.{slice_cmp, bytes_decides}
 use Rattle.std.specs.BTreeMap.{is_at}
 use Rattle.std.proofs.lemmas.Map.Text.{is_eq-slice_cmp}
 use Rattle.hir_base.specs.declared.ast_id.HirFileId.{HirFileId}
 use Rattle.hir_base.specs.declared.ids.Crate.{Crate}
+use Rattle.hir_base.specs.declared.ids.EnumId.{EnumId}
 use Rattle.hir_item_tree.specs.Source.{SourceValue}
+use Rattle.hir_item_tree.specs.declared.side_lists.VariantItem.{VariantItem}
 use Rattle.hir_def_map.specs.State.{no_maps}
 use Rattle.hir_def_collector.specs.Workspace.{TreeLook}
-use Rattle.hir_def_collector.specs.Keys.{Look, of_tree, look}
+use Rattle.hir_def_collector.specs.Keys.{Look, of_tree, of_variants, look}
 use Rattle.hir_def_collector.specs.declared.source_database.Key.TheVariants as keys
 use Rattle.hir_session.specs.Crates.{CrateValue}
-use Rattle.hir_session.specs.Files.{Files, file_at, path_in, with_file, without_file, edited_at, shown, workspace_in}
-use Rattle.hir_session.specs.Marking.{is_path}
+use Rattle.hir_session.specs.Files.{Files, file_at, path_in, with_file, without_file, edited_at, shown, source_in, variants_under, workspace_in}
+use Rattle.hir_session.specs.Marking.{is_enum_at, is_path}
 use Rattle.hir_session.proofs.Truth.{clash, on_bool}
 
 -- the test at a path says that two paths are the same
@@ -82,7 +84,7 @@ shown-same a b h = cc
 
 -- what is seen of a file of this path under a crate, if of any
 abbrev pub seen : List CrateValue → Files → ℕ → Option (List ℕ) → Look
-seen crates files k o = of_tree (shown crates k (option_and_then (file_at files) o))
+seen crates files k o = of_tree (shown crates k o (option_and_then (file_at files) o))
 
 module _ (crates : List CrateValue) (F : Files) (path : List ℕ) (there : Option SourceValue) (k : ℕ) where
   at_other : (q : List ℕ) → is_at (slice_cmp nat_cmp path) q ≡ false → file_at (edited_at F path there) q ≡ file_at F q
@@ -95,24 +97,25 @@ module _ (crates : List CrateValue) (F : Files) (path : List ℕ) (there : Optio
   seen-other None h = refl
   seen-other (Some q) h = on_bool (is_at (slice_cmp nat_cmp path) q)
       (λ on. clash ((bytes_decides q path).1 (sym (is_at-same path q on))) h)
-      (λ off. ap (λ (x : Option SourceValue). of_tree (shown crates k x)) (at_other q off))
+      (λ off. ap (λ (x : Option SourceValue). of_tree (shown crates k (Some q) x)) (at_other q off))
 
-  pub seen-same : shown crates k there ≡ shown crates k (file_at F path) → (o : Option (List ℕ)) → is_path path o ≡ true
+  pub seen-same : shown crates k (Some path) there ≡ shown crates k (Some path) (file_at F path) → (o : Option (List ℕ)) → is_path path o ≡ true
       → seen crates (edited_at F path there) k o ≡ seen crates F k o
   seen-same alike None h = clash h refl
   seen-same alike (Some q) h =
       let same : q ≡ path = (bytes_decides q path).0 h in
       ap (λ (x : TreeLook). of_tree x)
-      (ap (λ (x : Option SourceValue). shown crates k x) (at_path q (same-is_at path q (sym same)))
-      ∙ alike ∙ ap (λ (p : List ℕ). shown crates k (file_at F p)) (sym same))
+      (ap (λ (x : Option SourceValue). shown crates k (Some q) x) (at_path q (same-is_at path q (sym same)))
+      ∙ ap (λ (p : List ℕ). shown crates k (Some p) there) same ∙ alike ∙ ap (λ (p : List ℕ). shown crates k (Some p) (file_at F p)) (sym same))
 
-  pub seen-differs : shown crates k there ≢ shown crates k (file_at F path) → (o : Option (List ℕ)) → is_path path o ≡ true
+  pub seen-differs : shown crates k (Some path) there ≢ shown crates k (Some path) (file_at F path) → (o : Option (List ℕ)) → is_path path o ≡ true
       → seen crates (edited_at F path there) k o ≢ seen crates F k o
   seen-differs other None h e = clash h refl
   seen-differs other (Some q) h e =
       let same : q ≡ path = (bytes_decides q path).0 h in
-      other (ap (λ (x : Option SourceValue). shown crates k x) (sym (at_path q (same-is_at path q (sym same))))
-      ∙ shown-same _ _ e ∙ ap (λ (p : List ℕ). shown crates k (file_at F p)) same)
+      other (ap (λ (p : List ℕ). shown crates k (Some p) there) (sym same)
+      ∙ ap (λ (x : Option SourceValue). shown crates k (Some q) x) (sym (at_path q (same-is_at path q (sym same))))
+      ∙ shown-same _ _ e ∙ ap (λ (p : List ℕ). shown crates k (Some p) (file_at F p)) same)
 
 module _ (crates : List CrateValue) (paths : List (List ℕ)) (F : Files) (path : List ℕ) (there : Option SourceValue) (krate : Crate) (file : HirFileId) where
   -- a key of another file
@@ -122,12 +125,79 @@ module _ (crates : List CrateValue) (paths : List (List ℕ)) (F : Files) (path 
 
   -- a key of the file, under a crate for which its tree stays
   pub look-same : is_path path (path_in paths file) ≡ true
-      → shown crates krate.0 there ≡ shown crates krate.0 (file_at F path)
+      → shown crates krate.0 (Some path) there ≡ shown crates krate.0 (Some path) (file_at F path)
       → look (workspace_in crates paths (edited_at F path there)) no_maps (keys.Tree krate file) ≡ look (workspace_in crates paths F) no_maps (keys.Tree krate file)
   look-same h alike = seen-same crates F path there krate.0 alike (path_in paths file) h
 
   -- a key of the file, under a crate for which its tree becomes another
   pub look-differs : is_path path (path_in paths file) ≡ true
-      → shown crates krate.0 there ≢ shown crates krate.0 (file_at F path)
+      → shown crates krate.0 (Some path) there ≢ shown crates krate.0 (Some path) (file_at F path)
       → look (workspace_in crates paths (edited_at F path there)) no_maps (keys.Tree krate file) ≢ look (workspace_in crates paths F) no_maps (keys.Tree krate file)
   look-differs h other = seen-differs crates F path there krate.0 other (path_in paths file) h
+
+-- ---- the variants of enums
+
+-- what is seen tells the variants
+pub variants-same : (a b : Option (List VariantItem)) → of_variants a ≡ of_variants b → a ≡ b
+variants-same a b h = cc
+
+module _ (F : Files) (path : List ℕ) (there : Option SourceValue) where
+  -- the source of what holds syntax, where it is of another file
+  source-other : (o : Option (List ℕ)) → is_path path o ≡ false → option_and_then (file_at (edited_at F path there)) o ≡ option_and_then (file_at F) o
+  source-other None h = refl
+  source-other (Some q) h = on_bool (is_at (slice_cmp nat_cmp path) q)
+      (λ on. clash ((bytes_decides q path).1 (sym (is_at-same path q on))) h)
+      (λ off. file_at-edited_at F path there q ∙ rw off refl)
+
+  -- and where it is of the file
+  source-there : (o : Option (List ℕ)) → is_path path o ≡ true → option_and_then (file_at (edited_at F path there)) o ≡ there
+  source-there None h = clash h refl
+  source-there (Some q) h =
+      let on : is_at (slice_cmp nat_cmp path) q ≡ true = same-is_at path q (sym ((bytes_decides q path).0 h)) in
+      file_at-edited_at F path there q ∙ rw on refl
+
+  source-was : (o : Option (List ℕ)) → is_path path o ≡ true → option_and_then (file_at F) o ≡ file_at F path
+  source-was None h = clash h refl
+  source-was (Some q) h = ap (file_at F) ((bytes_decides q path).0 h)
+
+module _ (crates : List CrateValue) (paths : List (List ℕ)) (F : Files) (path : List ℕ) (there : Option SourceValue) (id : EnumId) where
+  -- the variants of an enum of another file, or of a block
+  pub enum-other : is_enum_at paths path (keys.Variants id) ≡ false
+      → look (workspace_in crates paths (edited_at F path there)) no_maps (keys.Variants id) ≡ look (workspace_in crates paths F) no_maps (keys.Variants id)
+  enum-other h = go (is_none id.block) h
+    where
+      go : (b : Bool) → (b && is_path path (path_in paths id.file_id)) ≡ false
+          → of_variants (cond b (variants_under crates id.container.map.krate.0 (source_in paths (edited_at F path there) id.file_id) id.id) None)
+          ≡ of_variants (cond b (variants_under crates id.container.map.krate.0 (source_in paths F id.file_id) id.id) None)
+      go true e = ap (λ (o : Option SourceValue). of_variants (variants_under crates id.container.map.krate.0 o id.id)) (source-other F path there (path_in paths id.file_id) e)
+      go false e = refl
+
+  -- those of an enum of the file, which stay
+  pub enum-same : is_enum_at paths path (keys.Variants id) ≡ true
+      → variants_under crates id.container.map.krate.0 there id.id ≡ variants_under crates id.container.map.krate.0 (file_at F path) id.id
+      → look (workspace_in crates paths (edited_at F path there)) no_maps (keys.Variants id) ≡ look (workspace_in crates paths F) no_maps (keys.Variants id)
+  enum-same h alike = go (is_none id.block) h
+    where
+      go : (b : Bool) → (b && is_path path (path_in paths id.file_id)) ≡ true
+          → of_variants (cond b (variants_under crates id.container.map.krate.0 (source_in paths (edited_at F path there) id.file_id) id.id) None)
+          ≡ of_variants (cond b (variants_under crates id.container.map.krate.0 (source_in paths F id.file_id) id.id) None)
+      go true e =
+          ap (λ (o : Option SourceValue). of_variants (variants_under crates id.container.map.krate.0 o id.id)) (source-there F path there (path_in paths id.file_id) e)
+          ∙ ap (λ (v : Option (List VariantItem)). of_variants v) alike
+          ∙ sym (ap (λ (o : Option SourceValue). of_variants (variants_under crates id.container.map.krate.0 o id.id)) (source-was F path there (path_in paths id.file_id) e))
+      go false e = clash e refl
+
+  -- and which become others
+  pub enum-differs : is_enum_at paths path (keys.Variants id) ≡ true
+      → variants_under crates id.container.map.krate.0 there id.id ≢ variants_under crates id.container.map.krate.0 (file_at F path) id.id
+      → look (workspace_in crates paths (edited_at F path there)) no_maps (keys.Variants id) ≢ look (workspace_in crates paths F) no_maps (keys.Variants id)
+  enum-differs h other = go (is_none id.block) h
+    where
+      go : (b : Bool) → (b && is_path path (path_in paths id.file_id)) ≡ true
+          → of_variants (cond b (variants_under crates id.container.map.krate.0 (source_in paths (edited_at F path there) id.file_id) id.id) None)
+          ≢ of_variants (cond b (variants_under crates id.container.map.krate.0 (source_in paths F id.file_id) id.id) None)
+      go true e same = other (
+          sym (ap (λ (o : Option SourceValue). variants_under crates id.container.map.krate.0 o id.id) (source-there F path there (path_in paths id.file_id) e))
+          ∙ variants-same _ _ same
+          ∙ ap (λ (o : Option SourceValue). variants_under crates id.container.map.krate.0 o id.id) (source-was F path there (path_in paths id.file_id) e))
+      go false e same = clash e refl

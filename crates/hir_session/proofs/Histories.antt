@@ -6,7 +6,7 @@ use Rattle.hir_wire.specs.CommandValue.{CommandValue, CrateInputValue}
 use Rattle.hir_wire.specs.declared.reply.Reply.{Reply}
 use Rattle.hir_session.specs.SessionState.{SessionState, IsSound, max_crates}
 use Rattle.hir_session.specs.NotYet.{is_crate_taken}
-use Rattle.hir_session.specs.Refusals.{first_out_of_order, verdict_of_order, verdict_of_new, crate_numbers}
+use Rattle.hir_session.specs.Refusals.{first_out_of_order, is_too_deep, is_too_long, verdict_of_limits, verdict_of_order, verdict_of_new, crate_numbers}
 use Rattle.hir_session.proofs.Truth.{on_bool}
 use Rattle.hir_session.proofs.Start.{begins_sound}
 use Rattle.hir_session.specs.Machine.{MachineState, Moves, AnswersCommand, AnswersLine, Runs}
@@ -89,14 +89,19 @@ history_sound sound none = sound
 history_sound sound (edit mid to e earlier is) = is.sound
 history_sound sound (refresh mid to done earlier is) = is.sound
 
+-- crates that are within the limits are few
+within_limits : (inputs : List CrateInputValue) → verdict_of_limits inputs ≡ Ok tt → length inputs ≤ 10000
+within_limits inputs accepted = on_bool (list_any is_too_long inputs)
+    (λ long. absurd (let wrong : ⊥ = cc (rw long at accepted) in wrong))
+    (λ short. on_bool (list_any is_too_deep inputs)
+    (λ deep. absurd (let wrong : ⊥ = cc (rw (short, deep) at accepted) in wrong))
+    (λ flat. on_bool (nat_lt max_crates (length inputs))
+    (λ many. absurd (let wrong : ⊥ = cc (rw (short, flat, many) at accepted) in wrong))
+    (λ few. grind (arith, nat_tests))))
+
 -- crates that are accepted are in order, and few
 in_order : (inputs : List CrateInputValue) (late : Option Crate) → verdict_of_order inputs late ≡ Ok tt → (late ≡ None) × (length inputs ≤ 10000)
-in_order inputs None accepted = (
-  refl,
-  on_bool (nat_lt max_crates (length inputs))
-      (λ many. absurd (let wrong : ⊥ = cc (rw many at accepted) in wrong))
-      (λ few. grind (arith, nat_tests)),
-)
+in_order inputs None accepted = (refl, within_limits inputs accepted)
 in_order inputs (Some krate) accepted = absurd (let wrong : ⊥ = cc accepted in wrong)
 
 accepted_both : (inputs : List CrateInputValue) → verdict_of_new inputs ≡ Ok tt → (first_out_of_order 0 inputs ≡ None) × (length inputs ≤ 10000)

@@ -1,5 +1,9 @@
 pub mod Truth
 pub mod Spreading
+pub mod KeptLemmas
+pub mod Names
+pub mod Worlds
+pub mod Resolving
 pub mod Sound
 pub mod Gaining
 pub mod Stands
@@ -14,6 +18,7 @@ pub mod Stand
 pub mod Replies
 pub mod Histories
 pub mod TwoReplies
+pub mod BodyVariants
 pub mod EditLaws
 pub mod CutLemmas
 pub mod PartLemmas

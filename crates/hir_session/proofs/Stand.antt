@@ -1,11 +1,11 @@
 use Rattle.std.proofs.Common.{◌≡◌, Option, Some, None, Result, Ok, refl, sym, ap, ◌∙◌, nat_lt, length}
 use Rattle.hir_base.specs.ModPath.{Path}
 use Rattle.hir_base.specs.Place.{PlaceValue}
-use Rattle.hir_def_map.specs.State.{root_of}
+use Rattle.hir_def_map.specs.State.{beside, root_of}
 use Rattle.hir_wire.specs.declared.answer.Answer.{Answer}
 use Rattle.hir_wire.specs.declared.command.Shadow.{Shadow}
 use Rattle.hir_wire.specs.declared.command.MacroStyle.{MacroStyle}
-use Rattle.hir_session.specs.SessionState.{SessionState, kept_of, is_marked, IsSound}
+use Rattle.hir_session.specs.SessionState.{SessionState, kept_of, read_of, is_marked, IsSound}
 use Rattle.hir_wire.specs.declared.reply.Status.{Status}
 use Rattle.hir_wire.specs.declared.reply.Status.TheVariants as status
 use Rattle.hir_session.specs.declared.error.QueryError.{QueryError}
@@ -20,10 +20,10 @@ on_option (Some x) f g = g x refl
 
 -- where the status is current, the answer is the one over what is kept
 pub answer_of-current : (s : SessionState) (place : PlaceValue) (path : Path) (shadow : Shadow) (style : Option MacroStyle) {r : Result Answer QueryError}
-    → status.Current ≡ status_of s place → answer_from s.paths (kept_of s place.krate.0) (module_of s place) path shadow style ≡ r
+    → status.Current ≡ status_of s place → answer_from s.paths (read_of s place.krate.0) (kept_of s place.krate.0) (module_of s place) path shadow style ≡ r
     → answer_of s place path shadow style ≡ r
 answer_of-current s place path shadow style current over =
-    ap (λ (now : Status). answer_by now (answer_from s.paths (kept_of s place.krate.0) (module_of s place) path shadow style)) (sym current) ∙ over
+    ap (λ (now : Status). answer_by now (answer_from s.paths (read_of s place.krate.0) (kept_of s place.krate.0) (module_of s place) path shadow style)) (sym current) ∙ over
 
 -- an answer that is given stands
 pub stands : (s : SessionState) (place : PlaceValue) (path : Path) (shadow : Shadow) (style : Option MacroStyle) (a : Answer) → IsSound s
@@ -40,9 +40,9 @@ stands s place path shadow style a sound h =
     record {
       found = now.found;
       kept = now.is;
-      present = now.resolved;
+      present = now.gives.resolved;
       asked_from = m;
       named = some;
-      is = let e : a ≡ answer_in s.paths now.found.map now.found.local m path shadow style = cc given in e;
+      is = let e : a ≡ answer_in s.paths (beside (read_of s place.krate.0) now.found.map) now.found.local m path shadow style = cc given in e;
     })))
     (λ past. absurd (let wrong : ⊥ = cc (rw past at h) in wrong))

@@ -13,7 +13,7 @@ use Rattle.hir_session.specs.Behind.{has_crate, comes_by, AreBehind, AreBuilt}
 use Rattle.hir_session.proofs.Truth.{clash, or_first, or_left, or_right, on_bool, on_same}
 
 -- a crate that passes is found
-any-found : (test : Crate → Bool) (ds : List Crate) (d : Crate) → Contains ds d → test d ≡ true → list_any test ds ≡ true
+pub any-found : (test : Crate → Bool) (ds : List Crate) (d : Crate) → Contains ds d → test d ≡ true → list_any test ds ≡ true
 any-found test ds d h passes = list_any_at test ds h.0 d h.1 (rw h.2 passes)
 
 -- and what is found is a crate that passes

@@ -2,13 +2,15 @@ use Rattle.std.proofs.Common.{◌≡◌, ℕ, zero, suc, ◌+◌, ◌<◌, ◌�
 use Rattle.std.proofs.lemmas.List.{length-map}
 use Rattle.std.proofs.lemmas.List.Folds.{list_any_at}
 use Rattle.hir_base.specs.declared.ids.Crate.{Crate}
+use Rattle.hir_def_collector.specs.declared.source_database.Dependency.{Dependency}
 use Rattle.hir_wire.specs.CommandValue.{CrateInputValue, crate_input_view}
 use Rattle.hir_wire.specs.declared.command.CrateInput.{CrateInput}
-use Rattle.hir_session.specs.Crates.{CrateValue, dependencies_in}
+use Rattle.hir_wire.specs.declared.command.Dependency.{Dependency as HandedIn}
+use Rattle.hir_session.specs.Crates.{CrateValue, crate_in, dependencies_in}
 use Rattle.hir_session.specs.Files.{Files}
-use Rattle.hir_session.specs.SessionState.{SessionState, Resolution, mark_in, is_marked, IsSound}
+use Rattle.hir_session.specs.SessionState.{SessionState, Resolution, kept_in, mark_in, is_marked, IsSound}
 use Rattle.hir_session.specs.Refusals.{dependency_crates, has_late, first_out_of_order}
-use Rattle.hir_session.specs.Beginning.{IsMade, AreMade, Begins}
+use Rattle.hir_session.specs.Beginning.{dependency_of, IsMade, AreMade, Begins}
 use Rattle.hir_session.specs.Behind.{AreBuilt}
 use Rattle.hir_session.proofs.Stands.{stands}
 use Rattle.hir_session.proofs.Truth.{clash, on_bool}
@@ -81,6 +83,27 @@ below_from n (i ∷ is) (c ∷ cs) made none (suc k) d among = on_bool (has_late
     (λ late. absurd (let wrong : ⊥ = cc (rw late at none) in wrong))
     (λ early. let lower : d.0 < n + 1 + k = below_from (n + 1) is cs made.1 (rw early at none) k d among in omega arith)
 
+-- dependencies as a run sees them are of the crates that are named
+crates_named : (ds : List HandedIn) → map (λ d. d.krate) (map dependency_of ds) ≡ dependency_crates ds
+crates_named [] = refl
+crates_named (d ∷ ds) = ap (λ (cs : List Crate). d.krate ∷ cs) (crates_named ds)
+
+-- a crate's own dependencies are those that it names
+named_from : (n : ℕ) (inputs : List CrateInputValue) (crates : List CrateValue) → AreMade n inputs crates
+    → (k : ℕ) → map (λ d. d.krate) (crate_in crates k).own.dependencies ≡ dependencies_in crates k
+named_from n [] [] made k = refl
+named_from n [] (c ∷ cs) made k = absurd made
+named_from n (i ∷ is) [] made k = absurd made
+named_from n (i ∷ is) (c ∷ cs) made zero =
+    ap (λ (ds : List Dependency). map (λ d. d.krate) ds) made.0.named ∙ crates_named i.deps ∙ sym made.0.dependencies
+named_from n (i ∷ is) (c ∷ cs) made (suc k) = named_from (n + 1) is cs made.1 k
+
+-- nothing is kept of any
+kept-replicate : (n k : ℕ) → kept_in (replicate n None) k ≡ None
+kept-replicate zero k = refl
+kept-replicate (suc n) zero = refl
+kept-replicate (suc n) (suc k) = kept-replicate n k
+
 -- a session is sound when it begins
 pub begins_sound : (inputs : List CrateInputValue) (s : SessionState) → length inputs ≤ 10000 → first_out_of_order 0 inputs ≡ None → Begins inputs s → IsSound s
 begins_sound inputs s few ordered is =
@@ -93,8 +116,10 @@ begins_sound inputs s few ordered is =
       marked_len = ap (λ (xs : List Bool). length xs) is.marked ∙ length-replicate (length inputs) true ∙ sym count;
       below = λ k d among. let lower : d.0 < 0 + k = below_from 0 inputs s.crates is.crates ordered k d among in omega arith;
       behind = is.behind;
+      named = named_from 0 inputs s.crates is.crates;
       closed = λ k d off among. clash (on k) off;
       current = λ k off. clash (on k) off;
+      dropped = λ k marked. ap (λ (kept : List (Option Resolution)). kept_in kept k) is.kept ∙ kept-replicate (length inputs) k;
     }
 
 -- the parts of a session that begins

@@ -182,10 +182,11 @@ differ_only earlier between before after first second a b s t u v place path sha
     let was = answered_within (nat_le (length first) LINE_LIMIT) first asks one in
     let now = answered_within (nat_le (length second) LINE_LIMIT) second asks_again other in
     let off = unmarked_where_answered was.at place path shadow style a was.is in
-    elim (kept_by_lines between after was.after (same_at_first (sound_there earlier before led was.before) off) done) [
+    let sound = sound_there earlier before led was.before in
+    elim (kept_by_lines between after was.after (same_at_first sound off) done) [
       | inl still ↦
           let there : still.0 ≡ now.at = one_value (sym still.1 ∙ now.before) in
-          let alike = same_answer place path shadow style off (subst (λ (x : SessionState). IsSame was.at x place.krate.0) there still.2) in
+          let alike = same_answer place path shadow style sound off (subst (λ (x : SessionState). IsSame was.at x place.krate.0) there still.2) in
           inl (let given : (Ok b) ≡ (Ok a) = sym now.is ∙ alike ∙ was.is in cc)
       | inr hit ↦ inr (hit.0, (was.at, was.after, hit.1), hit.2)
     ]

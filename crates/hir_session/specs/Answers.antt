@@ -4,7 +4,7 @@ use Rattle.std.specs.Option.{option_and_then}
 use Rattle.hir_base.specs.ModPath.{Path}
 use Rattle.hir_base.specs.Place.{PlaceValue}
 use Rattle.hir_base.specs.declared.ids.ModuleId.{ModuleId}
-use Rattle.hir_def_map.specs.State.{Local, Map, alone}
+use Rattle.hir_def_map.specs.State.{Local, Maps, beside}
 use Rattle.hir_def_map.specs.Scoping.{resolution_of}
 use Rattle.hir_def_map.specs.Scoping.Asking.{Asking}
 use Rattle.hir_def_map.specs.declared.nameres.path_resolution.ResolveMode.TheVariants as mode
@@ -22,7 +22,7 @@ use Rattle.hir_wire.specs.declared.reply.Status.{Status}
 use Rattle.hir_wire.specs.declared.reply.Status.TheVariants as status
 use Rattle.hir_session.specs.declared.error.QueryError.{QueryError}
 use Rattle.hir_session.specs.declared.error.QueryError.TheVariants as error
-use Rattle.hir_session.specs.SessionState.{SessionState, Resolution, kept_of}
+use Rattle.hir_session.specs.SessionState.{SessionState, Resolution, kept_of, read_of}
 use Rattle.hir_session.specs.Status.{status_of, module_of}
 use Rattle.hir_session.specs.SourceItems.{answered_type, answered_value, answered_macro}
 
@@ -42,23 +42,23 @@ abbrev pub asking_of : Local → Shadow → Option MacroStyle → Asking
 asking_of local shadow style = record { local = local; mode = mode.Other; shadow = shadow_mode_of shadow; sub_ns = sub_ns_of style }
 
 -- what a path means, in source items
-abbrev pub named_by : List (List ℕ) → Map → ResolvePathResult → Answer
-named_by paths map r = record {
-  types = option_and_then (answered_type paths map) r.resolved_def.types;
-  values = option_and_then (answered_value paths map) r.resolved_def.values;
-  macros = option_and_then (answered_macro paths map) r.resolved_def.macros;
+abbrev pub named_by : List (List ℕ) → Maps → ResolvePathResult → Answer
+named_by paths maps r = record {
+  types = option_and_then (answered_type paths maps) r.resolved_def.types;
+  values = option_and_then (answered_value paths maps) r.resolved_def.values;
+  macros = option_and_then (answered_macro paths maps) r.resolved_def.macros;
   stop = r.segment_index;
 }
 
--- what a path means in a module of a map, in source items
-abbrev pub answer_in : List (List ℕ) → Map → Local → ModuleId → Path → Shadow → Option MacroStyle → Answer
-answer_in paths map local m path shadow style = named_by paths map (resolution_of (alone map) (asking_of local shadow style) m path)
+-- what a path means in a module of one of the maps, in source items
+abbrev pub answer_in : List (List ℕ) → Maps → Local → ModuleId → Path → Shadow → Option MacroStyle → Answer
+answer_in paths maps local m path shadow style = named_by paths maps (resolution_of maps (asking_of local shadow style) m path)
 
--- the answer over what is kept, from a module of it
-abbrev pub answer_from : List (List ℕ) → Option Resolution → Option ModuleId → Path → Shadow → Option MacroStyle → Result Answer QueryError
-answer_from paths None m path shadow style = Err error.UnknownPlace
-answer_from paths (Some r) None path shadow style = Err error.UnknownPlace
-answer_from paths (Some r) (Some m) path shadow style = Ok (answer_in paths r.map r.local m path shadow style)
+-- the answer over what is kept, from a module of it, beside the finished maps that its crate reads
+abbrev pub answer_from : List (List ℕ) → Maps → Option Resolution → Option ModuleId → Path → Shadow → Option MacroStyle → Result Answer QueryError
+answer_from paths read None m path shadow style = Err error.UnknownPlace
+answer_from paths read (Some r) None path shadow style = Err error.UnknownPlace
+answer_from paths read (Some r) (Some m) path shadow style = Ok (answer_in paths (beside read r.map) r.local m path shadow style)
 
 -- the answer, where the place's answers stand so
 abbrev pub answer_by : Status → Result Answer QueryError → Result Answer QueryError
@@ -69,4 +69,4 @@ answer_by status.Unknown answer = Err error.UnknownPlace
 -- the answer to a query
 abbrev pub answer_of : SessionState → PlaceValue → Path → Shadow → Option MacroStyle → Result Answer QueryError
 answer_of s place path shadow style =
-    answer_by (status_of s place) (answer_from s.paths (kept_of s place.krate.0) (module_of s place) path shadow style)
+    answer_by (status_of s place) (answer_from s.paths (read_of s place.krate.0) (kept_of s place.krate.0) (module_of s place) path shadow style)

@@ -22,6 +22,8 @@ pub record IsMade (k : ℕ) (input : CrateInputValue) (c : CrateValue) : Type 0 
   pub is_proc_macro : c.own.is_proc_macro ≡ input.proc_macro
   pub dependencies : c.dependencies ≡ dependency_crates input.deps
   pub options : SetAlike c.options input.options
+  pub root_path : c.root_path ≡ input.root
+  pub attributes : c.attributes ≡ input.attributes
 
 -- the crates are as they were handed in, numbered from this number on
 abbrev pub AreMade : ℕ → List CrateInputValue → List CrateValue → Type 0

@@ -16,14 +16,14 @@ edited_files s (remove_file path) = without_file s.files path
 abbrev pub with_files : SessionState → Files → SessionState
 with_files s files = record s { files = files }
 
--- the files became these, and exactly what that touches is marked
+-- the files became these, and exactly what that touches is marked, and nothing is kept of it
 pub record Becomes (old : SessionState) (files : Files) (new : SessionState) : Type 0 where
   pub crates : new.crates ≡ old.crates
   pub paths : new.paths ≡ old.paths
   pub files_are : new.files ≡ files
-  pub kept : new.kept ≡ old.kept
   pub only : (k : ℕ) → is_marked new k ≡ true → marks_after old (workspace_of (with_files old files)) k
   pub all : (k : ℕ) → marks_after old (workspace_of (with_files old files)) k → is_marked new k ≡ true
+  pub kept : (k : ℕ) → is_marked new k ≡ false → kept_of new k ≡ kept_of old k
   -- what isn't marked is what the import rules could have given just now
   pub sound : IsSound new
 

@@ -1,8 +1,8 @@
 -- How are the values of a session stored?
 use Rattle.std.specs.Coded.{Coded, codes}
-use Rattle.hir_item_tree.specs.CollectedCodes.{coded_atom}
 use Rattle.hir_def_map.specs.Codes.{coded_map}
 use Rattle.hir_session.specs.SourceCodes.{coded_source}
+use Rattle.hir_session.specs.CrateCodes.{coded_crate}
 use Rattle.hir_session.specs.Files.{Files}
 use Rattle.hir_session.specs.SessionState.{SessionState}
 
@@ -12,4 +12,4 @@ coded_files = hlevel (codes, coded_source)
 
 -- a session is stored as its parts
 pub coded_session : Coded SessionState
-coded_session = hlevel (codes, coded_source, coded_atom, coded_map)
+coded_session = hlevel (codes, coded_source, coded_crate, coded_map)

@@ -1,16 +1,20 @@
 -- What is a crate of a session?
 use Rattle.std.specs.Prelude.{ℕ, false, List, [], slice_index_or}
+use Rattle.hir_item_tree.specs.Attributes.{Attributes, no_attributes}
 use Rattle.hir_base.specs.declared.cfg.CfgAtom.{CfgAtom}
 use Rattle.hir_base.specs.declared.edition.Edition.TheVariants.{Edition2024}
 use Rattle.hir_base.specs.declared.ids.Crate.{Crate}
 use Rattle.hir_def_collector.specs.Workspace.{CrateData}
 use Rattle.hir_def_collector.specs.declared.collector.Start.{Start}
 
--- what a run may ask of it, the crates that its dependencies name, and the options that are set
+-- what a run may ask of it, the crates that its dependencies name, the options that are set, the path of its root file,
+-- and the attributes that are handed in for the top of that
 pub record CrateValue : Type 0 where
   pub own : CrateData
   pub dependencies : List Crate
   pub options : List CfgAtom
+  pub root_path : List ℕ
+  pub attributes : Attributes
 
 -- what stands for a crate that isn't there
 abbrev pub no_crate : CrateValue
@@ -18,6 +22,8 @@ no_crate = record {
   own = record { root = record { file_id = record { 0 = 0 }; edition = Edition2024 }; dependencies = []; behind = []; is_proc_macro = false };
   dependencies = [];
   options = [];
+  root_path = [];
+  attributes = no_attributes;
 }
 
 -- the crate of this number

@@ -2,12 +2,9 @@
 use Rattle.std.specs.Prelude.{◌≡◌, ℕ, ◌+◌, Bool, true, false, List, [], ◌∷◌, Some, slice_set, map, Contains}
 use Rattle.hir_base.specs.Place.{PlaceValue}
 use Rattle.hir_base.specs.declared.ids.Crate.{Crate}
-use Rattle.hir_def_map.specs.State.{no_maps}
-use Rattle.hir_def_collector.specs.Workspace.{Workspace}
-use Rattle.hir_def_collector.specs.Derivation.{IsOverlong as IsOverlongBeside}
-use Rattle.hir_def_collector.specs.declared.collector.Start.{Start}
+use Rattle.hir_def_collector.specs.Derivation.{IsOverlong}
 use Rattle.hir_def_collector.specs.declared.source_database.Key.{Key}
-use Rattle.hir_session.specs.SessionState.{SessionState, Resolution, workspace_of, start_of, dependencies_of, kept_of}
+use Rattle.hir_session.specs.SessionState.{SessionState, Resolution, workspace_of, start_of, dependencies_of, kept_of, finished_of}
 
 -- the marked crates of a list, the first of which has this number
 abbrev pub due_from : ℕ → List Bool → List ℕ
@@ -31,16 +28,12 @@ due_places s = map crate_place (due_crates s)
 abbrev pub resolved_at : SessionState → ℕ → Resolution → SessionState
 resolved_at s k r = record s { kept = slice_set s.kept k (Some r); marked = slice_set s.marked k false }
 
--- from where a run begins, steps lead on to as many steps or modules as are counted
-abbrev pub IsOverlong : Workspace → Start → Type 0
-IsOverlong w start = IsOverlongBeside w no_maps start
-
 -- the run for the first crate that is due goes on for too long
 pub record HasOverlongRun (s : SessionState) : Type 0 where
   pub krate : ℕ
   pub others : List ℕ
   pub due : due_crates s ≡ krate ∷ others
-  pub overlong : IsOverlong (workspace_of s) (start_of s krate)
+  pub overlong : IsOverlong (workspace_of s) (finished_of s) (start_of s krate)
 
 -- what stands behind a crate: the crate, what it depends on, and so on
 pub data IsBehind (s : SessionState) (k : ℕ) : ℕ → Type 0 where

@@ -1,18 +1,23 @@
 -- What has a session of each file?
-use Rattle.std.specs.Prelude.{ℕ, not, List, filter, Option, Some, None, slice_get, map, is_some, unwrap_or}
+use Rattle.std.specs.Prelude.{ℕ, nat_eq, not, cond, List, filter, Option, Some, None, slice_get, map, is_none, is_some, unwrap_or}
 use Rattle.std.specs.Option.{option_and_then}
 use Rattle.std.specs.Ordering.{nat_cmp}
-use Rattle.std.specs.Cmp.Lexicographic.{slice_cmp}
+use Rattle.std.specs.Cmp.Lexicographic.{pointwise, slice_cmp}
 use Rattle.std.specs.BTreeMap.{is_at, insert_entry}
 use Rattle.std.specs.Map.{lookup}
 use Rattle.hir_base.specs.CfgOptions.{is_set}
+use Rattle.hir_base.specs.declared.ast_id.AstKind.TheVariants.{Enum}
 use Rattle.hir_base.specs.declared.ast_id.HirFileId.{HirFileId}
 use Rattle.hir_base.specs.declared.ast_id.HirFileId.TheVariants.{File, Macro}
-use Rattle.hir_item_tree.specs.Attributes.{no_attributes}
+use Rattle.hir_base.specs.declared.ast_id.SyntaxId.{SyntaxId}
+use Rattle.hir_base.specs.declared.ids.EnumId.{EnumId}
+use Rattle.hir_item_tree.specs.Attributes.{Attributes, no_attributes}
 use Rattle.hir_item_tree.specs.ItemTree.{Tree, tree_of}
+use Rattle.hir_item_tree.specs.SideLists.{SideEntry, entry_of, entry_variants, side_lists}
 use Rattle.hir_item_tree.specs.Source.{SourceValue, broken}
+use Rattle.hir_item_tree.specs.declared.side_lists.VariantItem.{VariantItem}
 use Rattle.hir_def_collector.specs.Workspace.{Workspace, TreeLook}
-use Rattle.hir_session.specs.Crates.{CrateValue, options_in}
+use Rattle.hir_session.specs.Crates.{CrateValue, crate_in, options_in}
 
 -- the sources of the files that are there, as they were handed in, in the order of their paths
 abbrev pub Files : Type 0
@@ -40,22 +45,40 @@ abbrev pub path_in : List (List ℕ) → HirFileId → Option (List ℕ)
 path_in paths (File f) = slice_get paths f.file_id.0
 path_in paths (Macro call) = None
 
--- the tree of a source under a crate: options differ by crate
-abbrev pub tree_under : List CrateValue → ℕ → SourceValue → Tree
-tree_under crates k source = tree_of (is_set (options_in crates k)) no_attributes source
+-- the attributes of a crate that stand in front of those at the top of the file at a path: at its root file those that were handed in
+abbrev pub front_in : CrateValue → Option (List ℕ) → Attributes
+front_in c None = no_attributes
+front_in c (Some path) = cond (pointwise nat_eq c.root_path path) c.attributes no_attributes
+
+-- the tree of a source under a crate, at the path of a file: options and attributes at the root's top differ by crate
+abbrev pub tree_under : List CrateValue → ℕ → Option (List ℕ) → SourceValue → Tree
+tree_under crates k path source = tree_of (is_set (options_in crates k)) (front_in (crate_in crates k) path) source
 
 -- what is seen of a source under a crate: one that is absent keeps what one that can't be read does
-abbrev pub shown : List CrateValue → ℕ → Option SourceValue → TreeLook
-shown crates k source = record { present = is_some source; tree = tree_under crates k (unwrap_or source broken) }
+abbrev pub shown : List CrateValue → ℕ → Option (List ℕ) → Option SourceValue → TreeLook
+shown crates k path source = record { present = is_some source; tree = tree_under crates k path (unwrap_or source broken) }
 
 -- the source of what holds syntax, if it is there
 abbrev pub source_in : List (List ℕ) → Files → HirFileId → Option SourceValue
 source_in paths files file = option_and_then (file_at files) (path_in paths file)
 
--- the workspace for which crates, a table of paths and files stand; no source that has an enum is taken yet
+-- what is kept beside the tree of a source under a crate
+abbrev pub sides_under : List CrateValue → ℕ → Option SourceValue → List SideEntry
+sides_under crates k source = side_lists (is_set (options_in crates k)) (unwrap_or source broken)
+
+-- the variants of the enum of a node of a source under a crate, but for disabled ones
+abbrev pub variants_under : List CrateValue → ℕ → Option SourceValue → SyntaxId → Option (List VariantItem)
+variants_under crates k source id = option_and_then entry_variants (entry_of (record { kind = Enum; id = id }) (sides_under crates k source))
+
+-- the variants of an enum; no block is set
+abbrev pub variants_in : List CrateValue → List (List ℕ) → Files → EnumId → Option (List VariantItem)
+variants_in crates paths files id =
+    cond (is_none id.block) (variants_under crates id.container.map.krate.0 (source_in paths files id.file_id) id.id) None
+
+-- the workspace for which crates, a table of paths and files stand
 abbrev pub workspace_in : List CrateValue → List (List ℕ) → Files → Workspace
 workspace_in crates paths files = record {
   crates = map (λ c. c.own) crates;
-  tree = λ krate file. shown crates krate.0 (source_in paths files file);
-  variants = λ id. None;
+  tree = λ krate file. shown crates krate.0 (path_in paths file) (source_in paths files file);
+  variants = variants_in crates paths files;
 }

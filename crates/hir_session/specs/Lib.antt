@@ -2,8 +2,11 @@ pub mod Crates
 pub mod StandsOn
 pub mod Behind
 pub mod Files
+pub mod Kept
+pub mod KeptCodes
 pub mod SessionState
 pub mod SourceCodes
+pub mod CrateCodes
 pub mod Codes
 pub mod Spread
 pub mod Marks

@@ -1,11 +1,16 @@
 -- How does the code find what to mark? No public clause speaks of this.
-use Rattle.std.specs.Prelude.{◌≡◌, ℕ, Bool, true, false, ◌||◌, List, length, Option, Some, None, Contains, nat_eq, slice_index_or}
+use Rattle.std.specs.Prelude.{◌≡◌, ℕ, Bool, true, false, ◌&&◌, ◌||◌, is_none, List, length, Option, Some, None, Contains, nat_eq, slice_index_or}
 use Rattle.std.specs.Cmp.Lexicographic.{pointwise}
 use Rattle.hir_base.specs.declared.ids.Crate.{Crate}
 use Rattle.hir_def_map.specs.State.{no_maps}
 use Rattle.hir_def_collector.specs.Workspace.{Workspace}
-use Rattle.hir_def_collector.specs.Keys.{AgreeOn}
+use Rattle.hir_def_collector.specs.Keys.{AgreeOn, look}
 use Rattle.hir_def_collector.specs.declared.source_database.Key.{Key}
+use Rattle.hir_def_collector.specs.declared.source_database.Key.TheVariants.{Tree, Variants, Map}
+use Rattle.hir_item_tree.specs.SideLists.{entries_view}
+use Rattle.hir_item_tree.specs.Source.{SourceValue}
+use Rattle.hir_session.specs.declared.judge.Sides.{Sides}
+use Rattle.hir_session.specs.Files.{path_in, sides_under}
 use Rattle.hir_session.specs.Crates.{CrateValue, dependencies_in}
 use Rattle.hir_session.specs.SessionState.{Resolution, kept_in, mark_in}
 use Rattle.hir_session.specs.Spread.{Spread}
@@ -15,6 +20,22 @@ use Rattle.hir_session.specs.Marks.{IsAltered}
 abbrev pub is_path : List ℕ → Option (List ℕ) → Bool
 is_path path None = false
 is_path path (Some other) = pointwise nat_eq other path
+
+-- whether a key is of the variants of an enum in the file at the path
+abbrev pub is_enum_at : List (List ℕ) → List ℕ → Key → Bool
+is_enum_at paths path (Tree krate file) = false
+is_enum_at paths path (Variants id) = is_none id.block && is_path path (path_in paths id.file_id)
+is_enum_at paths path (Map id) = false
+
+-- the two have the same at those of the keys that are of such variants, or at the others
+pub record AgreeAt (paths : List (List ℕ)) (path : List ℕ) (enums : Bool) (keys : List Key) (v w : Workspace) : Type 0 where
+  pub same : (key : Key) → Contains keys key → is_enum_at paths path key ≡ enums → look w no_maps key ≡ look v no_maps key
+
+-- these are kept beside a source under a crate, before an edit and after it
+pub record AreSidesOf (crates : List CrateValue) (k : Crate) (was is : Option SourceValue) (sides : Sides) : Type 0 where
+  pub under : sides.krate ≡ k
+  pub old : entries_view sides.old.kept.side.items ≡ sides_under crates k.0 was
+  pub new : entries_view sides.new.kept.side.items ≡ sides_under crates k.0 is
 
 -- one of the keys is altered
 pub record HasAltered (v w : Workspace) (keys : List Key) : Type 0 where

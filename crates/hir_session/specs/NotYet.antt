@@ -1,45 +1,14 @@
 -- What can't be taken yet?
 use Rattle.std.specs.Prelude.{Bool, true, false, ◌&&◌, not, List, [], ◌∷◌, Option, Some, None}
-use Rattle.hir_item_tree.specs.declared.raw_visibility.RawVisibility.{RawVisibility}
-use Rattle.hir_item_tree.specs.declared.raw_visibility.RawVisibility.TheVariants as visibility
 use Rattle.hir_item_tree.specs.declared.shape.ImportAlias.{ImportAlias}
 use Rattle.hir_item_tree.specs.declared.shape.ImportAlias.TheVariants as alias
 use Rattle.hir_item_tree.specs.Attributes.{Attribute, meta, cfg, cfg_attr, Attributes, no_attributes, attribute}
 use Rattle.hir_item_tree.specs.UseTree.{UseTree, single, glob, prefixed, UseTrees, no_trees, tree}
-use Rattle.hir_item_tree.specs.Source.{NodeHead, Plain, import, extern_crate, function, structure, union_structure, enumeration, constant, static_item, type_alias, outline_module, macro_call, macro_rules, macro_def, Item, plain, holder, Items, no_items, item, SourceValue, broken, unit}
+use Rattle.hir_item_tree.specs.Source.{VariantValue, Plain, import, extern_crate, function, structure, union_structure, enumeration, constant, static_item, type_alias, outline_module, macro_call, macro_rules, macro_def, Item, plain, holder, Items, no_items, item, SourceValue, broken, unit}
 use Rattle.hir_def_collector.specs.BuiltinAttributes.{is_inert}
 use Rattle.hir_wire.specs.CommandValue.{CrateInputValue}
-use Rattle.hir_wire.specs.declared.command.Dependency.{Dependency}
-
--- ---- crates
-
--- whether there are no dependencies
-abbrev pub has_none : List Dependency → Bool
-has_none [] = true
-has_none (d ∷ ds) = false
-
--- whether there are no attributes
-abbrev pub is_bare : Attributes → Bool
-is_bare no_attributes = true
-is_bare (attribute a rest) = false
-
--- a crate without dependencies and attributes that isn't a procedural macro's
-abbrev pub is_crate_taken : CrateInputValue → Bool
-is_crate_taken c = has_none c.deps && (is_bare c.attributes && not c.proc_macro)
 
 -- ---- the parts of items
-
--- all visibilities but those in a path
-abbrev pub is_visibility_taken : RawVisibility → Bool
-is_visibility_taken (visibility.Module path written) = false
-is_visibility_taken (visibility.PubSelf written) = true
-is_visibility_taken visibility.PubCrate = true
-is_visibility_taken visibility.Public = true
-
--- visibilities all of which are taken
-abbrev pub are_visibilities_taken : List RawVisibility → Bool
-are_visibilities_taken [] = true
-are_visibilities_taken (v ∷ vs) = is_visibility_taken v && are_visibilities_taken vs
 
 abbrev mutual
   -- conditions and inert attributes, also those that a condition holds
@@ -71,18 +40,19 @@ abbrev mutual
   are_trees_taken no_trees = true
   are_trees_taken (tree t ts) = is_tree_taken t && are_trees_taken ts
 
--- what every item has
-abbrev pub is_head_taken : NodeHead → Bool
-is_head_taken h = is_visibility_taken h.visibility && are_attributes_taken h.attributes
+-- variants all of whose attributes are taken
+abbrev pub are_variants_taken : List VariantValue → Bool
+are_variants_taken [] = true
+are_variants_taken (v ∷ vs) = are_attributes_taken v.attributes && are_variants_taken vs
 
--- all kinds but enums, extern crates, modules in files of their own, and what has to do with macros
+-- all kinds but modules in files of their own, and what has to do with macros
 abbrev pub is_kind_taken : Plain → Bool
 is_kind_taken (import written) = is_tree_taken written
-is_kind_taken (extern_crate name a) = false
+is_kind_taken (extern_crate name a) = is_alias_taken a
 is_kind_taken (function name body) = true
-is_kind_taken (structure name shape fields) = are_visibilities_taken fields
-is_kind_taken (union_structure name fields) = are_visibilities_taken fields
-is_kind_taken (enumeration name variants) = false
+is_kind_taken (structure name shape fields) = true
+is_kind_taken (union_structure name fields) = true
+is_kind_taken (enumeration name variants) = are_variants_taken variants
 is_kind_taken (constant name body) = true
 is_kind_taken (static_item name body) = true
 is_kind_taken (type_alias name) = true
@@ -91,13 +61,17 @@ is_kind_taken (macro_call path) = false
 is_kind_taken (macro_rules name makro) = false
 is_kind_taken (macro_def name makro) = false
 
--- ---- items
+-- ---- crates, and items
+
+-- a crate that isn't a procedural macro's, all of whose attributes are taken
+abbrev pub is_crate_taken : CrateInputValue → Bool
+is_crate_taken c = are_attributes_taken c.attributes && not c.proc_macro
 
 abbrev mutual
   -- an item all of whose parts are taken
   pub is_item_taken : Item → Bool
-  is_item_taken (plain h kind) = is_head_taken h && is_kind_taken kind
-  is_item_taken (holder h kind items) = is_head_taken h && are_items_taken items
+  is_item_taken (plain h kind) = are_attributes_taken h.attributes && is_kind_taken kind
+  is_item_taken (holder h kind items) = are_attributes_taken h.attributes && are_items_taken items
 
   -- items all of which are taken
   pub are_items_taken : Items → Bool

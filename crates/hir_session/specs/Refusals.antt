@@ -1,10 +1,11 @@
 -- What are a session and an edit refused for?
-use Rattle.std.specs.Prelude.{◌≡◌, ℕ, ◌+◌, ◌^◌, Bool, not, nat_le, nat_lt, List, [], ◌∷◌, length, map, Option, Some, None, Result, Ok, Err, if◌then◌else◌}
+use Rattle.std.specs.Prelude.{◌≡◌, ℕ, ◌+◌, ◌^◌, Bool, ◌&&◌, not, nat_le, nat_lt, List, [], ◌∷◌, length, map, Option, Some, None, Result, Ok, Err, if◌then◌else◌}
 use Rattle.std.specs.List.{list_any}
 use Rattle.hir_base.specs.declared.ids.Crate.{Crate}
 use Rattle.hir_base.specs.declared.limit.Limit.TheVariants as limit
 use Rattle.hir_item_tree.specs.Source.{SourceValue}
 use Rattle.hir_item_tree.specs.Check.{verdict_of_check}
+use Rattle.hir_item_tree.specs.Limits.{are_deep, have_long_attribute}
 use Rattle.hir_item_tree.specs.declared.check.CheckError.{CheckError}
 use Rattle.hir_item_tree.specs.declared.check.CheckError.TheVariants as check_error
 use Rattle.hir_def_collector.specs.declared.collector.CollectError.{CollectError}
@@ -60,10 +61,25 @@ first_out_of_order k [] = None
 first_out_of_order k (c ∷ cs) =
     if has_late k (dependency_crates c.deps) then Some (record { 0 = k }) else first_out_of_order (k + 1) cs
 
--- what is said of the order of the crates, and then of their number
+-- whether a path in the attributes that are handed in for a crate has too many segments
+abbrev pub is_too_long : CrateInputValue → Bool
+is_too_long c = have_long_attribute c.attributes
+
+-- whether conditions in them nest too deep, where their paths have no more segments than they may
+abbrev pub is_too_deep : CrateInputValue → Bool
+is_too_deep c = not (have_long_attribute c.attributes) && are_deep c.attributes
+
+-- that the crates are within the limits, or the first limit that is passed
+abbrev pub verdict_of_limits : List CrateInputValue → Result (Unit {0}) NewSessionError
+verdict_of_limits inputs =
+    if list_any is_too_long inputs then Err (new_error.TooLarge limit.Path) else
+    (if list_any is_too_deep inputs then Err (new_error.TooLarge limit.Cfg) else
+    (if nat_lt max_crates (length inputs) then Err (new_error.TooLarge limit.Crates) else Ok tt))
+
+-- what is said of the order of the crates, and then of the limits
 abbrev pub verdict_of_order : List CrateInputValue → Option Crate → Result (Unit {0}) NewSessionError
 verdict_of_order inputs (Some krate) = Err (new_error.DependencyOrder krate)
-verdict_of_order inputs None = if nat_lt max_crates (length inputs) then Err (new_error.TooLarge limit.Crates) else Ok tt
+verdict_of_order inputs None = verdict_of_limits inputs
 
 -- how many crates have a number of their own
 abbrev pub crate_numbers : ℕ

@@ -25,7 +25,7 @@ use Rattle.hir_scope.specs.declared.imports.ImportOrGlob.TheVariants as value_im
 use Rattle.hir_scope.specs.declared.per_ns.Item.{Item}
 use Rattle.hir_scope.specs.declared.visibility.Visibility.{Visibility}
 use Rattle.hir_scope.specs.declared.visibility.Visibility.TheVariants as vis
-use Rattle.hir_def_map.specs.State.{Map, alone, module_in}
+use Rattle.hir_def_map.specs.State.{Maps, module_in}
 use Rattle.hir_def_map.specs.declared.nameres.origin.ModuleOrigin.{ModuleOrigin}
 use Rattle.hir_def_map.specs.declared.nameres.origin.ModuleOrigin.TheVariants as origin
 use Rattle.hir_wire.specs.declared.answer.AnswerItem.{AnswerItem}
@@ -73,9 +73,9 @@ module_by paths krate (origin.File is_mod_rs at tree file) = item_of paths krate
 module_by paths krate (origin.Inline tree at) = item_of paths krate (source.Node kind.Module) at.file_id tree.block at.id
 module_by paths krate (origin.BlockExpr id block) = None
 
--- a module, by its node
-abbrev pub module_definition : List (List ℕ) → Map → ModuleId → Option Definition
-module_definition paths map m = option_and_then (λ found. module_by paths m.map.krate found.origin) (module_in (alone map) m)
+-- a module of one of the maps, by its node
+abbrev pub module_definition : List (List ℕ) → Maps → ModuleId → Option Definition
+module_definition paths maps m = option_and_then (λ found. module_by paths m.map.krate found.origin) (module_in maps m)
 
 -- a struct, a union or an enum
 abbrev pub adt_definition : List (List ℕ) → AdtId → Option Definition
@@ -90,18 +90,18 @@ macro_definition paths (macro.MacroRulesId i) = item_of paths i.container.map.kr
 macro_definition paths (macro.ProcMacroId i) = item_of paths i.container.map.krate source.ProcMacro i.file_id i.block i.id
 
 -- what a type or a value stands for
-abbrev pub definition_of : List (List ℕ) → Map → ModuleDefId → Option Definition
-definition_of paths map (def.ModuleId m) = module_definition paths map m
-definition_of paths map (def.FunctionId i) = item_of paths (crate_of i.container) (source.Node kind.Fn) i.file_id i.block i.id
-definition_of paths map (def.AdtId i) = adt_definition paths i
-definition_of paths map (def.EnumVariantId i) =
+abbrev pub definition_of : List (List ℕ) → Maps → ModuleDefId → Option Definition
+definition_of paths maps (def.ModuleId m) = module_definition paths maps m
+definition_of paths maps (def.FunctionId i) = item_of paths (crate_of i.container) (source.Node kind.Fn) i.file_id i.block i.id
+definition_of paths maps (def.AdtId i) = adt_definition paths i
+definition_of paths maps (def.EnumVariantId i) =
     item_of paths i.parent.container.map.krate (source.Node kind.Variant) i.parent.file_id i.parent.block i.id
-definition_of paths map (def.ConstId i) = item_of paths (crate_of i.container) (source.Node kind.Const) i.file_id i.block i.id
-definition_of paths map (def.StaticId i) = item_of paths (crate_of i.container) (source.Node kind.Static) i.file_id i.block i.id
-definition_of paths map (def.TraitId i) = item_of paths i.container.map.krate (source.Node kind.Trait) i.file_id i.block i.id
-definition_of paths map (def.TypeAliasId i) = item_of paths (crate_of i.container) (source.Node kind.TypeAlias) i.file_id i.block i.id
-definition_of paths map (def.BuiltinType b) = Some (definition.Builtin b)
-definition_of paths map (def.MacroId i) = macro_definition paths i
+definition_of paths maps (def.ConstId i) = item_of paths (crate_of i.container) (source.Node kind.Const) i.file_id i.block i.id
+definition_of paths maps (def.StaticId i) = item_of paths (crate_of i.container) (source.Node kind.Static) i.file_id i.block i.id
+definition_of paths maps (def.TraitId i) = item_of paths i.container.map.krate (source.Node kind.Trait) i.file_id i.block i.id
+definition_of paths maps (def.TypeAliasId i) = item_of paths (crate_of i.container) (source.Node kind.TypeAlias) i.file_id i.block i.id
+definition_of paths maps (def.BuiltinType b) = Some (definition.Builtin b)
+definition_of paths maps (def.MacroId i) = macro_definition paths i
 
 -- whether a visibility was written
 abbrev pub is_explicit : VisibilityExplicitness → Bool
@@ -113,10 +113,10 @@ abbrev pub module_visibility : VisibilityExplicitness → Definition → AnswerV
 module_visibility written shown = answer_vis.Module (is_explicit written) shown
 
 -- from where a binding is visible
-abbrev pub visibility_source : List (List ℕ) → Map → Visibility → Option AnswerVisibility
-visibility_source paths map vis.Public = Some answer_vis.Public
-visibility_source paths map (vis.PubCrate c) = Some (answer_vis.Crate c)
-visibility_source paths map (vis.Module m written) = option_map (module_visibility written) (module_definition paths map m)
+abbrev pub visibility_source : List (List ℕ) → Maps → Visibility → Option AnswerVisibility
+visibility_source paths maps vis.Public = Some answer_vis.Public
+visibility_source paths maps (vis.PubCrate c) = Some (answer_vis.Crate c)
+visibility_source paths maps (vis.Module m written) = option_map (module_visibility written) (module_definition paths maps m)
 
 -- the item that made a binding, by what holds it
 abbrev pub import_in : SyntaxId → ImportOrigin → ItemSource → ImportSource
@@ -150,13 +150,13 @@ together (Some d) (Some import) None = None
 together (Some d) (Some import) (Some visible) = Some (record { def = d; import = import; vis = visible })
 
 -- what a type is answered
-abbrev pub answered_type : List (List ℕ) → Map → Item ModuleDefId ImportOrExternCrate → Option AnswerItem
-answered_type paths map i = together (definition_of paths map i.def) (maybe_source (import_source paths) i.import) (visibility_source paths map i.vis)
+abbrev pub answered_type : List (List ℕ) → Maps → Item ModuleDefId ImportOrExternCrate → Option AnswerItem
+answered_type paths maps i = together (definition_of paths maps i.def) (maybe_source (import_source paths) i.import) (visibility_source paths maps i.vis)
 
 -- what a value is answered
-abbrev pub answered_value : List (List ℕ) → Map → Item ModuleDefId ImportOrGlob → Option AnswerItem
-answered_value paths map i = together (definition_of paths map i.def) (maybe_source (value_import_source paths) i.import) (visibility_source paths map i.vis)
+abbrev pub answered_value : List (List ℕ) → Maps → Item ModuleDefId ImportOrGlob → Option AnswerItem
+answered_value paths maps i = together (definition_of paths maps i.def) (maybe_source (value_import_source paths) i.import) (visibility_source paths maps i.vis)
 
 -- what a macro is answered
-abbrev pub answered_macro : List (List ℕ) → Map → Item MacroId ImportOrExternCrate → Option AnswerItem
-answered_macro paths map i = together (macro_definition paths i.def) (maybe_source (import_source paths) i.import) (visibility_source paths map i.vis)
+abbrev pub answered_macro : List (List ℕ) → Maps → Item MacroId ImportOrExternCrate → Option AnswerItem
+answered_macro paths maps i = together (macro_definition paths i.def) (maybe_source (import_source paths) i.import) (visibility_source paths maps i.vis)

@@ -1,5 +1,5 @@
 -- Which page shows the tree of a file?
-use Rattle.std.specs.Prelude.{ℕ, nat_lt, List, length, Result, Ok, Err, if◌then◌else◌}
+use Rattle.std.specs.Prelude.{ℕ, nat_lt, List, length, Some, Result, Ok, Err, if◌then◌else◌}
 use Rattle.hir_base.specs.declared.edition.Edition.{Edition}
 use Rattle.hir_base.specs.declared.ids.Crate.{Crate}
 use Rattle.hir_item_tree.specs.Page.{page}
@@ -16,5 +16,5 @@ edition_in crates k = (crate_in crates k).own.root.edition
 -- the page of the file's tree in the crate's edition, or that there is no such crate
 abbrev pub tree_text_of : SessionState → Crate → List ℕ → Result (List ℕ) TreeTextError
 tree_text_of s krate path =
-    if nat_lt krate.0 (length s.crates) then Ok (page (edition_in s.crates krate.0) (shown s.crates krate.0 (file_at s.files path)).tree) else
+    if nat_lt krate.0 (length s.crates) then Ok (page (edition_in s.crates krate.0) (shown s.crates krate.0 (Some path) (file_at s.files path)).tree) else
     Err error.UnknownCrate

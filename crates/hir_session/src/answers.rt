@@ -1,6 +1,7 @@
 //! Answers to paths, in source items.
 ghost use Rattle.std.specs.Prelude.{◌≡◌, IfOk};
 ghost use Rattle.std.specs.Option.{option_and_then};
+ghost use Rattle.hir_def_map.specs.DefMaps.{maps_of};
 ghost use Rattle.hir_def_map.specs.State.{root_of};
 ghost use Rattle.hir_session.specs.SourceItems.{import_source, value_import_source, maybe_source, together, answered_type, answered_value, answered_macro};
 ghost use Rattle.hir_session.specs.Status.{module_below};
@@ -11,10 +12,10 @@ use hir_base::file_path::FilePath;
 use hir_base::ids::ModuleId;
 use hir_base::mod_path::ModPath;
 use hir_base::place::PlaceElement;
+use hir_def_map::def_maps::DefMaps;
 use hir_def_map::nameres::DefMap;
 use hir_def_map::nameres::local_def_map::LocalDefMap;
-use hir_def_map::nameres::path_resolution::{BuiltinShadowMode, MacroSubNs};
-use hir_def_map::world::World;
+use hir_def_map::nameres::path_resolution::{BuiltinShadowMode, MacroSubNs, ResolveMode};
 use hir_scope::imports::{ImportOrExternCrate, ImportOrGlob};
 use hir_scope::per_ns::{MacrosItem, TypesItem, ValuesItem};
 use hir_wire::answer::{Answer, AnswerItem, AnswerVisibility, Definition, ImportSource};
@@ -109,16 +110,16 @@ fn maybe_value_import(
 fn type_at(
     alloc: Global,
     paths: &Vec<FilePath>,
-    map: &DefMap,
+    maps: &DefMaps<'_>,
     item: Option<TypesItem>,
 ) -> Result<Option<AnswerItem>, AllocError>
-    ensures value { IfOk result (λ o. o ≡ option_and_then (answered_type paths.now.items map.now) item) }
+    ensures value { IfOk result (λ o. o ≡ option_and_then (answered_type paths.now.items (maps_of maps.now)) item) }
 {
     match item {
         Some(item) => {
-            let def = definition_at(alloc, paths, map, item.def)?;
+            let def = definition_at(alloc, paths, maps, item.def)?;
             let import = maybe_import(alloc, paths, item.import)?;
-            let vis = visibility_at(alloc, paths, map, item.vis)?;
+            let vis = visibility_at(alloc, paths, maps, item.vis)?;
             Ok(all_of(def, import, vis))
         }
         None => Ok(None),
@@ -129,16 +130,16 @@ fn type_at(
 fn value_at(
     alloc: Global,
     paths: &Vec<FilePath>,
-    map: &DefMap,
+    maps: &DefMaps<'_>,
     item: Option<ValuesItem>,
 ) -> Result<Option<AnswerItem>, AllocError>
-    ensures value { IfOk result (λ o. o ≡ option_and_then (answered_value paths.now.items map.now) item) }
+    ensures value { IfOk result (λ o. o ≡ option_and_then (answered_value paths.now.items (maps_of maps.now)) item) }
 {
     match item {
         Some(item) => {
-            let def = definition_at(alloc, paths, map, item.def)?;
+            let def = definition_at(alloc, paths, maps, item.def)?;
             let import = maybe_value_import(alloc, paths, item.import)?;
-            let vis = visibility_at(alloc, paths, map, item.vis)?;
+            let vis = visibility_at(alloc, paths, maps, item.vis)?;
             Ok(all_of(def, import, vis))
         }
         None => Ok(None),
@@ -149,45 +150,52 @@ fn value_at(
 fn macro_item_at(
     alloc: Global,
     paths: &Vec<FilePath>,
-    map: &DefMap,
+    maps: &DefMaps<'_>,
     item: Option<MacrosItem>,
 ) -> Result<Option<AnswerItem>, AllocError>
-    ensures value { IfOk result (λ o. o ≡ option_and_then (answered_macro paths.now.items map.now) item) }
+    ensures value { IfOk result (λ o. o ≡ option_and_then (answered_macro paths.now.items (maps_of maps.now)) item) }
 {
     match item {
         Some(item) => {
             let def = macro_at(alloc, paths, item.def)?;
             let import = maybe_import(alloc, paths, item.import)?;
-            let vis = visibility_at(alloc, paths, map, item.vis)?;
+            let vis = visibility_at(alloc, paths, maps, item.vis)?;
             Ok(all_of(def, import, vis))
         }
         None => Ok(None),
     }
 }
 
-/// What a path means in a module of a map, in source items.
+/// What a path means in a module of one of the maps, in source items.
 pub fn answer_at(
     alloc: Global,
     paths: &Vec<FilePath>,
-    map: &DefMap,
+    maps: &DefMaps<'_>,
     local: &LocalDefMap,
     at: ModuleId,
     path: &ModPath,
     shadow: Shadow,
     style: Option<MacroStyle>,
 ) -> Result<Answer, AllocError>
-    ensures value { IfOk result (λ a. a ≡ answer_in paths.now.items map.now local.now at path.now shadow style) }
+    ensures value { IfOk result (λ a. a ≡ answer_in paths.now.items (maps_of maps.now) local.now at path.now shadow style) }
 {
-    let world = World::new(alloc);
-    let shadow = shadow_mode(shadow);
-    let (items, stop) = map.resolve_path(Some(local), &world, at, path, shadow, sub_ns(style));
-    let types = type_at(alloc, paths, map, items.types)?;
-    let values = value_at(alloc, paths, map, items.values)?;
-    let macros = macro_item_at(alloc, paths, map, items.macros)?;
+    let mode = ResolveMode::Other;
+    let found = maps.resolve_path_fp_with_macro(
+        Some(local),
+        mode,
+        at,
+        path,
+        shadow_mode(shadow),
+        sub_ns(style),
+    );
+    let items = found.resolved_def;
+    let types = type_at(alloc, paths, maps, items.types)?;
+    let values = value_at(alloc, paths, maps, items.values)?;
+    let macros = macro_item_at(alloc, paths, maps, items.macros)?;
     Ok(Answer {
         types,
         values,
         macros,
-        stop,
+        stop: found.segment_index,
     })
 }

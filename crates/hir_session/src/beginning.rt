@@ -1,5 +1,5 @@
 //! What a session begins with.
-ghost use Rattle.std.specs.Prelude.{◌≡◌, ◌<◌, ◌^◌, map, replicate, true, length, None, IfOk, option_map};
+ghost use Rattle.std.specs.Prelude.{◌≡◌, ◌<◌, ◌^◌, map, replicate, true, length, IfOk, option_map};
 ghost use Rattle.hir_base.specs.CfgOptions.{SetAlike};
 ghost use Rattle.hir_wire.specs.CommandValue.{crate_input_view};
 ghost use Rattle.hir_session.specs.Refusals.{dependency_crates, has_late, first_out_of_order};
@@ -8,12 +8,12 @@ ghost use Rattle.hir_session.specs.Beginning.{dependency_of, IsMade, AreMade};
 
 use crate::behind::behind_of;
 use crate::crate_info::CrateInfo;
+use crate::front::copy_attrs;
 use hir_base::ast_id::{EditionedFileId, FileId};
 use hir_base::cfg::CfgAtom;
 use hir_base::cfg_options::CfgOptions;
 use hir_base::file_path::FilePath;
 use hir_base::ids::Crate;
-use hir_def_collector::collector::collected::Collected;
 use hir_def_collector::source_database::{CrateData, Dependency as RunDependency};
 use hir_wire::command::{CrateInput, Dependency};
 use std::alloc::{AllocError, Global};
@@ -102,8 +102,10 @@ fn info_of(
     let behind = behind_of(alloc, before, dependencies.as_slice())?;
     let named = dependencies_of(alloc, input.deps.as_slice())?;
     let options = options_of(alloc, &input.cfg)?;
+    let attrs = copy_attrs(alloc, &input.attrs)?;
+    let root_path = input.root.clone()?;
     let own = CrateData::new(root, named, Rc::new(alloc, behind)?, input.proc_macro);
-    Ok(CrateInfo::new(own, dependencies, options))
+    Ok(CrateInfo::new(own, dependencies, options, root_path, attrs))
 }
 
 /// The crates of a session.
@@ -128,19 +130,6 @@ pub fn roots_of(alloc: Global, inputs: &Vec<CrateInput>) -> Result<Vec<FilePath>
         paths.push(input.root.clone()?)?;
     }
     Ok(paths)
-}
-
-/// So many crates of which nothing is kept.
-#[tactic(auto, using(crate::proofs::Start::replicate_more))]
-pub fn nothing_kept(alloc: Global, count: usize) -> Result<Vec<Option<Collected>>, AllocError>
-    ensures value { IfOk result (λ v. v.items ≡ replicate count None) }
-{
-    let mut kept = Vec::new(alloc);
-    for k in 0..count {
-        prove!(k < count);
-        kept.push(None)?;
-    }
-    Ok(kept)
 }
 
 /// So many marks.

@@ -1,7 +1,9 @@
 //! The trees of files: how they are made of what is handed in, and how they are shown.
-ghost use Rattle.std.specs.Prelude.{◌≡◌, ◌⊎◌, IfOk, IfErr, OnOk, Ok, Err, option_map, string_bytes};
+ghost use Rattle.std.specs.Prelude.{◌≡◌, ◌⊎◌, IfOk, IfErr, OnOk, Ok, Err, Some, option_map, string_bytes};
+ghost use Rattle.hir_base.specs.CfgOptions.{is_set};
+ghost use Rattle.hir_item_tree.specs.ItemTree.{tree_of};
 ghost use Rattle.hir_item_tree.specs.Source.{source_view};
-ghost use Rattle.hir_session.specs.Files.{file_at, tree_under, shown};
+ghost use Rattle.hir_session.specs.Files.{file_at, front_in, tree_under, shown};
 ghost use Rattle.hir_session.specs.Refusals.{verdict_of_source, IsEditMemory};
 ghost use Rattle.hir_item_tree.specs.Page.{page};
 
@@ -18,19 +20,34 @@ use hir_item_tree::item_tree::{ItemTree, source_tree};
 use hir_item_tree::source::Source;
 use std::alloc::{AllocError, Global};
 
-/// The tree of a source under a crate; under one that isn't there no option is set.
+/// The tree of a source under a crate, behind what the crate puts in front of the file at a path.
+fn tree_behind(
+    alloc: Global,
+    info: &CrateInfo,
+    path: Option<&FilePath>,
+    source: &Source,
+) -> Result<ItemTree, AllocError>
+    ensures value { IfOk result (λ t. t ≡ tree_of (is_set info.now.options) (front_in info.now (option_map (λ p. p.now) path.entry)) (source_view source.now)) }
+{
+    match info.front(path) {
+        Some(front) => source_tree(alloc, source, front, info.options()),
+        None => source_tree(alloc, source, &Vec::new(alloc), info.options()),
+    }
+}
+
+/// The tree of a source under a crate, at the path of a file; under one that isn't there no option is set.
 pub fn make_tree(
     alloc: Global,
     crates: &Vec<CrateInfo>,
     krate: Crate,
+    path: Option<&FilePath>,
     source: &Source,
 ) -> Result<ItemTree, AllocError>
-    ensures value { IfOk result (λ t. t ≡ tree_under crates.now.items krate.0 (source_view source.now)) }
+    ensures value { IfOk result (λ t. t ≡ tree_under crates.now.items krate.0 (option_map (λ p. p.now) path.entry) (source_view source.now)) }
 {
-    let front = Vec::new(alloc);
     match crates.get(krate.0 as usize) {
-        Some(info) => source_tree(alloc, source, &front, info.options()),
-        None => source_tree(alloc, source, &front, &CfgOptions::new(alloc)),
+        Some(info) => tree_behind(alloc, info, path, source),
+        None => source_tree(alloc, source, &Vec::new(alloc), &CfgOptions::new(alloc)),
     }
 }
 
@@ -39,13 +56,14 @@ pub fn shown_tree(
     alloc: Global,
     crates: &Vec<CrateInfo>,
     krate: Crate,
+    path: Option<&FilePath>,
     source: Option<&Source>,
 ) -> Result<ItemTree, AllocError>
-    ensures value { IfOk result (λ t. t ≡ (shown crates.now.items krate.0 (option_map (λ s. source_view s.now) source.entry)).tree) }
+    ensures value { IfOk result (λ t. t ≡ (shown crates.now.items krate.0 (option_map (λ p. p.now) path.entry) (option_map (λ s. source_view s.now) source.entry)).tree) }
 {
     match source {
-        Some(source) => make_tree(alloc, crates, krate, source),
-        None => make_tree(alloc, crates, krate, &Source::Broken),
+        Some(source) => make_tree(alloc, crates, krate, path, source),
+        None => make_tree(alloc, crates, krate, path, &Source::Broken),
     }
 }
 
@@ -71,8 +89,8 @@ pub fn page_at(
     edition: Edition,
 ) -> Result<String, AllocError>
     ensures value { IfOk result (λ text. string_bytes text
-        ≡ page edition (shown crates.now.items krate.0 (file_at files.now path.now)).tree) }
+        ≡ page edition (shown crates.now.items krate.0 (Some path.now) (file_at files.now path.now)).tree) }
 {
-    let tree = shown_tree(alloc, crates, krate, files.get(path))?;
+    let tree = shown_tree(alloc, crates, krate, Some(path), files.get(path))?;
     tree.pretty_print(edition)
 }

@@ -8,7 +8,9 @@ mod crate_info;
 pub mod error;
 mod file_trees;
 mod files;
+mod front;
 mod judge;
+mod kept;
 pub mod laws;
 mod marks;
 mod not_yet;
@@ -17,6 +19,7 @@ mod output;
 mod server;
 pub mod server_state;
 pub mod session;
+mod side_index;
 mod source_items;
 mod sources;
 

@@ -2,42 +2,23 @@
 ghost use Rattle.std.specs.Prelude.{◌≡◌, map, not};
 ghost use Rattle.std.specs.List.{list_any};
 ghost use Rattle.hir_item_tree.specs.Attributes.{attribute_view, attributes_view};
-ghost use Rattle.hir_item_tree.specs.Source.{node_view, nodes_view, source_view};
+ghost use Rattle.hir_item_tree.specs.Source.{node_view, nodes_view, source_view, variant_view};
 ghost use Rattle.hir_item_tree.specs.UseTree.{use_tree_view, use_trees_view};
 ghost use Rattle.hir_wire.specs.CommandValue.{crate_input_view};
-ghost use Rattle.hir_session.specs.NotYet.{has_none, is_bare, is_crate_taken, is_visibility_taken, are_visibilities_taken, is_attribute_taken, are_attributes_taken, is_alias_taken, is_tree_taken, are_trees_taken, is_item_taken, are_items_taken, is_source_taken};
+ghost use Rattle.hir_session.specs.NotYet.{is_crate_taken, are_variants_taken, is_attribute_taken, are_attributes_taken, is_alias_taken, is_tree_taken, are_trees_taken, is_item_taken, are_items_taken, is_source_taken};
 
 use hir_def_collector::builtin_attr::is_inert_by_name;
 use hir_item_tree::raw_attr::RawAttr;
-use hir_item_tree::raw_visibility::RawVisibility;
 use hir_item_tree::shape::ImportAlias;
-use hir_item_tree::source::{Node, NodeKind, Source};
+use hir_item_tree::source::{Node, NodeKind, Source, Variant};
 use hir_item_tree::use_tree::{UseTree, UseTreeKind};
-use hir_wire::command::{CrateInput, Dependency};
+use hir_wire::command::CrateInput;
 
-fn has_none_now(dependencies: &[Dependency]) -> bool
-    ensures value { result ≡ has_none dependencies.now }
-{
-    match dependencies {
-        [] => true,
-        [_, ..] => false,
-    }
-}
-
-fn is_bare_now(attrs: &Vec<RawAttr>) -> bool
-    ensures value { result ≡ is_bare (attributes_view attrs.now.items) }
-{
-    match attrs.as_slice() {
-        [] => true,
-        [_, ..] => false,
-    }
-}
-
-/// Whether the crate has no dependencies and no attributes, and isn't a procedural macro's.
+/// Whether the crate isn't a procedural macro's, and all its attributes can be taken.
 fn is_taken(input: &CrateInput) -> bool
     ensures value { result ≡ is_crate_taken (crate_input_view input.now) }
 {
-    has_none_now(input.deps.as_slice()) && is_bare_now(&input.attrs) && !input.proc_macro
+    are_attrs_taken(&input.attrs) && !input.proc_macro
 }
 
 /// Whether one of the crates can't be taken yet.
@@ -50,26 +31,6 @@ pub fn is_any_untaken(inputs: &Vec<CrateInput>) -> bool
         }
     }
     false
-}
-
-fn is_visibility_taken_now(visibility: &RawVisibility) -> bool
-    ensures value { result ≡ is_visibility_taken visibility.now }
-{
-    match visibility {
-        RawVisibility::Module(_, _) => false,
-        RawVisibility::PubSelf(_) | RawVisibility::PubCrate | RawVisibility::Public => true,
-    }
-}
-
-fn are_taken(visibilities: &[RawVisibility]) -> bool
-    ensures value { result ≡ are_visibilities_taken visibilities.now }
-{
-    for visibility in visibilities {
-        if !is_visibility_taken_now(visibility) {
-            return false;
-        }
-    }
-    true
 }
 
 #[cycle(attrs)]
@@ -127,17 +88,31 @@ fn are_trees_taken_now(list: &Vec<UseTree>) -> bool
     true
 }
 
+fn are_variants_taken_now(variants: &Vec<Variant>) -> bool
+    ensures value { result ≡ are_variants_taken (map variant_view variants.now.items) }
+{
+    for variant in variants {
+        if !are_attrs_taken(&variant.attrs) {
+            return false;
+        }
+    }
+    true
+}
+
 #[cycle(taken)]
 fn is_node_taken(node: &Node) -> bool
     ensures value { result ≡ is_item_taken (node_view node.now) }
 {
-    if !is_visibility_taken_now(&node.vis) || !are_attrs_taken(&node.attrs) {
+    if !are_attrs_taken(&node.attrs) {
         return false;
     }
     match &node.kind {
         NodeKind::Use { tree } => is_tree_taken_now(tree),
-        NodeKind::Struct { fields, .. } | NodeKind::Union { fields, .. } => are_taken(fields),
+        NodeKind::ExternCrate { alias, .. } => is_alias_taken_now(alias),
+        NodeKind::Enum { variants, .. } => are_variants_taken_now(variants),
         NodeKind::Fn { .. }
+        | NodeKind::Struct { .. }
+        | NodeKind::Union { .. }
         | NodeKind::Const { .. }
         | NodeKind::Static { .. }
         | NodeKind::TypeAlias { .. } => true,
@@ -147,11 +122,8 @@ fn is_node_taken(node: &Node) -> bool
             Some(nodes) => are_nodes_taken(nodes),
             None => false,
         },
-        NodeKind::ExternCrate { .. }
-        | NodeKind::Enum { .. }
-        | NodeKind::MacroCall { .. }
-        | NodeKind::MacroRules { .. }
-        | NodeKind::MacroDef { .. } => false,
+        NodeKind::MacroCall { .. } | NodeKind::MacroRules { .. } | NodeKind::MacroDef { .. } =>
+            false,
     }
 }
 

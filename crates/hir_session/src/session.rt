@@ -1,14 +1,15 @@
 //! The session: what is handed in, and what is kept of each crate that was resolved.
-ghost use Rattle.std.specs.Prelude.{◌≡◌, ℕ, ◌<◌, ◌++◌, ◌∷◌, [], map, false, length, None, IfOk, OnOk, OnErr, IfErr, ◌≤◌, ◌⊎◌, Ok, Err, string_bytes, option_map};
+ghost use Rattle.std.specs.Prelude.{◌≡◌, ℕ, ◌<◌, ◌++◌, ◌∷◌, [], map, true, false, length, None, IfOk, OnOk, OnErr, IfErr, ◌≤◌, ◌⊎◌, Ok, Err, string_bytes, option_map};
 ghost use Rattle.hir_base.specs.Refusal.{Gives};
+ghost use Rattle.hir_def_collector.specs.Derivation.{IsOverlong};
 ghost use Rattle.hir_wire.specs.CommandValue.{crate_input_view};
 ghost use Rattle.hir_wire.specs.Edits.{edit_view};
 ghost use Rattle.hir_session.specs.Beginning.{Begins};
 ghost use Rattle.hir_item_tree.specs.Source.{source_view};
 ghost use Rattle.hir_session.specs.Files.{with_file, without_file, edited_at};
 ghost use Rattle.hir_session.specs.Marking.{IsJudged};
-ghost use Rattle.hir_session.specs.SessionState.{SessionState, Resolution, workspace_of, start_of, kept_in, kept_of, is_marked, IsResolved, IsSound};
-ghost use Rattle.hir_session.specs.Due.{resolved_at, crate_place, IsOverlong, HasOverlongRun};
+ghost use Rattle.hir_session.specs.SessionState.{SessionState, Resolution, workspace_of, finished_of, read_of, start_of, kept_in, kept_of, is_marked, IsResolutionOf, IsSound};
+ghost use Rattle.hir_session.specs.Due.{resolved_at, crate_place, HasOverlongRun};
 ghost use Rattle.hir_session.specs.Refusals.{first_out_of_order, verdict_of_new, IsNewMemory, verdict_of_apply, IsEditMemory, IsQueryMemory, IsTreeTextMemory};
 ghost use Rattle.hir_session.specs.Status.{module_in_kept, module_of, status_of};
 ghost use Rattle.hir_session.specs.Answers.{answer_from, answer_of};
@@ -17,12 +18,14 @@ ghost use Rattle.hir_session.specs.TreeText.{tree_text_of};
 ghost use Rattle.hir_session.specs.Changes.{with_files, Becomes, Applies, Refreshes, RefreshesPartly};
 
 use crate::answers::{answer_at, module_below_root};
-use crate::beginning::{all_marked, first_late, infos_of, nothing_kept, roots_of};
+use crate::beginning::{all_marked, first_late, infos_of, roots_of};
 use crate::crate_info::CrateInfo;
 use crate::error::{EditError, NewSessionError, QueryError, RefreshError, TreeTextError};
 use crate::file_trees::{check_source, page_at};
 use crate::files::Files;
+use crate::front::{has_deep_condition, has_long_path};
 use crate::judge::judged;
+use crate::kept::Kept;
 use crate::marks::{is_marked_in, spread};
 use crate::not_yet::is_any_untaken;
 use crate::sources::resolve_crate;
@@ -32,6 +35,9 @@ use hir_base::limit::Limit;
 use hir_base::mod_path::ModPath;
 use hir_base::place::{Place, PlaceElement};
 use hir_def_collector::collector::collected::Collected;
+use hir_def_collector::laws::runs_name_what_is_there;
+use hir_def_map::def_maps::DefMaps;
+use hir_def_map::world::part::WorldPart;
 use hir_item_tree::source::Source;
 use hir_wire::answer::Answer;
 use hir_wire::command::{CrateInput, MacroStyle, Shadow};
@@ -49,7 +55,7 @@ pub struct Session {
     crates: Vec<CrateInfo>,
     paths: Vec<FilePath>,
     files: Files,
-    kept: Vec<Option<Collected>>,
+    kept: Kept,
     marked: Vec<bool>,
 }
 
@@ -61,9 +67,9 @@ impl Model for Session {
 
     ghost coded = { coded_session };
 
-    ghost view = { λ s. record { crates = s.crates.items; paths = s.paths.items; files = s.files; kept = s.kept.items; marked = s.marked.items } };
+    ghost view = { λ s. record { crates = s.crates.items; paths = s.paths.items; files = s.files; kept = s.kept; marked = s.marked.items } };
 
-    ghost invariant = { λ s. IsSound (record { crates = s.crates.items; paths = s.paths.items; files = s.files; kept = s.kept.items; marked = s.marked.items }) };
+    ghost invariant = { λ s. IsSound (record { crates = s.crates.items; paths = s.paths.items; files = s.files; kept = s.kept; marked = s.marked.items }) };
 }
 
 /// Puts the place of a crate's root at the end.
@@ -90,6 +96,12 @@ impl Session {
         }
         if let Some(k) = first_late(&inputs) {
             return Err(NewSessionError::DependencyOrder(Crate(k)));
+        }
+        if has_long_path(alloc, &inputs)? {
+            return Err(NewSessionError::TooLarge(Limit::Path));
+        }
+        if has_deep_condition(alloc, &inputs)? {
+            return Err(NewSessionError::TooLarge(Limit::Cfg));
         }
         if count > MAX_CRATES {
             return Err(NewSessionError::TooLarge(Limit::Crates));
@@ -135,6 +147,7 @@ impl Session {
         let hits = self.judged(alloc, &file, Some(&source))?;
         self.files.set(file, source)?;
         spread(&self.crates, &hits, &mut self.marked);
+        self.kept.forget(&self.marked);
         Ok(())
     }
 
@@ -146,6 +159,7 @@ impl Session {
         let hits = self.judged(alloc, file, None)?;
         self.files.remove(file);
         spread(&self.crates, &hits, &mut self.marked);
+        self.kept.forget(&self.marked);
         Ok(())
     }
 
@@ -179,17 +193,30 @@ impl Session {
         is_marked_in(&self.marked, k)
     }
 
+    /// What a run gives for a crate, beside the maps of those before it.
+    fn found_at(&self, alloc: Global, k: u32) -> Result<Collected, RefreshError>
+        requires within { k < length self.now.crates }
+        requires first { (j : ℕ) → j < k → is_marked self.now j ≡ false }
+        ensures found { IfOk result (λ r. IsResolutionOf self.now k r) }
+        ensures many { result ≡ Err RefreshError.TooMany → IsOverlong (workspace_of self.now) (finished_of self.now) (start_of self.now k) }
+    {
+        runs_name_what_is_there();
+        let world = self.kept.world();
+        let found = resolve_crate(alloc, &self.crates, &self.paths, &self.files, world, k)?;
+        Ok(found)
+    }
+
     /// Resolves the first marked crate.
     fn resolve_at(&mut self, alloc: Global, k: u32) -> Result<(), RefreshError>
         requires within { k < length self.old.crates }
         requires first { (j : ℕ) → j < k → is_marked self.old j ≡ false }
-        ensures ok { OnOk result ((r : Resolution) × IsResolved (workspace_of self.old) (start_of self.old k) r
-            × (self.new ≡ resolved_at self.old k r)) }
-        ensures many { result ≡ Err RefreshError.TooMany → IsOverlong (workspace_of self.old) (start_of self.old k) }
+        requires marked { is_marked self.old k ≡ true }
+        ensures ok { OnOk result ((r : Resolution) × IsResolutionOf self.old k r × (self.new ≡ resolved_at self.old k r)) }
+        ensures many { result ≡ Err RefreshError.TooMany → IsOverlong (workspace_of self.old) (finished_of self.old) (start_of self.old k) }
         ensures err { OnErr result (self.new ≡ self.old) }
     {
-        let found = resolve_crate(alloc, &self.crates, &self.paths, &self.files, k)?;
-        self.kept[k as usize] = Some(found);
+        let found = self.found_at(alloc, k)?;
+        self.kept.keep(k, found)?;
         self.marked[k as usize] = false;
         Ok(())
     }
@@ -240,19 +267,25 @@ impl Session {
         shadow: Shadow,
         style: Option<MacroStyle>,
     ) -> Result<Answer, QueryError>
-        ensures answer { Gives IsQueryMemory result (answer_from self.now.paths (kept_of self.now place.now.krate.0)
+        ensures answer { Gives IsQueryMemory result (answer_from self.now.paths (read_of self.now place.now.krate.0) (kept_of self.now place.now.krate.0)
             (module_of self.now place.now) path.now shadow style) }
     {
-        let Some(Some(found)) = self.kept.get(place.krate().0 as usize) else {
+        let k = place.krate().0 as usize;
+        let Some(found) = self.kept.get(k) else {
             return Err(QueryError::UnknownPlace);
         };
-        match module_below_root(found.map(), place.elements()) {
+        let Some(info) = self.crates.get(k) else {
+            return Err(QueryError::UnknownPlace);
+        };
+        match module_below_root(found.map, place.elements()) {
             Some(at) => {
+                let read = WorldPart::among(self.kept.world(), info.behind());
+                let maps = DefMaps::new(read, found.map);
                 let answer = answer_at(
                     alloc,
                     &self.paths,
-                    found.map(),
-                    found.local(),
+                    &maps,
+                    found.local,
                     at,
                     path,
                     shadow,
@@ -313,16 +346,12 @@ impl Session {
 }
 
 /// The module to which the steps lead in what is kept of a crate.
-fn module_kept(
-    kept: &Vec<Option<Collected>>,
-    k: usize,
-    elements: &[PlaceElement],
-) -> Option<ModuleId>
-    ensures value { result ≡ module_in_kept (kept_in kept.now.items k) elements.now }
+fn module_kept(kept: &Kept, k: usize, elements: &[PlaceElement]) -> Option<ModuleId>
+    ensures value { result ≡ module_in_kept (kept_in kept.now k) elements.now }
 {
     match kept.get(k) {
-        Some(Some(found)) => module_below_root(found.map(), elements),
-        _ => None,
+        Some(found) => module_below_root(found.map, elements),
+        None => None,
     }
 }
 
@@ -335,7 +364,7 @@ fn begin(alloc: Global, inputs: &Vec<CrateInput>) -> Result<Session, AllocError>
     let count = inputs.as_slice().len();
     let crates = infos_of(alloc, inputs)?;
     let paths = roots_of(alloc, inputs)?;
-    let kept = nothing_kept(alloc, count)?;
+    let kept = Kept::none(alloc, count)?;
     let marked = all_marked(alloc, count)?;
     Ok(Session {
         crates,

@@ -1,5 +1,7 @@
 //! The source items for which ids stand.
-ghost use Rattle.std.specs.Prelude.{◌≡◌, IfOk};
+ghost use Rattle.std.specs.Prelude.{◌≡◌, IfOk, option_map};
+ghost use Rattle.hir_def_map.specs.DefMaps.{maps_of};
+ghost use Rattle.hir_def_map.specs.State.{module_in};
 ghost use Rattle.hir_session.specs.SourceItems.{source_of, item_of, crate_of, module_by, module_definition, adt_definition, macro_definition, definition_of, is_explicit, visibility_source, use_source, import_source, value_import_source};
 
 use crate::sources::path_at;
@@ -7,7 +9,7 @@ use hir_base::ast_id::{AstKind, BlockId, HirFileId, SyntaxId};
 use hir_base::file_path::FilePath;
 use hir_base::ids::{AdtId, Crate, ItemContainerId, ModuleDefId, ModuleId, UseId};
 use hir_base::macro_kind::MacroId;
-use hir_def_map::nameres::DefMap;
+use hir_def_map::def_maps::DefMaps;
 use hir_def_map::nameres::origin::ModuleOrigin;
 use hir_item_tree::raw_visibility::VisibilityExplicitness;
 use hir_scope::imports::{ImportOrExternCrate, ImportOrGlob};
@@ -99,19 +101,26 @@ fn module_with(
     }
 }
 
-/// A module, by its node.
+/// Where a module of one of the maps is written.
+fn origin_at(maps: &DefMaps<'_>, m: ModuleId) -> Option<ModuleOrigin>
+    ensures value { result ≡ option_map (λ found. found.origin) (module_in (maps_of maps.now) m) }
+{
+    match maps.map(m.map) {
+        Some(map) => map.origin(m.index),
+        None => None,
+    }
+}
+
+/// A module of one of the maps, by its node.
 fn module_at(
     alloc: Global,
     paths: &Vec<FilePath>,
-    map: &DefMap,
+    maps: &DefMaps<'_>,
     m: ModuleId,
 ) -> Result<Option<Definition>, AllocError>
-    ensures value { IfOk result (λ o. o ≡ module_definition paths.now.items map.now m) }
+    ensures value { IfOk result (λ o. o ≡ module_definition paths.now.items (maps_of maps.now) m) }
 {
-    if m.map != map.id() {
-        return Ok(None);
-    }
-    match map.origin(m.index) {
+    match origin_at(maps, m) {
         Some(origin) => module_with(alloc, paths, m.map.krate, origin),
         None => Ok(None),
     }
@@ -191,13 +200,13 @@ fn held_item_at(
 pub fn definition_at(
     alloc: Global,
     paths: &Vec<FilePath>,
-    map: &DefMap,
+    maps: &DefMaps<'_>,
     def: ModuleDefId,
 ) -> Result<Option<Definition>, AllocError>
-    ensures value { IfOk result (λ o. o ≡ definition_of paths.now.items map.now def) }
+    ensures value { IfOk result (λ o. o ≡ definition_of paths.now.items (maps_of maps.now) def) }
 {
     match def {
-        ModuleDefId::ModuleId(m) => module_at(alloc, paths, map, m),
+        ModuleDefId::ModuleId(m) => module_at(alloc, paths, maps, m),
         ModuleDefId::FunctionId(i) => {
             held_item_at(
                 alloc,
@@ -280,15 +289,15 @@ fn is_written(explicitness: VisibilityExplicitness) -> bool
 pub fn visibility_at(
     alloc: Global,
     paths: &Vec<FilePath>,
-    map: &DefMap,
+    maps: &DefMaps<'_>,
     visibility: Visibility,
 ) -> Result<Option<AnswerVisibility>, AllocError>
-    ensures value { IfOk result (λ o. o ≡ visibility_source paths.now.items map.now visibility) }
+    ensures value { IfOk result (λ o. o ≡ visibility_source paths.now.items (maps_of maps.now) visibility) }
 {
     match visibility {
         Visibility::Public => Ok(Some(AnswerVisibility::Public)),
         Visibility::PubCrate(krate) => Ok(Some(AnswerVisibility::Crate(krate))),
-        Visibility::Module(m, written) => match module_at(alloc, paths, map, m)? {
+        Visibility::Module(m, written) => match module_at(alloc, paths, maps, m)? {
             Some(module) => Ok(Some(AnswerVisibility::Module {
                 explicit: is_written(written),
                 module,

@@ -1,15 +1,21 @@
 //! What a run of the import rules reads of a session.
 ghost use Rattle.std.specs.Prelude.{◌≡◌, ◌<◌, length, Err, IfOk, option_map, slice_get};
 ghost use Rattle.hir_item_tree.specs.Source.{source_view};
+ghost use Rattle.hir_def_map.specs.World.{finished_in};
+ghost use Rattle.hir_def_collector.specs.Derivation.{IsOverlong};
 ghost use Rattle.hir_session.specs.Crates.{start_in};
-ghost use Rattle.hir_session.specs.Files.{path_in, source_in, workspace_in};
+ghost use Rattle.std.specs.Option.{option_and_then};
+ghost use Rattle.hir_base.specs.declared.ast_id.AstKind.TheVariants.{Enum};
+ghost use Rattle.hir_base.specs.declared.ast_id.SyntaxId.{SyntaxId};
+ghost use Rattle.hir_item_tree.specs.SideLists.{entries_view, entry_of, entry_variants};
+ghost use Rattle.hir_session.specs.Files.{path_in, source_in, variants_under, workspace_in};
 ghost use Rattle.hir_session.specs.SessionState.{IsResolved};
-ghost use Rattle.hir_session.specs.Due.{IsOverlong};
 
 use crate::crate_info::CrateInfo;
 use crate::error::RefreshError;
 use crate::file_trees::shown_tree;
 use crate::files::Files;
+use crate::side_index::{copy_variants, side_index, variants_in};
 use hir_base::ast_id::HirFileId;
 use hir_base::file_path::FilePath;
 use hir_base::ids::{Crate, EnumId};
@@ -17,17 +23,23 @@ use hir_def_collector::collector::collected::Collected;
 use hir_def_collector::collector::{Start, collect_defs};
 use hir_def_collector::source_database::{CrateData, SourceDatabase};
 use hir_def_map::world::World;
+use hir_item_tree::indexed_source::IndexedSource;
 use hir_item_tree::item_tree::ItemTree;
 use hir_item_tree::side_lists::VariantItem;
 use hir_item_tree::source::Source;
 use std::alloc::{AllocError, Global};
 
-/// The parts of a session that make up its workspace.
+/// The parts of a session that make up its workspace, and the side lists of one file under a crate.
 #[derive(Drop)]
 pub struct Sources<'a> {
     pub crates: &'a Vec<CrateInfo>,
     pub paths: &'a Vec<FilePath>,
     pub files: &'a Files,
+    krate: Crate,
+    file: HirFileId,
+    side: &'a IndexedSource,
+    ghost indexed: { (id : SyntaxId) → option_and_then entry_variants (entry_of (record { kind = Enum; id = id }) (entries_view side.now.kept.side.items))
+        ≡ variants_under crates.now.items krate.0 (source_in paths.now.items files.now file) id },
 }
 
 impl<'a> SourceDatabase for Sources<'a> {
@@ -47,6 +59,7 @@ impl<'a> SourceDatabase for Sources<'a> {
             alloc,
             self.crates,
             krate,
+            path_at(self.paths, file),
             source_at(self.paths, self.files, file),
         )
     }
@@ -55,12 +68,17 @@ impl<'a> SourceDatabase for Sources<'a> {
         source_at(self.paths, self.files, file).is_some()
     }
 
-    fn variants(
-        &self,
-        _alloc: Global,
-        _id: EnumId,
-    ) -> Result<Option<Vec<VariantItem>>, AllocError> {
-        Ok(None)
+    fn variants(&self, alloc: Global, id: EnumId) -> Result<Option<Vec<VariantItem>>, AllocError> {
+        if id.block.is_some() {
+            return Ok(None);
+        }
+        let krate = id.container.map.krate;
+        if krate == self.krate && id.file_id == self.file {
+            return copy_variants(alloc, variants_in(self.side, id.id));
+        }
+        let source = source_at(self.paths, self.files, id.file_id);
+        let side = side_index(alloc, self.crates, krate, source)?;
+        copy_variants(alloc, variants_in(&side, id.id))
     }
 }
 
@@ -84,30 +102,48 @@ fn source_at<'a>(paths: &'a Vec<FilePath>, files: &'a Files, file: HirFileId) ->
     }
 }
 
-/// Resolves a crate over the present files.
+/// Runs the import rules over these sources.
+fn run(
+    alloc: Global,
+    sources: &Sources<'_>,
+    world: &World,
+    start: Start,
+) -> Result<Collected, RefreshError>
+    ensures resolved { IfOk result (λ found. IsResolved (workspace_in sources.now.crates.now.items sources.now.paths.now.items sources.now.files.now)
+        (finished_in world.now.maps) start found) }
+    ensures many { result ≡ Err RefreshError.TooMany
+        → IsOverlong (workspace_in sources.now.crates.now.items sources.now.paths.now.items sources.now.files.now) (finished_in world.now.maps) start }
+{
+    let found = collect_defs(alloc, sources, world, start)?;
+    Ok(found)
+}
+
+/// Resolves a crate over the present files, beside finished maps.
 pub fn resolve_crate(
     alloc: Global,
     crates: &Vec<CrateInfo>,
     paths: &Vec<FilePath>,
     files: &Files,
+    world: &World,
     k: u32,
 ) -> Result<Collected, RefreshError>
     requires within { k < length crates.now.items }
     ensures resolved { IfOk result (λ found. IsResolved (workspace_in crates.now.items paths.now.items files.now)
-        (start_in crates.now.items k) found) }
+        (finished_in world.now.maps) (start_in crates.now.items k) found) }
     ensures many { result ≡ Err RefreshError.TooMany
-        → IsOverlong (workspace_in crates.now.items paths.now.items files.now) (start_in crates.now.items k) }
+        → IsOverlong (workspace_in crates.now.items paths.now.items files.now) (finished_in world.now.maps) (start_in crates.now.items k) }
 {
-    let start = Start {
-        krate: Crate(k),
-        root: crates[k as usize].root(),
-    };
+    let krate = Crate(k);
+    let root = crates[k as usize].root();
+    let file = HirFileId::File(root);
+    let side = side_index(alloc, crates, krate, source_at(paths, files, file))?;
     let sources = Sources {
         crates,
         paths,
         files,
+        krate,
+        file,
+        side: &side,
     };
-    let world = World::new(alloc);
-    let found = collect_defs(alloc, &sources, &world, start)?;
-    Ok(found)
+    run(alloc, &sources, world, Start { krate, root })
 }

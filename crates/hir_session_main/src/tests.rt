@@ -1,6 +1,10 @@
 //! Whole sessions: lines in, replies out.
 
+mod crate_attrs;
 mod crates;
+mod dependencies;
+mod enums;
+mod extern_crates;
 mod faults;
 mod imports;
 mod kinds;
@@ -15,6 +19,7 @@ mod removals;
 mod streams;
 mod trees;
 mod use_lists;
+mod visibilities;
 
 use hir_session::run;
 use std::alloc::Global;

@@ -2,12 +2,11 @@
 ghost use Rattle.std.specs.Prelude.{◌≡◌, ◌≤◌, true, [], map, OnOk};
 ghost use Rattle.hir_item_tree.specs.Collected.{is_enabled};
 ghost use Rattle.hir_item_tree.specs.KeptForest.{leaf, function, structure, union_structure, constant, static_item, trait_item, type_alias};
-ghost use Rattle.hir_scope.specs.Visibility.{visibility_of};
-ghost use Rattle.hir_def_map.specs.State.{Maps};
 ghost use Rattle.hir_def_map.specs.Parts.{part_of};
+ghost use Rattle.hir_def_collector.specs.Workspace.{Workspace};
 ghost use Rattle.hir_def_collector.specs.State.{with_map, counted};
 ghost use Rattle.hir_def_collector.specs.ItemIds.{module_id};
-ghost use Rattle.hir_def_collector.specs.Items.{constructor_of, declared_struct, meet_of, own_visibility, type_declaration, value_declaration};
+ghost use Rattle.hir_def_collector.specs.Items.{constructor_of, declared_struct, meet_of, own_visibility, type_declaration, value_declaration, visibility_in};
 ghost use Rattle.hir_def_collector.specs.TreeReads.{head_of};
 ghost use Rattle.hir_def_collector.specs.Steps.{visit, with_declaration};
 ghost use Rattle.hir_def_collector.specs.Moves.{Handles};
@@ -22,7 +21,6 @@ use hir_base::ids::{
     UnionId,
 };
 use hir_base::name::Name;
-use hir_def_map::nameres::DefMap;
 use hir_def_map::world::part::WorldPart;
 use hir_item_tree::kinds::Struct;
 use hir_item_tree::raw_visibility::RawVisibility;
@@ -45,16 +43,17 @@ pub fn declare(run: &mut Run, home: u32, declaration: Declaration) -> Result<(),
 /// Declares what an item's name stands for as a type.
 fn declare_type(
     run: &mut Run,
+    world: WorldPart<'_>,
     site: Site,
     head: ItemHead<'_>,
     name: &Name,
     def: ModuleDefId,
 ) -> Result<(), CollectError>
     ensures ok { OnOk result (run.new ≡ counted (with_map run.old (with_declaration run.old.map site.home
-        (type_declaration name.now def (own_visibility run.old.map site (head_of head.entry)))))) }
+        (type_declaration name.now def (own_visibility (part_of world.entry) run.old.local run.old.map site (head_of head.entry)))))) }
     ensures many { result ≡ Err CollectError.TooMany → STEP_LIMIT ≤ run.old.count }
 {
-    let vis = run.visibility(site, head);
+    let vis = run.visibility(world, site, head);
     let declaration = Declaration {
         name: name.clone()?,
         def,
@@ -67,16 +66,17 @@ fn declare_type(
 /// Declares what an item's name stands for as a value.
 fn declare_value(
     run: &mut Run,
+    world: WorldPart<'_>,
     site: Site,
     head: ItemHead<'_>,
     name: &Name,
     def: ModuleDefId,
 ) -> Result<(), CollectError>
     ensures ok { OnOk result (run.new ≡ counted (with_map run.old (with_declaration run.old.map site.home
-        (value_declaration name.now def (own_visibility run.old.map site (head_of head.entry)))))) }
+        (value_declaration name.now def (own_visibility (part_of world.entry) run.old.local run.old.map site (head_of head.entry)))))) }
     ensures many { result ≡ Err CollectError.TooMany → STEP_LIMIT ≤ run.old.count }
 {
-    let vis = run.visibility(site, head);
+    let vis = run.visibility(world, site, head);
     let declaration = Declaration {
         name: name.clone()?,
         def,
@@ -89,12 +89,13 @@ fn declare_value(
 /// Declares a function.
 pub fn declare_function(
     run: &mut Run,
+    world: WorldPart<'_>,
     site: Site,
     head: ItemHead<'_>,
     name: &Name,
 ) -> Result<(), CollectError>
     requires enabled { is_enabled (head_of head).attributes ≡ true }
-    ensures ok { OnOk result ((finished : Maps) → Handles finished run.old run.new (visit site (leaf (head_of head.entry) (function name.now))) []) }
+    ensures ok { OnOk result ((w : Workspace) → Handles w (part_of world.entry) run.old run.new (visit site (leaf (head_of head.entry) (function name.now))) []) }
     ensures many { result ≡ Err CollectError.TooMany → STEP_LIMIT ≤ run.old.count }
 {
     let def = ModuleDefId::FunctionId(FunctionId {
@@ -103,19 +104,20 @@ pub fn declare_function(
         block: None,
         id: head.id,
     });
-    declare_value(run, site, head, name, def)?;
+    declare_value(run, world, site, head, name, def)?;
     Ok(())
 }
 
 /// Declares a constant that has a name.
 pub fn declare_const(
     run: &mut Run,
+    world: WorldPart<'_>,
     site: Site,
     head: ItemHead<'_>,
     name: &Name,
 ) -> Result<(), CollectError>
     requires enabled { is_enabled (head_of head).attributes ≡ true }
-    ensures ok { OnOk result ((finished : Maps) → Handles finished run.old run.new (visit site (leaf (head_of head.entry) (constant (Some name.now)))) []) }
+    ensures ok { OnOk result ((w : Workspace) → Handles w (part_of world.entry) run.old run.new (visit site (leaf (head_of head.entry) (constant (Some name.now)))) []) }
     ensures many { result ≡ Err CollectError.TooMany → STEP_LIMIT ≤ run.old.count }
 {
     let def = ModuleDefId::ConstId(ConstId {
@@ -124,19 +126,20 @@ pub fn declare_const(
         block: None,
         id: head.id,
     });
-    declare_value(run, site, head, name, def)?;
+    declare_value(run, world, site, head, name, def)?;
     Ok(())
 }
 
 /// Declares a static.
 pub fn declare_static(
     run: &mut Run,
+    world: WorldPart<'_>,
     site: Site,
     head: ItemHead<'_>,
     name: &Name,
 ) -> Result<(), CollectError>
     requires enabled { is_enabled (head_of head).attributes ≡ true }
-    ensures ok { OnOk result ((finished : Maps) → Handles finished run.old run.new (visit site (leaf (head_of head.entry) (static_item name.now))) []) }
+    ensures ok { OnOk result ((w : Workspace) → Handles w (part_of world.entry) run.old run.new (visit site (leaf (head_of head.entry) (static_item name.now))) []) }
     ensures many { result ≡ Err CollectError.TooMany → STEP_LIMIT ≤ run.old.count }
 {
     let def = ModuleDefId::StaticId(StaticId {
@@ -145,19 +148,20 @@ pub fn declare_static(
         block: None,
         id: head.id,
     });
-    declare_value(run, site, head, name, def)?;
+    declare_value(run, world, site, head, name, def)?;
     Ok(())
 }
 
 /// Declares a type alias.
 pub fn declare_type_alias(
     run: &mut Run,
+    world: WorldPart<'_>,
     site: Site,
     head: ItemHead<'_>,
     name: &Name,
 ) -> Result<(), CollectError>
     requires enabled { is_enabled (head_of head).attributes ≡ true }
-    ensures ok { OnOk result ((finished : Maps) → Handles finished run.old run.new (visit site (leaf (head_of head.entry) (type_alias name.now))) []) }
+    ensures ok { OnOk result ((w : Workspace) → Handles w (part_of world.entry) run.old run.new (visit site (leaf (head_of head.entry) (type_alias name.now))) []) }
     ensures many { result ≡ Err CollectError.TooMany → STEP_LIMIT ≤ run.old.count }
 {
     let def = ModuleDefId::TypeAliasId(TypeAliasId {
@@ -166,19 +170,20 @@ pub fn declare_type_alias(
         block: None,
         id: head.id,
     });
-    declare_type(run, site, head, name, def)?;
+    declare_type(run, world, site, head, name, def)?;
     Ok(())
 }
 
 /// Declares a trait.
 pub fn declare_trait(
     run: &mut Run,
+    world: WorldPart<'_>,
     site: Site,
     head: ItemHead<'_>,
     name: &Name,
 ) -> Result<(), CollectError>
     requires enabled { is_enabled (head_of head).attributes ≡ true }
-    ensures ok { OnOk result ((finished : Maps) → Handles finished run.old run.new (visit site (leaf (head_of head.entry) (trait_item name.now))) []) }
+    ensures ok { OnOk result ((w : Workspace) → Handles w (part_of world.entry) run.old run.new (visit site (leaf (head_of head.entry) (trait_item name.now))) []) }
     ensures many { result ≡ Err CollectError.TooMany → STEP_LIMIT ≤ run.old.count }
 {
     let def = ModuleDefId::TraitId(TraitId {
@@ -187,19 +192,20 @@ pub fn declare_trait(
         block: None,
         id: head.id,
     });
-    declare_type(run, site, head, name, def)?;
+    declare_type(run, world, site, head, name, def)?;
     Ok(())
 }
 
 /// Declares a union.
 pub fn declare_union(
     run: &mut Run,
+    world: WorldPart<'_>,
     site: Site,
     head: ItemHead<'_>,
     name: &Name,
 ) -> Result<(), CollectError>
     requires enabled { is_enabled (head_of head).attributes ≡ true }
-    ensures ok { OnOk result ((finished : Maps) (fields : _) → Handles finished run.old run.new (visit site (leaf (head_of head.entry) (union_structure name.now fields))) []) }
+    ensures ok { OnOk result ((w : Workspace) (fields : _) → Handles w (part_of world.entry) run.old run.new (visit site (leaf (head_of head.entry) (union_structure name.now fields))) []) }
     ensures many { result ≡ Err CollectError.TooMany → STEP_LIMIT ≤ run.old.count }
 {
     let def = ModuleDefId::AdtId(AdtId::UnionId(UnionId {
@@ -208,41 +214,43 @@ pub fn declare_union(
         block: None,
         id: head.id,
     }));
-    declare_type(run, site, head, name, def)?;
+    declare_type(run, world, site, head, name, def)?;
     Ok(())
 }
 
 /// The meet of visibilities, if none of them are unrelated.
 fn meet(
-    defs: &DefMap,
+    run: &Run,
     world: WorldPart<'_>,
     at: ModuleId,
     own: Visibility,
     others: &[RawVisibility],
 ) -> Option<Visibility>
-    ensures value { result ≡ meet_of (part_of world.entry) defs.now own (map (visibility_of at) others.now) }
+    ensures value { result ≡ meet_of (part_of world.entry) run.now.map own
+        (map (visibility_in (part_of world.entry) run.now.local run.now.map at) others.now) }
 {
     let mut least = own;
     for other in others {
-        least = lesser(defs, world, least, Visibility::of_raw(at, other))?;
+        least = lesser(run.map(), world, least, run.visibility_in(world, at, other))?;
     }
     Some(least)
 }
 
 /// The visibility of a struct's constructor, if its shape has one.
 fn constructor(
-    defs: &DefMap,
+    run: &Run,
     world: WorldPart<'_>,
     at: ModuleId,
     own: Visibility,
     shape: FieldsShape,
     fields: &[RawVisibility],
 ) -> Option<Visibility>
-    ensures value { result ≡ constructor_of (part_of world.entry) defs.now own shape (map (visibility_of at) fields.now) }
+    ensures value { result ≡ constructor_of (part_of world.entry) run.now.map own shape
+        (map (visibility_in (part_of world.entry) run.now.local run.now.map at) fields.now) }
 {
     match shape {
         FieldsShape::Record => None,
-        FieldsShape::Tuple => match meet(defs, world, at, own, fields) {
+        FieldsShape::Tuple => match meet(run, world, at, own, fields) {
             Some(least) => Some(least),
             None => Some(own),
         },
@@ -283,7 +291,7 @@ pub fn declare_struct(
     item: Struct<'_>,
 ) -> Result<(), CollectError>
     requires enabled { is_enabled (head_of head).attributes ≡ true }
-    ensures ok { OnOk result (Handles (part_of world.entry) run.old run.new (visit site (leaf (head_of head.entry) (structure item.entry.name.now item.entry.shape item.entry.fields.now))) []) }
+    ensures ok { OnOk result ((w : Workspace) → Handles w (part_of world.entry) run.old run.new (visit site (leaf (head_of head.entry) (structure item.entry.name.now item.entry.shape item.entry.fields.now))) []) }
     ensures many { result ≡ Err CollectError.TooMany → STEP_LIMIT ≤ run.old.count }
 {
     let at = run.module_id(site.home);
@@ -293,8 +301,8 @@ pub fn declare_struct(
         block: None,
         id: head.id,
     }));
-    let own = run.visibility(site, head);
-    let constructor = constructor(run.map(), world, at, own, item.shape, item.fields);
+    let own = run.visibility(world, site, head);
+    let constructor = constructor(run, world, at, own, item.shape, item.fields);
     let declaration = Declaration {
         name: item.name.clone()?,
         def,

@@ -1,34 +1,51 @@
 //! Imports that a run has come upon, and what they bring.
 ghost use Rattle.std.specs.Prelude.{◌≡◌, IfOk, option_map};
 ghost use Rattle.hir_def_map.specs.Parts.{part_of};
-ghost use Rattle.hir_def_collector.specs.Imports.{answer_in, brought, both_of, goes_beyond, imported, is_empty, is_public, kept_by_kind, kept_of, name_of, namespaces_of, open_items, taken_after};
+ghost use Rattle.hir_def_collector.specs.Imports.{answer_in, answer_of_crate, brought, brought_type, both_of, goes_beyond, imported, is_empty, is_of_extern_crate, is_one_name, is_plain, is_public, kept_by_kind, kept_of, kind_of, name_of, namespaces_of, open_items, taken_after, way_of};
 ghost use Rattle.hir_def_collector.specs.Items.{lesser_in};
 
-use hir_base::ids::ModuleId;
-use hir_base::mod_path::ModPath;
+use hir_base::ids::{Crate, ExternCrateId, MapId, ModuleDefId, ModuleId};
+use hir_base::mod_path::{ModPath, PathKind};
 use hir_base::name::Name;
 use hir_def_map::def_maps::DefMaps;
 use hir_def_map::nameres::DefMap;
 use hir_def_map::nameres::local_def_map::LocalDefMap;
 use hir_def_map::nameres::path_resolution::query::Query;
-use hir_def_map::nameres::path_resolution::{BuiltinShadowMode, ResolveMode, ResolvePathResult};
+use hir_def_map::nameres::path_resolution::{
+    BuiltinShadowMode, ReachedFixedPoint, ResolveMode, ResolvePathResult,
+    ResolvePathResultPrefixInfo,
+};
 use hir_def_map::world::part::WorldPart;
 use hir_item_tree::raw_visibility::RawVisibility;
 use hir_item_tree::shape::{ImportAlias, ImportKind};
-use hir_scope::imports::ImportId;
-use hir_scope::per_ns::{Item, PerNs};
+use hir_scope::imports::{ImportId, ImportOrExternCrate};
+use hir_scope::per_ns::{Item, PerNs, TypesItem};
 use hir_scope::visibility::Visibility;
 use std::alloc::AllocError;
+
+/// What writes an import.
+#[derive(Clone, Copy, Debug, PartialEq, Eq)]
+pub enum ImportSource {
+    /// A leaf of a `use` item.
+    Use {
+        id: ImportId,
+        kind: ImportKind,
+    },
+    /// An `extern crate`, and the crate that it names, where there is one.
+    ExternCrate {
+        id: ExternCrateId,
+        krate: Option<Crate>,
+    },
+}
 
 /// An import that a run has come upon.
 #[derive(Drop)]
 pub struct ReachedImport {
     /// The number of the module that has it.
     pub home: u32,
-    pub id: ImportId,
+    pub source: ImportSource,
     pub visibility: RawVisibility,
     pub path: ModPath,
-    pub kind: ImportKind,
     pub alias: Option<ImportAlias>,
 }
 
@@ -58,8 +75,8 @@ pub struct Taking {
     pub name: Option<Name>,
     /// What it offers, each item with what had brought it.
     pub items: PerNs,
-    /// The import itself, which the bindings keep.
-    pub import: ImportId,
+    /// What writes the import, which the bindings keep.
+    pub source: ImportSource,
     /// What its takings will have reached.
     pub taken: Taken,
 }
@@ -99,6 +116,28 @@ impl Namespaces {
         ensures value { result ≡ goes_beyond self other }
     {
         self.types && !other.types || self.values && !other.values || self.macros && !other.macros
+    }
+}
+
+impl ImportSource {
+    /// What the import is to those that it binds.
+    pub fn way(self) -> ImportOrExternCrate
+        ensures value { result ≡ way_of self }
+    {
+        match self {
+            ImportSource::Use { id, .. } => ImportOrExternCrate::Import(id),
+            ImportSource::ExternCrate { id, .. } => ImportOrExternCrate::ExternCrate(id),
+        }
+    }
+
+    /// What the import brings: an `extern crate` all that it reaches.
+    pub fn kind(self) -> ImportKind
+        ensures value { result ≡ kind_of self }
+    {
+        match self {
+            ImportSource::Use { kind, .. } => kind,
+            ImportSource::ExternCrate { .. } => ImportKind::Plain,
+        }
     }
 }
 
@@ -163,6 +202,28 @@ pub fn answer(
         sub_ns: None,
     };
     query.resolve(at, path.kind(), path.segments())
+}
+
+/// The answer to an `extern crate`: the root of the crate that it names.
+pub fn answer_of_crate(krate: Option<Crate>) -> ResolvePathResult
+    ensures value { result ≡ answer_of_crate krate }
+{
+    let Some(krate) = krate else {
+        return ResolvePathResult::unresolved(ReachedFixedPoint::No);
+    };
+    let root = ModuleId {
+        map: MapId { krate, block: None },
+        index: 0,
+    };
+    ResolvePathResult {
+        resolved_def: PerNs::types(ModuleDefId::ModuleId(root), Visibility::Public, None),
+        segment_index: None,
+        reached_fixedpoint: ReachedFixedPoint::Yes,
+        prefix_info: ResolvePathResultPrefixInfo {
+            differing_crate: false,
+            enum_variant: false,
+        },
+    }
 }
 
 /// Whether all may see.
@@ -230,12 +291,52 @@ fn brought<Def: Copy, Import: Copy>(
     })
 }
 
-/// What an import of this visibility offers of what it reaches.
-pub fn imported(map: &DefMap, world: WorldPart<'_>, own: Visibility, items: PerNs) -> PerNs
-    ensures value { result ≡ imported (part_of world.entry) map.now own items }
+/// Whether an `extern crate` bound an item.
+fn is_of_extern_crate(import: Option<ImportOrExternCrate>) -> bool
+    ensures value { result ≡ is_of_extern_crate import }
+{
+    matches!(import, Some(ImportOrExternCrate::ExternCrate(_)))
+}
+
+/// A type as an import of this visibility offers it, whose path is one name alone or isn't.
+fn brought_type(
+    map: &DefMap,
+    world: WorldPart<'_>,
+    own: Visibility,
+    alone: bool,
+    item: Option<TypesItem>,
+) -> Option<TypesItem>
+    ensures value { result ≡ option_map (brought_type (part_of world.entry) map.now own alone) item }
+{
+    match item {
+        Some(found) if alone && is_of_extern_crate(found.import) => Some(Item {
+            def: found.def,
+            vis: own,
+            import: found.import,
+        }),
+        _ => brought(map, world, own, item),
+    }
+}
+
+/// Whether a path is one name alone.
+pub fn is_one_name(path: &ModPath) -> bool
+    ensures value { result ≡ is_one_name path.now }
+{
+    matches!(path.kind(), PathKind::Plain) && path.segments().len() == 1
+}
+
+/// What an import of this visibility, whose path is one name alone or isn't, offers of what it reaches.
+pub fn imported(
+    map: &DefMap,
+    world: WorldPart<'_>,
+    own: Visibility,
+    alone: bool,
+    items: PerNs,
+) -> PerNs
+    ensures value { result ≡ imported (part_of world.entry) map.now own alone items }
 {
     PerNs {
-        types: brought(map, world, own, items.types),
+        types: brought_type(map, world, own, alone, items.types),
         values: brought(map, world, own, items.values),
         macros: brought(map, world, own, items.macros),
     }

@@ -17,7 +17,7 @@ pub fn untaken(
     let mut leftover = Vec::new(alloc);
     for (i, import) in reached.iter().enumerate() {
         if is_untaken(taken, i) {
-            leftover.push(ImportOrExternCrate::Import(import.id))?;
+            leftover.push(import.source.way())?;
         }
     }
     Ok(leftover)

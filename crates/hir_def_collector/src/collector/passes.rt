@@ -19,7 +19,7 @@ fn take(run: &mut Run, world: WorldPart<'_>, i: usize, taking: Taking) -> Result
     ensures ok { OnOk result ((w : Workspace) → Step w (part_of world.entry) (at_rest run.old) (at_rest run.new)) }
     ensures many { result ≡ Err CollectError.TooMany → STEP_LIMIT ≤ run.old.count }
 {
-    run.bind_as(taking.home, taking.name, taking.items, taking.import)?;
+    run.bind_as(taking.home, taking.name, taking.items, taking.source)?;
     run.note(i, taking.taken);
     run.tick()?;
     Ok(())

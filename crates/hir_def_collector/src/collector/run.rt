@@ -1,38 +1,45 @@
 //! Where a run stands, and what each change leaves.
 ghost use Rattle.std.specs.Prelude.{◌≡◌, ◌<◌, ◌≤◌, length, OnOk, IfOk};
 ghost use Rattle.std.specs.Prelude.{◌∷◌, []};
-ghost use Rattle.hir_def_map.specs.State.{with_module, new_id, new_module, with_declared, with_use, with_impl, with_extern_block, with_unnamed_const};
+ghost use Rattle.hir_def_map.specs.State.{with_enum, with_module, new_id, new_module, with_declared, with_use, with_impl, with_extern_block, with_extern_crate, with_unnamed_const};
 ghost use Rattle.hir_def_map.specs.Parts.{part_of};
-ghost use Rattle.hir_def_collector.specs.State.{with_map, with_imports, with_taken, counted};
+ghost use Rattle.hir_def_collector.specs.State.{with_local, with_asked, with_map, with_imports, with_taken, counted};
 ghost use Rattle.hir_def_collector.specs.ItemIds.{container_of, module_id};
-ghost use Rattle.hir_def_collector.specs.Items.{own_visibility};
+ghost use Rattle.hir_def_collector.specs.Items.{own_visibility, visibility_in};
 ghost use Rattle.hir_def_collector.specs.TreeReads.{head_of};
-ghost use Rattle.hir_def_collector.specs.Imports.{answer_to, bound_as, bound_in, pushing, taking_at};
+ghost use Rattle.hir_def_collector.specs.Imports.{answer_to, bound_as, bound_in, crate_named, dependency_named, extern_after, pushing, taking_at};
 ghost use Rattle.hir_def_collector.specs.Start.{core_by};
 ghost use Rattle.hir_def_collector.specs.Derivation.{leftover_among};
 
 use crate::collector::collected::Collected;
-use crate::collector::imports::{Namespaces, ReachedImport, Taken, Taking, answer, imported, kept};
+use crate::collector::imports::{
+    ImportSource, Namespaces, ReachedImport, Taken, Taking, answer, answer_of_crate, imported,
+    is_one_name, kept,
+};
 use crate::collector::leftovers::untaken;
 use crate::collector::preludes::prelude;
 use crate::collector::site::{ItemHead, Site};
 use crate::collector::{CollectError, STEP_LIMIT, Start};
-use crate::source_database::Key;
+use crate::source_database::{Dependency, Key};
 use hir_base::ast_id::HirFileId;
 use hir_base::ids::{
-    ConstId, ExternBlockId, ImplId, ItemContainerId, ModuleDefId, ModuleId, UseId,
+    ConstId, Crate, EnumId, ExternBlockId, ExternCrateId, ImplId, ItemContainerId, MapId,
+    ModuleDefId, ModuleId, UseId,
 };
 use hir_base::name::Name;
+use hir_def_map::def_maps::DefMaps;
 use hir_def_map::nameres::DefMap;
 use hir_def_map::nameres::crate_data::DefMapCrateData;
+use hir_def_map::nameres::enum_variants::EnumVariants;
 use hir_def_map::nameres::local_def_map::LocalDefMap;
 use hir_def_map::nameres::module_data::ModuleData;
 use hir_def_map::nameres::origin::ModuleOrigin;
 use hir_def_map::nameres::path_resolution::{ReachedFixedPoint, ResolvePathResult};
 use hir_def_map::world::part::WorldPart;
-use hir_item_tree::shape::ImportKind;
+use hir_item_tree::raw_visibility::RawVisibility;
+use hir_item_tree::shape::{ExternCrateName, ImportKind};
 use hir_scope::glob_imports::PerNsGlobImports;
-use hir_scope::imports::{ImportId, ImportOrExternCrate};
+use hir_scope::imports::ImportOrExternCrate;
 use hir_scope::per_ns::PerNs;
 use hir_scope::visibility::Visibility;
 use std::alloc::{AllocError, Global};
@@ -43,6 +50,7 @@ use std::marker::Model;
 pub struct Run {
     map: DefMap,
     local: LocalDefMap,
+    dependencies: Vec<Dependency>,
     from_glob_import: PerNsGlobImports,
     reached: Vec<ReachedImport>,
     taken: Vec<Taken>,
@@ -61,20 +69,32 @@ impl Model for Run {
 
     ghost coded = { coded_core };
 
-    ghost view = { λ r. record { map = r.map; local = r.local; reached = r.reached.items; taken = r.taken.items; asked = r.asked.items; count = r.count } };
+    ghost view = { λ r. record { map = r.map; local = r.local; dependencies = r.dependencies.items; reached = r.reached.items; taken = r.taken.items; asked = r.asked.items; count = r.count } };
 
     // No glob brings anything yet.
     ghost invariant = { λ r. (r.count ≤ STEP_LIMIT) × (r.from_glob_import ≡ no_globs) };
 }
 
 /// What pushes: an import, or a declaration.
-fn pushing(import: Option<ImportId>) -> Option<ImportOrExternCrate>
-    ensures value { result ≡ pushing import }
+fn pushing(source: Option<ImportSource>) -> Option<ImportOrExternCrate>
+    ensures value { result ≡ pushing source }
 {
-    match import {
-        Some(import) => Some(ImportOrExternCrate::Import(import)),
+    match source {
+        Some(source) => Some(source.way()),
         None => None,
     }
+}
+
+/// The first crate of a name.
+fn dependency_named(dependencies: &[Dependency], name: &Name) -> Option<Crate>
+    ensures value { result ≡ dependency_named dependencies.now name.now }
+{
+    for dependency in dependencies {
+        if dependency.name == *name {
+            return Some(dependency.krate);
+        }
+    }
+    None
 }
 
 impl Run {
@@ -84,9 +104,10 @@ impl Run {
         world: WorldPart<'_>,
         crate_data: DefMapCrateData,
         local: LocalDefMap,
+        dependencies: Vec<Dependency>,
         start: Start,
     ) -> Result<Run, AllocError>
-        ensures value { IfOk result (λ run. run ≡ core_by (part_of world.entry) crate_data local start) }
+        ensures value { IfOk result (λ run. run ≡ core_by (part_of world.entry) crate_data local dependencies.items start) }
     {
         let origin = ModuleOrigin::CrateRoot {
             definition: start.root,
@@ -100,6 +121,7 @@ impl Run {
         Ok(Run {
             map,
             local,
+            dependencies,
             from_glob_import: PerNsGlobImports::new(alloc),
             reached: Vec::new(alloc),
             taken: Vec::new(alloc),
@@ -135,11 +157,24 @@ impl Run {
         }
     }
 
-    /// The visibility of an item at a site.
-    pub fn visibility(&self, site: Site, head: ItemHead<'_>) -> Visibility
-        ensures value { result ≡ own_visibility self.now.map site (head_of head.entry) }
+    /// What a visibility means that is written in a module; one whose path leads to no module counts as public.
+    #[tactic(auto, unfolding(crate::specs::Items::visibility_in, hir_def_map::specs::DefMaps::maps_of))]
+    pub fn visibility_in(
+        &self,
+        world: WorldPart<'_>,
+        at: ModuleId,
+        raw: &RawVisibility,
+    ) -> Visibility
+        ensures value { result ≡ visibility_in (part_of world.entry) self.now.local self.now.map at raw.now }
     {
-        Visibility::of_raw(self.module_id(site.home), head.visibility)
+        DefMaps::new(world, &self.map).visibility_from_ast(Some(&self.local), at, raw)
+    }
+
+    /// The visibility of an item at a site.
+    pub fn visibility(&self, world: WorldPart<'_>, site: Site, head: ItemHead<'_>) -> Visibility
+        ensures value { result ≡ own_visibility (part_of world.entry) self.now.local self.now.map site (head_of head.entry) }
+    {
+        self.visibility_in(world, self.module_id(site.home), head.visibility)
     }
 
     /// Where the run takes its memory.
@@ -182,11 +217,11 @@ impl Run {
         home: u32,
         name: Name,
         items: PerNs,
-        import: Option<ImportId>,
+        source: Option<ImportSource>,
     ) -> Result<(), AllocError>
-        ensures ok { OnOk result (self.new ≡ with_map self.old (bound_in self.old.map home name items import)) }
+        ensures ok { OnOk result (self.new ≡ with_map self.old (bound_in self.old.map home name items source)) }
     {
-        let import = pushing(import);
+        let import = pushing(source);
         self.map
             .push(&mut self.from_glob_import, home, name, items, import)?;
         Ok(())
@@ -198,12 +233,12 @@ impl Run {
         home: u32,
         name: Option<Name>,
         items: PerNs,
-        import: ImportId,
+        source: ImportSource,
     ) -> Result<(), AllocError>
-        ensures ok { OnOk result (self.new ≡ with_map self.old (bound_as self.old.map home name items import)) }
+        ensures ok { OnOk result (self.new ≡ with_map self.old (bound_as self.old.map home name items source)) }
     {
         match name {
-            Some(name) => self.bind(home, name, items, Some(import)),
+            Some(name) => self.bind(home, name, items, Some(source)),
             None => Ok(()),
         }
     }
@@ -235,11 +270,28 @@ impl Run {
         Ok(())
     }
 
+    /// Keeps the variants of an enum, which were asked for.
+    pub fn add_enum(&mut self, id: EnumId, variants: EnumVariants) -> Result<(), AllocError>
+        ensures ok { OnOk result (self.new ≡ with_asked (with_map self.old (with_enum self.old.map id variants)) (Key.Variants id)) }
+    {
+        self.asked.push(Key::Variants(id))?;
+        self.map.add_enum(id, variants)?;
+        Ok(())
+    }
+
     /// Lists a `use` item in a module.
     pub fn list_use(&mut self, home: u32, use_: UseId) -> Result<(), AllocError>
         ensures ok { OnOk result (self.new ≡ with_map self.old (with_use self.old.map home use_)) }
     {
         self.map.define_use(home, use_)?;
+        Ok(())
+    }
+
+    /// Lists an `extern crate` in a module.
+    pub fn list_extern_crate(&mut self, home: u32, id: ExternCrateId) -> Result<(), AllocError>
+        ensures ok { OnOk result (self.new ≡ with_map self.old (with_extern_crate self.old.map home id)) }
+    {
+        self.map.define_extern_crate_decl(home, id)?;
         Ok(())
     }
 
@@ -264,6 +316,41 @@ impl Run {
         ensures ok { OnOk result (self.new ≡ with_map self.old (with_unnamed_const self.old.map home id)) }
     {
         self.map.define_unnamed_const(home, id)?;
+        Ok(())
+    }
+
+    /// The crate that an `extern crate` names: its own, or the first dependency of the name.
+    pub fn crate_named(&self, name: &ExternCrateName) -> Option<Crate>
+        ensures value { result ≡ crate_named self.now.map.id.krate self.now.dependencies name.now }
+    {
+        match name {
+            ExternCrateName::SelfCrate => Some(self.map.id().krate),
+            ExternCrateName::Name(name) => dependency_named(&self.dependencies, name),
+        }
+    }
+
+    /// Lets paths begin with the name of an `extern crate` of the crate's root module.
+    pub fn add_extern(&mut self, import: &ReachedImport) -> Result<(), AllocError>
+        ensures ok { OnOk result (self.new ≡ with_local self.old (extern_after self.old.local import.now)) }
+    {
+        if import.home != 0 {
+            return Ok(());
+        }
+        let ImportSource::ExternCrate {
+            id,
+            krate: Some(krate),
+        } = import.source
+        else {
+            return Ok(());
+        };
+        let Some(name) = import.name()? else {
+            return Ok(());
+        };
+        let root = ModuleId {
+            map: MapId { krate, block: None },
+            index: 0,
+        };
+        self.local.add_extern(name, root, Some(id))?;
         Ok(())
     }
 
@@ -297,11 +384,16 @@ impl Run {
         ensures value { result ≡ answer_to (part_of world.entry) self.now.local self.now.map import.now }
     {
         let at = self.module_id(import.home);
-        match import.kind {
-            ImportKind::Plain | ImportKind::TypeOnly => {
-                answer(&self.map, &self.local, world, at, &import.path)
-            }
-            ImportKind::Glob => ResolvePathResult::unresolved(ReachedFixedPoint::No),
+        match import.source {
+            ImportSource::Use {
+                kind: ImportKind::Plain | ImportKind::TypeOnly,
+                ..
+            } => answer(&self.map, &self.local, world, at, &import.path),
+            ImportSource::Use {
+                kind: ImportKind::Glob,
+                ..
+            } => ResolvePathResult::unresolved(ReachedFixedPoint::No),
+            ImportSource::ExternCrate { krate, .. } => answer_of_crate(krate),
         }
     }
 
@@ -320,12 +412,18 @@ impl Run {
         if !Namespaces::of(answer.resolved_def).goes_beyond(before.namespaces) {
             return Ok(None);
         }
-        let own = Visibility::of_raw(self.module_id(import.home), &import.visibility);
+        let own = self.visibility_in(world, self.module_id(import.home), &import.visibility);
         Ok(Some(Taking {
             home: import.home,
             name: import.name()?,
-            items: imported(&self.map, world, own, kept(import.kind, answer)),
-            import: import.id,
+            items: imported(
+                &self.map,
+                world,
+                own,
+                is_one_name(&import.path),
+                kept(import.source.kind(), answer),
+            ),
+            source: import.source,
             taken: before.and(answer),
         }))
     }

@@ -7,6 +7,7 @@ ghost use Rattle.hir_item_tree.specs.Kinds.{kind_content};
 ghost use Rattle.hir_item_tree.specs.Rows.{held_numbers, item_of, items_at, numbers_of};
 ghost use Rattle.hir_def_map.specs.State.{Maps};
 ghost use Rattle.hir_def_map.specs.Parts.{part_of};
+ghost use Rattle.hir_def_collector.specs.Workspace.{Workspace};
 ghost use Rattle.hir_def_collector.specs.State.{visits};
 ghost use Rattle.hir_def_collector.specs.Steps.{visit};
 ghost use Rattle.hir_def_collector.specs.TreeReads.{head_of, visits_at};
@@ -18,10 +19,12 @@ use crate::collector::declare::{
     declare, declare_const, declare_function, declare_static, declare_struct, declare_trait,
     declare_type_alias, declare_union,
 };
-use crate::collector::reach::reach_use;
+use crate::collector::enums::declare_enum;
+use crate::collector::reach::{reach_extern_crate, reach_use};
 use crate::collector::run::Run;
 use crate::collector::site::{ItemHead, Site, head_at};
 use crate::collector::{CollectError, STEP_LIMIT};
+use crate::source_database::SourceDatabase;
 use hir_base::ast_id::{AstId, AstKind};
 use hir_base::ids::{ConstId, ExternBlockId, ImplId, ModuleDefId};
 use hir_base::name::Name;
@@ -43,7 +46,7 @@ struct Inside<'a> {
 /// Lists a constant that has no name.
 fn list_const(run: &mut Run, site: Site, head: ItemHead<'_>) -> Result<(), CollectError>
     requires enabled { is_enabled (head_of head).attributes ≡ true }
-    ensures ok { OnOk result ((finished : Maps) → Handles finished run.old run.new (visit site (leaf (head_of head.entry) (constant None))) []) }
+    ensures ok { OnOk result ((w : Workspace) (finished : Maps) → Handles w finished run.old run.new (visit site (leaf (head_of head.entry) (constant None))) []) }
     ensures many { result ≡ Err CollectError.TooMany → STEP_LIMIT ≤ run.old.count }
 {
     let id = ConstId {
@@ -60,16 +63,17 @@ fn list_const(run: &mut Run, site: Site, head: ItemHead<'_>) -> Result<(), Colle
 /// Handles a constant.
 fn visit_const(
     run: &mut Run,
+    world: WorldPart<'_>,
     site: Site,
     head: ItemHead<'_>,
     name: &Option<Name>,
 ) -> Result<(), CollectError>
     requires enabled { is_enabled (head_of head).attributes ≡ true }
-    ensures ok { OnOk result ((finished : Maps) → Handles finished run.old run.new (visit site (leaf (head_of head.entry) (constant name.now))) []) }
+    ensures ok { OnOk result ((w : Workspace) → Handles w (part_of world.entry) run.old run.new (visit site (leaf (head_of head.entry) (constant name.now))) []) }
     ensures many { result ≡ Err CollectError.TooMany → STEP_LIMIT ≤ run.old.count }
 {
     match name {
-        Some(name) => declare_const(run, site, head, name)?,
+        Some(name) => declare_const(run, world, site, head, name)?,
         None => list_const(run, site, head)?,
     }
     Ok(())
@@ -83,7 +87,7 @@ fn list_impl(
     of_trait: bool,
 ) -> Result<(), CollectError>
     requires enabled { is_enabled (head_of head).attributes ≡ true }
-    ensures ok { OnOk result ((finished : Maps) → Handles finished run.old run.new (visit site (leaf (head_of head.entry) (implementation of_trait))) []) }
+    ensures ok { OnOk result ((w : Workspace) (finished : Maps) → Handles w finished run.old run.new (visit site (leaf (head_of head.entry) (implementation of_trait))) []) }
     ensures many { result ≡ Err CollectError.TooMany → STEP_LIMIT ≤ run.old.count }
 {
     let id = ImplId {
@@ -98,10 +102,16 @@ fn list_impl(
 }
 
 /// Makes a module that is written where it is declared, lists it and binds it; where its items are written.
-fn open(run: &mut Run, site: Site, head: ItemHead<'_>, name: &Name) -> Result<Site, CollectError>
+fn open(
+    run: &mut Run,
+    world: WorldPart<'_>,
+    site: Site,
+    head: ItemHead<'_>,
+    name: &Name,
+) -> Result<Site, CollectError>
     requires in_range { site.home < length run.old.map.modules }
     requires enabled { is_enabled (head_of head).attributes ≡ true }
-    ensures ok { IfOk result (λ inside. (finished : Maps) (items : KeptForest) → Handles finished run.old run.new
+    ensures ok { IfOk result (λ inside. (w : Workspace) (items : KeptForest) → Handles w (part_of world.entry) run.old run.new
         (visit site (holder (head_of head.entry) (inline_module name.now) items)) (visits inside items)) }
     ensures in_range { IfOk result (λ inside. inside.home < length run.new.map.modules) }
     ensures many { result ≡ Err CollectError.TooMany → IsFull run.old.count run.old.map }
@@ -114,7 +124,7 @@ fn open(run: &mut Run, site: Site, head: ItemHead<'_>, name: &Name) -> Result<Si
             id: head.id,
         },
     };
-    let vis = run.visibility(site, head);
+    let vis = run.visibility(world, site, head);
     let made = run.open(site.home, name.clone()?, origin, vis)?;
     let def = ModuleDefId::ModuleId(made);
     let declaration = Declaration {
@@ -134,7 +144,7 @@ fn open(run: &mut Run, site: Site, head: ItemHead<'_>, name: &Name) -> Result<Si
 fn enter(run: &mut Run, site: Site, head: ItemHead<'_>) -> Result<Site, CollectError>
     requires in_range { site.home < length run.old.map.modules }
     requires enabled { is_enabled (head_of head).attributes ≡ true }
-    ensures ok { IfOk result (λ inside. (finished : Maps) (items : KeptForest) → Handles finished run.old run.new
+    ensures ok { IfOk result (λ inside. (w : Workspace) (finished : Maps) (items : KeptForest) → Handles w finished run.old run.new
         (visit site (holder (head_of head.entry) extern_block items)) (visits inside items)) }
     ensures in_range { IfOk result (λ inside. inside.home < length run.new.map.modules) }
     ensures many { result ≡ Err CollectError.TooMany → STEP_LIMIT ≤ run.old.count }
@@ -157,13 +167,14 @@ fn enter(run: &mut Run, site: Site, head: ItemHead<'_>) -> Result<Site, CollectE
 /// Handles a module; which items are visited next.
 fn visit_mod<'a>(
     run: &mut Run,
+    world: WorldPart<'_>,
     site: Site,
     head: ItemHead<'_>,
     item: Mod<'a>,
 ) -> Result<Inside<'a>, CollectError>
     requires in_range { site.home < length run.old.map.modules }
     requires enabled { is_enabled (head_of head).attributes ≡ true }
-    ensures ok { IfOk result (λ inside. (finished : Maps) (items : List KeptItem) → Handles finished run.old run.new
+    ensures ok { IfOk result (λ inside. (w : Workspace) (items : List KeptItem) → Handles w (part_of world.entry) run.old run.new
         (visit site (item_of items (head_of head.entry) (kind_content (ModItemKind.Mod item.entry))))
         (visits inside.site (items_at items (numbers_of inside.ids.now)))) }
     ensures numbers { IfOk result (λ inside. numbers_of inside.ids.now ≡ held_numbers (kind_content (ModItemKind.Mod item.entry))) }
@@ -172,7 +183,7 @@ fn visit_mod<'a>(
 {
     match item.kind {
         ModKind::Inline { items } => {
-            let site = open(run, site, head, item.name)?;
+            let site = open(run, world, site, head, item.name)?;
             Ok(Inside { site, ids: items })
         }
         ModKind::Outline => {
@@ -183,8 +194,9 @@ fn visit_mod<'a>(
 }
 
 /// Handles an item that isn't disabled; which items are visited next: those that it holds.
-fn visit_item<'a>(
+fn visit_item<'a, D: SourceDatabase>(
     run: &mut Run,
+    db: &D,
     world: WorldPart<'_>,
     site: Site,
     head: ItemHead<'_>,
@@ -192,7 +204,7 @@ fn visit_item<'a>(
 ) -> Result<Inside<'a>, CollectError>
     requires in_range { site.home < length run.old.map.modules }
     requires enabled { is_enabled (head_of head).attributes ≡ true }
-    ensures ok { IfOk result (λ inside. (items : List KeptItem) → Handles (part_of world.entry) run.old run.new
+    ensures ok { IfOk result (λ inside. (items : List KeptItem) → Handles (D.workspace db.now) (part_of world.entry) run.old run.new
         (visit site (item_of items (head_of head.entry) (kind_content item.entry)))
         (visits inside.site (items_at items (numbers_of inside.ids.now)))) }
     ensures numbers { IfOk result (λ inside. numbers_of inside.ids.now ≡ held_numbers (kind_content item.entry)) }
@@ -201,7 +213,7 @@ fn visit_item<'a>(
 {
     let nothing = Inside { site, ids: &[] };
     match item {
-        ModItemKind::Mod(item) => visit_mod(run, site, head, item),
+        ModItemKind::Mod(item) => visit_mod(run, world, site, head, item),
         ModItemKind::ExternBlock(item) => {
             let site = enter(run, site, head)?;
             Ok(Inside {
@@ -214,7 +226,7 @@ fn visit_item<'a>(
             Ok(nothing)
         }
         ModItemKind::Function(item) => {
-            declare_function(run, site, head, item.name)?;
+            declare_function(run, world, site, head, item.name)?;
             Ok(nothing)
         }
         ModItemKind::Struct(item) => {
@@ -222,19 +234,23 @@ fn visit_item<'a>(
             Ok(nothing)
         }
         ModItemKind::Union(item) => {
-            declare_union(run, site, head, item.name)?;
+            declare_union(run, world, site, head, item.name)?;
+            Ok(nothing)
+        }
+        ModItemKind::Enum(item) => {
+            declare_enum(run, db, world, site, head, item.name)?;
             Ok(nothing)
         }
         ModItemKind::Const(item) => {
-            visit_const(run, site, head, item.name)?;
+            visit_const(run, world, site, head, item.name)?;
             Ok(nothing)
         }
         ModItemKind::Static(item) => {
-            declare_static(run, site, head, item.name)?;
+            declare_static(run, world, site, head, item.name)?;
             Ok(nothing)
         }
         ModItemKind::Trait(item) => {
-            declare_trait(run, site, head, item.name)?;
+            declare_trait(run, world, site, head, item.name)?;
             Ok(nothing)
         }
         ModItemKind::Impl(item) => {
@@ -242,14 +258,14 @@ fn visit_item<'a>(
             Ok(nothing)
         }
         ModItemKind::TypeAlias(item) => {
-            declare_type_alias(run, site, head, item.name)?;
+            declare_type_alias(run, world, site, head, item.name)?;
             Ok(nothing)
         }
-        ModItemKind::ExternCrate(_)
-        | ModItemKind::Enum(_)
-        | ModItemKind::MacroCall(_)
-        | ModItemKind::MacroRules(_)
-        | ModItemKind::Macro2(_) => {
+        ModItemKind::ExternCrate(item) => {
+            reach_extern_crate(run, site, head, item.name, item.alias)?;
+            Ok(nothing)
+        }
+        ModItemKind::MacroCall(_) | ModItemKind::MacroRules(_) | ModItemKind::Macro2(_) => {
             run.tick()?;
             Ok(nothing)
         }
@@ -258,8 +274,9 @@ fn visit_item<'a>(
 
 /// Handles an item, and all that is in it.
 #[cycle(walk)]
-fn walk_item(
+fn walk_item<D: SourceDatabase>(
     run: &mut Run,
+    db: &D,
     world: WorldPart<'_>,
     tree: &ItemTree,
     site: Site,
@@ -267,23 +284,24 @@ fn walk_item(
 ) -> Result<(), CollectError>
     requires in_range { site.home < length run.old.map.modules }
     requires there { id.0 < length (all_items tree.now.items) }
-    ensures ok { OnOk result (Walks (part_of world.entry) run.old run.new (visits_at tree.now site (id.0 ∷ []))) }
-    ensures many { result ≡ Err CollectError.TooMany → WalksTooFar (part_of world.entry) run.old (visits_at tree.now site (id.0 ∷ [])) }
+    ensures ok { OnOk result (Walks (D.workspace db.now) (part_of world.entry) run.old run.new (visits_at tree.now site (id.0 ∷ []))) }
+    ensures many { result ≡ Err CollectError.TooMany → WalksTooFar (D.workspace db.now) (part_of world.entry) run.old (visits_at tree.now site (id.0 ∷ [])) }
 {
     let head = head_at(tree, id);
     if !head.attrs.is_enabled() {
         run.tick()?;
         return Ok(());
     }
-    let inside = visit_item(run, world, site, head, tree.index(id))?;
-    walk_all(run, world, tree, inside.site, inside.ids)?;
+    let inside = visit_item(run, db, world, site, head, tree.index(id))?;
+    walk_all(run, db, world, tree, inside.site, inside.ids)?;
     Ok(())
 }
 
 /// Handles items of a tree that are written at a site, one after another, each with all that is in it.
 #[cycle(walk)]
-pub fn walk_all(
+pub fn walk_all<D: SourceDatabase>(
     run: &mut Run,
+    db: &D,
     world: WorldPart<'_>,
     tree: &ItemTree,
     site: Site,
@@ -291,11 +309,11 @@ pub fn walk_all(
 ) -> Result<(), CollectError>
     requires in_range { site.home < length run.old.map.modules }
     requires there { All (λ n. n < length (all_items tree.now.items)) (numbers_of ids.now) }
-    ensures ok { OnOk result (Walks (part_of world.entry) run.old run.new (visits_at tree.now site (numbers_of ids.now))) }
-    ensures many { result ≡ Err CollectError.TooMany → WalksTooFar (part_of world.entry) run.old (visits_at tree.now site (numbers_of ids.now)) }
+    ensures ok { OnOk result (Walks (D.workspace db.now) (part_of world.entry) run.old run.new (visits_at tree.now site (numbers_of ids.now))) }
+    ensures many { result ≡ Err CollectError.TooMany → WalksTooFar (D.workspace db.now) (part_of world.entry) run.old (visits_at tree.now site (numbers_of ids.now)) }
 {
     for id in ids {
-        walk_item(run, world, tree, site, *id)?;
+        walk_item(run, db, world, tree, site, *id)?;
     }
     Ok(())
 }

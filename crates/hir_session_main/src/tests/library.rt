@@ -13,27 +13,27 @@ use hir_item_tree::source::{Node, NodeKind, Source, Unit};
 use hir_session::{
     EditError, Fault, NewSessionError, QueryError, RefreshError, Session, TreeTextError,
 };
-use hir_wire::{CrateInput, Dependencies, Edit, Shadow};
+use hir_wire::{Answer, CrateInput, Dependencies, Edit, Shadow};
 use std::alloc::Global;
 use std::fmt::Display;
 use std::process::Abort;
 use std::test::Fail;
 
-/// One crate with one function, and what its name stands for.
-#[test]
-fn a_function_is_found(rt: HostRuntime) -> Result<(), Fail> {
-    let alloc = rt.alloc();
-    let file = FilePath::parse(alloc, "lib.rs")?;
+/// A session over one crate, which has its root in this file.
+fn session_of(alloc: Global, root: FilePath) -> Result<Session, Fail> {
     let krate = CrateInput {
         edition: Edition::Edition2021,
-        root: file.clone()?,
+        root,
         attrs: Vec::new(alloc),
         cfg: Vec::new(alloc),
         deps: Dependencies::new(Vec::new(alloc)),
         proc_macro: false,
     };
-    let mut session = Session::new(alloc, vec![in alloc; krate]?)?;
+    Ok(Session::new(alloc, vec![in alloc; krate]?)?)
+}
 
+/// A source with one public function.
+fn source_of(alloc: Global) -> Result<Source, Fail> {
     let name = Name::new(alloc, "area")?;
     let area = Node {
         id: SyntaxId { hash: 1, index: 0 },
@@ -45,23 +45,68 @@ fn a_function_is_found(rt: HostRuntime) -> Result<(), Fail> {
             body: String::new(alloc),
         },
     };
-    let source = Source::Unit(Unit {
-        attrs: Vec::new(alloc),
-        nodes: vec![in alloc; area]?,
-    });
-    let page = file.clone()?;
+    let nodes = vec![in alloc; area]?;
+    let attrs = Vec::new(alloc);
+    Ok(Source::Unit(Unit { attrs, nodes }))
+}
+
+/// Hands the function in.
+fn set_source(alloc: Global, session: &mut Session, file: &FilePath) -> Result<(), Fail> {
+    let file = file.clone()?;
+    let source = source_of(alloc)?;
     session.apply(alloc, Edit::SetFile { file, source })?;
-    let text = session.tree_text(alloc, Crate(0), &page)?;
+    Ok(())
+}
+
+fn has_page(
+    rt: &impl Abort,
+    alloc: Global,
+    session: &Session,
+    file: &FilePath,
+) -> Result<(), Fail> {
+    let text = session.tree_text(alloc, Crate(0), file)?;
     assert_eq!(rt; text.as_str(), "// AstId: Fn[0001, 0]\npub fn area;\n");
+    Ok(())
+}
+
+fn resolves_one_crate(rt: &impl Abort, alloc: Global, session: &mut Session) -> Result<(), Fail> {
     let resolved = session.refresh(alloc)?;
     assert_eq!(rt; resolved.len(), 1);
+    Ok(())
+}
 
+fn area_of(alloc: Global, session: &Session) -> Result<Answer, Fail> {
     let root = Place::new(Crate(0), Vec::new(alloc));
     let path = ModPath::parse(alloc, "crate::area")?;
-    let answer = session.resolve_path(alloc, &root, &path, Shadow::Other, None)?;
+    Ok(session.resolve_path(alloc, &root, &path, Shadow::Other, None)?)
+}
+
+fn finds_a_value(rt: &impl Abort, alloc: Global, session: &Session) -> Result<(), Fail> {
+    let answer = area_of(alloc, session)?;
     assert!(rt; answer.values.is_some(), "the function is a value");
     assert!(rt; answer.types.is_none(), "and no type");
     Ok(())
+}
+
+/// What is handed in, listed and found, in turn.
+fn finds_a_function(
+    rt: &impl Abort,
+    alloc: Global,
+    session: &mut Session,
+    file: &FilePath,
+) -> Result<(), Fail> {
+    set_source(alloc, session, file)?;
+    has_page(rt, alloc, session, file)?;
+    resolves_one_crate(rt, alloc, session)?;
+    finds_a_value(rt, alloc, session)
+}
+
+/// One crate with one function, and what its name stands for.
+#[test]
+fn a_function_is_found(rt: HostRuntime) -> Result<(), Fail> {
+    let file = FilePath::parse(rt.alloc(), "lib.rs")?;
+    let mut session = session_of(rt.alloc(), file.clone()?)?;
+    finds_a_function(&rt, rt.alloc(), &mut session, &file)
 }
 
 /// Compares the text of an error with the one that is wanted.
@@ -72,42 +117,49 @@ fn says(rt: &impl Abort, alloc: Global, error: &impl Display, text: &str) -> Res
 }
 
 #[test]
-fn errors_have_texts(rt: HostRuntime) -> Result<(), Fail> {
-    let alloc = rt.alloc();
+fn errors_of_new_sessions_have_texts(rt: HostRuntime) -> Result<(), Fail> {
     let order = NewSessionError::DependencyOrder(Crate(3));
-    says(
-        &rt,
-        alloc,
-        &order,
-        "crate 3 depends on one that doesn't come before it",
-    )?;
-    let long = NewSessionError::TooLarge(Limit::Crates);
-    says(&rt, alloc, &long, "the number of crates is above the limit")?;
+    let late = "crate 3 depends on one that doesn't come before it";
+    says(&rt, rt.alloc(), &order, late)?;
+    let many = NewSessionError::TooLarge(Limit::Crates);
+    let long = "the number of crates is above the limit";
+    says(&rt, rt.alloc(), &many, long)
+}
+
+#[test]
+fn errors_of_edits_have_texts(rt: HostRuntime) -> Result<(), Fail> {
     let twice = EditError::DuplicateId {
         kind: AstKind::Fn,
         id: SyntaxId { hash: 7, index: 2 },
     };
-    says(
-        &rt,
-        alloc,
-        &twice,
-        "two nodes of kind Fn have the id [7, 2]",
-    )?;
-    let deep = EditError::TooLarge(Limit::Modules);
-    says(&rt, alloc, &deep, "the depth of modules is above the limit")?;
-    let many = "a run took more steps, or made more modules, than are counted";
-    says(&rt, alloc, &RefreshError::TooMany, many)?;
-    let stale = "what is kept of the place may be out of date";
-    says(&rt, alloc, &QueryError::StalePlace, stale)?;
-    says(
-        &rt,
-        alloc,
-        &QueryError::UnknownPlace,
-        "there is no such crate or module",
-    )?;
-    says(&rt, alloc, &QueryError::Memory, "out of memory")?;
-    let absent = "there is no such crate";
-    says(&rt, alloc, &TreeTextError::UnknownCrate, absent)?;
-    says(&rt, alloc, &Fault::WriteFault, "write fault")?;
+    let repeated = "two nodes of kind Fn have the id [7, 2]";
+    says(&rt, rt.alloc(), &twice, repeated)?;
+    let modules = EditError::TooLarge(Limit::Modules);
+    let deep = "the depth of modules is above the limit";
+    says(&rt, rt.alloc(), &modules, deep)
+}
+
+#[test]
+fn errors_of_queries_have_texts(rt: HostRuntime) -> Result<(), Fail> {
+    let rows = [
+        (
+            QueryError::StalePlace,
+            "what is kept of the place may be out of date",
+        ),
+        (QueryError::UnknownPlace, "there is no such crate or module"),
+        (QueryError::Memory, "out of memory"),
+    ];
+    for (error, text) in rows {
+        says(&rt, rt.alloc(), &error, text)?;
+    }
     Ok(())
+}
+
+#[test]
+fn other_errors_have_texts(rt: HostRuntime) -> Result<(), Fail> {
+    let many = "a run took more steps, or made more modules, than are counted";
+    says(&rt, rt.alloc(), &RefreshError::TooMany, many)?;
+    let absent = "there is no such crate";
+    says(&rt, rt.alloc(), &TreeTextError::UnknownCrate, absent)?;
+    says(&rt, rt.alloc(), &Fault::WriteFault, "write fault")
 }

@@ -58,17 +58,13 @@ fn refusals_hold(rt: HostRuntime) -> Result<(), Fail> {
         (
             "crates_that_are_not_taken_yet",
             r#"{"do":"crates","crates":[{"edition":"2021","root":"a.rs"},{"edition":"2021","root":"b.rs","proc_macro":true}]}
-{"do":"crates","crates":[{"edition":"2021","root":"a.rs"},{"edition":"2021","root":"b.rs","deps":[{"crate":0,"name":"a"}]}]}
-{"do":"crates","crates":[{"edition":"2021","root":"lib.rs","attrs":[{"path":"no_std"}]}]}
-{"do":"crates","crates":[{"edition":"2021","root":"lib.rs","deps":[{"crate":0,"name":"a"}]}]}
+{"do":"crates","crates":[{"edition":"2021","root":"lib.rs","attrs":[{"path":"nope"}]}]}
 {"do":"crates","crates":[{"edition":"2021","root":"lib.rs","proc_macro":true}]}
 {"do":"refresh"}
 {"do":"crates","crates":[{"edition":"2021","root":"lib.rs","attrs":[],"cfg":["x"],"deps":[],"proc_macro":false}]}
 {"do":"refresh"}
 "#,
             r#"{"error":"command"}
-{"error":"command"}
-{"error":"command"}
 {"error":"command"}
 {"error":"command"}
 {"error":"command"}
@@ -79,17 +75,11 @@ fn refusals_hold(rt: HostRuntime) -> Result<(), Fail> {
         (
             "syntax_that_is_not_taken_yet",
             r#"{"do":"crates","crates":[{"edition":"2021","root":"lib.rs"}]}
-{"do":"set file","file":"lib.rs","unit":{"nodes":[{"kind":"Enum","id":[1,0],"name":"E","variants":[]}]}}
-{"do":"set file","file":"lib.rs","unit":{"nodes":[{"kind":"ExternCrate","id":[1,0],"name":"a"}]}}
-{"do":"set file","file":"lib.rs","unit":{"nodes":[{"kind":"ExternCrate","id":[1,0],"name":"self","as":"me"}]}}
 {"do":"set file","file":"lib.rs","unit":{"nodes":[{"kind":"Use","id":[1,0],"tree":{"glob":"a"}}]}}
 {"do":"set file","file":"lib.rs","unit":{"nodes":[{"kind":"Use","id":[1,0],"tree":{"path":"a","list":[{"single":"b"},{"list":[{"glob":null}]}]}}]}}
 {"do":"set file","file":"lib.rs","unit":{"nodes":[{"kind":"Use","id":[1,0],"tree":{"single":"a::b","as":"_"}}]}}
 {"do":"set file","file":"lib.rs","unit":{"nodes":[{"kind":"Use","id":[1,0],"tree":{"list":[{"single":"a::b","as":"_"}]}}]}}
 {"do":"set file","file":"lib.rs","unit":{"nodes":[{"kind":"Module","id":[1,0],"name":"m"}]}}
-{"do":"set file","file":"lib.rs","unit":{"nodes":[{"kind":"Fn","id":[1,0],"name":"f","vis":{"in":"crate"}}]}}
-{"do":"set file","file":"lib.rs","unit":{"nodes":[{"kind":"Struct","id":[1,0],"name":"S","shape":"tuple","fields":["pub",{"in":"crate"}]}]}}
-{"do":"set file","file":"lib.rs","unit":{"nodes":[{"kind":"Union","id":[1,0],"name":"U","fields":[{"in":"crate"}]}]}}
 {"do":"set file","file":"lib.rs","unit":{"nodes":[{"kind":"MacroCall","id":[1,0],"path":"m"}]}}
 {"do":"set file","file":"lib.rs","unit":{"nodes":[{"kind":"MacroRules","id":[1,0],"name":"m"}]}}
 {"do":"set file","file":"lib.rs","unit":{"nodes":[{"kind":"MacroDef","id":[1,0],"name":"m"}]}}
@@ -101,21 +91,11 @@ fn refusals_hold(rt: HostRuntime) -> Result<(), Fail> {
 {"do":"set file","file":"lib.rs","unit":{"nodes":[{"kind":"Impl","id":[1,0],"trait":true,"items":[{"kind":"Fn","id":[2,0],"name":"f","attrs":[{"path":"nope"}]}]}]}}
 {"do":"set file","file":"lib.rs","unit":{"nodes":[{"kind":"ExternBlock","id":[1,0],"nodes":[{"kind":"MacroCall","id":[2,0],"path":"m"}]}]}}
 {"do":"set file","file":"lib.rs","unit":{"nodes":[{"kind":"Fn","id":[1,0],"name":"f","attrs":[{"path":"inline::always"}]}]}}
-{"do":"set file","file":"lib.rs","unit":{"nodes":[{"kind":"ExternBlock","id":[1,0],"nodes":[{"kind":"Fn","id":[2,0],"name":"f","vis":{"in":"crate"}}]}]}}
-{"do":"set file","file":"lib.rs","unit":{"nodes":[{"kind":"Module","id":[1,0],"name":"m","nodes":[{"kind":"Enum","id":[2,0],"name":"E","variants":[]}]}]}}
 {"do":"status","at":[0]}
 {"do":"set file","file":"lib.rs","unit":{"nodes":[{"kind":"Fn","id":[1,0],"name":"f","attrs":[]}]}}
 {"do":"refresh"}
 "#,
             r#"{"ok":null}
-{"error":"command"}
-{"error":"command"}
-{"error":"command"}
-{"error":"command"}
-{"error":"command"}
-{"error":"command"}
-{"error":"command"}
-{"error":"command"}
 {"error":"command"}
 {"error":"command"}
 {"error":"command"}
@@ -141,7 +121,7 @@ fn refusals_hold(rt: HostRuntime) -> Result<(), Fail> {
             "what_is_not_taken_yet_is_looked_for_first",
             r#"{"do":"crates","crates":[{"edition":"2021","root":"lib.rs"}]}
 {"do":"set file","file":"lib.rs","unit":{"nodes":[{"kind":"Fn","id":[1,0],"name":"f"},{"kind":"Fn","id":[1,0],"name":"f","attrs":[{"path":"nope"}]}]}}
-{"do":"set file","file":"lib.rs","unit":{"nodes":[{"kind":"Fn","id":[1,2048],"name":"f"},{"kind":"Enum","id":[2,0],"name":"E","variants":[]}]}}
+{"do":"set file","file":"lib.rs","unit":{"nodes":[{"kind":"Fn","id":[1,2048],"name":"f"},{"kind":"MacroCall","id":[2,0],"path":"m"}]}}
 {"do":"refresh"}
 "#,
             r#"{"ok":null}

@@ -8,22 +8,22 @@ use Rattle.hir_def_collector.proofs.Walked.{spent_present, walks_disabled, walks
 use Rattle.hir_def_collector.proofs.collector.walk_root.Goals as goal
 
 pub returns-then-not-is_enabled_at_top-clause-ok : goal.returns-then-not-is_enabled_at_top-clause-ok
-returns-then-not-is_enabled_at_top-clause-ok c = λ w.
-    walks_disabled (part_of c.args.world) (root_site c.args.start) c.args.tree.now c.args.run.now w
+returns-then-not-is_enabled_at_top-clause-ok g c =
+    walks_disabled (g.D.SourceDatabase.workspace c.args.db.now) (part_of c.args.world) (root_site c.args.start) c.args.tree.now c.args.run.now
     (sym c.is_enabled_at_top.ensures.value ∙ c.if-not-is_enabled_at_top.true)
 
 pub returns-clause-ok : goal.returns-clause-ok
-returns-clause-ok c =
-    walks_present (part_of c.args.world) (root_site c.args.start) c.args.tree.now c.args.run.now c.top_level_items.result.now
+returns-clause-ok g c =
+    walks_present (g.D.SourceDatabase.workspace c.args.db.now) (part_of c.args.world) (root_site c.args.start) c.args.tree.now c.args.run.now c.top_level_items.result.now
     (sym c.is_enabled_at_top.ensures.value ∙ c.if-not-is_enabled_at_top.false) c.top_level_items.ensures.value
     c.walk_all.new.run c.in_ok-walk_all.ensures.ok
 
 pub returns-in_err-walk_all-clause-many : goal.returns-in_err-walk_all-clause-many
-returns-in_err-walk_all-clause-many c h =
-    spent_present (part_of c.args.world) (root_site c.args.start) c.args.tree.now c.args.run.now c.top_level_items.result.now
+returns-in_err-walk_all-clause-many g c h =
+    spent_present (g.D.SourceDatabase.workspace c.args.db.now) (part_of c.args.world) (root_site c.args.start) c.args.tree.now c.args.run.now c.top_level_items.result.now
     (sym c.is_enabled_at_top.ensures.value ∙ c.if-not-is_enabled_at_top.false) c.top_level_items.ensures.value
     (c.in_err-walk_all.ensures.many (search rules))
 
 pub walk_all-requires-clause-there : goal.walk_all-requires-clause-there
-walk_all-requires-clause-there c =
+walk_all-requires-clause-there g c =
     All-map (λ n. n < length (all_items c.args.tree.now.items)) (λ (id : ModItemId). id.0) c.top_level_items.result.now c.top_level_items.ensures.there

@@ -5,8 +5,8 @@ use Rattle.hir_session.proofs.Judging.{IsJudging}
 use Rattle.hir_session.proofs.judge.judged.Given as goal
 
 -- the crates so far were judged
-abbrev pub invariant-loop-found : goal.invariant-loop-found
-invariant-loop-found l =
+abbrev pub invariant-loop-k : goal.invariant-loop-k
+invariant-loop-k l =
     IsJudging (workspace_in l.crates.items l.paths.items l.files)
     (workspace_in l.crates.items l.paths.items (edited_at l.files l.path (option_map (λ s. source_view s.now) l.new)))
-    l.kept.items l.hits.items l.found-index
+    l.kept l.hits.items l.k

@@ -3,6 +3,6 @@ use Rattle.hir_def_collector.specs.Steps.{declares_item}
 use Rattle.hir_def_collector.proofs.collector.declare.declare_static.Goals as goal
 
 pub returns-clause-ok : goal.returns-clause-ok
-returns-clause-ok c = λ finished. record {
-  step = λ w rest. declares_item _ _ rest (record { next = refl; enabled = c.requires.enabled }) refl (rw (c.in_ok-declare_value.ensures.ok, c.container.ensures.value) refl);
+returns-clause-ok c = λ w. record {
+  step = λ rest. declares_item _ _ rest (record { next = refl; enabled = c.requires.enabled }) refl (rw (c.in_ok-declare_value.ensures.ok, c.container.ensures.value) refl);
 }

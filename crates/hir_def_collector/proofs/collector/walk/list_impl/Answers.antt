@@ -4,8 +4,8 @@ use Rattle.hir_def_collector.specs.Steps.{lists_impl}
 use Rattle.hir_def_collector.proofs.collector.walk.list_impl.Goals as goal
 
 pub returns-clause-ok : goal.returns-clause-ok
-returns-clause-ok c = λ finished. record {
-  step = λ w rest.
+returns-clause-ok c = λ w finished. record {
+  step = λ rest.
       lists_impl c.args.site (head_of c.args.head) c.args.of_trait rest (record { next = refl; enabled = c.requires.enabled })
       (rw (c.in_ok-tick.ensures.ok, c.in_ok-list_impl.ensures.ok, c.module_id.ensures.value) refl);
 }

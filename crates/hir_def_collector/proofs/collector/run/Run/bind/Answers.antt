@@ -11,7 +11,7 @@ pub invariant_of-self-2 : goal.invariant_of-self-2
 invariant_of-self-2 c =
     let map = c.self.inside.map in
     let import = c.pushing-import.result in
-    let explicit : is_glob import ≡ false = ap is_glob c.pushing-import.ensures.value ∙ no_glob c.args.import in
+    let explicit : is_glob import ≡ false = ap is_glob c.pushing-import.ensures.value ∙ no_glob c.args.source in
     let none : c.push.new.glob_imports ≡ no_globs =
     c.in_ok-push.ensures.globs
     ∙ ap (λ (globs : GlobNames). globs_after map globs c.args.home c.args.name c.args.items import) c.self.invariant.1

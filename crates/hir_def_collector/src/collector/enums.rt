@@ -1,0 +1,96 @@
+//! Enums, whose variants are asked for.
+ghost use Rattle.std.specs.Prelude.{◌≡◌, ◌≤◌, true, [], OnOk, IfOk, option_map};
+ghost use Rattle.hir_item_tree.specs.Collected.{is_enabled};
+ghost use Rattle.hir_item_tree.specs.KeptForest.{leaf, enumeration};
+ghost use Rattle.hir_def_map.specs.Parts.{part_of};
+ghost use Rattle.hir_def_collector.specs.Enums.{variant_of, variants_by_name, variants_of};
+ghost use Rattle.hir_def_collector.specs.TreeReads.{head_of};
+ghost use Rattle.hir_def_collector.specs.Steps.{visit};
+ghost use Rattle.hir_def_collector.specs.Moves.{Handles};
+
+use crate::collector::declaration::Declaration;
+use crate::collector::declare::declare;
+use crate::collector::run::Run;
+use crate::collector::site::{ItemHead, Site};
+use crate::collector::{CollectError, STEP_LIMIT};
+use crate::source_database::SourceDatabase;
+use hir_base::ids::{AdtId, EnumId, EnumVariantId, ModuleDefId};
+use hir_base::name::Name;
+use hir_def_map::nameres::enum_variants::{EnumVariant, EnumVariants};
+use hir_def_map::world::part::WorldPart;
+use hir_item_tree::side_lists::VariantItem;
+use hir_scope::per_ns::PerNs;
+use std::alloc::{AllocError, Global};
+
+/// A variant of an enum.
+fn variant_of(id: EnumId, item: &VariantItem) -> EnumVariant
+    ensures value { result ≡ variant_of id item.now }
+{
+    EnumVariant {
+        id: EnumVariantId {
+            parent: id,
+            id: item.id,
+        },
+        shape: item.shape,
+    }
+}
+
+/// Variants by name; of two with one name the later.
+fn by_name(alloc: Global, id: EnumId, items: &[VariantItem]) -> Result<EnumVariants, AllocError>
+    ensures value { IfOk result (λ variants. variants ≡ variants_by_name id items.now) }
+{
+    let mut variants = EnumVariants::new(alloc);
+    for item in items {
+        variants.insert(item.name.clone()?, variant_of(id, item))?;
+    }
+    Ok(variants)
+}
+
+/// The variants of an enum by name; none of one that isn't there.
+fn variants_of(
+    alloc: Global,
+    id: EnumId,
+    found: Option<Vec<VariantItem>>,
+) -> Result<EnumVariants, AllocError>
+    ensures value { IfOk result (λ variants. variants ≡ variants_of id (option_map (λ vs. vs.items) found)) }
+{
+    match found {
+        Some(items) => by_name(alloc, id, &items),
+        None => Ok(EnumVariants::new(alloc)),
+    }
+}
+
+/// Declares an enum, and keeps its variants, which it asks for.
+///
+/// After rust-analyzer's `EnumVariants`.
+pub fn declare_enum<D: SourceDatabase>(
+    run: &mut Run,
+    db: &D,
+    world: WorldPart<'_>,
+    site: Site,
+    head: ItemHead<'_>,
+    name: &Name,
+) -> Result<(), CollectError>
+    requires enabled { is_enabled (head_of head).attributes ≡ true }
+    ensures ok { OnOk result (Handles (D.workspace db.now) (part_of world.entry) run.old run.new (visit site (leaf (head_of head.entry) (enumeration name.now))) []) }
+    ensures many { result ≡ Err CollectError.TooMany → STEP_LIMIT ≤ run.old.count }
+{
+    let id = EnumId {
+        container: run.module_id(site.home),
+        file_id: site.file,
+        block: None,
+        id: head.id,
+    };
+    let vis = run.visibility(world, site, head);
+    let found = db.variants(run.allocator(), id)?;
+    let variants = variants_of(run.allocator(), id, found)?;
+    run.add_enum(id, variants)?;
+    let def = ModuleDefId::AdtId(AdtId::EnumId(id));
+    let declaration = Declaration {
+        name: name.clone()?,
+        def,
+        items: PerNs::types(def, vis, None),
+    };
+    declare(run, site.home, declaration)?;
+    Ok(())
+}

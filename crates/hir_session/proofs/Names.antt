@@ -1,0 +1,261 @@
+-- What a map names is there, also among more maps.
+use Rattle.std.proofs.Common.{◌≡◌, ◌∙◌, ap, sym, subst, refl, ℕ, Bool, true, false, not, ◌&&◌, ◌||◌, is_none, is_some, cond, Option, Some, None, List, ◌⊎◌, inl, inr}
+use Rattle.std.specs.Option.{option_map, option_and_then}
+use Rattle.std.specs.Cmp.{tied_itself}
+use Rattle.std.specs.Ordering.{is_eq}
+use Rattle.std.specs.List.{list_any}
+use Rattle.std.specs.BTreeMap.{is_at}
+use Rattle.hir_base.specs.declared.ast_id.BlockId.{BlockId}
+use Rattle.hir_base.specs.declared.ids.Crate.{Crate}
+use Rattle.hir_base.specs.declared.ids.MapId.{MapId}
+use Rattle.hir_base.specs.contracts.ids.MapIdOrd.TheImpl as map_order
+use Rattle.hir_base.specs.contracts.ids.MapIdOrd.TheImpl.Laws.{total-law as order_total, matches_eq-law as order_ties}
+use Rattle.hir_base.specs.contracts.ids.MapIdPartialEq.TheImpl as map_id
+use Rattle.hir_def_map.specs.declared.world.named.Named.{Named}
+use Rattle.hir_def_map.specs.declared.world.named.Named.TheVariants as named
+use Rattle.hir_def_map.specs.Among.{among, is_of_some, unheld}
+use Rattle.hir_def_map.specs.Beside.{exact_map}
+use Rattle.hir_def_map.specs.Complete.{complete, AreWhole, BeginsOnly, BeginsOnly-more, Extends, NamesOnly, NamesOnly-more}
+use Rattle.hir_def_map.specs.Named.{is_complete, is_missing, is_there, lies_in, map_named, named_by, names_in_module, names_map, names_own_crate, names_some, prelude_named, test_child, test_crate, test_extern, test_of, test_type}
+use Rattle.hir_def_map.specs.NoneOf.{neither, none_of_less, not_first, not_second}
+use Rattle.hir_def_map.specs.State.{Local, Map, Maps, ModuleValue, Placed, beside, crate_map, map_in, module_at, placed_in, variants_at}
+use Rattle.hir_def_collector.specs.Derivation.{CollectedValue}
+use Rattle.hir_session.specs.Behind.{has_crate}
+use Rattle.hir_session.specs.Kept.{finished_by}
+use Rattle.hir_session.specs.SessionState.{kept_in}
+use Rattle.hir_session.proofs.Truth.{and_left, and_right, clash, on_bool}
+
+-- ---- a test that holds of nothing that a map names
+
+module _ (test other : Named → Bool) (less : (n : Named) → test n ≡ false → other n ≡ false) where
+  of_less : (o : Option Named) → test_of test o ≡ false → test_of other o ≡ false
+  of_less None e = refl
+  of_less (Some n) e = less n e
+
+  in_module_less : (m : ModuleValue) → names_in_module test m ≡ false → names_in_module other m ≡ false
+  in_module_less m e =
+      let p = test_of test (option_map named.Module m.parent) in
+      let c = list_any (test_child test) m.children in
+      let t = list_any (test_type test) m.scope.types in
+      let rest : (c || t) ≡ false = not_second p (c || t) e in
+      neither (test_of other (option_map named.Module m.parent)) (list_any (test_child other) m.children || list_any (test_type other) m.scope.types)
+      (of_less (option_map named.Module m.parent) (not_first p (c || t) e))
+      (neither (list_any (test_child other) m.children) (list_any (test_type other) m.scope.types)
+      (none_of_less (test_child test) (test_child other) (λ x f. less (named.Module x.1) f) m.children (not_first c t rest))
+      (none_of_less (test_type test) (test_type other) (λ x f. of_less (named_by x.1.def) f) m.scope.types (not_second c t rest)))
+
+  -- a crate's map, of whose names the one test holds of none, names nothing of which the other holds
+  names_less : (map : Map) (local : Local) → map.id.block ≡ None → map.holder ≡ None → list_any (names_in_module test) map.modules ≡ false
+      → test_of test (prelude_named map.prelude) ≡ false → list_any (test_crate test) map.crate_data.dependencies ≡ false → list_any (test_extern test) local ≡ false
+      → names_some other map local ≡ false
+  names_less map local of_crate no_holder modules prelude dependencies begins =
+      let p = test_of other (prelude_named map.prelude) in
+      let h = test_of other (option_map named.Module map.holder) in
+      let e = list_any (test_extern other) local in
+      let d = list_any (test_crate other) map.crate_data.dependencies in
+      let o = names_own_crate other map.id in
+      neither (list_any (names_in_module other) map.modules) (p || (h || (e || (d || o))))
+      (none_of_less (names_in_module test) (names_in_module other) in_module_less map.modules modules)
+      (neither p (h || (e || (d || o))) (of_less (prelude_named map.prelude) prelude)
+      (neither h (e || (d || o)) (ap (λ x. test_of other (option_map named.Module x)) no_holder)
+      (neither e (d || o) (none_of_less (test_extern test) (test_extern other) (λ x f. less (named.Module x.1.0) f) local begins)
+      (neither d o (none_of_less (test_crate test) (test_crate other) (λ x f. less (named.Map (crate_map x)) f) map.crate_data.dependencies dependencies)
+      (ap (λ x. is_some x && test_crate other map.id.krate) of_crate)))))
+
+-- ---- what a map names is there
+
+own_id : (a : MapId) → is_at (map_order.ghosts.cmp a) a ≡ true
+own_id a = ap is_eq (tied_itself order_total a)
+
+equal_id : (a b : MapId) → is_at (map_order.ghosts.cmp a) b ≡ true → a ≡ b
+equal_id a b e = exact_map a b (order_ties a b ∙ e)
+
+-- what is there lies in a map that is
+there_in : (maps : Maps) (n : Named) → is_there maps n ≡ true → is_some (maps (map_named n)) ≡ true
+there_in maps (named.Module m) e = go (maps m.map) e
+  where
+    go : (o : Option Placed) → is_some (option_and_then (λ (p : Placed). module_at p.map m.index) o) ≡ true → is_some o ≡ true
+    go None f = f
+    go (Some p) f = refl
+there_in maps (named.Enum n) e = go (maps n.container.map) e
+  where
+    go : (o : Option Placed) → is_some (option_and_then (λ (p : Placed). variants_at p.map n) o) ≡ true → is_some o ≡ true
+    go None f = f
+    go (Some p) f = refl
+there_in maps (named.Map id) e = e
+
+not_missing : (maps : Maps) (n : Named) → is_missing maps n ≡ false → is_there maps n ≡ true
+not_missing maps n e = go (is_there maps n) e
+  where
+    go : (b : Bool) → not b ≡ false → b ≡ true
+    go true f = refl
+    go false f = clash refl f
+
+-- where a map isn't there, nothing that is there lies in it
+lies_elsewhere : (maps : Maps) (id : MapId) → is_some (maps id) ≡ false → (n : Named) → is_missing maps n ≡ false → lies_in id n ≡ false
+lies_elsewhere maps id gone n e = on_bool (lies_in id n)
+    (λ lies. clash (ap (λ (x : MapId). is_some (maps x)) (sym (equal_id (map_named n) id lies)) ∙ there_in maps n (not_missing maps n e)) gone)
+    (λ f. f)
+
+module _ (finished : Maps) (map : Map) (local : Local) (names : NamesOnly (beside finished map) map) (begins : BeginsOnly (beside finished map) local) where
+  named_there : (id : MapId) → names_some (lies_in id) map local ≡ true → is_some (beside finished map id) ≡ true
+  named_there id some = on_bool (is_some (beside finished map id))
+      (λ e. e)
+      (λ gone. clash some (names_less (is_missing (beside finished map)) (lies_in id) (lies_elsewhere (beside finished map) id gone) map local
+      names.of_crate names.unheld names.modules names.prelude names.dependencies begins))
+
+  -- each other map that a map names is finished
+  pub names-within : (id : MapId) → names_map map local id ≡ true → is_some (finished id) ≡ true
+  names-within id e = on_bool (map_id.ghosts.eq id map.id)
+      (λ same. clash
+      (ap (λ (x : MapId). is_at (map_order.ghosts.cmp map.id) x) (exact_map id map.id same) ∙ own_id map.id)
+      (off (is_at (map_order.ghosts.cmp map.id) id) (and_left (not (is_at (map_order.ghosts.cmp map.id) id)) (names_some (lies_in id) map local) e)))
+      (λ other. sym (ap (λ (b : Bool). is_some (cond b (Some (placed_in finished map)) (finished id))) other)
+      ∙ named_there id (and_right (not (is_at (map_order.ghosts.cmp map.id) id)) (names_some (lies_in id) map local) e))
+    where
+      off : (b : Bool) → not b ≡ true → b ≡ false
+      off true f = clash f refl
+      off false f = refl
+
+-- ---- maps of some crates
+
+-- what is there among the maps of some crates is the map of one of those
+pub among_there : (crates : List Crate) (f : Maps) (id : MapId) → is_some (among crates f id) ≡ true
+    → (id.block ≡ None) × (has_crate crates id.krate ≡ true) × (is_some (f id) ≡ true)
+unfolding among
+among_there crates f id e = go id.block (has_crate crates id.krate) (f id) e
+  where
+    go : (x : Option BlockId) (b : Bool) (o : Option Placed) → is_some (cond (is_none x && b) (option_map unheld (option_map (λ (p : Placed). p.map) o)) None) ≡ true
+        → (x ≡ None) × (b ≡ true) × (is_some o ≡ true)
+    go (Some x) b o f = clash f refl
+    go None false o f = clash f refl
+    go None true None f = clash f refl
+    go None true (Some p) f = (refl, refl, refl)
+
+-- a map beside those of some crates names only maps of those
+pub among-names : (crates : List Crate) (f : Maps) (map : Map) (local : Local) → NamesOnly (beside (among crates f) map) map → BeginsOnly (beside (among crates f) map) local
+    → (id : MapId) → names_map map local id ≡ true → (id.block ≡ None) × (has_crate crates id.krate ≡ true) × (is_some (f id) ≡ true)
+among-names crates f map local names begins id e = among_there crates f id (names-within (among crates f) map local names begins id e)
+
+-- ---- more maps
+
+alike : {A : Type 0} (part : Map → Option A) (o p : Option Placed) → (option_map (λ (x : Placed). x.map) o ≡ option_map (λ (x : Placed). x.map) p) ⊎ (o ≡ None)
+    → is_some (option_and_then (λ (x : Placed). part x.map) o) ≡ true → is_some (option_and_then (λ (x : Placed). part x.map) p) ≡ true
+alike part None p s e = clash e refl
+alike part (Some x) None (inl same) e = absurd cc
+alike part (Some x) None (inr none) e = absurd cc
+alike part (Some x) (Some y) (inl same) e = let maps : x.map ≡ y.map = cc in ap (λ (m : Map). is_some (part m)) (sym maps) ∙ e
+alike part (Some x) (Some y) (inr none) e = absurd cc
+
+alike_there : (o p : Option Placed) → (option_map (λ (x : Placed). x.map) o ≡ option_map (λ (x : Placed). x.map) p) ⊎ (o ≡ None) → is_some o ≡ true → is_some p ≡ true
+alike_there None p s e = clash e refl
+alike_there (Some x) None (inl same) e = absurd cc
+alike_there (Some x) None (inr none) e = absurd cc
+alike_there (Some x) (Some y) s e = refl
+
+-- where each map of the one is that of the other, what is there stays there
+pub Extends-by : (one other : Maps) → ((id : MapId) → (map_in one id ≡ map_in other id) ⊎ (one id ≡ None)) → Extends one other
+Extends-by one other same (named.Module m) e = alike (λ (x : Map). module_at x m.index) (one m.map) (other m.map) (same m.map) e
+Extends-by one other same (named.Enum n) e = alike (λ (x : Map). variants_at x n) (one n.container.map) (other n.container.map) (same n.container.map) e
+Extends-by one other same (named.Map id) e = alike_there (one id) (other id) (same id) e
+
+-- a map among those of some crates is as it is among all
+among_or : (crates : List Crate) (f : Maps) (id : MapId) → (map_in (among crates f) id ≡ map_in f id) ⊎ (among crates f id ≡ None)
+unfolding among
+among_or crates f id = go (is_of_some crates id) (f id)
+  where
+    go : (b : Bool) (o : Option Placed)
+        → (option_map (λ (p : Placed). p.map) (cond b (option_map unheld (option_map (λ (p : Placed). p.map) o)) None) ≡ option_map (λ (p : Placed). p.map) o)
+        ⊎ (cond b (option_map unheld (option_map (λ (p : Placed). p.map) o)) None ≡ None)
+    go true None = inl refl
+    go true (Some p) = inl refl
+    go false o = inr refl
+
+-- what is there beside the maps of some crates is there beside all
+pub Extends-all : (crates : List Crate) (f : Maps) (map : Map) → Extends (beside (among crates f) map) (beside f map)
+Extends-all crates f map = Extends-by (beside (among crates f) map) (beside f map) (λ id. go id (map_id.ghosts.eq id map.id))
+  where
+    go : (id : MapId) (b : Bool)
+        → (option_map (λ (p : Placed). p.map) (cond b (Some (placed_in (among crates f) map)) (among crates f id)) ≡ option_map (λ (p : Placed). p.map) (cond b (Some (placed_in f map)) (f id)))
+        ⊎ (cond b (Some (placed_in (among crates f) map)) (among crates f id) ≡ None)
+    go id true = inl refl
+    go id false = among_or crates f id
+
+-- a map that names only what is there among the maps of some crates may stand beside all
+pub joins : (crates : List Crate) (f : Maps) (map : Map) (local : Local) → NamesOnly (beside (among crates f) map) map → BeginsOnly (beside (among crates f) map) local
+    → is_complete f map local ≡ true
+joins crates f map local names begins =
+    complete f map local
+    (NamesOnly-more (beside (among crates f) map) (beside f map) (Extends-all crates f map) map names)
+    (BeginsOnly-more (beside (among crates f) map) (beside f map) (Extends-all crates f map) local begins)
+
+-- ---- the maps of the crates on which a crate stands
+
+-- what is kept of a crate names only what is kept of those on which it stands
+pub record IsKeptWhole (behind : List Crate) (kept : List (Option CollectedValue)) (krate : Crate) : Type 0 where
+  pub found : CollectedValue
+  pub is : kept_in kept krate.0 ≡ Some found
+  pub own : found.map.id ≡ crate_map krate
+  pub names : NamesOnly (beside (among behind (finished_by kept)) found.map) found.map
+
+-- a map among those of some crates is as it is among more
+among_more : (few more : List Crate) (f : Maps) (id : MapId) → (has_crate few id.krate ≡ true → has_crate more id.krate ≡ true)
+    → (map_in (among few f) id ≡ map_in (among more f) id) ⊎ (among few f id ≡ None)
+unfolding among
+among_more few more f id grows = go id.block (has_crate few id.krate) (has_crate more id.krate) grows
+  where
+    go : (x : Option BlockId) (b c : Bool) → (b ≡ true → c ≡ true)
+        → (option_map (λ (p : Placed). p.map) (cond (is_none x && b) (option_map unheld (map_in f id)) None) ≡ option_map (λ (p : Placed). p.map) (cond (is_none x && c) (option_map unheld (map_in f id)) None))
+        ⊎ (cond (is_none x && b) (option_map unheld (map_in f id)) None ≡ None)
+    go (Some x) b c s = inr refl
+    go None false c s = inr refl
+    go None true false s = clash (s refl) refl
+    go None true true s = inl refl
+
+-- the map of a crate among those of some
+among_at : (crates : List Crate) (kept : List (Option CollectedValue)) (krate : Crate) (found : CollectedValue) → has_crate crates krate ≡ true → kept_in kept krate.0 ≡ Some found
+    → among crates (finished_by kept) (crate_map krate) ≡ Some (unheld found.map)
+unfolding among
+among_at crates kept krate found has is =
+    λ i. cond (has i) (option_map unheld (option_map (λ (p : Placed). p.map) (option_map (λ (r : CollectedValue). unheld r.map) (is i)))) None
+
+module _ (behind : ℕ → List Crate) (kept : List (Option CollectedValue)) (crates : List Crate)
+    (whole : (krate : Crate) → has_crate crates krate ≡ true → IsKeptWhole (behind krate.0) kept krate)
+    (closed : (krate c : Crate) → has_crate crates krate ≡ true → has_crate (behind krate.0) c ≡ true → has_crate crates c ≡ true) where
+  -- what a crate's map names is there among the maps of the crates
+  Extends-behind : (krate : Crate) (has : has_crate crates krate ≡ true) → Extends (beside (among (behind krate.0) (finished_by kept)) (whole krate has).found.map) (among crates (finished_by kept))
+  Extends-behind krate has = Extends-by (beside (among (behind krate.0) (finished_by kept)) (whole krate has).found.map) (among crates (finished_by kept)) each
+    where
+      each : (id : MapId) → (map_in (beside (among (behind krate.0) (finished_by kept)) (whole krate has).found.map) id ≡ map_in (among crates (finished_by kept)) id)
+          ⊎ (beside (among (behind krate.0) (finished_by kept)) (whole krate has).found.map id ≡ None)
+      each id =
+          let w = whole krate has in
+          let m : Map = w.found.map in
+          let below : Maps = among (behind krate.0) (finished_by kept) in
+          let all : Maps = among crates (finished_by kept) in
+          on_bool (map_id.ghosts.eq id m.id)
+          (λ e. inl (
+          ap (λ (b : Bool). option_map (λ (p : Placed). p.map) (cond b (Some (placed_in below m)) (below id))) e
+          ∙ sym (ap (map_in all) (exact_map id m.id e ∙ w.own) ∙ ap (option_map (λ (p : Placed). p.map)) (among_at crates kept krate w.found has w.is))))
+          (λ e.
+          let here : beside below m id ≡ below id = ap (λ (b : Bool). cond b (Some (placed_in below m)) (below id)) e in
+          elim (among_more (behind krate.0) crates (finished_by kept) id (closed krate id.krate has)) [
+            | inl same ↦ inl (ap (option_map (λ (p : Placed). p.map)) here ∙ same)
+            | inr none ↦ inr (here ∙ none)
+          ])
+
+  -- each of the maps names only what is there
+  pub whole-among : AreWhole (among crates (finished_by kept))
+  whole-among id placed e =
+      let all : Maps = among crates (finished_by kept) in
+      let there = among_there crates (finished_by kept) id (ap (λ (o : Option Placed). is_some o) e) in
+      let w = whole id.krate there.1 in
+      let same : id ≡ crate_map id.krate = λ i. record { krate = id.krate; block = there.0 i } in
+      let is : placed ≡ unheld w.found.map =
+      (let both : Some placed ≡ Some (unheld w.found.map) = sym e ∙ ap all same ∙ among_at crates kept id.krate w.found there.1 w.is in cc) in
+      record {
+        own = ap (λ (p : Placed). p.map.id) is ∙ w.own ∙ sym same;
+        unheld = ap (λ (p : Placed). p.holders) is;
+        names = subst (λ (p : Placed). NamesOnly all p.map) (sym is)
+            (NamesOnly-more (beside (among (behind id.krate.0) (finished_by kept)) w.found.map) all (Extends-behind id.krate there.1) w.found.map w.names);
+      }

@@ -1,0 +1,9 @@
+-- How is a crate stored?
+use Rattle.std.specs.Coded.{Coded, codes}
+use Rattle.hir_item_tree.specs.CollectedCodes.{coded_atom}
+use Rattle.hir_session.specs.Crates.{CrateValue}
+use Rattle.hir_session.specs.SourceCodes.{coded_attributes}
+
+-- a crate is stored as its parts
+pub coded_crate : Coded CrateValue
+coded_crate = hlevel (codes, coded_attributes, coded_atom)
