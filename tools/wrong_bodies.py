@@ -34,9 +34,9 @@ rt = load_rt()
 
 
 class Function:
-    """The innermost function around a line of a source file."""
+    """The innermost function around a line of a source file: in its body, or in its head where that is kept whole."""
 
-    def __init__(self, path, lines, at):
+    def __init__(self, path, lines, at, is_kept):
         for first in range(at, -1, -1):
             head = FN.match(lines[first])
             if not head:
@@ -44,7 +44,8 @@ class Function:
             # The lines at the head's own depth that close and open its body.
             last = next((it for it in range(first, len(lines)) if lines[it] == head[1] + "}"), first)
             outer = (it for it in range(first, last) if not lines[it].startswith(head[1] + " "))
-            if next((it for it in outer if lines[it].endswith("{")), last) < at < last:
+            opens = next((it for it in outer if lines[it].endswith("{")), last)
+            if opens < at < last or is_kept and first <= at <= opens < last:
                 self.path, self.name, self.lines = path, head[2], range(first + 1, last + 2)
                 return
         raise ValueError(f"{path}:{at + 1} lies in no function's body")
@@ -61,7 +62,7 @@ class Function:
             is_told = "is not proved" in at[3] or at[3].startswith("error:")
             return is_told and int(at[2]) in self.lines
         module = re.sub(r"^src/(lib$|main$)?", "proofs/", self.path[: -len(".rt")]).rstrip("/")
-        is_own = at[1].startswith(f"{module}/") and f"/{self.name}/" in at[1]
+        is_own = at[1].startswith(f"{module}/") and f"/{self.name}/" in at[1][len(module) :]
         return is_own and at[3].startswith("error:") and not NAMES.search(at[3])
 
 
@@ -79,7 +80,7 @@ class Edit:
                     lines = it.read().split("\n")
                 new = texts[path].split("\n")
                 changed = [at for at, (one, two) in enumerate(zip(lines, new)) if one != two]
-                self.functions += [Function(path, lines, at) for at in changed]
+                self.functions += [Function(path, lines, at, new[at].startswith(lines[at])) for at in changed]
                 if not path.startswith("src/") or len(lines) != len(new):
                     raise ValueError(path)
         except (OSError, ValueError):
