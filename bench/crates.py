@@ -1,11 +1,16 @@
-"""Times sessions of many crates: set, refreshed, asked, and edited at the bottom.
+#!/usr/bin/env python3
+"""Times sessions of many crates: set, refreshed, asked, and edited at the bottom; seconds of processor, the least of
+some runs.
 
-Usage: crates.py PROGRAM [CRATES LENGTH]..: so many crates in chains of this length, each over the one before."""
+Usage, at the top of the repository: bench/crates.py [CRATES LENGTH]..: so many crates in chains of this length, each
+over the one before. The program must be built: `rt run < /dev/null` in crates/hir_session_main.
+"""
 import sys
 
 import measure
 
 ITEMS = 10
+SESSION = "crates/hir_session_main/out/hir_session_main"
 
 
 def root(number):
@@ -36,8 +41,7 @@ def set_file(number, length, more=0):
 
 
 def main():
-    program = sys.argv[1]
-    sizes = [int(text) for text in sys.argv[2:]] or [1000, 10, 10000, 10, 1000, 1000]
+    sizes = [int(text) for text in sys.argv[1:]] or [1000, 10, 10000, 10, 1000, 1000]
     for count, length in zip(sizes[::2], sizes[1::2]):
         begin = [{"do": "crates", "crates": [crate(number, length) for number in range(count)]}]
         files = [set_file(number, length) for number in range(count)]
@@ -48,12 +52,12 @@ def main():
         before, commands = 0.0, []
         for label, part in parts:
             commands += part
-            seconds = measure.best(program, commands, 3)
+            seconds = measure.best(SESSION, commands, 3)
             print(f"{count} crates in chains of {length}: {label}: {seconds - before:.3f} s")
             before = seconds
-        _, replies = measure.run(program, commands)
+        _, replies = measure.run(SESSION, commands)
         wrong = [reply for reply in replies if '"ok"' not in reply]
-        print(f"replies {len(replies)}, refused {len(wrong)}, memory {measure.memory(program, commands):.0f} MB")
+        print(f"replies {len(replies)}, refused {len(wrong)}, memory {measure.memory(SESSION, commands):.0f} MB")
 
 
 if __name__ == "__main__":
