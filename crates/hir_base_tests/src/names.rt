@@ -331,9 +331,9 @@ fn suffixes_of_literals(rt: HostRuntime) {
     }
 }
 
-/// The most segments of a path and of a file, and the most levels of `super`.
+/// The most segments of a path, and the most levels of `super`.
 #[test]
-fn paths_and_files_at_their_limits(rt: HostRuntime) -> Result<(), Fail> {
+fn paths_at_their_limits(rt: HostRuntime) -> Result<(), Fail> {
     let rows = [
         ("segments", "a", "::a", 64, None),
         ("one segment more", "a", "::a", 65, Some(Limit::Path)),
@@ -343,6 +343,22 @@ fn paths_and_files_at_their_limits(rt: HostRuntime) -> Result<(), Fail> {
     for (row, first, further, count, limit) in rows {
         let text = repeated(rt.alloc(), first, further, count, "")?;
         let refused = path_refused(rt.alloc(), text.as_str());
+        same_refusal(&rt, row, refused, limit.map(ParseError::TooLarge));
+    }
+    Ok(())
+}
+
+/// The most segments of a file.
+#[test]
+fn files_at_their_limit(rt: HostRuntime) -> Result<(), Fail> {
+    let rows = [
+        ("at the limit", "a", 64, None),
+        ("folded to the limit", "./a", 64, None),
+        ("one above", "a", 65, Some(Limit::File)),
+    ];
+    for (row, first, count, limit) in rows {
+        let text = repeated(rt.alloc(), first, "/a", count, "")?;
+        let refused = file_refused(rt.alloc(), text.as_str());
         same_refusal(&rt, row, refused, limit.map(ParseError::TooLarge));
     }
     Ok(())
