@@ -49,14 +49,11 @@ def main():
         asks = [{"do": "resolve", "at": [number], "path": "Below"} for number in range(count)]
         edit = [set_file(0, length, 1), {"do": "refresh"}]
         parts = [("crates", begin), ("files", files), ("refresh", refresh), ("asks", asks), ("edit of the first, refresh", edit)]
-        before, commands = 0.0, []
-        for label, part in parts:
-            commands += part
-            seconds = measure.best(SESSION, commands, 3)
-            print(f"{count} crates in chains of {length}: {label}: {seconds - before:.3f} s")
-            before = seconds
-        _, replies = measure.run(SESSION, commands)
+        all_seconds, replies = measure.best_parts(SESSION, [part for _, part in parts], 3)
+        for (label, _), seconds in zip(parts, all_seconds):
+            print(f"{count} crates in chains of {length}: {label}: {seconds:.3f} s")
         wrong = [reply for reply in replies if '"ok"' not in reply]
+        commands = [command for _, part in parts for command in part]
         print(f"replies {len(replies)}, refused {len(wrong)}, memory {measure.memory(SESSION, commands):.0f} MB")
 
 

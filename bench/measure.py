@@ -4,6 +4,8 @@ import os
 import subprocess
 import sys
 import tempfile
+import threading
+import time
 
 # Runs its argument, and prints the most memory that it had, in kB. The kernel counts for a program what its parent
 # had when it was started, so the parent is this small one.
@@ -32,6 +34,44 @@ def run(program, commands):
         if status:
             sys.exit(f"{program} ended with {status}")
         return used.ru_utime + used.ru_stime, replies
+
+
+def used(pid):
+    """Seconds of processor of a program that waits, or will, for input."""
+    while True:
+        with open(f"/proc/{pid}/stat") as stat:
+            if stat.read().rsplit(")", 1)[1].split()[0] in "SZ":
+                with open(f"/proc/{pid}/schedstat") as times:
+                    return int(times.read().split()[0]) / 1e9
+        time.sleep(0.001)
+
+
+def feed(pipe, given):
+    pipe.write(given)
+    pipe.flush()
+
+
+def run_parts(program, parts):
+    """Seconds of processor of each part of a session, handed in once the part before it is answered; and the replies."""
+    child = subprocess.Popen([program], stdin=subprocess.PIPE, stdout=subprocess.PIPE)
+    seconds, replies = [], []
+    for commands in parts:
+        before = used(child.pid)
+        feeder = threading.Thread(target=feed, args=(child.stdin, text(commands)))
+        feeder.start()
+        replies += [child.stdout.readline().decode() for _ in commands]
+        feeder.join()
+        seconds.append(used(child.pid) - before)
+    child.stdin.close()
+    if child.wait():
+        sys.exit(f"{program} ended with {child.returncode}")
+    return seconds, replies
+
+
+def best_parts(program, parts, tries=5):
+    """The least seconds of processor of each part, and the replies."""
+    runs = [run_parts(program, parts) for _ in range(tries)]
+    return [min(seconds) for seconds in zip(*(run[0] for run in runs))], runs[0][1]
 
 
 def best(program, commands, tries=5):

@@ -21,6 +21,7 @@ use Rattle.hir_scope.specs.ModuleTree.{same_block, same_crate}
 use Rattle.hir_scope.specs.PerNs.{keep_of, nothing, or_of}
 use Rattle.hir_scope.specs.Visibility.{is_visible}
 use Rattle.hir_def_map.specs.State.{CrateData, Map, Maps, Placed, entry_in, map_in, module_at, parent_in, parent_of, root_of}
+use Rattle.hir_def_map.specs.Complete.{parent_listed}
 use Rattle.hir_def_map.specs.Chains.{Frame, above_by, above_in, frame_of, frames_of, holders_by, holders_in}
 use Rattle.hir_def_map.specs.Scoping.Asking.{Asking}
 use Rattle.hir_def_map.specs.Scoping.Blocks.{from_blocks, in_preludes, inherited, joined, with_preludes}
@@ -30,7 +31,6 @@ use Rattle.hir_def_map.specs.Scoping.Start.{abs_from, climb, crate_root, from_st
 use Rattle.hir_def_map.specs.declared.nameres.path_resolution.ReachedFixedPoint.TheVariants.{No}
 use Rattle.hir_def_map.specs.declared.nameres.path_resolution.ResolvePathResult.{ResolvePathResult}
 use Rattle.hir_def_map.specs.Laws.{data_of, prelude_module_of, AgreeOnName}
-use Rattle.hir_def_map.proofs.Steps.{parent_listed}
 
 -- ---- parents, read off frames
 

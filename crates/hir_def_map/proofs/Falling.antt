@@ -1,12 +1,11 @@
 -- What falls with a map depends on it, and what is left stays checked.
-use Rattle.std.proofs.Common.{◌≡◌, ◌∙◌, ap, sym, subst, refl, Bool, true, false, not, ◌&&◌, ◌||◌, is_some, cond, Option, Some, None, List, [], ◌∷◌, ◌⊎◌, inl, inr, arith, ◌<◌, ◌+◌}
-use Rattle.std.specs.Prelude.{if◌then◌else◌}
+use Rattle.std.proofs.Common.{◌≡◌, ◌∙◌, ap, sym, subst, refl, Bool, true, false, not, ◌&&◌, ◌||◌, is_some, cond, Option, Some, None, List, [], ◌∷◌, ◌⊎◌, inl, inr}
 use mathlib.Core.Bool.{true≢false}
 use Rattle.std.specs.Option.{option_map}
 use Rattle.std.specs.Cmp.{first_so, second_so}
 use Rattle.std.specs.List.{list_any}
-use Rattle.std.specs.BTreeMap.{BTreeMap, btree_map_len, get, is_at, Updates}
-use Rattle.std.specs.Map.{keys_of, lookup}
+use Rattle.std.specs.BTreeMap.{BTreeMap, get, is_at, Updates}
+use Rattle.std.specs.Map.{lookup}
 use Rattle.hir_base.specs.declared.ids.MapId.{MapId}
 use Rattle.hir_base.specs.declared.ids.ModuleId.{ModuleId}
 use Rattle.hir_base.specs.contracts.ids.MapIdOrd.TheImpl as map_order
@@ -22,10 +21,10 @@ use Rattle.hir_def_map.specs.Removal.{Depends, IsClosed, IsFalling, lacks_some, 
 use Rattle.hir_def_map.specs.Removal.Depends.{itself, through}
 use Rattle.hir_def_map.proofs.Joined.{finds_some, finished_kept, holder_named, nothing_missing, own_id, same_id, there_in}
 
-abbrev Store : Type 0
+abbrev pub Store : Type 0
 Store = BTreeMap MapId Finished
 
-abbrev at : Store → MapId → Option Finished
+abbrev pub at : Store → MapId → Option Finished
 at maps id = get map_order.ghosts.cmp maps id
 
 -- ---- ids in a set that are of no map
@@ -64,14 +63,14 @@ is_there_or None e = refl
 is_there_or (Some f) e = absurd cc
 
 -- where a map lists a missing one, it is there and lists it
-which_lacks : (maps : Store) (o : Option Finished) → lacks_some maps o ≡ true → (j : MapId) × (lists_of o j ≡ true) × (at maps j ≡ None) × (is_some o ≡ true)
+pub which_lacks : (maps : Store) (o : Option Finished) → lacks_some maps o ≡ true → (j : MapId) × (lists_of o j ≡ true) × (at maps j ≡ None) × (is_some o ≡ true)
 which_lacks maps None e = absurd cc
 which_lacks maps (Some f) e =
     let h = any_which (λ (id : MapId). not (is_some (at maps id))) f.named.keys e in
     (h.0, h.1, is_there_or (at maps h.0) h.2, refl)
 
 -- where a map lists a missing one, it lacks it
-lacks_from : (maps : Store) (o : Option Finished) (j : MapId) → lists_of o j ≡ true → at maps j ≡ None → lacks_some maps o ≡ true
+pub lacks_from : (maps : Store) (o : Option Finished) (j : MapId) → lists_of o j ≡ true → at maps j ≡ None → lacks_some maps o ≡ true
 lacks_from maps None j e n = absurd cc
 lacks_from maps (Some f) j e n = any_from (λ (id : MapId). not (is_some (at maps id))) f.named.keys j e (ap (λ (o : Option Finished). not (is_some o)) n)
 
@@ -127,17 +126,6 @@ module _ (old now new : Store) (id next : MapId) (closed : IsClosed old) (fallin
         | inl same ↦ inl (updates.2 k s ∙ same)
         | inr fell ↦ inr (updates.2 k s ∙ fell.0, fell.1)
       ]
-
--- fewer are left
-pub falls_smaller : (now new : Store) (next : MapId) → lacks_some now (at now next) ≡ true
-    → btree_map_len new + (if is_some (at now next) then 1 else 0) ≡ btree_map_len now → btree_map_len new < btree_map_len now
-falls_smaller now new next lacking len = go (at now next) refl lacking
-  where
-    go : (o : Option Finished) → at now next ≡ o → lacks_some now o ≡ true → btree_map_len new < btree_map_len now
-    go None s e = absurd cc
-    go (Some f) s e =
-        let one : btree_map_len new + 1 ≡ btree_map_len now = ap (λ (o : Option Finished). btree_map_len new + (if is_some o then 1 else 0)) (sym s) ∙ len in
-        omega (arith, one)
 
 -- ---- the end
 
@@ -310,30 +298,3 @@ absent_gone old id checked absent _ (through k other n d) = go (absent_gone old 
     go : at old other ≡ None → (o : Option Finished) → at old k ≡ o → names_of o other ≡ true → at old k ≡ None
     go m None s e = s
     go m (Some f) s e = absurd (true≢false (sym (named_there old checked k f s other e) ∙ ap is_some m))
-
--- ---- the search
-
-none_passes : (test : MapId → Bool) (es : List (MapId × Finished)) (id : MapId) → list_any test (keys_of es) ≡ false → is_some (lookup (is_at (map_order.ghosts.cmp id)) es) ≡ true → test id ≡ false
-none_passes test [] id e t = absurd cc
-none_passes test (x ∷ xs) id e t = go (λ f u. none_passes test xs id f u) (is_at (map_order.ghosts.cmp id) x.0) refl t
-  where
-    first : (a b : Bool) → (a || b) ≡ false → a ≡ false
-    first true b f = absurd cc
-    first false b f = refl
-
-    second : (a b : Bool) → (a || b) ≡ false → b ≡ false
-    second true b f = absurd cc
-    second false b f = f
-
-    go : (list_any test (keys_of xs) ≡ false → is_some (lookup (is_at (map_order.ghosts.cmp id)) xs) ≡ true → test id ≡ false)
-        → (b : Bool) → is_at (map_order.ghosts.cmp id) x.0 ≡ b → is_some (cond b (Some x.1) (lookup (is_at (map_order.ghosts.cmp id)) xs)) ≡ true → test id ≡ false
-    go below true s u = let P : MapId → Type 0 = λ y. test y ≡ false in subst P (sym (same_id id x.0 s)) (first (test x.0) (list_any test (keys_of xs)) e)
-    go below false s u = below (second (test x.0) (list_any test (keys_of xs)) e) u
-
--- where no key is of a map that lists a missing one, none does
-pub closed_from : (maps : Store) → list_any (λ (k : MapId). lacks_some maps (at maps k)) (keys_of maps.entries) ≡ false → IsClosed maps
-closed_from maps e id = go (at maps id) refl
-  where
-    go : (o : Option Finished) → at maps id ≡ o → lacks_some maps (at maps id) ≡ false
-    go None s = ap (lacks_some maps) s
-    go (Some f) s = none_passes (λ (k : MapId). lacks_some maps (at maps k)) maps.entries id e (ap is_some s)

@@ -1,4 +1,5 @@
 pub mod Blocks
+pub mod Branches
 pub mod Climb
 pub mod Modules
 pub mod SeenSegments
@@ -12,4 +13,6 @@ pub mod Parts
 pub mod Gaining
 pub mod Joined
 pub mod Falling
+pub mod Entries
+pub mod FallingSteps
 pub mod Reached

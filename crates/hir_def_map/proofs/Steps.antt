@@ -1,35 +1,14 @@
 -- One step up, where a parent leads to a root or comes before.
-use Rattle.std.proofs.Common.{◌≡◌, ◌∙◌, ap, sym, refl, ℕ, ◌<◌, List, Bool, true, false, ◌||◌, cond, nat_lt, slice_get, ◌==◌, Option, None, Some, arith}
+use Rattle.std.proofs.Common.{◌≡◌, ◌∙◌, ap, sym, refl, ℕ, ◌<◌, Bool, true, false, ◌||◌, cond, nat_lt, Option, None, Some, arith}
 use Rattle.std.proofs.lemmas.Grind.{common_steps}
-use Rattle.std.proofs.lemmas.Option.{slice_get-map}
-use Rattle.std.specs.Cmp.{unsigned_Decides}
 use Rattle.std.specs.Option.{option_and_then, option_map}
-use Rattle.std.specs.Prelude.{map as list_map}
-use Rattle.hir_base.specs.declared.ast_id.BlockId.{BlockId}
 use Rattle.hir_base.specs.declared.ids.MapId.{MapId}
 use Rattle.hir_base.specs.declared.ids.ModuleId.{ModuleId}
 use Rattle.hir_base.specs.contracts.ids.MapIdPartialEq.TheImpl as map_id
-use Rattle.hir_def_map.specs.Beside.{exact_map}
+use Rattle.hir_def_map.specs.Beside.{exact_map, same_id}
+use Rattle.hir_def_map.specs.Complete.{parent_listed}
 use Rattle.hir_def_map.specs.State.{Map, Maps, ModuleValue, Placed, alone, module_at, no_maps, numbered, parent_in, parent_of, placed_in, IsBefore, IsInOrder}
 use Rattle.hir_def_map.specs.Chains.{Frame, frame_of, frames_of, leads_to_root, number_in, step_in, step_of, step_to, up_in}
-
--- the parent of a number is that of the module of the number
-pub parent_listed : (ms : List ModuleValue) (at : ℕ) → option_and_then (λ (p : Option ModuleId). p) (slice_get (list_map (λ (m : ModuleValue). m.parent) ms) at) ≡ parent_of (slice_get ms at)
-parent_listed ms at = ap (option_and_then (λ (p : Option ModuleId). p)) (slice_get-map (λ (m : ModuleValue). m.parent) ms at) ∙ go (slice_get ms at)
-  where
-    go : (o : Option ModuleValue) → option_and_then (λ (p : Option ModuleId). p) (option_map (λ (m : ModuleValue). m.parent) o) ≡ parent_of o
-    go None = refl
-    go (Some m) = refl
-
-same_id : (id : MapId) → map_id.ghosts.eq id id ≡ true
-same_id id = go id.block
-  where
-    first : (id.krate.0 == id.krate.0) ≡ true
-    first = (unsigned_Decides id.krate.0 id.krate.0).1 refl
-
-    go : (b : Option BlockId) → map_id.ghosts.eq (record { krate = id.krate; block = b }) (record { krate = id.krate; block = b }) ≡ true
-    go None = rw first refl
-    go (Some b) = rw (first, (unsigned_Decides b.0 b.0).1 refl) refl
 
 -- a step is one to the number of the parent
 step_listed : (placed : Placed) (at : ℕ) → step_in (frame_of placed) at ≡ step_to (frame_of placed) at (number_in placed.map.id (parent_of (module_at placed.map at)))

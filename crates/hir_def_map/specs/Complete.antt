@@ -113,7 +113,7 @@ module _ (one other : Maps) (more : Extends one other) where
 -- ---- complete maps
 
 -- the parent of a number is that of the module of the number
-parent_listed : (ms : List ModuleValue) (at : ℕ) → option_and_then (λ (p : Option ModuleId). p) (slice_get (list_map (λ (m : ModuleValue). m.parent) ms) at) ≡ parent_of (slice_get ms at)
+pub parent_listed : (ms : List ModuleValue) (at : ℕ) → option_and_then (λ (p : Option ModuleId). p) (slice_get (list_map (λ (m : ModuleValue). m.parent) ms) at) ≡ parent_of (slice_get ms at)
 parent_listed ms at = ap (option_and_then (λ (p : Option ModuleId). p)) (slice_get-map (λ (m : ModuleValue). m.parent) ms at) ∙ go (slice_get ms at)
   where
     go : (o : Option ModuleValue) → option_and_then (λ (p : Option ModuleId). p) (option_map (λ (m : ModuleValue). m.parent) o) ≡ parent_of o

@@ -3,6 +3,9 @@ pub mod State
 pub mod Codes
 pub mod Origins
 pub mod Reads
+pub mod ModuleIds
+pub mod Lending
+pub mod ModulesMap
 pub mod Building
 pub mod Macros
 pub mod Chains
@@ -26,7 +29,10 @@ pub mod DefMaps
 pub mod AskMaps
 pub mod Inserted
 pub mod Removal
+pub mod Dependents
 pub mod SameMacros
 pub mod Same
 pub mod LocalHash
 pub mod Agreement
+pub mod Dump
+pub mod Branches

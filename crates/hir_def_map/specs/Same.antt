@@ -37,7 +37,7 @@ use Rattle.hir_def_map.specs.contracts.nameres.enum_variants.EnumVariantEq.TheIm
 use Rattle.hir_def_map.specs.contracts.nameres.origin.ModuleOriginPartialEq.TheImpl as origin
 use Rattle.hir_def_map.specs.contracts.nameres.origin.ModuleOriginEq.TheImpl.Laws.{laws-law as origin_laws}
 use Rattle.hir_def_map.specs.SameMacros.{same_diagnostics, same_diagnostics_equiv, same_helpers, same_helpers_equiv}
-use Rattle.hir_def_map.specs.State.{CrateData, Local, Map, ModuleValue, Variants}
+use Rattle.hir_def_map.specs.State.{CrateData, Local, Map, Modules, ModuleValue, Variants}
 
 -- a test of two values
 abbrev Test : Type 0 → Type 0
@@ -64,6 +64,10 @@ same_contents = eq_of_both (on (λ (m : ModuleValue). m.children) (same_by_name 
 -- whether two modules are equal
 abbrev pub same_module : Test ModuleValue
 same_module = eq_of_both same_place same_contents
+
+-- whether the modules of two maps of one id are equal
+abbrev pub same_modules : Test Modules
+same_modules = eq_of_both (on (λ (m : Modules). m.map) map_id.ghosts.eq) (on (λ (m : Modules). m.modules) (pointwise same_module))
 
 abbrev pub same_variants : Test Variants
 same_variants = same_by_name enum_variant.ghosts.eq
@@ -137,6 +141,9 @@ same_module_equiv =
     (on_equiv (λ (m : ModuleValue). m.parent) (options_equiv module_id_laws))))
     (and_equiv (on_equiv (λ (m : ModuleValue). m.children) (same_by_name_equiv module_id_laws))
     (on_equiv (λ (m : ModuleValue). m.scope) same_scope_equiv))
+
+pub same_modules_equiv : IsEquivalence same_modules
+same_modules_equiv = and_equiv (on_equiv (λ (m : Modules). m.map) map_id_laws) (on_equiv (λ (m : Modules). m.modules) (lists_equiv same_module_equiv))
 
 pub same_variants_equiv : IsEquivalence same_variants
 same_variants_equiv = same_by_name_equiv enum_variant_laws

@@ -47,6 +47,11 @@ pub record ModuleValue : Type 0 where
   -- what each name stands for, and what the module declares
   pub scope : ScopeValue
 
+-- the modules of a map by number, the root first, and the id of the map
+pub record Modules : Type 0 where
+  pub map : MapId
+  pub modules : List ModuleValue
+
 -- what a crate's top says, and what the crate stands on; its blocks have the same
 pub record CrateData : Type 0 where
   pub edition : Edition

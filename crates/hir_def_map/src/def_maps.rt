@@ -11,6 +11,7 @@ ghost use Rattle.hir_def_map.specs.Parts.{part_of};
 ghost use Rattle.hir_def_map.specs.DefMaps.{maps_of, maps_placed};
 
 mod ancestors;
+mod dump;
 mod paths;
 mod visibilities;
 

@@ -1,11 +1,14 @@
 //! What holds of every path and every map. The functions do nothing: their contracts are the laws.
 ghost use Rattle.hir_def_map.specs.Laws.{AskersStay, DeclarationsKeepNames, DeclarationsKeepPlaces, JoinedSegments, LastSegmentsAreSeen, LaterSegmentsAreSeen, ModulesAreWalkedTo, PushesKeepPlaces, RootedStepsLeadToParents, SegmentsAreSeen, StepsLeadToParents, UnnamedBindingsDoNotMatter, WalksAreResolved};
-ghost use Rattle.std.specs.Prelude.{◌≡◌, true};
+ghost use Rattle.std.specs.Prelude.{◌≡◌, true, List};
+ghost use Rattle.hir_scope.specs.WalkLaws.{GivesItsList};
 ghost use Rattle.hir_def_map.specs.Closed.{IsClosed, PathsLeadToWhatIsThere};
 ghost use Rattle.hir_def_map.specs.Complete.{AreWhole, BeginsOnly, NamesOnly};
 ghost use Rattle.hir_def_map.specs.Named.{is_complete};
 ghost use Rattle.hir_def_map.specs.StaysComplete.{DeclarationsNameWhatIsThere, ModulesNameWhatIsThere, PushesNameWhatIsThere};
 ghost use Rattle.hir_def_map.specs.State.{Local, Map, Maps, beside};
+
+use crate::nameres::module_ids::ModuleIds;
 
 /// A path means the same over maps that agree on its names.
 pub fn unnamed_bindings_do_not_matter()
@@ -67,4 +70,9 @@ pub fn building_names_what_is_there()
     ensures pushed { PushesNameWhatIsThere }
     ensures listed { DeclarationsNameWhatIsThere }
     ensures made { ModulesNameWhatIsThere }
+{}
+
+/// The walk over the modules that a file holds ends, and has then given its list.
+pub fn walks_give_their_list()
+    ensures modules { GivesItsList ⟦<ModuleIds<'static> as Iterator>⟧.next_gives (λ id. id) (λ (left : List _). left) }
 {}

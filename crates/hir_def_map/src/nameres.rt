@@ -1,18 +1,23 @@
 //! The def map of a crate, after rust-analyzer's `nameres.rs`.
 ghost use Rattle.std.specs.Prelude.{◌≡◌, ◌<◌, ◌++◌, [], ◌∷◌, length, slice_get, IfOk, OnOk, OnErr, IfSome, is_some, option_map};
+ghost use Rattle.std.specs.Borrow.{sem};
 ghost use Rattle.hir_base.specs.Refusal.{Gives};
 ghost use Rattle.hir_def_map.specs.State.{at_name, child_at, entry_at, parent_at, module_at, empty_map, scope_at, root_of, variants_at, with_child, with_enum, with_macro_use, with_module, with_prelude, changed_at, changes_module, globs_in, globs_after, pushed_module, pushed, push_changes, IsNumbered};
 ghost use Rattle.hir_def_map.specs.Scoping.FirstSegment.{legacy_of};
 ghost use Rattle.hir_def_map.specs.Building.{new_module_verdict, IsMemory};
+ghost use Rattle.hir_def_map.specs.Lending.{LendsCrateData};
 
 pub mod crate_data;
 pub mod declaration;
 pub mod derive_helpers;
 pub mod diagnostics;
+mod dump;
 pub mod enum_variants;
 pub mod local_def_map;
 mod macros;
 pub mod module_data;
+pub mod module_ids;
+pub mod modules_map;
 pub mod origin;
 pub mod path_resolution;
 mod reads;
@@ -34,6 +39,7 @@ use hir_scope::item_scope::ItemScope;
 use hir_scope::per_ns::PerNs;
 use hir_scope::visibility::Visibility;
 use module_data::ModuleData;
+use modules_map::ModulesMap;
 use origin::ModuleOrigin;
 use std::alloc::{AllocError, Global};
 use std::collections::BTreeMap;
@@ -60,9 +66,8 @@ pub struct BlockInfo {
 /// The modules of a crate or of a block by number, the root first, with what their names stand for.
 #[derive(Drop)]
 pub struct DefMap {
-    id: MapId,
     holder: Option<ModuleId>,
-    modules: Vec<ModuleData>,
+    modules: ModulesMap,
     enums: BTreeMap<EnumId, EnumVariants>,
     macro_use_prelude: BTreeMap<Name, (MacroId, Option<ExternCrateId>)>,
     prelude: Option<(ModuleId, Option<UseId>)>,
@@ -82,9 +87,9 @@ impl Model for DefMap {
     ghost coded = { coded_map };
 
     ghost view = { λ d. record {
-      id = d.id;
+      id = d.modules.map;
       holder = d.holder;
-      modules = d.modules.items;
+      modules = d.modules.modules;
       enums = d.enums.entries;
       macro_use_prelude = d.macro_use_prelude.entries;
       prelude = d.prelude;
@@ -95,7 +100,7 @@ impl Model for DefMap {
       crate_data = d.crate_data;
     } };
 
-    ghost invariant = { λ d. IsNumbered d.modules.items };
+    ghost invariant = { λ d. IsNumbered d.modules.modules };
 }
 
 impl DefMap {
@@ -109,13 +114,12 @@ impl DefMap {
     ) -> Result<DefMap, AllocError>
         ensures value { IfOk result (λ map. map ≡ empty_map krate crate_data root_data block) }
     {
-        let mut modules = Vec::new(alloc);
-        modules.push(root_data)?;
+        let id = MapId {
+            krate,
+            block: block.map(|info| info.block),
+        };
+        let modules = ModulesMap::new(alloc, id, root_data)?;
         Ok(DefMap {
-            id: MapId {
-                krate,
-                block: block.map(|info| info.block),
-            },
             holder: block.map(|info| info.parent),
             modules,
             enums: BTreeMap::new(alloc),
@@ -132,7 +136,7 @@ impl DefMap {
     pub fn id(&self) -> MapId
         ensures value { result ≡ self.now.id }
     {
-        self.id
+        self.modules.map_id()
     }
 
     pub fn edition(&self) -> Edition
@@ -153,7 +157,7 @@ impl DefMap {
         ensures value { result ≡ root_of self.now.id }
     {
         ModuleId {
-            map: self.id,
+            map: self.id(),
             index: 0,
         }
     }
@@ -166,25 +170,25 @@ impl DefMap {
         self.modules.len() as u32
     }
 
-    /// The modules by number.
-    pub fn modules(&self) -> &[ModuleData]
-        ensures value { result.now ≡ self.now.modules }
+    /// The modules by their ids, and by number as a slice.
+    pub fn modules(&self) -> &ModulesMap
+        ensures value { result.now ≡ record { map = self.now.id; modules = self.now.modules } }
     {
-        self.modules.as_slice()
+        &self.modules
     }
 
     /// Whether the map has a module of this number.
     pub fn has_module(&self, at: u32) -> bool
         ensures value { result ≡ is_some (module_at self.now at) }
     {
-        self.modules.get(at as usize).is_some()
+        self.modules.as_slice().get(at as usize).is_some()
     }
 
     /// Where a module is written.
     pub fn origin(&self, at: u32) -> Option<ModuleOrigin>
         ensures value { result ≡ option_map (λ m. m.origin) (module_at self.now at) }
     {
-        match self.modules.get(at as usize) {
+        match self.modules.as_slice().get(at as usize) {
             Some(module) => Some(module.origin()),
             None => None,
         }
@@ -194,7 +198,7 @@ impl DefMap {
     pub fn visibility(&self, at: u32) -> Option<Visibility>
         ensures value { result ≡ option_map (λ m. m.visibility) (module_at self.now at) }
     {
-        match self.modules.get(at as usize) {
+        match self.modules.as_slice().get(at as usize) {
             Some(module) => Some(module.visibility()),
             None => None,
         }
@@ -204,7 +208,7 @@ impl DefMap {
     pub fn parent_of(&self, at: u32) -> Option<ModuleId>
         ensures value { result ≡ parent_at self.now at }
     {
-        match self.modules.get(at as usize) {
+        match self.modules.as_slice().get(at as usize) {
             Some(module) => module.parent(),
             None => None,
         }
@@ -214,7 +218,7 @@ impl DefMap {
     pub fn child(&self, at: u32, name: &Name) -> Option<ModuleId>
         ensures value { result ≡ child_at self.now at name.now }
     {
-        match self.modules.get(at as usize) {
+        match self.modules.as_slice().get(at as usize) {
             Some(module) => module.child(name),
             None => None,
         }
@@ -224,7 +228,7 @@ impl DefMap {
     pub fn scope(&self, at: u32) -> Option<&ItemScope>
         ensures value { option_map (λ s. s.now) result ≡ scope_at self.now at }
     {
-        match self.modules.get(at as usize) {
+        match self.modules.as_slice().get(at as usize) {
             Some(module) => Some(module.scope()),
             None => None,
         }
@@ -234,7 +238,7 @@ impl DefMap {
     pub fn entry(&self, at: u32, name: &Name) -> PerNs
         ensures value { result ≡ entry_at self.now at name.now }
     {
-        match self.modules.get(at as usize) {
+        match self.modules.as_slice().get(at as usize) {
             Some(module) => module.entry(name),
             None => PerNs::none(),
         }
@@ -244,7 +248,7 @@ impl DefMap {
     pub fn legacy_macro(&self, at: u32, name: &Name) -> Option<MacroId>
         ensures value { result ≡ legacy_of (module_at self.now at) name.now }
     {
-        match self.modules.get(at as usize) {
+        match self.modules.as_slice().get(at as usize) {
             Some(module) => module.legacy_macro(name),
             None => None,
         }
@@ -267,10 +271,14 @@ impl DefMap {
             return Err(AddModuleError::TooMany);
         }
         let id = ModuleId {
-            map: self.id,
+            map: self.id(),
             index: count as u32,
         };
-        if insert_module(&mut self.modules, parent as usize, name, id, module_data).is_err() {
+        if self
+            .modules
+            .insert(parent as usize, name, id, module_data)
+            .is_err()
+        {
             return Err(AddModuleError::Memory);
         }
         Ok(id)
@@ -281,6 +289,14 @@ impl DefMap {
         ensures value { result.now ≡ self.now.crate_data }
     {
         &self.crate_data
+    }
+
+    /// What the crate's top says, to be changed.
+    pub fn crate_data_mut(&mut self) -> &mut DefMapCrateData
+        ensures value { result.now ≡ self.old.crate_data }
+        ensures* lends { sem 𝓛 (LendsCrateData self.entry result) }
+    {
+        &mut self.crate_data
     }
 
     /// The variants of an enum that the map declares.
@@ -304,6 +320,13 @@ impl DefMap {
         ensures value { result ≡ at_name self.now.macro_use_prelude name.now }
     {
         self.macro_use_prelude.get(name).copied()
+    }
+
+    /// The macros of the `macro_use` prelude by name, each with the `extern crate` that brought it, if one did.
+    pub fn macro_use_prelude(&self) -> &BTreeMap<Name, (MacroId, Option<ExternCrateId>)>
+        ensures value { result.now.entries ≡ self.now.macro_use_prelude }
+    {
+        &self.macro_use_prelude
     }
 
     /// Gives the `macro_use` prelude a macro, in place of another of its name.
@@ -354,17 +377,11 @@ impl DefMap {
         ensures err_globs { OnErr result (glob_imports.new ≡ glob_imports.old) }
     {
         let module = ModuleId {
-            map: self.id,
+            map: self.id(),
             index: at,
         };
-        push_in(
-            &mut self.modules,
-            glob_imports,
-            at as usize,
-            (module, name),
-            items,
-            import,
-        )
+        self.modules
+            .push(glob_imports, at as usize, (module, name), items, import)
     }
 }
 

@@ -1,7 +1,7 @@
 //! What written visibilities mean in a map.
 ghost use Rattle.std.specs.Prelude.{◌≡◌, IfSome, option_copied};
-ghost use Rattle.hir_scope.specs.Visibility.{is_visible, lesser_of, visibility_of, IsMeet};
-ghost use Rattle.hir_def_map.specs.State.{beside, numbered};
+ghost use Rattle.hir_scope.specs.Visibility.{is_visible, lesser_of, IsMeet};
+ghost use Rattle.hir_def_map.specs.State.{beside};
 ghost use Rattle.hir_def_map.specs.Chains.{above_in, holders_in};
 ghost use Rattle.hir_def_map.specs.World.{finished_in};
 ghost use Rattle.hir_def_map.specs.Scoping.Asking.{local_of};
@@ -56,17 +56,6 @@ pub fn path_seen(
 }
 
 impl DefMap {
-    /// What a visibility means that is written in a module of the map, a path in it counting as seen by all.
-    pub fn visibility_of(&self, at: u32, raw: &RawVisibility) -> Visibility
-        ensures value { result ≡ visibility_of (numbered self.now.id at) raw.now }
-    {
-        let module = ModuleId {
-            map: self.id(),
-            index: at,
-        };
-        Visibility::of_raw(module, raw)
-    }
-
     /// What a visibility means that is written in a module; none where its path doesn't lead to one.
     pub fn resolve_visibility(
         &self,

@@ -2,9 +2,11 @@
 ghost use Rattle.std.specs.Prelude.{◌≡◌};
 ghost use Rattle.hir_def_map.specs.State.{no_maps};
 ghost use Rattle.hir_def_map.specs.World.{IsChecked, finished_in};
+ghost use Rattle.hir_def_map.specs.Dependents.{HasRoom, IsIndexed};
 
 pub mod agree;
 mod complete;
+pub mod dependents;
 pub mod finished;
 pub mod insert;
 pub mod look_up;
@@ -13,6 +15,7 @@ mod names;
 pub mod part;
 pub mod remove;
 
+use dependents::Dependents;
 use finished::Finished;
 use hir_base::ids::MapId;
 use std::alloc::Global;
@@ -22,8 +25,14 @@ use std::collections::BTreeMap;
 #[derive(Drop)]
 pub struct World {
     pub maps: BTreeMap<MapId, Finished>,
+    /// Which of them name one of them.
+    pub(crate) dependents: Dependents,
+    /// Those that were taken away and on which others may still depend: none between two calls, with room for all.
+    pub(crate) falling: Vec<MapId>,
     pub(crate) alloc: Global,
     ghost checked: { IsChecked maps },
+    ghost indexed: { IsIndexed dependents maps },
+    ghost room: { HasRoom falling maps },
 }
 
 impl World {
@@ -33,6 +42,8 @@ impl World {
     {
         World {
             maps: BTreeMap::new(alloc),
+            dependents: Dependents::new(alloc),
+            falling: Vec::new(alloc),
             alloc,
         }
     }

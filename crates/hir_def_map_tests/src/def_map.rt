@@ -1,6 +1,12 @@
 //! What all tests stand on: ids, items, and the map of a small crate.
+mod big_worlds;
+mod builds;
+mod deep_paths;
+mod files;
+mod first_segments;
 mod fixed_points;
 mod modules;
+mod nested_blocks;
 mod paths;
 mod pushes;
 mod reports;
@@ -264,13 +270,18 @@ fn filled(alloc: Global, map: &mut DefMap) -> Result<(), Fail> {
 }
 
 /// What a crate's top says that says nothing and stands on these.
-fn data_over(alloc: Global, crates: &[Crate]) -> Result<DefMapCrateData, Fail> {
+fn data_in(alloc: Global, edition: Edition, crates: &[Crate]) -> Result<DefMapCrateData, Fail> {
     let mut dependencies = BTreeSet::new(alloc);
     for krate in crates {
         dependencies.insert(*krate)?;
     }
     let dependencies = Rc::new(alloc, dependencies)?;
-    Ok(DefMapCrateData::new(alloc, Edition::Edition2021, dependencies))
+    Ok(DefMapCrateData::new(alloc, edition, dependencies))
+}
+
+/// The same, in the latest edition but one.
+fn data_over(alloc: Global, crates: &[Crate]) -> Result<DefMapCrateData, Fail> {
+    data_in(alloc, Edition::Edition2021, crates)
 }
 
 /// `pub mod a { pub struct S; struct P; pub fn f() {} pub mod b {} } pub mod u8 { pub struct X; } pub use crate as l;`,

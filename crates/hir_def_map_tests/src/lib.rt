@@ -3,3 +3,5 @@
 
 #[cfg(test)]
 mod def_map;
+#[cfg(test)]
+mod dump;

@@ -3,7 +3,7 @@ use Rattle.std.proofs.Common.{◌≡◌, Bool, refl, sym, ap, ap₂, ◌∙◌}
 use Rattle.hir_item_tree.specs.Attributes.{Attributes}
 use Rattle.hir_base.specs.declared.cfg.CfgAtom.{CfgAtom}
 use Rattle.hir_item_tree.specs.Source as written
-use Rattle.hir_item_tree.specs.Source.{NodeHead, Plain, Holder, Item, Items, SourceValue}
+use Rattle.hir_item_tree.specs.Source.{NodeHead, Plain, Item, Items, SourceValue}
 use Rattle.hir_item_tree.specs.KeptForest.{leaf, item, plain_visibility, kept_leaf, is_foreign, is_foreign_kind, kept_head, kept_holder, and_item, kept_item, kept_items, kept_foreign}
 use Rattle.hir_item_tree.specs.ItemTree.{Tree, tree_of}
 use Rattle.hir_item_tree.specs.BodyTexts.{plain_without_body, without_body, without_bodies, source_without_bodies, BodyTextsLeaveTheTree}

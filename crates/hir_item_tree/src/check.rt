@@ -13,8 +13,8 @@ use hir_base::ast_id::{AstKind, SyntaxId};
 use hir_base::limit::Limit;
 use std::alloc::{AllocError, Global};
 
-mod long_paths;
-mod nesting;
+pub mod long_paths;
+pub mod nesting;
 mod node_ids;
 mod sizes;
 

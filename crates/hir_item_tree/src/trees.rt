@@ -121,7 +121,8 @@ impl Trees {
     }
 }
 
-fn variants_of(entry: &SideEntry) -> Option<&[VariantItem]>
+/// The variants that an entry holds, where it is an enum's.
+pub fn variants_of(entry: &SideEntry) -> Option<&[VariantItem]>
     ensures value { option_map (λ vs. vs.now) result ≡ entry_variants (entry_view entry.now) }
 {
     match &entry.side {

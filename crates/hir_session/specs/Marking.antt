@@ -9,7 +9,7 @@ use Rattle.hir_def_collector.specs.declared.source_database.Key.{Key}
 use Rattle.hir_def_collector.specs.declared.source_database.Key.TheVariants.{Tree, Variants, Map}
 use Rattle.hir_item_tree.specs.SideLists.{entries_view}
 use Rattle.hir_item_tree.specs.Source.{SourceValue}
-use Rattle.hir_session.specs.declared.judge.Sides.{Sides}
+use Rattle.hir_session.specs.declared.judge.enums.Sides.{Sides}
 use Rattle.hir_session.specs.Files.{path_in, sides_under}
 use Rattle.hir_session.specs.Crates.{CrateValue, dependencies_in}
 use Rattle.hir_session.specs.SessionState.{Resolution, kept_in, mark_in}

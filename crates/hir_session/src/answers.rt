@@ -7,7 +7,9 @@ ghost use Rattle.hir_session.specs.SourceItems.{import_source, value_import_sour
 ghost use Rattle.hir_session.specs.Status.{module_below};
 ghost use Rattle.hir_session.specs.Answers.{shadow_mode_of, sub_ns_of, answer_in};
 
-use crate::source_items::{definition_at, import_at, macro_at, value_import_at, visibility_at};
+use crate::source_items::definitions::{definition_at, macro_at};
+use crate::source_items::imports::{import_at, value_import_at};
+use crate::source_items::visibilities::visibility_at;
 use hir_base::file_path::FilePath;
 use hir_base::ids::ModuleId;
 use hir_base::mod_path::ModPath;

@@ -1,18 +1,13 @@
 //! Attributes that are handed in for the top of a crate's root file.
-ghost use Rattle.std.specs.Prelude.{◌≡◌, IfErr, IfOk, map};
+ghost use Rattle.std.specs.Prelude.{◌≡◌, IfOk, map};
 ghost use Rattle.std.specs.List.{list_any};
-ghost use Rattle.hir_base.specs.Refusal.{Gives};
-ghost use Rattle.hir_item_tree.specs.Attributes.{attribute_view, attributes_view};
-ghost use Rattle.hir_item_tree.specs.Check.{verdict_of_unit, IsMemory};
-ghost use Rattle.hir_item_tree.specs.Source.{no_items};
+ghost use Rattle.hir_item_tree.specs.Attributes.{attribute_view};
 ghost use Rattle.hir_wire.specs.CommandValue.{crate_input_view};
 ghost use Rattle.hir_session.specs.Refusals.{is_too_deep, is_too_long};
 
-use crate::error::NewSessionError;
-use hir_base::limit::Limit;
-use hir_item_tree::check::{CheckError, check};
+use hir_item_tree::check::long_paths::any_long_attr;
+use hir_item_tree::check::nesting::deep_attrs;
 use hir_item_tree::raw_attr::RawAttr;
-use hir_item_tree::source::{Source, Unit};
 use hir_wire::command::CrateInput;
 use std::alloc::{AllocError, Global};
 
@@ -42,61 +37,38 @@ pub fn copy_attrs(alloc: Global, attrs: &Vec<RawAttr>) -> Result<Vec<RawAttr>, A
     Ok(copies)
 }
 
-/// Whether attributes are within the limits: as those of a source that holds nothing else.
-fn check_attrs(alloc: Global, attrs: &Vec<RawAttr>) -> Result<(), CheckError>
-    ensures answer { Gives IsMemory result (verdict_of_unit (attributes_view attrs.now.items) no_items) }
+fn is_path_too_long(input: &CrateInput) -> bool
+    ensures value { result ≡ is_too_long (crate_input_view input.now) }
 {
-    let unit = Unit {
-        attrs: copy_attrs(alloc, attrs)?,
-        nodes: Vec::new(alloc),
-    };
-    check(alloc, &Source::Unit(unit))
+    any_long_attr(&input.attrs)
 }
 
-fn is_path_too_long(alloc: Global, input: &CrateInput) -> Result<bool, NewSessionError>
-    ensures value { IfOk result (λ long. long ≡ is_too_long (crate_input_view input.now)) }
-    ensures refused { IfErr result (λ e. e ≡ NewSessionError.Memory) }
+fn is_condition_too_deep(input: &CrateInput) -> bool
+    ensures value { result ≡ is_too_deep (crate_input_view input.now) }
 {
-    match check_attrs(alloc, &input.attrs) {
-        Ok(()) | Err(CheckError::DuplicateId { .. }) => Ok(false),
-        Err(CheckError::TooLarge(limit)) => Ok(limit == Limit::Path),
-        Err(CheckError::Memory) => Err(NewSessionError::Memory),
-    }
-}
-
-fn is_condition_too_deep(alloc: Global, input: &CrateInput) -> Result<bool, NewSessionError>
-    ensures value { IfOk result (λ deep. deep ≡ is_too_deep (crate_input_view input.now)) }
-    ensures refused { IfErr result (λ e. e ≡ NewSessionError.Memory) }
-{
-    match check_attrs(alloc, &input.attrs) {
-        Ok(()) | Err(CheckError::DuplicateId { .. }) => Ok(false),
-        Err(CheckError::TooLarge(limit)) => Ok(limit == Limit::Cfg),
-        Err(CheckError::Memory) => Err(NewSessionError::Memory),
-    }
+    !any_long_attr(&input.attrs) && deep_attrs(&input.attrs)
 }
 
 /// Whether an attribute of one of the crates holds a path with too many segments.
-pub fn has_long_path(alloc: Global, inputs: &Vec<CrateInput>) -> Result<bool, NewSessionError>
-    ensures value { IfOk result (λ long. long ≡ list_any is_too_long (map crate_input_view inputs.now.items)) }
-    ensures refused { IfErr result (λ e. e ≡ NewSessionError.Memory) }
+pub fn has_long_path(inputs: &Vec<CrateInput>) -> bool
+    ensures value { result ≡ list_any is_too_long (map crate_input_view inputs.now.items) }
 {
     for input in inputs {
-        if is_path_too_long(alloc, input)? {
-            return Ok(true);
+        if is_path_too_long(input) {
+            return true;
         }
     }
-    Ok(false)
+    false
 }
 
 /// Whether conditions nest too deep in an attribute of one of the crates.
-pub fn has_deep_condition(alloc: Global, inputs: &Vec<CrateInput>) -> Result<bool, NewSessionError>
-    ensures value { IfOk result (λ deep. deep ≡ list_any is_too_deep (map crate_input_view inputs.now.items)) }
-    ensures refused { IfErr result (λ e. e ≡ NewSessionError.Memory) }
+pub fn has_deep_condition(inputs: &Vec<CrateInput>) -> bool
+    ensures value { result ≡ list_any is_too_deep (map crate_input_view inputs.now.items) }
 {
     for input in inputs {
-        if is_condition_too_deep(alloc, input)? {
-            return Ok(true);
+        if is_condition_too_deep(input) {
+            return true;
         }
     }
-    Ok(false)
+    false
 }

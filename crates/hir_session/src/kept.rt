@@ -202,7 +202,7 @@ impl Kept {
 
     /// Drops what is kept of the marked crates, where what is kept of others doesn't name their maps.
     ///
-    /// Each map that goes costs a pass over those that are left.
+    /// Its cost grows with the maps that go and what these name, and hardly with those that stay.
     pub fn forget(&mut self, marked: &Vec<bool>)
         requires len { length marked.now.items ≡ length self.old }
         requires named { (j : ℕ) (r : Resolution) → kept_in self.old j ≡ Some r → mark_in marked.now.items j ≡ false

@@ -1,5 +1,5 @@
 //! The session: what is handed in, and what is kept of each crate that was resolved.
-ghost use Rattle.std.specs.Prelude.{◌≡◌, ℕ, ◌<◌, ◌++◌, ◌∷◌, [], map, true, false, length, None, IfOk, OnOk, OnErr, IfErr, ◌≤◌, ◌⊎◌, Ok, Err, string_bytes, option_map};
+ghost use Rattle.std.specs.Prelude.{◌≡◌, ℕ, ◌<◌, ◌++◌, ◌∷◌, [], map, true, false, length, None, IfOk, OnOk, OnErr, IfErr, ◌≤◌, ◌⊎◌, Ok, Err, option_map};
 ghost use Rattle.hir_base.specs.Refusal.{Gives};
 ghost use Rattle.hir_def_collector.specs.Derivation.{IsOverlong};
 ghost use Rattle.hir_wire.specs.CommandValue.{crate_input_view};
@@ -8,20 +8,17 @@ ghost use Rattle.hir_session.specs.Beginning.{Begins};
 ghost use Rattle.hir_item_tree.specs.Source.{source_view};
 ghost use Rattle.hir_session.specs.Files.{with_file, without_file, edited_at};
 ghost use Rattle.hir_session.specs.Marking.{IsJudged};
-ghost use Rattle.hir_session.specs.SessionState.{SessionState, Resolution, workspace_of, finished_of, read_of, start_of, kept_in, kept_of, is_marked, IsResolutionOf, IsSound};
+ghost use Rattle.hir_session.specs.SessionState.{SessionState, Resolution, workspace_of, finished_of, start_of, is_marked, IsResolutionOf, IsSound};
 ghost use Rattle.hir_session.specs.Due.{resolved_at, crate_place, HasOverlongRun};
-ghost use Rattle.hir_session.specs.Refusals.{first_out_of_order, verdict_of_new, IsNewMemory, verdict_of_apply, IsEditMemory, IsQueryMemory, IsTreeTextMemory};
-ghost use Rattle.hir_session.specs.Status.{module_in_kept, module_of, status_of};
-ghost use Rattle.hir_session.specs.Answers.{answer_from, answer_of};
-ghost use Rattle.hir_session.specs.AnswersStand.{AnswersStand};
-ghost use Rattle.hir_session.specs.TreeText.{tree_text_of};
+ghost use Rattle.hir_session.specs.Refusals.{first_out_of_order, verdict_of_new, IsNewMemory, verdict_of_apply, IsEditMemory};
 ghost use Rattle.hir_session.specs.Changes.{with_files, Becomes, Applies, Refreshes, RefreshesPartly};
 
-use crate::answers::{answer_at, module_below_root};
+mod queries;
+
 use crate::beginning::{all_marked, first_late, infos_of, roots_of};
 use crate::crate_info::CrateInfo;
-use crate::error::{EditError, NewSessionError, QueryError, RefreshError, TreeTextError};
-use crate::file_trees::{check_source, page_at};
+use crate::error::{EditError, NewSessionError, RefreshError};
+use crate::file_trees::check_source;
 use crate::files::Files;
 use crate::front::{has_deep_condition, has_long_path};
 use crate::judge::judged;
@@ -30,19 +27,14 @@ use crate::marks::{is_marked_in, spread};
 use crate::not_yet::is_any_untaken;
 use crate::sources::resolve_crate;
 use hir_base::file_path::FilePath;
-use hir_base::ids::{Crate, ModuleId};
+use hir_base::ids::Crate;
 use hir_base::limit::Limit;
-use hir_base::mod_path::ModPath;
-use hir_base::place::{Place, PlaceElement};
+use hir_base::place::Place;
 use hir_def_collector::collector::collected::Collected;
 use hir_def_collector::laws::runs_name_what_is_there;
-use hir_def_map::def_maps::DefMaps;
-use hir_def_map::world::part::WorldPart;
 use hir_item_tree::source::Source;
-use hir_wire::answer::Answer;
-use hir_wire::command::{CrateInput, MacroStyle, Shadow};
+use hir_wire::command::CrateInput;
 use hir_wire::edit::Edit;
-use hir_wire::reply::Status;
 use std::alloc::{AllocError, Global};
 use std::marker::Model;
 
@@ -97,10 +89,10 @@ impl Session {
         if let Some(k) = first_late(&inputs) {
             return Err(NewSessionError::DependencyOrder(Crate(k)));
         }
-        if has_long_path(alloc, &inputs)? {
+        if has_long_path(&inputs) {
             return Err(NewSessionError::TooLarge(Limit::Path));
         }
-        if has_deep_condition(alloc, &inputs)? {
+        if has_deep_condition(&inputs) {
             return Err(NewSessionError::TooLarge(Limit::Cfg));
         }
         if count > MAX_CRATES {
@@ -239,119 +231,6 @@ impl Session {
         }
         self.sound();
         Ok(done)
-    }
-
-    /// How the answers at a place stand.
-    pub fn status(&self, place: &Place) -> Status
-        ensures value { result ≡ status_of self.now place.now }
-    {
-        let k = place.krate().0 as usize;
-        if k >= self.crates.len() {
-            return Status::Unknown;
-        }
-        if is_marked_in(&self.marked, k) {
-            return Status::Stale;
-        }
-        match module_kept(&self.kept, k, place.elements()) {
-            Some(_) => Status::Current,
-            None => Status::Unknown,
-        }
-    }
-
-    /// What a path means over what is kept.
-    fn answer_kept(
-        &self,
-        alloc: Global,
-        place: &Place,
-        path: &ModPath,
-        shadow: Shadow,
-        style: Option<MacroStyle>,
-    ) -> Result<Answer, QueryError>
-        ensures answer { Gives IsQueryMemory result (answer_from self.now.paths (read_of self.now place.now.krate.0) (kept_of self.now place.now.krate.0)
-            (module_of self.now place.now) path.now shadow style) }
-    {
-        let k = place.krate().0 as usize;
-        let Some(found) = self.kept.get(k) else {
-            return Err(QueryError::UnknownPlace);
-        };
-        let Some(info) = self.crates.get(k) else {
-            return Err(QueryError::UnknownPlace);
-        };
-        match module_below_root(found.map, place.elements()) {
-            Some(at) => {
-                let read = WorldPart::among(self.kept.world(), info.behind());
-                let maps = DefMaps::new(read, found.map);
-                let answer = answer_at(
-                    alloc,
-                    &self.paths,
-                    &maps,
-                    found.local,
-                    at,
-                    path,
-                    shadow,
-                    style,
-                )?;
-                Ok(answer)
-            }
-            None => Err(QueryError::UnknownPlace),
-        }
-    }
-
-    /// What a path means, asked from the module that a place names.
-    pub fn resolve_path(
-        &self,
-        alloc: Global,
-        place: &Place,
-        path: &ModPath,
-        shadow: Shadow,
-        style: Option<MacroStyle>,
-    ) -> Result<Answer, QueryError>
-        ensures answer { Gives IsQueryMemory result (answer_of self.now place.now path.now shadow style) }
-        ensures stands { IfOk result (λ answer. AnswersStand self.now place.now path.now shadow style answer) }
-    {
-        self.sound();
-        match self.status(place) {
-            Status::Current => {
-                let answer = self.answer_kept(alloc, place, path, shadow, style)?;
-                Ok(answer)
-            }
-            Status::Stale => Err(QueryError::StalePlace),
-            Status::Unknown => Err(QueryError::UnknownPlace),
-        }
-    }
-
-    /// The page of a file's tree, with names as the crate's edition writes them.
-    pub fn tree_text(
-        &self,
-        alloc: Global,
-        krate: Crate,
-        file: &FilePath,
-    ) -> Result<String, TreeTextError>
-        ensures page { IfOk result (λ text. tree_text_of self.now krate file.now ≡ Ok (string_bytes text)) }
-        ensures refused { IfErr result (λ e. IsTreeTextMemory e ⊎ (tree_text_of self.now krate file.now ≡ Err e)) }
-    {
-        let Some(info) = self.crates.get(krate.0 as usize) else {
-            return Err(TreeTextError::UnknownCrate);
-        };
-        let text = page_at(
-            alloc,
-            &self.crates,
-            &self.files,
-            krate,
-            file,
-            info.root().edition,
-        )?;
-        Ok(text)
-    }
-}
-
-/// The module to which the steps lead in what is kept of a crate.
-fn module_kept(kept: &Kept, k: usize, elements: &[PlaceElement]) -> Option<ModuleId>
-    ensures value { result ≡ module_in_kept (kept_in kept.now k) elements.now }
-{
-    match kept.get(k) {
-        Some(found) => module_below_root(found.map, elements),
-        None => None,
     }
 }
 

@@ -1,7 +1,7 @@
 //! The variants of the enums of a source under a crate, by their nodes.
 ghost use Rattle.std.specs.Prelude.{◌≡◌, ◌≢◌, ◌++◌, true, false, IfOk, OnOk, Some, option_map};
 ghost use Rattle.std.specs.Option.{option_and_then};
-ghost use Rattle.hir_item_tree.specs.SideLists.{entries_view, entry_of, entry_variants, entry_view};
+ghost use Rattle.hir_item_tree.specs.SideLists.{entries_view, entry_of, entry_variants};
 ghost use Rattle.hir_item_tree.specs.Source.{source_view};
 ghost use Rattle.hir_session.specs.Files.{sides_under};
 
@@ -12,9 +12,9 @@ use hir_base::ids::Crate;
 use hir_item_tree::check::NodeId;
 use hir_item_tree::indexed_source::IndexedSource;
 use hir_item_tree::item_tree::ItemTree;
-use hir_item_tree::side_lists::{Side, SideEntry, VariantItem, side_lists};
+use hir_item_tree::side_lists::{SideEntry, VariantItem, side_lists};
 use hir_item_tree::source::Source;
-use hir_item_tree::trees::KeptSource;
+use hir_item_tree::trees::{KeptSource, variants_of};
 use std::alloc::{AllocError, Global};
 
 /// The side lists of a source under a crate; under one that isn't there no option is set.
@@ -47,15 +47,6 @@ pub fn side_index(
     };
     let tree = ItemTree::empty(alloc);
     IndexedSource::new(alloc, KeptSource { tree, side })
-}
-
-fn variants_of(entry: &SideEntry) -> Option<&[VariantItem]>
-    ensures value { option_map (λ vs. vs.now) result ≡ entry_variants (entry_view entry.now) }
-{
-    match &entry.side {
-        Side::Variants(variants) => Some(variants.as_slice()),
-        Side::Nothing | Side::Associated(_) | Side::Text(_) => None,
-    }
 }
 
 /// The variants of the enum of a node.

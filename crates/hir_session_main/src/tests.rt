@@ -1,25 +1,12 @@
-//! Whole sessions: lines in, replies out.
+//! Sessions over input that is built, over readers and writers that fail, and by the library's calls.
+//!
+//! Sessions that are given line by line stand in `hir_session_rows`.
 
-mod crate_attrs;
-mod crates;
-mod dependencies;
-mod enums;
-mod extern_crates;
 mod faults;
-mod imports;
-mod kinds;
 mod large;
 mod library;
-mod limits;
 mod long_lines;
-mod marks;
-mod paths;
-mod refusals;
-mod removals;
 mod streams;
-mod trees;
-mod use_lists;
-mod visibilities;
 
 use hir_session::run;
 use std::alloc::Global;

@@ -3,9 +3,13 @@ ghost use Rattle.std.specs.Prelude.{◌≡◌, ◌∷◌};
 ghost use Rattle.hir_def_map.specs.AskMaps.{AsksMaps, with_maps};
 ghost use Rattle.hir_def_map.specs.Chains.{holders_in};
 ghost use Rattle.hir_def_map.specs.DefMaps.{maps_of};
+ghost use Rattle.hir_def_map.specs.State.{beside};
+ghost use Rattle.hir_def_map.specs.World.{finished_in};
 
 use crate::def_maps::DefMaps;
 use crate::nameres::DefMap;
+use crate::world::World;
+use crate::world::part::WorldPart;
 use hir_base::ids::ModuleId;
 
 impl DefMaps<'_> {
@@ -29,5 +33,23 @@ impl DefMaps<'_> {
             next = self.holder_of(asked);
         }
         None
+    }
+}
+
+impl DefMap {
+    /// Asks about a module and its map, then about the module that holds the block of that map, and so on outwards, until
+    /// there is an answer. The map itself comes before a finished one of its id.
+    pub fn with_ancestor_maps<T, F: FnMut(&DefMap, ModuleId) -> Option<T> + Drop>(
+        &self,
+        world: &World,
+        at: ModuleId,
+        f: F,
+    ) -> Option<T>
+        requires { F.IsAlwaysCallable f }
+        ensures value { AsksMaps F.step f (with_maps (beside (finished_in world.now.maps) self.now)
+            (at ∷ holders_in (beside (finished_in world.now.maps) self.now) at)) result }
+    {
+        let maps = DefMaps::new(WorldPart::all(world), self);
+        maps.with_ancestor_maps(at, f)
     }
 }

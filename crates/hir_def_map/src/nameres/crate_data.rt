@@ -89,6 +89,13 @@ impl DefMapCrateData {
         &self.dependencies
     }
 
+    /// The unstable features that the crate lists.
+    pub fn features(&self) -> &BTreeSet<Name>
+        ensures value { result.now.keys ≡ self.now.features }
+    {
+        &self.features
+    }
+
     /// How deep calls of macros may be nested.
     pub fn recursion_limit(&self) -> u32
         ensures value { result ≡ self.now.recursion_limit }

@@ -88,12 +88,12 @@ impl DefMap {
         ensures ok { OnOk result (self.new ≡ with_scope self.old at (listed declaration)) }
         ensures err { OnErr result (self.new ≡ self.old) }
     {
-        list_in(&mut self.modules, at as usize, declaration)
+        self.modules.list(at as usize, declaration)
     }
 }
 
 /// Lists a declaration in one of the modules, where it is there.
-fn list_in(
+pub(super) fn list_in(
     modules: &mut Vec<ModuleData>,
     at: usize,
     declaration: Declaration,

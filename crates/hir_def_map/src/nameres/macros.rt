@@ -92,7 +92,7 @@ impl DefMap {
         if self.derive_helpers.contains_key(&item) {
             push_helper(&mut self.derive_helpers, item, helper)
         } else {
-            let alloc = *self.modules.allocator();
+            let alloc = self.modules.allocator();
             let helpers = DeriveHelpers::of(alloc, helper)?;
             self.derive_helpers.insert(item, helpers)?;
             Ok(())

@@ -8,7 +8,8 @@ use crate::nameres::module_data::ModuleData;
 use hir_base::ast_id::BlockId;
 use hir_base::ids::{Crate, MapId, ModuleId};
 use hir_base::name::Name;
-use std::ops::Index;
+use std::collections::BTreeSet;
+use std::ops::{Index, IndexMut};
 
 /// The root of a crate.
 pub fn crate_root(krate: Crate) -> ModuleId
@@ -98,6 +99,13 @@ impl DefMap {
         self.crate_data().registered_tools()
     }
 
+    /// The unstable features that the crate lists.
+    pub fn features(&self) -> &BTreeSet<Name>
+        ensures value { result.now.keys ≡ self.now.crate_data.features }
+    {
+        self.crate_data().features()
+    }
+
     /// Whether the crate lists an unstable feature.
     pub fn has_feature(&self, name: &Name) -> bool
         ensures value { result ≡ feature_in self.now.crate_data name.now }
@@ -119,6 +127,21 @@ impl Index<ModuleId> for DefMap {
     ghost index_gives = { λ map id found. module_at map id.index ≡ Some found };
 
     fn index(&self, id: ModuleId) -> &ModuleData {
-        &self.modules()[id.index as usize]
+        &self.modules[id]
+    }
+}
+
+/// The same, to be changed. What it becomes is a module of the same id.
+impl IndexMut<ModuleId> for DefMap {
+    ghost use Rattle.std.specs.Prelude.{◌≡◌, true, Some};
+    ghost use Rattle.std.specs.Borrow.{sem};
+    ghost use Rattle.hir_def_map.specs.Lending.{LendsModule};
+
+    fn index_mut(&mut self, id: ModuleId) -> &mut ModuleData
+        requires { contains_module self.old id ≡ true }
+        ensures* lends { sem 𝓛 (LendsModule self.entry id result) }
+        ensures value { module_at self.old id.index ≡ Some result.now }
+    {
+        &mut self.modules[id]
     }
 }

@@ -22,9 +22,9 @@ impl DefMap {
     fn has_same_items(&self, other: &DefMap) -> bool
         ensures value { result ≡ same_items self.now other.now }
     {
-        self.id == other.id
+        self.id() == other.id()
             && self.holder == other.holder
-            && self.modules == other.modules
+            && self.modules.as_slice() == other.modules.as_slice()
             && self.enums == other.enums
     }
 

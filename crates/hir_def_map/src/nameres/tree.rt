@@ -74,7 +74,7 @@ impl DefMap {
         ensures value { result ≡ has_its_parents self.now }
     {
         let id = self.id();
-        let mut left = self.modules();
+        let mut left = self.modules().as_slice();
         'each: while let [module, others @ ..] = left {
             if !is_parent_in(id, module.parent()) {
                 return false;

@@ -102,7 +102,7 @@ impl World {
     fn lacks_name_in_modules(&self, map: &DefMap) -> bool
         ensures value { result ≡ list_any (names_in_module (is_missing (beside (finished_in self.now.maps) map.now))) map.now.modules }
     {
-        let mut left = map.modules();
+        let mut left = map.modules().as_slice();
         'next: while let [module, others @ ..] = left {
             if self.lacks_name(map, module) {
                 return true;

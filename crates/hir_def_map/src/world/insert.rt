@@ -1,20 +1,23 @@
 //! How a finished map joins the others.
-ghost use Rattle.std.specs.Prelude.{◌≡◌, Some, cond, IfOk, OnOk, OnErr};
-ghost use Rattle.std.specs.BTreeMap.{is_at, IsUnchanged};
+ghost use Rattle.std.specs.Prelude.{◌≡◌, ◌+◌, ◌≤◌, None, Some, cond, IfErr, IfOk, OnOk, OnErr};
+ghost use Rattle.std.specs.Vec.{vec_capacity};
+ghost use Rattle.std.specs.BTreeMap.{btree_map_len, get, is_at, IsUnchanged, Updates};
 ghost use Rattle.hir_base.specs.contracts.ids.MapIdOrd.TheImpl as map_order;
 ghost use Rattle.hir_base.specs.declared.ids.MapId.{MapId};
 ghost use Rattle.hir_def_map.specs.State.{beside, holders_under};
+ghost use Rattle.hir_def_map.specs.Dependents.{HasRoom, IsEntered, IsIndexed};
 ghost use Rattle.hir_def_map.specs.Inserted.{may_join, Inserts};
 ghost use Rattle.hir_def_map.specs.World.{finished_in, local_in, IsNamedBy};
 
 use crate::nameres::DefMap;
 use crate::nameres::local_def_map::LocalDefMap;
 use crate::world::World;
+use crate::world::dependents::Dependents;
 use crate::world::finished::Finished;
 use crate::world::names::maps_named;
 use hir_base::ids::{MapId, ModuleId};
 use std::alloc::AllocError;
-use std::collections::BTreeSet;
+use std::collections::{BTreeMap, BTreeSet};
 
 /// Why a map doesn't join the finished ones, in the order in which it is looked for.
 #[derive(Clone, Copy, Debug, PartialEq, Eq)]
@@ -30,6 +33,80 @@ pub struct Refused {
     pub map: DefMap,
     pub local: LocalDefMap,
     pub why: InsertError,
+}
+
+fn make_room(falling: &mut Vec<MapId>, maps: &BTreeMap<MapId, Finished>) -> Result<(), AllocError>
+    ensures ok { OnOk result (btree_map_len maps.now + 1 ≤ vec_capacity falling.new) }
+    ensures items { falling.new.items ≡ falling.old.items }
+    ensures capacity { vec_capacity falling.old ≤ vec_capacity falling.new }
+{
+    falling.reserve(maps.len() + 1)
+}
+
+fn add_entered(
+    maps: &mut BTreeMap<MapId, Finished>,
+    dependents: &mut Dependents,
+    finished: Finished,
+) -> Result<(), Finished>
+    requires absent { get map_order.ghosts.cmp maps.old finished.map.id ≡ None }
+    requires entered { IsEntered dependents.old maps.old finished }
+    ensures maps { OnOk result (Updates map_order.ghosts.cmp maps.old maps.new finished.map.id (Some finished)) }
+    ensures len { btree_map_len maps.new ≤ btree_map_len maps.old + 1 }
+    ensures returned { IfErr result (λ f. f ≡ finished) }
+    ensures err { OnErr result (IsUnchanged maps.old maps.new) }
+    ensures indexed { IsIndexed dependents.new maps.new }
+{
+    let id = finished.map.id();
+    match maps.insert(id, finished) {
+        Ok(_) => Ok(()),
+        Err(refused) => {
+            let (_, finished) = refused.value;
+            dependents.leave(&finished.named, id);
+            Err(finished)
+        }
+    }
+}
+
+fn add(
+    maps: &mut BTreeMap<MapId, Finished>,
+    dependents: &mut Dependents,
+    finished: Finished,
+) -> Result<(), Finished>
+    requires absent { get map_order.ghosts.cmp maps.old finished.map.id ≡ None }
+    requires indexed { IsIndexed dependents.old maps.old }
+    ensures maps { OnOk result (Updates map_order.ghosts.cmp maps.old maps.new finished.map.id (Some finished)) }
+    ensures len { btree_map_len maps.new ≤ btree_map_len maps.old + 1 }
+    ensures returned { IfErr result (λ f. f ≡ finished) }
+    ensures err { OnErr result (IsUnchanged maps.old maps.new) }
+    ensures indexed { IsIndexed dependents.new maps.new }
+{
+    let id = finished.map.id();
+    match dependents.enter(&finished.named, id) {
+        Ok(()) => add_entered(maps, dependents, finished),
+        Err(_) => Err(finished),
+    }
+}
+
+/// Adds a finished map to the others, or hands it back where memory is refused.
+fn add_with_room(
+    maps: &mut BTreeMap<MapId, Finished>,
+    dependents: &mut Dependents,
+    falling: &mut Vec<MapId>,
+    finished: Finished,
+) -> Result<(), Finished>
+    requires absent { get map_order.ghosts.cmp maps.old finished.map.id ≡ None }
+    requires indexed { IsIndexed dependents.old maps.old }
+    requires room { HasRoom falling.old maps.old }
+    ensures maps { OnOk result (Updates map_order.ghosts.cmp maps.old maps.new finished.map.id (Some finished)) }
+    ensures returned { IfErr result (λ f. f ≡ finished) }
+    ensures err { OnErr result (IsUnchanged maps.old maps.new) }
+    ensures indexed { IsIndexed dependents.new maps.new }
+    ensures room { HasRoom falling.new maps.new }
+{
+    match make_room(falling, maps) {
+        Ok(()) => add(maps, dependents, finished),
+        Err(_) => Err(finished),
+    }
 }
 
 impl World {
@@ -98,23 +175,24 @@ impl World {
                 });
             }
         };
-        let id = map.id();
         let finished = Finished {
             map,
             local,
             holders,
             named,
         };
-        match self.maps.insert(id, finished) {
-            Ok(_) => Ok(()),
-            Err(refused) => {
-                let (_, finished) = refused.value;
-                Err(Refused {
-                    map: finished.map,
-                    local: finished.local,
-                    why: InsertError::Memory,
-                })
-            }
+        match add_with_room(
+            &mut self.maps,
+            &mut self.dependents,
+            &mut self.falling,
+            finished,
+        ) {
+            Ok(()) => Ok(()),
+            Err(finished) => Err(Refused {
+                map: finished.map,
+                local: finished.local,
+                why: InsertError::Memory,
+            }),
         }
     }
 }

@@ -71,7 +71,7 @@ fn add_module(maps: &mut BTreeSet<MapId>, module: &ModuleData) -> Result<(), All
 fn add_modules(maps: &mut BTreeSet<MapId>, map: &DefMap) -> Result<(), AllocError>
     ensures ok { OnOk result (Gains maps.old maps.new (λ id. list_any (names_in_module (lies_in id)) map.now.modules)) }
 {
-    let mut left = map.modules();
+    let mut left = map.modules().as_slice();
     'next: while let [module, others @ ..] = left {
         add_module(maps, module)?;
         left = others;

@@ -1,78 +1,80 @@
 //! How finished maps are taken away.
-ghost use Rattle.std.specs.Prelude.{◌≡◌, ◌+◌, if◌then◌else◌, is_some, true, false, IfSome, IfNone};
-ghost use Rattle.std.specs.List.{list_any};
-ghost use Rattle.std.specs.Map.{keys_of};
+ghost use Rattle.std.specs.Prelude.{◌≡◌, ◌+◌, ◌++◌, ◌∷◌, ◌<◌, ◌≤◌, [], if◌then◌else◌, is_some, true, None};
+ghost use Rattle.std.specs.Vec.{vec_capacity, vec_len};
 ghost use Rattle.std.specs.BTreeMap.{btree_map_len, get, IsUnchanged, Updates};
 ghost use Rattle.hir_base.specs.declared.ids.MapId.{MapId};
 ghost use Rattle.hir_base.specs.contracts.ids.MapIdOrd.TheImpl as map_order;
-ghost use Rattle.hir_def_map.specs.Removal.{lacks, lacks_some, names_in, Depends, IsClosed, IsFalling};
+ghost use Rattle.hir_def_map.specs.Dependents.{HasRoom, IsIndexed};
+ghost use Rattle.hir_def_map.specs.Removal.{names_in, Depends, IsClosed, IsFalling};
 
 use crate::world::World;
+use crate::world::dependents::Dependents;
 use crate::world::finished::Finished;
 use hir_base::ids::MapId;
 use std::alloc::AllocError;
-use std::collections::{BTreeMap, BTreeSet};
+use std::collections::BTreeMap;
 
-/// Whether one of the ids is of no finished map.
-fn lacks(maps: &BTreeMap<MapId, Finished>, named: &BTreeSet<MapId>) -> bool
-    ensures value { result ≡ lacks maps.now named.now }
-{
-    let mut left = named.iter();
-    'next: while let Some(id) = left.next() {
-        if !maps.contains_key(id) {
-            return true;
-        }
-    }
-    false
-}
-
-/// Whether a map names a missing one.
-fn lacks_at(maps: &BTreeMap<MapId, Finished>, id: &MapId) -> bool
-    ensures value { result ≡ lacks_some maps.now (get map_order.ghosts.cmp maps.now id.now) }
-{
-    match maps.get(id) {
-        Some(finished) => lacks(maps, &finished.named),
-        None => false,
-    }
-}
-
-/// The first map that names a missing one.
-fn first_that_lacks(maps: &BTreeMap<MapId, Finished>) -> Option<MapId>
-    ensures some { IfSome result (λ id. lacks_some maps.now (get map_order.ghosts.cmp maps.now id) ≡ true) }
-    ensures none { IfNone result (list_any (λ id. lacks_some maps.now (get map_order.ghosts.cmp maps.now id)) (keys_of maps.now.entries) ≡ false) }
-{
-    let mut left = maps.keys();
-    'next: while let Some(id) = left.next() {
-        if lacks_at(maps, id) {
-            return Some(*id);
-        }
-    }
-    None
-}
-
-fn take_one(maps: &mut BTreeMap<MapId, Finished>, id: MapId)
+fn take_one(maps: &mut BTreeMap<MapId, Finished>, dependents: &mut Dependents, id: MapId)
+    requires indexed { IsIndexed dependents.old maps.old }
     ensures updates { Updates map_order.ghosts.cmp maps.old maps.new id None }
     ensures len { btree_map_len maps.new + (if is_some (get map_order.ghosts.cmp maps.old id) then 1 else 0) ≡ btree_map_len maps.old }
+    ensures indexed { IsIndexed dependents.new maps.new }
 {
-    maps.remove(&id);
+    let Some(finished) = maps.remove(&id) else {
+        return;
+    };
+    dependents.leave(&finished.named, id);
 }
 
-/// Takes a map away, and then each that names a missing one, until none does.
-fn take_away(maps: &mut BTreeMap<MapId, Finished>, id: MapId)
+/// Takes a map away, and notes that others may depend on it.
+fn fell(
+    maps: &mut BTreeMap<MapId, Finished>,
+    dependents: &mut Dependents,
+    falling: &mut Vec<MapId>,
+    id: MapId,
+)
+    requires indexed { IsIndexed dependents.old maps.old }
+    requires there { is_some (get map_order.ghosts.cmp maps.old id) ≡ true }
+    requires room { btree_map_len maps.old + vec_len falling.old ≤ vec_capacity falling.old }
+    ensures updates { Updates map_order.ghosts.cmp maps.old maps.new id None }
+    ensures len { btree_map_len maps.new + 1 ≡ btree_map_len maps.old }
+    ensures indexed { IsIndexed dependents.new maps.new }
+    ensures items { falling.new.items ≡ falling.old.items ++ id ∷ [] }
+    ensures room { btree_map_len maps.new + vec_len falling.new ≤ vec_capacity falling.new }
+{
+    take_one(maps, dependents, id);
+    falling.push_reserved(id);
+}
+
+/// Takes a map away, and each that names one that is away, until none does.
+fn take_away(
+    maps: &mut BTreeMap<MapId, Finished>,
+    dependents: &mut Dependents,
+    falling: &mut Vec<MapId>,
+    id: MapId,
+)
     requires closed { IsClosed maps.old }
+    requires indexed { IsIndexed dependents.old maps.old }
+    requires room { HasRoom falling.old maps.old }
+    requires there { is_some (get map_order.ghosts.cmp maps.old id) ≡ true }
     ensures falling { IsFalling maps.old maps.new id }
     ensures closed { IsClosed maps.new }
+    ensures indexed { IsIndexed dependents.new maps.new }
+    ensures room { HasRoom falling.new maps.new }
 {
-    take_one(maps, id);
-    'fall: while let Some(next) = first_that_lacks(maps) {
-        take_one(maps, next);
+    fell(maps, dependents, falling, id);
+    'fall: while let Some(on) = falling.pop() {
+        if let Some(next) = dependents.first(on) {
+            falling.push_reserved(on);
+            fell(maps, dependents, falling, next);
+        }
     }
 }
 
 impl World {
     /// Takes away a map and each that names it, directly or through others.
     ///
-    /// It takes no memory, so it never fails. Each map that falls costs a pass over those that are left.
+    /// It takes no memory, so it never fails. Its cost grows with the maps that fall and what these name, and hardly with those that stay.
     pub fn remove_with_dependents(&mut self, id: MapId) -> Result<(), AllocError>
         ensures ok { result ≡ Ok tt }
         ensures gone { (k : MapId) → Depends (names_in self.old.maps) id k → get map_order.ghosts.cmp self.new.maps k ≡ None }
@@ -83,7 +85,7 @@ impl World {
         if !self.maps.contains_key(&id) {
             return Ok(());
         }
-        take_away(&mut self.maps, id);
+        take_away(&mut self.maps, &mut self.dependents, &mut self.falling, id);
         Ok(())
     }
 }

@@ -18,11 +18,16 @@ fn written() -> Visibility {
     Visibility::Module(module(1), VisibilityExplicitness::Explicit)
 }
 
-fn mean(rt: &impl Abort, map: &DefMap) {
-    assert_eq!(rt; map.visibility_of(1, &RawVisibility::Public), PUBLIC);
-    assert_eq!(rt; map.visibility_of(1, &RawVisibility::PubCrate), KRATE);
+/// What a visibility means that is written in the module `a`.
+fn meaning(world: &World, map: &DefMap, raw: &RawVisibility) -> Option<Visibility> {
+    map.resolve_visibility(None, world, module(1), raw, false)
+}
+
+fn mean(rt: &impl Abort, world: &World, map: &DefMap) {
+    assert_eq!(rt; meaning(world, map, &RawVisibility::Public), Some(PUBLIC));
+    assert_eq!(rt; meaning(world, map, &RawVisibility::PubCrate), Some(KRATE));
     let raw = RawVisibility::PubSelf(VisibilityExplicitness::Explicit);
-    assert_eq!(rt; map.visibility_of(1, &raw), written());
+    assert_eq!(rt; meaning(world, map, &raw), Some(written()));
 }
 
 fn lesser(rt: &impl Abort, world: &World, map: &DefMap) {
@@ -64,7 +69,7 @@ fn seen(rt: &impl Abort, world: &World, map: &DefMap) {
 fn visibilities(rt: HostRuntime) -> Result<(), Fail> {
     let map = sample(rt.alloc())?;
     let world = World::new(rt.alloc());
-    mean(&rt, &map);
+    mean(&rt, &world, &map);
     lesser(&rt, &world, &map);
     seen(&rt, &world, &map);
     Ok(())

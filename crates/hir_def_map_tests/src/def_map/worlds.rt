@@ -1,5 +1,6 @@
 //! Several maps: what paths lead to over a world, and which maps join it.
-use super::{FILE, are_items, both, data_over, inline, node, types};
+use super::builds::{PUBLIC, at, item, joins, name_items, name_module, rooted};
+use super::{FILE, are_items, both, data_over, node, types};
 use hir_base::ast_id::{BlockId, HirFileId};
 use hir_base::ids::{AdtId, Crate, EnumId, EnumVariantId, MapId, ModuleDefId, ModuleId, StructId};
 use hir_base::mod_path::ModPath;
@@ -21,8 +22,6 @@ use std::alloc::Global;
 use std::process::Abort;
 use std::test::Fail;
 
-const PUBLIC: Visibility = Visibility::Public;
-
 const ZERO: MapId = MapId {
     krate: Crate(0),
     block: None,
@@ -39,20 +38,6 @@ const BLOCK: MapId = MapId {
     block: Some(BlockId(7)),
 };
 
-fn at(map: MapId, index: u32) -> ModuleId {
-    ModuleId { map, index }
-}
-
-/// The struct of a node.
-fn item(map: MapId, number: u16) -> ModuleDefId {
-    ModuleDefId::AdtId(AdtId::StructId(StructId {
-        container: at(map, 0),
-        file_id: HirFileId::File(FILE),
-        block: None,
-        id: node(number),
-    }))
-}
-
 /// The enum of crate 0.
 fn choice() -> EnumId {
     EnumId {
@@ -68,50 +53,6 @@ fn variant(number: u16) -> EnumVariantId {
         parent: choice(),
         id: node(number),
     }
-}
-
-/// Binds items to a name, by no import.
-fn name_items(
-    alloc: Global,
-    map: &mut DefMap,
-    at: u32,
-    text: &str,
-    items: PerNs,
-) -> Result<(), Fail> {
-    let mut globs = PerNsGlobImports::new(alloc);
-    let name = Name::new(alloc, text)?;
-    map.push(&mut globs, at, name, items, None)?;
-    Ok(())
-}
-
-/// Adds a module below the root, and binds its name.
-fn name_module(alloc: Global, map: &mut DefMap, text: &str, number: u16) -> Result<(), Fail> {
-    let above = Some(map.root());
-    let module = at(map.id(), map.module_count());
-    let data = ModuleData::new(alloc, inline(number), PUBLIC, above);
-    if map.module_count() > 0 {
-        map.add_module(0, Name::new(alloc, text)?, data)?;
-    }
-    name_items(
-        alloc,
-        map,
-        0,
-        text,
-        types(ModuleDefId::ModuleId(module), PUBLIC),
-    )
-}
-
-/// A map with its root alone, of the latest but one edition.
-fn rooted(
-    alloc: Global,
-    data: DefMapCrateData,
-    krate: Crate,
-    block: Option<BlockInfo>,
-) -> Result<DefMap, Fail> {
-    let origin = ModuleOrigin::CrateRoot { definition: FILE };
-    let root = ModuleData::new(alloc, origin, PUBLIC, None);
-    let map = DefMap::empty(alloc, krate, data, root, block)?;
-    Ok(map)
 }
 
 fn name_variants(alloc: Global, map: &mut DefMap) -> Result<(), Fail> {
@@ -173,11 +114,6 @@ fn extern_zero(alloc: Global) -> Result<LocalDefMap, Fail> {
     let mut local = LocalDefMap::empty(alloc);
     local.add_extern(Name::new(alloc, "zero")?, at(ZERO, 0), None)?;
     Ok(local)
-}
-
-/// Whether a map joins the world.
-fn joins(world: &mut World, map: DefMap, local: LocalDefMap) -> bool {
-    world.insert(map, local).is_ok()
 }
 
 /// The crates 0 and 1, and the block.
@@ -358,9 +294,28 @@ fn fall(rt: &impl Abort, alloc: Global) -> Result<(), Fail> {
     Ok(())
 }
 
+/// Maps that come back fall again, a block through the crate that holds it.
+fn fall_again(rt: &impl Abort, alloc: Global) -> Result<(), Fail> {
+    let mut world = world(rt, alloc)?;
+    world.remove_with_dependents(ZERO)?;
+    assert!(rt;
+        joins(&mut world, crate_zero(alloc)?, LocalDefMap::empty(alloc)),
+        "back"
+    );
+    assert!(rt; joins(&mut world, crate_one(alloc)?, extern_zero(alloc)?));
+    assert!(rt; joins(&mut world, block(alloc)?, LocalDefMap::empty(alloc)));
+    world.remove_with_dependents(ZERO)?;
+    assert!(rt;
+        world.map(ONE).is_none() && world.map(BLOCK).is_none(),
+        "through another one"
+    );
+    Ok(())
+}
+
 #[test]
 fn worlds(rt: HostRuntime) -> Result<(), Fail> {
     stay_out(&rt, rt.alloc())?;
     stays_out(&rt, rt.alloc())?;
-    fall(&rt, rt.alloc())
+    fall(&rt, rt.alloc())?;
+    fall_again(&rt, rt.alloc())
 }

@@ -1,4 +1,4 @@
-//! Inputs that are built: long chains of imports, and the most nodes that a unit may have.
+//! Inputs that are built: long chains of imports, the most nodes that a unit may have, the most crates.
 
 use super::converse;
 use std::alloc::{AllocError, Global};
@@ -71,6 +71,38 @@ fn most_nodes_of_a_unit(rt: HostRuntime) -> Result<(), Fail> {
     ];
     for (label, fields, replies) in rows {
         let lines = wide(rt.alloc(), fields)?;
+        converse(&rt, rt.alloc(), label, lines.as_str(), replies)?;
+    }
+    Ok(())
+}
+
+/// The line of so many crates.
+fn many(alloc: Global, count: u32) -> Result<String, AllocError> {
+    let mut text = String::from_str(alloc, "{\"do\":\"crates\",\"crates\":[")?;
+    text.push_str("{\"edition\":\"2021\",\"root\":\"r0.rs\"}")?;
+    for k in 1..count {
+        write!(text, ",{{\"edition\":\"2021\",\"root\":\"r{k}.rs\"}}")?;
+    }
+    text.push_str("]}\n{\"do\":\"status\",\"at\":[9999]}\n")?;
+    Ok(text)
+}
+
+#[test]
+fn most_crates_of_a_session(rt: HostRuntime) -> Result<(), Fail> {
+    let rows = [
+        (
+            "ten thousand",
+            10_000,
+            "{\"ok\":null}\n{\"ok\":\"stale\"}\n",
+        ),
+        (
+            "one more",
+            10_001,
+            "{\"error\":\"too large\",\"what\":\"crates\"}\n{\"error\":\"command\"}\n",
+        ),
+    ];
+    for (label, count, replies) in rows {
+        let lines = many(rt.alloc(), count)?;
         converse(&rt, rt.alloc(), label, lines.as_str(), replies)?;
     }
     Ok(())

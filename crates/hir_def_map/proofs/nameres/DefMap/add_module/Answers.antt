@@ -9,19 +9,19 @@ use Rattle.hir_def_map.proofs.nameres.DefMap.add_module.Goals as goal
 
 pub invariant_of-self : goal.invariant_of-self
 invariant_of-self c =
-    let others = c.self.inside.modules.items in
+    let others = c.self.inside.modules.modules in
     let same : length c.args.self.now.modules ≡ length others = ap (λ (m : Map). length m.modules) (sym c.self.view_is) in
     let in_range : c.args.parent < length c.args.self.now.modules = c.requires.in_range in
-    IsNumbered-inserted c.insert_module.result others c.insert_module.new.modules.items c.args.parent c.args.name (record { map = c.self.inside.id; index = c.len-count.result }) c.args.module_data
-    (omega arith) c.insert_module.ensures.ok c.insert_module.ensures.err c.self.invariant
+    IsNumbered-inserted c.insert.result others c.insert.new.self.modules c.args.parent c.args.name (record { map = c.id.result; index = c.len-count.result }) c.args.module_data
+    (omega arith) c.insert.ensures.ok c.insert.ensures.err c.self.invariant
 
 pub invariant_of-self-2 : goal.invariant_of-self-2
 invariant_of-self-2 c =
-    let others = c.self.inside.modules.items in
+    let others = c.self.inside.modules.modules in
     let same : length c.args.self.now.modules ≡ length others = ap (λ (m : Map). length m.modules) (sym c.self.view_is) in
     let in_range : c.args.parent < length c.args.self.now.modules = c.requires.in_range in
-    IsNumbered-inserted c.insert_module.result others c.insert_module.new.modules.items c.args.parent c.args.name (record { map = c.self.inside.id; index = c.len-count.result }) c.args.module_data
-    (omega arith) c.insert_module.ensures.ok c.insert_module.ensures.err c.self.invariant
+    IsNumbered-inserted c.insert.result others c.insert.new.self.modules c.args.parent c.args.name (record { map = c.id.result; index = c.len-count.result }) c.args.module_data
+    (omega arith) c.insert.ensures.ok c.insert.ensures.err c.self.invariant
 
 not_below : (n : ℕ) → 2147483647 ≤ n → nat_lt n 2147483647 ≡ false
 not_below n h = go (nat_lt n 2147483647) refl
@@ -32,6 +32,6 @@ not_below n h = go (nat_lt n 2147483647) refl
 
 pub returns-then-count-ge-MAX_MODULES-clause-answer : goal.returns-then-count-ge-MAX_MODULES-clause-answer
 returns-then-count-ge-MAX_MODULES-clause-answer c =
-    let same : length c.args.self.now.modules ≡ length c.self.inside.modules.items = ap (λ (m : Map). length m.modules) (sym c.self.view_is) in
+    let same : length c.args.self.now.modules ≡ length c.self.inside.modules.modules = ap (λ (m : Map). length m.modules) (sym c.self.view_is) in
     let many : 2147483647 ≤ length c.args.self.now.modules = omega arith in
     inr (ap (λ (b : Bool). cond b (Ok (new_id c.args.self.now)) (Err refusals.TooMany)) (not_below (length c.args.self.now.modules) many))

@@ -9,7 +9,7 @@ pub invariant_of-self : goal.invariant_of-self
 invariant_of-self c =
     let numbered : List ModuleValue → Type 0 = λ ms. IsNumbered ms in
     let change : ModuleValue → ModuleValue = with_module_scope (listed c.args.declaration) in
-    either_way numbered c.list_in.result c.list_in.new.modules.items c.self.inside.modules.items
-    (changed_at c.self.inside.modules.items c.args.at change)
-    c.list_in.ensures.ok c.list_in.ensures.err c.self.invariant
-    (IsNumbered-changed_at c.self.inside.modules.items c.args.at change c.self.invariant)
+    either_way numbered c.list.result c.list.new.self.modules c.self.inside.modules.modules
+    (changed_at c.self.inside.modules.modules c.args.at change)
+    c.list.ensures.ok c.list.ensures.err c.self.invariant
+    (IsNumbered-changed_at c.self.inside.modules.modules c.args.at change c.self.invariant)

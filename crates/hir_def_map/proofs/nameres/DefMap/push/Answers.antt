@@ -8,9 +8,9 @@ use Rattle.hir_def_map.proofs.nameres.DefMap.push.Goals as goal
 pub invariant_of-self : goal.invariant_of-self
 invariant_of-self c =
     let numbered : List ModuleValue → Type 0 = λ ms. IsNumbered ms in
-    let place : Place = place_at c.self.inside.id c.args.at c.args.name in
+    let place : Place = place_at c.id.result c.args.at c.args.name in
     let change : ModuleValue → ModuleValue = pushed_module c.args.glob_imports.now place c.args.items c.args.import in
-    either_way numbered c.push_in.result c.push_in.new.modules.items c.self.inside.modules.items
-    (changed_at c.self.inside.modules.items c.args.at change)
-    c.push_in.ensures.ok c.push_in.ensures.err c.self.invariant
-    (IsNumbered-changed_at c.self.inside.modules.items c.args.at change c.self.invariant)
+    either_way numbered c.push.result c.push.new.self.modules c.self.inside.modules.modules
+    (changed_at c.self.inside.modules.modules c.args.at change)
+    c.push.ensures.ok c.push.ensures.err c.self.invariant
+    (IsNumbered-changed_at c.self.inside.modules.modules c.args.at change c.self.invariant)

@@ -7,10 +7,19 @@ pub returns-then-not-contains_key-clause-gone : goal.returns-then-not-contains_k
 returns-then-not-contains_key-clause-gone c = absent_gone _ _ c.args.self.now.checked (none_there _ (sym c.contains_key.ensures ∙ c.if-not-contains_key.true))
 
 pub take_away-requires : goal.take_away-requires
-take_away-requires c = record { closed = checked_closed _ c.args.self.now.checked }
+take_away-requires c = record {
+  closed = checked_closed _ c.args.self.now.checked;
+  indexed = c.args.self.now.indexed;
+  room = c.args.self.now.room;
+  there = sym c.contains_key.ensures ∙ c.if-not-contains_key.false;
+}
 
 pub invariant_of-self : goal.invariant_of-self
-invariant_of-self c = record { checked = fallen_checked _ _ _ c.args.self.now.checked c.take_away.ensures.falling c.take_away.ensures.closed }
+invariant_of-self c = record {
+  checked = fallen_checked _ _ _ c.args.self.now.checked c.take_away.ensures.falling c.take_away.ensures.closed;
+  indexed = c.take_away.ensures.indexed;
+  room = c.take_away.ensures.room;
+}
 
 pub returns-clause-gone : goal.returns-clause-gone
 returns-clause-gone c = dependents_gone _ _ _ c.args.self.now.checked c.take_away.ensures.falling c.take_away.ensures.closed

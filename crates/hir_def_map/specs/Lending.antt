@@ -1,0 +1,21 @@
+-- What becomes of a def map, a part of which is lent?
+use Rattle.std.specs.Prelude.{ℕ, slice_set}
+use Rattle.std.specs.Borrow.{Lends, MutBor, Fml}
+use Rattle.hir_base.specs.declared.ids.ModuleId.{ModuleId}
+use Rattle.hir_def_map.specs.State.{CrateData, Map, ModuleValue}
+use Rattle.hir_def_map.specs.contracts.nameres.DefMap as def_map
+use Rattle.hir_def_map.specs.contracts.nameres.crate_data.DefMapCrateData as crate_data
+use Rattle.hir_def_map.specs.contracts.nameres.module_data.ModuleData as module_data
+
+-- the map has what is left behind the data of its crate, and is as it was besides
+abbrev pub LendsCrateData : MutBor Map → MutBor CrateData → Fml
+LendsCrateData lender lent = Lends def_map.the_row crate_data.the_row lender lent (λ left. record lender.now { crate_data = left })
+
+-- the map has what is left behind the module of a number in its place, and is as it was besides
+abbrev pub LendsModuleAt : MutBor Map → ℕ → MutBor ModuleValue → Fml
+LendsModuleAt lender at lent =
+    Lends def_map.the_row module_data.the_row lender lent (λ left. record lender.now { modules = slice_set lender.now.modules at left })
+
+-- the same of the module of an id
+abbrev pub LendsModule : MutBor Map → ModuleId → MutBor ModuleValue → Fml
+LendsModule lender id lent = LendsModuleAt lender id.index lent

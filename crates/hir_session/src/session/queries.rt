@@ -1,0 +1,141 @@
+//! What a session is asked.
+ghost use Rattle.std.specs.Prelude.{◌≡◌, ◌⊎◌, IfOk, IfErr, Ok, Err, string_bytes};
+ghost use Rattle.hir_base.specs.Refusal.{Gives};
+ghost use Rattle.hir_session.specs.SessionState.{read_of, kept_in, kept_of};
+ghost use Rattle.hir_session.specs.Refusals.{IsQueryMemory, IsTreeTextMemory};
+ghost use Rattle.hir_session.specs.Status.{module_in_kept, module_of, status_of};
+ghost use Rattle.hir_session.specs.Answers.{answer_from, answer_of};
+ghost use Rattle.hir_session.specs.AnswersStand.{AnswersStand};
+ghost use Rattle.hir_session.specs.TreeText.{tree_text_of};
+
+use super::Session;
+use crate::answers::{answer_at, module_below_root};
+use crate::error::{QueryError, TreeTextError};
+use crate::file_trees::page_at;
+use crate::kept::Kept;
+use crate::marks::is_marked_in;
+use hir_base::file_path::FilePath;
+use hir_base::ids::{Crate, ModuleId};
+use hir_base::mod_path::ModPath;
+use hir_base::place::{Place, PlaceElement};
+use hir_def_map::def_maps::DefMaps;
+use hir_def_map::world::part::WorldPart;
+use hir_wire::answer::Answer;
+use hir_wire::command::{MacroStyle, Shadow};
+use hir_wire::reply::Status;
+use std::alloc::Global;
+
+/// The module to which the steps lead in what is kept of a crate.
+fn module_kept(kept: &Kept, k: usize, elements: &[PlaceElement]) -> Option<ModuleId>
+    ensures value { result ≡ module_in_kept (kept_in kept.now k) elements.now }
+{
+    match kept.get(k) {
+        Some(found) => module_below_root(found.map, elements),
+        None => None,
+    }
+}
+
+impl Session {
+    /// How the answers at a place stand.
+    pub fn status(&self, place: &Place) -> Status
+        ensures value { result ≡ status_of self.now place.now }
+    {
+        let k = place.krate().0 as usize;
+        if k >= self.crates.len() {
+            return Status::Unknown;
+        }
+        if is_marked_in(&self.marked, k) {
+            return Status::Stale;
+        }
+        match module_kept(&self.kept, k, place.elements()) {
+            Some(_) => Status::Current,
+            None => Status::Unknown,
+        }
+    }
+
+    /// What a path means over what is kept.
+    fn answer_kept(
+        &self,
+        alloc: Global,
+        place: &Place,
+        path: &ModPath,
+        shadow: Shadow,
+        style: Option<MacroStyle>,
+    ) -> Result<Answer, QueryError>
+        ensures answer { Gives IsQueryMemory result (answer_from self.now.paths (read_of self.now place.now.krate.0) (kept_of self.now place.now.krate.0)
+            (module_of self.now place.now) path.now shadow style) }
+    {
+        let k = place.krate().0 as usize;
+        let Some(found) = self.kept.get(k) else {
+            return Err(QueryError::UnknownPlace);
+        };
+        let Some(info) = self.crates.get(k) else {
+            return Err(QueryError::UnknownPlace);
+        };
+        match module_below_root(found.map, place.elements()) {
+            Some(at) => {
+                let read = WorldPart::among(self.kept.world(), info.behind());
+                let maps = DefMaps::new(read, found.map);
+                let answer = answer_at(
+                    alloc,
+                    &self.paths,
+                    &maps,
+                    found.local,
+                    at,
+                    path,
+                    shadow,
+                    style,
+                )?;
+                Ok(answer)
+            }
+            None => Err(QueryError::UnknownPlace),
+        }
+    }
+
+    /// What a path means, asked from the module that a place names.
+    pub fn resolve_path(
+        &self,
+        alloc: Global,
+        place: &Place,
+        path: &ModPath,
+        shadow: Shadow,
+        style: Option<MacroStyle>,
+    ) -> Result<Answer, QueryError>
+        ensures answer { Gives IsQueryMemory result (answer_of self.now place.now path.now shadow style) }
+        ensures stands { IfOk result (λ answer. AnswersStand self.now place.now path.now shadow style answer) }
+    {
+        self.sound();
+        match self.status(place) {
+            Status::Current => {
+                let answer = self.answer_kept(alloc, place, path, shadow, style)?;
+                Ok(answer)
+            }
+            Status::Stale => Err(QueryError::StalePlace),
+            Status::Unknown => Err(QueryError::UnknownPlace),
+        }
+    }
+
+    /// The page of a file's tree, with names as the crate's edition writes them.
+    pub fn tree_text(
+        &self,
+        alloc: Global,
+        krate: Crate,
+        file: &FilePath,
+    ) -> Result<String, TreeTextError>
+        ensures page { IfOk result (λ text. tree_text_of self.now krate file.now ≡ Ok (string_bytes text)) }
+        ensures refused { IfErr result (λ e. IsTreeTextMemory e ⊎ (tree_text_of self.now krate file.now ≡ Err e)) }
+    {
+        let Some(info) = self.crates.get(krate.0 as usize) else {
+            return Err(TreeTextError::UnknownCrate);
+        };
+        let text = page_at(
+            alloc,
+            &self.crates,
+            &self.files,
+            krate,
+            file,
+            info.root().edition,
+        )?;
+        Ok(text)
+    }
+}

@@ -1,0 +1,229 @@
+//! What types, values and macros stand for.
+ghost use Rattle.std.specs.Prelude.{◌≡◌, IfOk, option_map};
+ghost use Rattle.hir_def_map.specs.DefMaps.{maps_of};
+ghost use Rattle.hir_def_map.specs.State.{module_in};
+ghost use Rattle.hir_session.specs.SourceItems.{item_of, crate_of, module_by, module_definition, adt_definition, macro_definition, definition_of};
+
+use super::item_at;
+use hir_base::ast_id::{AstKind, BlockId, HirFileId, SyntaxId};
+use hir_base::file_path::FilePath;
+use hir_base::ids::{AdtId, Crate, ItemContainerId, ModuleDefId, ModuleId};
+use hir_base::macro_kind::MacroId;
+use hir_def_map::def_maps::DefMaps;
+use hir_def_map::nameres::origin::ModuleOrigin;
+use hir_wire::answer::{Definition, SourceKind};
+use std::alloc::{AllocError, Global};
+
+/// The crate of what holds an item.
+fn crate_at(container: ItemContainerId) -> Crate
+    ensures value { result ≡ crate_of container }
+{
+    match container {
+        ItemContainerId::ExternBlockId(id) => id.container.map.krate,
+        ItemContainerId::ModuleId(id) => id.map.krate,
+        ItemContainerId::ImplId(id) => id.container.map.krate,
+        ItemContainerId::TraitId(id) => id.container.map.krate,
+    }
+}
+
+/// The crate's root, or the module's node; a block is none.
+fn module_with(
+    alloc: Global,
+    paths: &Vec<FilePath>,
+    krate: Crate,
+    origin: ModuleOrigin,
+) -> Result<Option<Definition>, AllocError>
+    ensures value { IfOk result (λ o. o ≡ module_by paths.now.items krate origin) }
+{
+    match origin {
+        ModuleOrigin::CrateRoot { .. } => Ok(Some(Definition::CrateRoot(krate))),
+        ModuleOrigin::File {
+            declaration: node,
+            declaration_tree_id: tree,
+            ..
+        }
+        | ModuleOrigin::Inline {
+            definition_tree_id: tree,
+            definition: node,
+        } => {
+            let kind = SourceKind::Node(AstKind::Module);
+            item_at(alloc, paths, krate, kind, node.file_id, tree.block, node.id)
+        }
+        ModuleOrigin::BlockExpr { .. } => Ok(None),
+    }
+}
+
+/// Where a module of one of the maps is written.
+fn origin_at(maps: &DefMaps<'_>, m: ModuleId) -> Option<ModuleOrigin>
+    ensures value { result ≡ option_map (λ found. found.origin) (module_in (maps_of maps.now) m) }
+{
+    match maps.map(m.map) {
+        Some(map) => map.origin(m.index),
+        None => None,
+    }
+}
+
+/// A module of one of the maps, by its node.
+pub fn module_at(
+    alloc: Global,
+    paths: &Vec<FilePath>,
+    maps: &DefMaps<'_>,
+    m: ModuleId,
+) -> Result<Option<Definition>, AllocError>
+    ensures value { IfOk result (λ o. o ≡ module_definition paths.now.items (maps_of maps.now) m) }
+{
+    match origin_at(maps, m) {
+        Some(origin) => module_with(alloc, paths, m.map.krate, origin),
+        None => Ok(None),
+    }
+}
+
+/// A struct, a union or an enum.
+fn adt_at(
+    alloc: Global,
+    paths: &Vec<FilePath>,
+    adt: AdtId,
+) -> Result<Option<Definition>, AllocError>
+    ensures value { IfOk result (λ o. o ≡ adt_definition paths.now.items adt) }
+{
+    match adt {
+        AdtId::StructId(i) => {
+            let kind = SourceKind::Node(AstKind::Struct);
+            let krate = i.container.map.krate;
+            item_at(alloc, paths, krate, kind, i.file_id, i.block, i.id)
+        }
+        AdtId::UnionId(i) => {
+            let kind = SourceKind::Node(AstKind::Union);
+            let krate = i.container.map.krate;
+            item_at(alloc, paths, krate, kind, i.file_id, i.block, i.id)
+        }
+        AdtId::EnumId(i) => {
+            let kind = SourceKind::Node(AstKind::Enum);
+            let krate = i.container.map.krate;
+            item_at(alloc, paths, krate, kind, i.file_id, i.block, i.id)
+        }
+    }
+}
+
+/// A macro; a procedural one is named by its function.
+pub fn macro_at(
+    alloc: Global,
+    paths: &Vec<FilePath>,
+    makro: MacroId,
+) -> Result<Option<Definition>, AllocError>
+    ensures value { IfOk result (λ o. o ≡ macro_definition paths.now.items makro) }
+{
+    match makro {
+        MacroId::Macro2Id(i) => {
+            let kind = SourceKind::Node(AstKind::MacroDef);
+            let krate = i.container.map.krate;
+            item_at(alloc, paths, krate, kind, i.file_id, i.block, i.id)
+        }
+        MacroId::MacroRulesId(i) => {
+            let kind = SourceKind::Node(AstKind::MacroRules);
+            let krate = i.container.map.krate;
+            item_at(alloc, paths, krate, kind, i.file_id, i.block, i.id)
+        }
+        MacroId::ProcMacroId(i) => {
+            let kind = SourceKind::ProcMacro;
+            let krate = i.container.map.krate;
+            item_at(alloc, paths, krate, kind, i.file_id, i.block, i.id)
+        }
+    }
+}
+
+/// An item in a module, a trait, an impl or an extern block.
+fn held_item_at(
+    alloc: Global,
+    paths: &Vec<FilePath>,
+    container: ItemContainerId,
+    kind: AstKind,
+    file: HirFileId,
+    block: Option<BlockId>,
+    id: SyntaxId,
+) -> Result<Option<Definition>, AllocError>
+    ensures value { IfOk result (λ o. o ≡ item_of paths.now.items (crate_of container) (SourceKind.Node kind) file block id) }
+{
+    let krate = crate_at(container);
+    item_at(alloc, paths, krate, SourceKind::Node(kind), file, block, id)
+}
+
+/// What a type or a value stands for.
+pub fn definition_at(
+    alloc: Global,
+    paths: &Vec<FilePath>,
+    maps: &DefMaps<'_>,
+    def: ModuleDefId,
+) -> Result<Option<Definition>, AllocError>
+    ensures value { IfOk result (λ o. o ≡ definition_of paths.now.items (maps_of maps.now) def) }
+{
+    match def {
+        ModuleDefId::ModuleId(m) => module_at(alloc, paths, maps, m),
+        ModuleDefId::FunctionId(i) => {
+            held_item_at(
+                alloc,
+                paths,
+                i.container,
+                AstKind::Fn,
+                i.file_id,
+                i.block,
+                i.id,
+            )
+        }
+        ModuleDefId::AdtId(adt) => adt_at(alloc, paths, adt),
+        ModuleDefId::EnumVariantId(i) => {
+            let kind = SourceKind::Node(AstKind::Variant);
+            let parent = i.parent;
+            let krate = parent.container.map.krate;
+            item_at(
+                alloc,
+                paths,
+                krate,
+                kind,
+                parent.file_id,
+                parent.block,
+                i.id,
+            )
+        }
+        ModuleDefId::ConstId(i) => {
+            held_item_at(
+                alloc,
+                paths,
+                i.container,
+                AstKind::Const,
+                i.file_id,
+                i.block,
+                i.id,
+            )
+        }
+        ModuleDefId::StaticId(i) => {
+            held_item_at(
+                alloc,
+                paths,
+                i.container,
+                AstKind::Static,
+                i.file_id,
+                i.block,
+                i.id,
+            )
+        }
+        ModuleDefId::TraitId(i) => {
+            let kind = SourceKind::Node(AstKind::Trait);
+            let krate = i.container.map.krate;
+            item_at(alloc, paths, krate, kind, i.file_id, i.block, i.id)
+        }
+        ModuleDefId::TypeAliasId(i) => {
+            held_item_at(
+                alloc,
+                paths,
+                i.container,
+                AstKind::TypeAlias,
+                i.file_id,
+                i.block,
+                i.id,
+            )
+        }
+        ModuleDefId::BuiltinType(builtin) => Ok(Some(Definition::Builtin(builtin))),
+        ModuleDefId::MacroId(makro) => macro_at(alloc, paths, makro),
+    }
+}

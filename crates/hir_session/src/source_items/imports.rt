@@ -1,0 +1,67 @@
+//! What made a binding.
+ghost use Rattle.std.specs.Prelude.{◌≡◌, IfOk};
+ghost use Rattle.hir_session.specs.SourceItems.{use_source, import_source, value_import_source};
+
+use super::source_at;
+use hir_base::file_path::FilePath;
+use hir_base::ids::UseId;
+use hir_scope::imports::{ImportOrExternCrate, ImportOrGlob};
+use hir_wire::answer::{ImportOrigin, ImportSource};
+use std::alloc::{AllocError, Global};
+
+/// A `use` item, with the kind and the place of its leaf.
+fn use_at(
+    alloc: Global,
+    paths: &Vec<FilePath>,
+    by: UseId,
+    origin: ImportOrigin,
+) -> Result<Option<ImportSource>, AllocError>
+    ensures value { IfOk result (λ o. o ≡ use_source paths.now.items by origin) }
+{
+    match source_at(alloc, paths, by.file_id, by.block)? {
+        Some(source) => Ok(Some(ImportSource {
+            source,
+            id: by.id,
+            origin,
+        })),
+        None => Ok(None),
+    }
+}
+
+/// What made a type or a macro.
+pub fn import_at(
+    alloc: Global,
+    paths: &Vec<FilePath>,
+    by: ImportOrExternCrate,
+) -> Result<Option<ImportSource>, AllocError>
+    ensures value { IfOk result (λ o. o ≡ import_source paths.now.items by) }
+{
+    match by {
+        ImportOrExternCrate::Glob(g) => use_at(alloc, paths, g.use_, ImportOrigin::Glob(g.idx)),
+        ImportOrExternCrate::Import(i) => use_at(alloc, paths, i.use_, ImportOrigin::Import(i.idx)),
+        ImportOrExternCrate::ExternCrate(i) => {
+            match source_at(alloc, paths, i.file_id, i.block)? {
+                Some(source) => Ok(Some(ImportSource {
+                    source,
+                    id: i.id,
+                    origin: ImportOrigin::ExternCrate,
+                })),
+                None => Ok(None),
+            }
+        }
+    }
+}
+
+/// What made a value.
+pub fn value_import_at(
+    alloc: Global,
+    paths: &Vec<FilePath>,
+    by: ImportOrGlob,
+) -> Result<Option<ImportSource>, AllocError>
+    ensures value { IfOk result (λ o. o ≡ value_import_source paths.now.items by) }
+{
+    match by {
+        ImportOrGlob::Glob(g) => use_at(alloc, paths, g.use_, ImportOrigin::Glob(g.idx)),
+        ImportOrGlob::Import(i) => use_at(alloc, paths, i.use_, ImportOrigin::Import(i.idx)),
+    }
+}
