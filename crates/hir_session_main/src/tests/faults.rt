@@ -2,6 +2,7 @@
 use super::streams::{Narrow, Pieces};
 use hir_session::{Fault, run};
 use std::alloc::{AllocError, Global};
+use std::process::Abort;
 use std::test::Fail;
 
 /// Each line, and its reply.
@@ -44,11 +45,58 @@ fn ends_in(bytes: &[u8]) -> usize {
     bytes.iter().filter(|byte| **byte == b'\n').count()
 }
 
+/// How long the first lines are, each with its end.
+fn length_of(count: usize) -> usize {
+    let mut length = 0usize;
+    for (line, _) in LINES.iter().take(count) {
+        length = length.saturating_add(line.len()).saturating_add(1);
+    }
+    length
+}
+
+/// The replies to the first lines, and to a line that is no JSON.
+fn output_and_no_json(alloc: Global, count: usize) -> Result<Vec<u8>, AllocError> {
+    let mut output = output_of(alloc, count)?;
+    output.extend_from_slice(b"{\"error\":\"json\"}\n")?;
+    Ok(output)
+}
+
+/// The replies to a front of the input: the ended lines are answered, and what follows them is no JSON, if it is not the
+/// whole next line.
+fn replies_to(alloc: Global, front: &[u8]) -> Result<Vec<u8>, AllocError> {
+    let ended = ends_in(front);
+    let more = ended.saturating_add(1);
+    if length_of(ended) == front.len() {
+        output_of(alloc, ended)
+    } else if length_of(more) == front.len().saturating_add(1) {
+        output_of(alloc, more)
+    } else {
+        output_and_no_json(alloc, ended)
+    }
+}
+
 /// All lines, the last without its end.
 fn whole_input(alloc: Global) -> Result<Vec<u8>, AllocError> {
     let mut input = input_of(alloc, LINES.len())?;
     let _ = input.pop();
     Ok(input)
+}
+
+/// Asserts what was written, in a row of two numbers.
+fn are_bytes(rt: &impl Abort, found: &[u8], wanted: &[u8], row: (usize, usize)) {
+    let (first, second) = row;
+    assert_eq!(rt; found, wanted, "{first} {second}");
+}
+
+/// Asserts how a session ended, in a row of two numbers.
+fn has_ended(
+    rt: &impl Abort,
+    found: Result<(), Fault>,
+    wanted: Result<(), Fault>,
+    row: (usize, usize),
+) {
+    let (first, second) = row;
+    assert_eq!(rt; found, wanted, "{first} {second}");
 }
 
 #[test]
@@ -60,30 +108,80 @@ fn empty_input_gives_no_reply(rt: HostRuntime) -> Result<(), Fail> {
     Ok(())
 }
 
+/// What is written of the input, read in pieces of one size and written in pieces of another.
+fn written_in_pieces(
+    alloc: Global,
+    input: &[u8],
+    read_size: usize,
+    write_size: usize,
+) -> Result<Vec<u8>, Fail> {
+    let mut reader = Pieces {
+        left: input,
+        size: read_size,
+        calls: 0,
+        fails_at: 0,
+    };
+    let mut writer = Narrow {
+        taken: Vec::new(alloc),
+        size: write_size,
+        room: 10_000,
+        fails: true,
+    };
+    run(alloc, &mut reader, &mut writer)?;
+    Ok(writer.taken)
+}
+
+fn is_answered_in_pieces(
+    rt: &impl Abort,
+    alloc: Global,
+    input: &[u8],
+    output: &[u8],
+    sizes: (usize, usize),
+) -> Result<(), Fail> {
+    let written = written_in_pieces(alloc, input, sizes.0, sizes.1)?;
+    are_bytes(rt, written.as_slice(), output, sizes);
+    Ok(())
+}
+
+const SIZES: [(usize, usize); 6] = [(1, 1), (2, 3), (7, 5), (100, 1), (1, 100), (1000, 1000)];
+
+fn are_answered_in_pieces(
+    rt: &impl Abort,
+    alloc: Global,
+    input: &[u8],
+    output: &[u8],
+) -> Result<(), Fail> {
+    for sizes in SIZES {
+        is_answered_in_pieces(rt, alloc, input, output, sizes)?;
+    }
+    Ok(())
+}
+
 /// The input in pieces of one size, the output in pieces of another.
 #[test]
 fn last_line_without_a_newline(rt: HostRuntime) -> Result<(), Fail> {
     let input = whole_input(rt.alloc())?;
     let output = output_of(rt.alloc(), LINES.len())?;
-    for (read_size, write_size) in [(1, 1), (2, 3), (7, 5), (100, 1), (1, 100), (1000, 1000)] {
-        let mut reader = Pieces {
-            left: input.as_slice(),
-            size: read_size,
-            calls: 0,
-            fails_at: 0,
-        };
-        let mut writer = Narrow {
-            taken: Vec::new(rt.alloc()),
-            size: write_size,
-            room: 10_000,
-            fails: true,
-        };
-        run(rt.alloc(), &mut reader, &mut writer)?;
-        assert_eq!(rt;
-            writer.taken.as_slice(),
-            output.as_slice(),
-            "{read_size} {write_size}"
-        );
+    are_answered_in_pieces(&rt, rt.alloc(), input.as_slice(), output.as_slice())
+}
+
+fn written(alloc: Global, front: &[u8]) -> Result<Vec<u8>, Fail> {
+    let mut taken = Vec::new(alloc);
+    let mut reader = front;
+    run(alloc, &mut reader, &mut taken)?;
+    Ok(taken)
+}
+
+fn is_answered(rt: &impl Abort, alloc: Global, front: &[u8]) -> Result<(), Fail> {
+    let output = replies_to(alloc, front)?;
+    let taken = written(alloc, front)?;
+    are_bytes(rt, taken.as_slice(), output.as_slice(), (front.len(), 0));
+    Ok(())
+}
+
+fn are_answered(rt: &impl Abort, alloc: Global, input: &[u8]) -> Result<(), Fail> {
+    for cut in 0..input.len() {
+        is_answered(rt, alloc, &input[..cut])?;
     }
     Ok(())
 }
@@ -92,21 +190,55 @@ fn last_line_without_a_newline(rt: HostRuntime) -> Result<(), Fail> {
 #[test]
 fn line_cut_at_each_byte(rt: HostRuntime) -> Result<(), Fail> {
     let input = whole_input(rt.alloc())?;
-    for cut in 0..input.len() {
-        let given = &input.as_slice()[..cut];
-        let ended = ends_in(given);
-        let mut output = output_of(rt.alloc(), ended)?;
-        let closed = input_of(rt.alloc(), ended)?;
-        let next = input_of(rt.alloc(), ended.saturating_add(1))?;
-        if next.len() == cut.saturating_add(1) && closed.len() < cut {
-            output = output_of(rt.alloc(), ended.saturating_add(1))?;
-        } else if closed.len() < cut {
-            output.extend_from_slice(b"{\"error\":\"json\"}\n")?;
-        }
-        let mut taken = Vec::new(rt.alloc());
-        let mut reader = given;
-        run(rt.alloc(), &mut reader, &mut taken)?;
-        assert_eq!(rt; taken.as_slice(), output.as_slice(), "{cut}");
+    are_answered(&rt, rt.alloc(), input.as_slice())
+}
+
+/// What was written of an input is what its front is answered by.
+fn answers_front(
+    rt: &impl Abort,
+    alloc: Global,
+    taken: &[u8],
+    front: &[u8],
+    row: (usize, usize),
+) -> Result<(), Fail> {
+    let output = output_of(alloc, ends_in(front))?;
+    are_bytes(rt, taken, output.as_slice(), row);
+    Ok(())
+}
+
+/// One read fails, after so many bytes were given, or the input ends before.
+fn read_fails(
+    rt: &impl Abort,
+    alloc: Global,
+    input: &[u8],
+    row: (usize, usize),
+    given: usize,
+) -> Result<(), Fail> {
+    let (size, call) = row;
+    let mut reader = Pieces {
+        left: input,
+        size,
+        calls: 0,
+        fails_at: call,
+    };
+    let mut taken = Vec::new(alloc);
+    let ended = run(alloc, &mut reader, &mut taken);
+    if reader.calls == call {
+        has_ended(rt, ended, Err(Fault::ReadFault), row);
+        let front = input.len().min(given);
+        answers_front(rt, alloc, taken.as_slice(), &input[..front], row)
+    } else {
+        has_ended(rt, ended, Ok(()), row);
+        assert!(rt; input.len() <= given, "{size} {call}");
+        Ok(())
+    }
+}
+
+fn each_fails(rt: &impl Abort, alloc: Global, input: &[u8], size: usize) -> Result<(), Fail> {
+    let mut given = 0;
+    for call in 1..400 {
+        read_fails(rt, alloc, input, (size, call), given)?;
+        given = size.saturating_add(given);
     }
     Ok(())
 }
@@ -115,54 +247,62 @@ fn line_cut_at_each_byte(rt: HostRuntime) -> Result<(), Fail> {
 #[test]
 fn each_read_fails_in_turn(rt: HostRuntime) -> Result<(), Fail> {
     let input = whole_input(rt.alloc())?;
-    for size in [1, 3, 50] {
-        let mut given = 0;
-        for call in 1..400 {
-            let mut reader = Pieces {
-                left: input.as_slice(),
-                size,
-                calls: 0,
-                fails_at: call,
-            };
-            let mut taken = Vec::new(rt.alloc());
-            let ended = run(rt.alloc(), &mut reader, &mut taken);
-            let front = input.len().min(given);
-            let output = output_of(rt.alloc(), ends_in(&input.as_slice()[..front]))?;
-            if reader.calls == call {
-                assert_eq!(rt; ended, Err(Fault::ReadFault), "{size} {call}");
-                assert_eq!(rt; taken.as_slice(), output.as_slice(), "{size} {call}");
-            } else {
-                assert_eq!(rt; ended, Ok(()), "{size} {call}");
-                assert!(rt; input.len() <= given, "{size} {call}");
-            }
-            given = size.saturating_add(given);
-        }
-    }
-    Ok(())
+    each_fails(&rt, rt.alloc(), input.as_slice(), 1)?;
+    each_fails(&rt, rt.alloc(), input.as_slice(), 3)?;
+    each_fails(&rt, rt.alloc(), input.as_slice(), 50)
 }
+
+/// The writer takes so many bytes, in pieces of a size, and then nothing, or fails.
+fn writer_stops(
+    rt: &impl Abort,
+    alloc: Global,
+    input: &[u8],
+    front: &[u8],
+    size: usize,
+    fails: bool,
+) {
+    let row = (size, front.len());
+    let mut writer = Narrow {
+        taken: Vec::new(alloc),
+        size,
+        room: front.len(),
+        fails,
+    };
+    let mut reader = input;
+    let ended = run(alloc, &mut reader, &mut writer);
+    has_ended(rt, ended, Err(Fault::WriteFault), row);
+    are_bytes(rt, writer.taken.as_slice(), front, row);
+}
+
+fn writers_stop(
+    rt: &impl Abort,
+    alloc: Global,
+    input: &[u8],
+    output: &[u8],
+    size: usize,
+    fails: bool,
+) {
+    for room in 0..output.len() {
+        writer_stops(rt, alloc, input, &output[..room], size, fails);
+    }
+}
+
+const WRITERS: [(usize, bool); 4] = [(1, false), (1, true), (3, false), (1000, true)];
 
 /// A front of the replies was written, by a writer that takes nothing more or fails.
 #[test]
 fn writer_stops_after_k_bytes(rt: HostRuntime) -> Result<(), Fail> {
     let input = whole_input(rt.alloc())?;
     let output = output_of(rt.alloc(), LINES.len())?;
-    for (size, fails) in [(1, false), (1, true), (3, false), (1000, true)] {
-        for room in 0..output.len() {
-            let mut writer = Narrow {
-                taken: Vec::new(rt.alloc()),
-                size,
-                room,
-                fails,
-            };
-            let mut reader = input.as_slice();
-            let ended = run(rt.alloc(), &mut reader, &mut writer);
-            assert_eq!(rt; ended, Err(Fault::WriteFault), "{size} {room}");
-            assert_eq!(rt;
-                writer.taken.as_slice(),
-                &output.as_slice()[..room],
-                "{size} {room}"
-            );
-        }
+    for (size, fails) in WRITERS {
+        writers_stop(
+            &rt,
+            rt.alloc(),
+            input.as_slice(),
+            output.as_slice(),
+            size,
+            fails,
+        );
     }
     Ok(())
 }
