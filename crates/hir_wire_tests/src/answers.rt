@@ -1,5 +1,6 @@
 //! Answers and places as they are written.
 
+use crate::written::is_written;
 use hir_base::ast_id::{AstKind, SyntaxId};
 use hir_base::builtin_type::{BuiltinInt, BuiltinType};
 use hir_base::file_path::FilePath;
@@ -8,7 +9,7 @@ use hir_base::name::Name;
 use hir_wire::{
     Answer, AnswerItem, AnswerVisibility, Definition, ImportOrigin, ImportSource, ItemSource,
     Place, PlaceElement, Places, Reply, SourceCall, SourceCallKind, SourceCalls, SourceItem,
-    SourceKind, SourceRoot, fixed_text, reply_text,
+    SourceKind, SourceRoot, fixed_text,
 };
 use std::alloc::{AllocError, Global};
 use std::process::Abort;
@@ -18,33 +19,33 @@ fn is_varying(rt: &impl Abort, row: &str, reply: &Reply) {
     assert!(rt; fixed_text(reply).is_none(), "{row}");
 }
 
-/// The text of a reply.
-fn text_of(alloc: Global, reply: Reply) -> Result<String, AllocError> {
-    reply_text(alloc, &reply)
+/// A reply that varies is written as this text.
+fn is_written_as(
+    rt: &impl Abort,
+    alloc: Global,
+    reply: &Reply,
+    text: &str,
+    row: &str,
+) -> Result<(), AllocError> {
+    is_varying(rt, row, reply);
+    is_written(rt, alloc, reply, text, row)
 }
 
 /// A reply that varies, written as this text.
-fn varying(rt: &impl Abort, alloc: Global, reply: Reply, text: &str) -> Result<(), Fail> {
-    is_varying(rt, text, &reply);
-    let written = text_of(alloc, reply)?;
-    assert_eq!(rt; written.as_str(), text);
-    Ok(())
-}
-
-fn name_of(alloc: Global, text: &'static str) -> Result<Name, Fail> {
-    Ok(Name::new(alloc, text).map_err(|_| text)?)
+fn varying(rt: &impl Abort, alloc: Global, reply: Reply, text: &str) -> Result<(), AllocError> {
+    is_written_as(rt, alloc, &reply, text, text)
 }
 
 /// The place of a block in a module of crate 2.
 fn block_place(alloc: Global) -> Result<Place, Fail> {
     let mut elements = Vec::new(alloc);
-    elements.push(PlaceElement::Module(name_of(alloc, "m")?))?;
+    elements.push(PlaceElement::Module(Name::new(alloc, "m")?))?;
     elements.push(PlaceElement::Block(SyntaxId { hash: 7, index: 1 }))?;
     Ok(Place::new(Crate(2), elements))
 }
 
 fn file_source(alloc: Global) -> Result<ItemSource, Fail> {
-    let file = FilePath::parse(alloc, "a\"b.rs").map_err(|_| "a file")?;
+    let file = FilePath::parse(alloc, "a\"b.rs")?;
     Ok(ItemSource {
         root: SourceRoot::File(file),
         calls: SourceCalls::new(Vec::new(alloc)),
@@ -76,13 +77,27 @@ fn block_source(alloc: Global) -> Result<ItemSource, Fail> {
 }
 
 /// The reply whose types name this, and nothing else.
-fn reply_of(def: Definition, vis: AnswerVisibility, import: Option<ImportSource>) -> Reply {
+fn reply_of(types: AnswerItem) -> Reply {
     Reply::Answer(Answer {
-        types: Some(AnswerItem { def, import, vis }),
+        types: Some(types),
         values: None,
         macros: None,
         stop: Some(2),
     })
+}
+
+/// An answer is written with these types.
+fn has_types(
+    rt: &impl Abort,
+    alloc: Global,
+    row: &str,
+    reply: &Reply,
+    types: &str,
+) -> Result<(), AllocError> {
+    let wanted = format!(in alloc;
+        "{{\"ok\":{{\"macros\":null,\"stop\":2,\"types\":{types},\"values\":null}}}}"
+    )?;
+    is_written_as(rt, alloc, reply, wanted.as_str(), row)
 }
 
 fn written(
@@ -91,24 +106,24 @@ fn written(
     row: &str,
     reply: Reply,
     types: &str,
-) -> Result<(), Fail> {
-    is_varying(rt, row, &reply);
-    let text = text_of(alloc, reply)?;
-    let wanted = format!(in alloc;
-        "{{\"ok\":{{\"macros\":null,\"stop\":2,\"types\":{types},\"values\":null}}}}"
-    )?;
-    assert_eq!(rt; text.as_str(), wanted.as_str(), "{row}");
-    Ok(())
+) -> Result<(), AllocError> {
+    has_types(rt, alloc, row, &reply, types)
 }
 
 fn builtin_type() -> Reply {
-    let def = Definition::Builtin(BuiltinType::Int(BuiltinInt::I128));
-    reply_of(def, AnswerVisibility::Public, None)
+    reply_of(AnswerItem {
+        def: Definition::Builtin(BuiltinType::Int(BuiltinInt::I128)),
+        import: None,
+        vis: AnswerVisibility::Public,
+    })
 }
 
 fn root_of_a_crate() -> Reply {
-    let vis = AnswerVisibility::Crate(Crate(4294967295));
-    reply_of(Definition::CrateRoot(Crate(7)), vis, None)
+    reply_of(AnswerItem {
+        def: Definition::CrateRoot(Crate(7)),
+        import: None,
+        vis: AnswerVisibility::Crate(Crate(4294967295)),
+    })
 }
 
 fn root_of_a_block(alloc: Global) -> Result<Reply, Fail> {
@@ -120,7 +135,11 @@ fn root_of_a_block(alloc: Global) -> Result<Reply, Fail> {
         explicit: true,
         module: Definition::CrateRoot(Crate(0)),
     };
-    Ok(reply_of(block, vis, None))
+    Ok(reply_of(AnswerItem {
+        def: block,
+        import: None,
+        vis,
+    }))
 }
 
 #[test]
@@ -146,7 +165,8 @@ fn answers_as_they_are_written(rt: HostRuntime) -> Result<(), Fail> {
         "root of a block",
         root_of_a_block(alloc)?,
         r#"{"def":{"crate":2,"in":[[2,"m",{"block":[7,1]}]],"kind":"BlockExpr"},"import":null,"vis":{"explicit":true,"module":{"crate":0,"kind":"CrateRoot"}}}"#,
-    )
+    )?;
+    Ok(())
 }
 
 fn item_below_calls(alloc: Global) -> Result<Definition, Fail> {
@@ -173,7 +193,11 @@ fn import_by(alloc: Global, origin: ImportOrigin) -> Result<ImportSource, Fail> 
 fn imported_item(alloc: Global) -> Result<Reply, Fail> {
     let import = import_by(alloc, ImportOrigin::Glob(12))?;
     let def = item_below_calls(alloc)?;
-    Ok(reply_of(def, AnswerVisibility::Public, Some(import)))
+    Ok(reply_of(AnswerItem {
+        def,
+        import: Some(import),
+        vis: AnswerVisibility::Public,
+    }))
 }
 
 /// An item by the tree that it is written in, and the import that brought it.
@@ -186,13 +210,18 @@ fn items_as_they_are_written(rt: HostRuntime) -> Result<(), Fail> {
         "item below calls",
         imported_item(alloc)?,
         r#"{"def":{"crate":1,"id":[9,8],"in":[[2,"m",{"block":[7,1]}],{"id":[3,0],"kind":"MacroCall"},{"attr":4,"id":[3,0],"kind":"Fn"},{"attr":5,"derive":6,"id":[3,0],"kind":"Struct"}],"kind":"ProcMacro"},"import":{"id":[1,0],"in":["a\"b.rs"],"kind":"glob","place":12},"vis":"pub"}"#,
-    )
+    )?;
+    Ok(())
 }
 
 fn imported_type(alloc: Global, origin: ImportOrigin) -> Result<Reply, Fail> {
     let import = import_by(alloc, origin)?;
     let def = Definition::Builtin(BuiltinType::Str);
-    Ok(reply_of(def, AnswerVisibility::Public, Some(import)))
+    Ok(reply_of(AnswerItem {
+        def,
+        import: Some(import),
+        vis: AnswerVisibility::Public,
+    }))
 }
 
 #[test]
@@ -236,5 +265,6 @@ fn places_and_crates_in_replies(rt: HostRuntime) -> Result<(), Fail> {
     let two = "{\"ok\":[[0],[2,\"m\",{\"block\":[7,1]}]]}";
     varying(&rt, alloc, two_places(alloc)?, two)?;
     let order = "{\"crate\":3,\"error\":\"dependency order\"}";
-    varying(&rt, alloc, Reply::DependencyOrder(Crate(3)), order)
+    varying(&rt, alloc, Reply::DependencyOrder(Crate(3)), order)?;
+    Ok(())
 }

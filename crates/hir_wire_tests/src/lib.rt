@@ -11,3 +11,5 @@ mod nodes;
 mod refused_lines;
 #[cfg(test)]
 mod replies;
+#[cfg(test)]
+mod written;

@@ -1,27 +1,37 @@
 //! Replies that are always the same, and those that name one thing.
 
+use crate::written::is_written;
 use hir_base::ast_id::{AstKind, SyntaxId};
 use hir_base::limit::Limit;
-use hir_wire::{Reply, Status, fixed_text, reply_text};
+use hir_wire::{Reply, Status, fixed_text};
 use std::alloc::{AllocError, Global};
 use std::process::Abort;
 use std::test::Fail;
-
-/// The text of a reply.
-fn text_of(alloc: Global, reply: Reply) -> Result<String, AllocError> {
-    reply_text(alloc, &reply)
-}
 
 fn is_fixed(rt: &impl Abort, reply: &Reply, text: &str) {
     assert_eq!(rt; fixed_text(reply), Some(text));
 }
 
+/// A reply is written as this text, and always so.
+fn is_always(rt: &impl Abort, alloc: Global, reply: &Reply, text: &str) -> Result<(), AllocError> {
+    is_fixed(rt, reply, text);
+    is_written(rt, alloc, reply, text, text)
+}
+
 /// A reply that is always the same.
-fn always(rt: &impl Abort, alloc: Global, reply: Reply, text: &str) -> Result<(), Fail> {
-    is_fixed(rt, &reply, text);
-    let written = text_of(alloc, reply)?;
-    assert_eq!(rt; written.as_str(), text);
-    Ok(())
+fn always(rt: &impl Abort, alloc: Global, reply: Reply, text: &str) -> Result<(), AllocError> {
+    is_always(rt, alloc, &reply, text)
+}
+
+/// A reply, written as this text.
+fn written(
+    rt: &impl Abort,
+    alloc: Global,
+    reply: Reply,
+    text: &str,
+    row: &str,
+) -> Result<(), AllocError> {
+    is_written(rt, alloc, &reply, text, row)
 }
 
 #[test]
@@ -51,82 +61,96 @@ fn replies_without_parts(rt: HostRuntime) -> Result<(), Fail> {
         alloc,
         Reply::NoSuchImpl,
         "{\"error\":\"no such impl\"}",
-    )
+    )?;
+    Ok(())
 }
+
+/// Each status, and the reply that tells it.
+const STATUSES: &[(Status, &str)] = &[
+    (Status::Current, "{\"ok\":\"current\"}"),
+    (Status::Stale, "{\"ok\":\"stale\"}"),
+    (Status::Unknown, "{\"ok\":\"unknown\"}"),
+];
 
 #[test]
 fn replies_that_tell_a_status(rt: HostRuntime) -> Result<(), Fail> {
-    let rows = [
-        (Status::Current, "{\"ok\":\"current\"}"),
-        (Status::Stale, "{\"ok\":\"stale\"}"),
-        (Status::Unknown, "{\"ok\":\"unknown\"}"),
-    ];
-    for (status, text) in rows {
+    for &(status, text) in STATUSES {
         always(&rt, rt.alloc(), Reply::Status(status), text)?;
     }
     Ok(())
 }
 
-fn limit_is_named(rt: &impl Abort, alloc: Global, limit: Limit, word: &str) -> Result<(), Fail> {
-    let text = text_of(alloc, Reply::TooLarge(limit))?;
+fn limit_is_named(
+    rt: &impl Abort,
+    alloc: Global,
+    limit: Limit,
+    word: &str,
+) -> Result<(), AllocError> {
     let wanted = format!(in alloc; "{{\"error\":\"too large\",\"what\":\"{word}\"}}")?;
-    assert_eq!(rt; text.as_str(), wanted.as_str(), "{word}");
-    Ok(())
+    written(rt, alloc, Reply::TooLarge(limit), wanted.as_str(), word)
 }
+
+/// Each limit, and its word.
+const LIMITS: &[(Limit, &str)] = &[
+    (Limit::Line, "line"),
+    (Limit::Name, "name"),
+    (Limit::Path, "path"),
+    (Limit::File, "file"),
+    (Limit::Index, "index"),
+    (Limit::Nodes, "nodes"),
+    (Limit::Modules, "modules"),
+    (Limit::UseTree, "use tree"),
+    (Limit::Cfg, "cfg"),
+    (Limit::Blocks, "blocks"),
+    (Limit::Crates, "crates"),
+];
 
 /// The word of each limit.
 #[test]
 fn replies_that_name_a_limit(rt: HostRuntime) -> Result<(), Fail> {
-    let rows = [
-        (Limit::Line, "line"),
-        (Limit::Name, "name"),
-        (Limit::Path, "path"),
-        (Limit::File, "file"),
-        (Limit::Index, "index"),
-        (Limit::Nodes, "nodes"),
-        (Limit::Modules, "modules"),
-        (Limit::UseTree, "use tree"),
-        (Limit::Cfg, "cfg"),
-        (Limit::Blocks, "blocks"),
-        (Limit::Crates, "crates"),
-    ];
-    for (limit, word) in rows {
+    for &(limit, word) in LIMITS {
         limit_is_named(&rt, rt.alloc(), limit, word)?;
     }
     Ok(())
 }
 
-fn kind_is_named(rt: &impl Abort, alloc: Global, kind: AstKind, word: &str) -> Result<(), Fail> {
+fn kind_is_named(
+    rt: &impl Abort,
+    alloc: Global,
+    kind: AstKind,
+    word: &str,
+) -> Result<(), AllocError> {
     let id = SyntaxId {
         hash: 65535,
         index: 2047,
     };
-    let text = text_of(alloc, Reply::DuplicateId { kind, id })?;
     let wanted = format!(in alloc;
         "{{\"error\":\"duplicate id\",\"id\":[65535,2047],\"kind\":\"{word}\"}}"
     )?;
-    assert_eq!(rt; text.as_str(), wanted.as_str(), "{word}");
-    Ok(())
+    let reply = Reply::DuplicateId { kind, id };
+    written(rt, alloc, reply, wanted.as_str(), word)
 }
+
+/// Kinds of nodes, each with its word.
+const KINDS: &[(AstKind, &str)] = &[
+    (AstKind::Use, "Use"),
+    (AstKind::ExternCrate, "ExternCrate"),
+    (AstKind::ExternBlock, "ExternBlock"),
+    (AstKind::Union, "Union"),
+    (AstKind::Enum, "Enum"),
+    (AstKind::Variant, "Variant"),
+    (AstKind::Const, "Const"),
+    (AstKind::Trait, "Trait"),
+    (AstKind::TypeAlias, "TypeAlias"),
+    (AstKind::MacroCall, "MacroCall"),
+    (AstKind::MacroRules, "MacroRules"),
+    (AstKind::MacroDef, "MacroDef"),
+];
 
 /// The word of each kind of node.
 #[test]
 fn replies_that_name_a_kind(rt: HostRuntime) -> Result<(), Fail> {
-    let rows = [
-        (AstKind::Use, "Use"),
-        (AstKind::ExternCrate, "ExternCrate"),
-        (AstKind::ExternBlock, "ExternBlock"),
-        (AstKind::Union, "Union"),
-        (AstKind::Enum, "Enum"),
-        (AstKind::Variant, "Variant"),
-        (AstKind::Const, "Const"),
-        (AstKind::Trait, "Trait"),
-        (AstKind::TypeAlias, "TypeAlias"),
-        (AstKind::MacroCall, "MacroCall"),
-        (AstKind::MacroRules, "MacroRules"),
-        (AstKind::MacroDef, "MacroDef"),
-    ];
-    for (kind, word) in rows {
+    for &(kind, word) in KINDS {
         kind_is_named(&rt, rt.alloc(), kind, word)?;
     }
     Ok(())
