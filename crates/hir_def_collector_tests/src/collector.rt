@@ -80,7 +80,7 @@ const LINE: &str = r#"{"do":"set file","file":"lib.rs","unit":{"nodes":[
 {"kind":"Impl","id":[0,0],"trait":true,"items":[],"vis":"pub"}]}}"#;
 
 /// The source that a line hands in.
-fn source(alloc: Global, line: &str) -> Result<Source, Fail> {
+pub fn source(alloc: Global, line: &str) -> Result<Source, Fail> {
     match read_command(alloc, line.as_bytes()) {
         Ok(Command::Edit(Edit::SetFile { file: _, source })) => Ok(source),
         Ok(_) => Err("another command")?,
@@ -88,19 +88,19 @@ fn source(alloc: Global, line: &str) -> Result<Source, Fail> {
     }
 }
 
+/// The first crate, by its root.
+pub const START: Start = Start {
+    krate: Crate(0),
+    root: EditionedFileId {
+        file_id: FileId(0),
+        edition: Edition::Edition2021,
+    },
+};
+
 /// What a run collects of the source that a line hands in.
 pub fn collected_of(alloc: Global, line: &str) -> Result<Collected, Fail> {
-    let db = OneSource {
-        source: source(alloc, line)?,
-    };
-    let start = Start {
-        krate: Crate(0),
-        root: EditionedFileId {
-            file_id: FileId(0),
-            edition: Edition::Edition2021,
-        },
-    };
-    Ok(collect_defs(alloc, &db, &World::new(alloc), start)?)
+    let source = source(alloc, line)?;
+    Ok(collect_defs(alloc, &OneSource { source }, &World::new(alloc), START)?)
 }
 
 fn collected(alloc: Global) -> Result<Collected, Fail> {
@@ -108,7 +108,7 @@ fn collected(alloc: Global) -> Result<Collected, Fail> {
 }
 
 /// Asserts what the names of a module stand for.
-fn prints(
+pub fn prints(
     rt: &impl Abort,
     alloc: Global,
     map: &DefMap,

@@ -1,4 +1,5 @@
 //! What a run finds of the crates on which its crate stands.
+use crate::collector::{prints, source};
 use hir_base::ast_id::{EditionedFileId, FileId, HirFileId};
 use hir_base::cfg_options::CfgOptions;
 use hir_base::edition::Edition;
@@ -13,11 +14,9 @@ use hir_item_tree::item_tree::{ItemTree, source_tree};
 use hir_item_tree::side_lists::VariantItem;
 use hir_item_tree::source::Source;
 use hir_scope::visibility::Visibility;
-use hir_wire::command::Command;
-use hir_wire::edit::Edit;
-use hir_wire::read::line::read_command;
 use std::alloc::{AllocError, Global};
 use std::collections::BTreeSet;
+use std::process::Abort;
 use std::rc::Rc;
 use std::test::Fail;
 
@@ -107,15 +106,6 @@ const EXTERN: &str = r#"{"do":"set file","file":"b.rs","unit":{"nodes":[
 {"kind":"Use","id":[11,0],"tree":{"single":"me::m::S","as":"U"}},
 {"kind":"Use","id":[12,0],"tree":{"single":"core::S","as":"V"}}]}}"#;
 
-/// The source that a line hands in.
-fn source(alloc: Global, line: &str) -> Result<Source, Fail> {
-    match read_command(alloc, line.as_bytes()) {
-        Ok(Command::Edit(Edit::SetFile { file: _, source })) => Ok(source),
-        Ok(_) => Err("another command")?,
-        Err(error) => Err(error)?,
-    }
-}
-
 fn root(number: u32) -> EditionedFileId {
     EditionedFileId {
         file_id: FileId(number),
@@ -130,74 +120,127 @@ fn start(number: u32) -> Start {
     }
 }
 
-/// Crate 0, and crate 1, which depends on it under the name `core`.
-fn two_crates(alloc: Global, upper: &str, is_prelude: bool) -> Result<Crates, Fail> {
-    let none = Rc::new(alloc, BTreeSet::new(alloc))?;
-    let mut behind = BTreeSet::new(alloc);
-    behind.insert(Crate(0))?;
-    let mut dependencies = Vec::new(alloc);
-    dependencies.push(Dependency {
+fn no_crates(alloc: Global) -> Result<Rc<BTreeSet<Crate>>, Fail> {
+    Ok(Rc::new(alloc, BTreeSet::new(alloc))?)
+}
+
+/// Crate 0 alone.
+fn the_lower(alloc: Global) -> Result<Rc<BTreeSet<Crate>>, Fail> {
+    let mut crates = BTreeSet::new(alloc);
+    crates.insert(Crate(0))?;
+    Ok(Rc::new(alloc, crates)?)
+}
+
+/// Crate 0 under the name `core`.
+fn dependencies(alloc: Global, is_prelude: bool) -> Result<Vec<Dependency>, Fail> {
+    let dependency = Dependency {
         krate: Crate(0),
         name: Name::new(alloc, "core")?,
         is_prelude,
-    })?;
-    let mut crates = Vec::new(alloc);
-    crates.push(CrateData::new(root(0), Vec::new(alloc), none, false))?;
-    let behind = Rc::new(alloc, behind)?;
-    crates.push(CrateData::new(root(1), dependencies, behind, false))?;
-    let mut roots = Vec::new(alloc);
-    roots.push(source(alloc, LOWER)?)?;
+    };
+    Ok(vec![in alloc; dependency]?)
+}
+
+fn upper_data(alloc: Global, is_prelude: bool) -> Result<CrateData, Fail> {
+    let behind = the_lower(alloc)?;
+    let dependencies = dependencies(alloc, is_prelude)?;
+    Ok(CrateData::new(root(1), dependencies, behind, false))
+}
+
+fn lower_data(alloc: Global) -> Result<CrateData, Fail> {
+    Ok(CrateData::new(root(0), Vec::new(alloc), no_crates(alloc)?, false))
+}
+
+fn data_of_both(alloc: Global, is_prelude: bool) -> Result<Vec<CrateData>, Fail> {
+    let mut crates = vec![in alloc; lower_data(alloc)?]?;
+    crates.push(upper_data(alloc, is_prelude)?)?;
+    Ok(crates)
+}
+
+fn roots_of_both(alloc: Global, upper: &str) -> Result<Vec<Source>, Fail> {
+    let mut roots = vec![in alloc; source(alloc, LOWER)?]?;
     roots.push(source(alloc, upper)?)?;
+    Ok(roots)
+}
+
+/// Crate 0, and crate 1, which depends on it under the name `core`.
+fn two_crates(alloc: Global, upper: &str, is_prelude: bool) -> Result<Crates, Fail> {
+    let crates = data_of_both(alloc, is_prelude)?;
+    let roots = roots_of_both(alloc, upper)?;
     Ok(Crates { crates, roots })
 }
 
-/// What the upper crate comes to beside the lower one.
-fn collected(alloc: Global, db: &Crates) -> Result<Collected, Fail> {
+/// What the lower crate comes to by itself, in a world.
+fn world_of(alloc: Global, lower: Collected) -> Result<World, Fail> {
     let mut world = World::new(alloc);
-    let lower = collect_defs(alloc, db, &world, start(0))?;
     let (map, local, _, _) = lower.into_parts();
-    if world.insert(map, local).is_err() {
-        return Err("a map that names nothing else")?;
+    if world.insert(map, local).is_ok() {
+        Ok(world)
+    } else {
+        Err("a map that names nothing else")?
     }
+}
+
+fn lower_collected(alloc: Global, db: &Crates) -> Result<Collected, Fail> {
+    Ok(collect_defs(alloc, db, &World::new(alloc), start(0))?)
+}
+
+fn lower_world(alloc: Global, db: &Crates) -> Result<World, Fail> {
+    world_of(alloc, lower_collected(alloc, db)?)
+}
+
+/// What the upper crate comes to beside the lower one.
+fn upper_collected(alloc: Global, db: &Crates) -> Result<Collected, Fail> {
+    let world = lower_world(alloc, db)?;
     Ok(collect_defs(alloc, db, &world, start(1))?)
 }
 
-/// What the names of the root stand for.
-fn page(alloc: Global, map: &DefMap) -> Result<String, Fail> {
-    let mut page = String::new(alloc);
-    let scope = map.scope(0).ok_or("the root")?;
-    scope.dump(&mut page)?;
-    Ok(page)
+fn collected(alloc: Global, upper: &str, is_prelude: bool) -> Result<Collected, Fail> {
+    let db = two_crates(alloc, upper, is_prelude)?;
+    upper_collected(alloc, &db)
+}
+
+/// A source of the upper crate, whether the lower one is marked as its core library, what the names of its root stand
+/// for, and how many imports are left over.
+type Row = (&'static str, &'static str, bool, &'static str, usize);
+
+const ROWS: [Row; 4] = [
+    (
+        "marked",
+        UPPER,
+        true,
+        "- Hidden : _\n- O : type (import) value (import)\n- S : type (import) value (import)\n",
+        1,
+    ),
+    ("unmarked", UPPER, false, "", 4),
+    ("no core", WITHOUT_CORE, true, "", 4),
+    (
+        "extern crates",
+        EXTERN,
+        false,
+        "- T : type (import) value (import)\n- U : type (import) value (import)\n- closed : type (import)\n- low : type (extern)\n- m : type\n- me : type (extern)\n- open : type (import)\n",
+        2,
+    ),
+];
+
+fn counts(rt: &impl Abort, found: &Collected, row: &str, leftover: usize) {
+    assert_eq!(rt; found.leftover().len(), leftover, "{row}");
+    assert_eq!(rt; found.asked().len(), 1, "{row}");
+    assert_eq!(rt; found.map().crate_data().dependencies().len(), 1, "{row}");
+}
+
+fn finds(rt: &impl Abort, alloc: Global, row: &Row) -> Result<(), Fail> {
+    let (label, upper, is_prelude, expected, leftover) = *row;
+    let found = collected(alloc, upper, is_prelude)?;
+    counts(rt, &found, label, leftover);
+    prints(rt, alloc, found.map(), 0, expected)
 }
 
 /// What a crate finds of another by name, by the prelude, and past what may be seen.
 #[test]
 fn names_of_another_crate(rt: HostRuntime) -> Result<(), Fail> {
-    let rows = [
-        (
-            "marked",
-            UPPER,
-            true,
-            "- Hidden : _\n- O : type (import) value (import)\n- S : type (import) value (import)\n",
-            1,
-        ),
-        ("unmarked", UPPER, false, "", 4),
-        ("no core", WITHOUT_CORE, true, "", 4),
-        (
-            "extern crates",
-            EXTERN,
-            false,
-            "- T : type (import) value (import)\n- U : type (import) value (import)\n- closed : type (import)\n- low : type (extern)\n- m : type\n- me : type (extern)\n- open : type (import)\n",
-            2,
-        ),
-    ];
-    for (row, upper, is_prelude, expected, leftover) in rows {
-        let alloc = rt.alloc();
-        let found = collected(alloc, &two_crates(alloc, upper, is_prelude)?)?;
-        assert_eq!(rt; page(alloc, found.map())?.as_str(), expected, "{row}");
-        assert_eq!(rt; found.leftover().len(), leftover, "{row}");
-        assert_eq!(rt; found.asked().len(), 1, "{row}");
-        assert_eq!(rt; found.map().crate_data().dependencies().len(), 1, "{row}");
+    for row in &ROWS {
+        finds(&rt, rt.alloc(), row)?;
     }
     Ok(())
 }
@@ -208,15 +251,17 @@ fn seen(alloc: Global, map: &DefMap, text: &str) -> Result<Visibility, Fail> {
     Ok(entry.types.ok_or("a type")?.vis)
 }
 
-/// A `use` of the name alone shows an `extern crate` to all whom the `use` says, another path doesn't.
-#[test]
-fn extern_crates_shown_again(rt: HostRuntime) -> Result<(), Fail> {
-    let alloc = rt.alloc();
-    let found = collected(alloc, &two_crates(alloc, EXTERN, false)?)?;
-    let map = found.map();
+fn are_shown(rt: &impl Abort, alloc: Global, map: &DefMap) -> Result<(), Fail> {
     let own = seen(alloc, map, "low")?;
     assert!(rt; own != Visibility::Public);
     assert_eq!(rt; seen(alloc, map, "open")?, Visibility::Public);
     assert_eq!(rt; seen(alloc, map, "closed")?, own);
     Ok(())
+}
+
+/// A `use` of the name alone shows an `extern crate` to all whom the `use` says, another path doesn't.
+#[test]
+fn extern_crates_shown_again(rt: HostRuntime) -> Result<(), Fail> {
+    let found = collected(rt.alloc(), EXTERN, false)?;
+    are_shown(&rt, rt.alloc(), found.map())
 }

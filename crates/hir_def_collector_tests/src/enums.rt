@@ -1,22 +1,19 @@
 //! What a run makes of enums.
-use hir_base::ast_id::{EditionedFileId, FileId, HirFileId, SyntaxId};
+use crate::collector::{START, prints, source};
+use hir_base::ast_id::{HirFileId, SyntaxId};
 use hir_base::cfg_options::CfgOptions;
-use hir_base::edition::Edition;
 use hir_base::ids::{Crate, EnumId};
 use hir_base::name::Name;
+use hir_def_collector::collector::collect_defs;
 use hir_def_collector::collector::collected::Collected;
-use hir_def_collector::collector::{Start, collect_defs};
 use hir_def_collector::source_database::{CrateData, SourceDatabase};
-use hir_def_map::nameres::DefMap;
 use hir_def_map::world::World;
 use hir_item_tree::item_tree::{ItemTree, source_tree};
 use hir_item_tree::shape::FieldsShape;
 use hir_item_tree::side_lists::VariantItem;
 use hir_item_tree::source::Source;
-use hir_wire::command::Command;
-use hir_wire::edit::Edit;
-use hir_wire::read::line::read_command;
 use std::alloc::{AllocError, Global};
+use std::process::Abort;
 use std::test::Fail;
 
 /// One source, each of whose enums has a unit variant, then one with named fields, and then one with numbered fields.
@@ -87,65 +84,58 @@ const LINE: &str = r#"{"do":"set file","file":"lib.rs","unit":{"nodes":[
 {"kind":"Module","id":[4,0],"name":"m","nodes":[
     {"kind":"Enum","id":[5,0],"name":"F","variants":[]}]}]}}"#;
 
-/// The source that the line hands in.
-fn source(alloc: Global) -> Result<Source, Fail> {
-    match read_command(alloc, LINE.as_bytes()) {
-        Ok(Command::Edit(Edit::SetFile { file: _, source })) => Ok(source),
-        Ok(_) => Err("another command")?,
-        Err(error) => Err(error)?,
-    }
+fn one_source(alloc: Global, unit: &str, fields: &str, tuple: &str) -> Result<OneSource, Fail> {
+    let unit = Name::new(alloc, unit)?;
+    let fields = Name::new(alloc, fields)?;
+    let tuple = Name::new(alloc, tuple)?;
+    let source = source(alloc, LINE)?;
+    Ok(OneSource {
+        source,
+        unit,
+        fields,
+        tuple,
+    })
 }
 
-fn collected(alloc: Global, unit: &str, fields: &str, tuple: &str) -> Result<Collected, Fail> {
-    let db = OneSource {
-        source: source(alloc)?,
-        unit: Name::new(alloc, unit)?,
-        fields: Name::new(alloc, fields)?,
-        tuple: Name::new(alloc, tuple)?,
-    };
-    let start = Start {
-        krate: Crate(0),
-        root: EditionedFileId {
-            file_id: FileId(0),
-            edition: Edition::Edition2021,
-        },
-    };
-    Ok(collect_defs(alloc, &db, &World::new(alloc), start)?)
+fn collected(alloc: Global, names: [&str; 3]) -> Result<Collected, Fail> {
+    let [unit, fields, tuple] = names;
+    let db = one_source(alloc, unit, fields, tuple)?;
+    Ok(collect_defs(alloc, &db, &World::new(alloc), START)?)
 }
 
-/// What the names of the root stand for.
-fn page(alloc: Global, map: &DefMap) -> Result<String, Fail> {
-    let mut page = String::new(alloc);
-    let scope = map.scope(0).ok_or("the root")?;
-    scope.dump(&mut page)?;
-    Ok(page)
+/// The names of the three variants, and what the names of the root stand for.
+type Row = (&'static str, [&'static str; 3], &'static str);
+
+const ROWS: [Row; 2] = [
+    (
+        "three names",
+        ["A", "B", "C"],
+        "- A : type (import) value (import)\n- B : type (import)\n- E : type\n- m : type\n",
+    ),
+    (
+        "two of one name",
+        ["A", "A", "B"],
+        "- A : type (import)\n- B : type (import) value (import)\n- E : type\n- m : type\n",
+    ),
+];
+
+fn counts(rt: &impl Abort, found: &Collected, row: &str) {
+    assert_eq!(rt; found.leftover().len(), 0, "{row}");
+    assert_eq!(rt; found.asked().len(), 3, "{row}");
+}
+
+fn finds(rt: &impl Abort, alloc: Global, row: &Row) -> Result<(), Fail> {
+    let (label, names, expected) = *row;
+    let found = collected(alloc, names)?;
+    counts(rt, &found, label);
+    prints(rt, alloc, found.map(), 0, expected)
 }
 
 /// Variants are imported by their shape, and of two of one name the later; the variants of each enum are asked for.
 #[test]
 fn variants(rt: HostRuntime) -> Result<(), Fail> {
-    let rows = [
-        (
-            "three names",
-            "A",
-            "B",
-            "C",
-            "- A : type (import) value (import)\n- B : type (import)\n- E : type\n- m : type\n",
-        ),
-        (
-            "two of one name",
-            "A",
-            "A",
-            "B",
-            "- A : type (import)\n- B : type (import) value (import)\n- E : type\n- m : type\n",
-        ),
-    ];
-    for (row, unit, fields, tuple, expected) in rows {
-        let alloc = rt.alloc();
-        let found = collected(alloc, unit, fields, tuple)?;
-        assert_eq!(rt; page(alloc, found.map())?.as_str(), expected, "{row}");
-        assert_eq!(rt; found.leftover().len(), 0, "{row}");
-        assert_eq!(rt; found.asked().len(), 3, "{row}");
+    for row in &ROWS {
+        finds(&rt, rt.alloc(), row)?;
     }
     Ok(())
 }

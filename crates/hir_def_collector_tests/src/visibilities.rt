@@ -6,6 +6,7 @@ use hir_def_map::nameres::DefMap;
 use hir_item_tree::raw_visibility::VisibilityExplicitness;
 use hir_scope::visibility::Visibility;
 use std::alloc::Global;
+use std::process::Abort;
 use std::test::Fail;
 
 /// Module 1 is `a`, and module 2 is `b` in it.
@@ -42,12 +43,17 @@ fn seen(
     Ok((types, values))
 }
 
-/// A path in a visibility is resolved from the module of the item; one that leads to no module counts as public.
-#[test]
-fn written_in_paths(rt: HostRuntime) -> Result<(), Fail> {
-    let alloc = rt.alloc();
-    let found = collected_of(alloc, LINE)?;
-    let map = found.map();
+/// Asserts who may see a type, or a value.
+fn is_seen_by(
+    rt: &impl Abort,
+    found: Option<Visibility>,
+    expected: Option<Visibility>,
+    name: &str,
+) {
+    assert_eq!(rt; found, expected, "{name}");
+}
+
+fn are_seen(rt: &impl Abort, alloc: Global, map: &DefMap) -> Result<(), Fail> {
     let public = Some(Visibility::Public);
     let rows = [
         (1, "b", within(map.id(), 0), None),
@@ -58,8 +64,15 @@ fn written_in_paths(rt: HostRuntime) -> Result<(), Fail> {
     ];
     for (at, name, types, values) in rows {
         let (seen_types, seen_values) = seen(alloc, map, at, name)?;
-        assert_eq!(rt; seen_types, types, "{name}");
-        assert_eq!(rt; seen_values, values, "{name}");
+        is_seen_by(rt, seen_types, types, name);
+        is_seen_by(rt, seen_values, values, name);
     }
     Ok(())
+}
+
+/// A path in a visibility is resolved from the module of the item; one that leads to no module counts as public.
+#[test]
+fn written_in_paths(rt: HostRuntime) -> Result<(), Fail> {
+    let found = collected_of(rt.alloc(), LINE)?;
+    are_seen(&rt, rt.alloc(), found.map())
 }
