@@ -7,13 +7,13 @@ Without sizes: 50,000 and 100,000 nodes. The program must be built: `rt run < /d
 """
 import sys
 
-from measure import best, memory, run, text
+from measure import best_parts, memory, run, text
 
 SIZES = [int(it) for it in sys.argv[1:]] or [50_000, 100_000]
 MOST = 1_000_000
 LONGEST = 16_777_216
 SESSION = "crates/hir_session_main/out/hir_session_main"
-IN_MODULE = 21
+IN_MODULE = 25
 
 
 class Nodes:
@@ -22,14 +22,21 @@ class Nodes:
     def __init__(self):
         self.number = 0
 
-    def make(self, kind, **more):
+    def id(self):
         self.number += 1
+        return [self.number % 65536, self.number // 65536]
+
+    def make(self, kind, **more):
+        own = self.id()
         attrs = [[], [{"path": "cfg", "cfg": "fast"}], [{"path": "doc", "literal": "What it is."}]][self.number % 3]
-        node = {"kind": kind, "id": [self.number % 65536, self.number // 65536], "vis": "pub", "attrs": attrs}
-        return node | more
+        return {"kind": kind, "id": own, "vis": "pub", "attrs": attrs} | more
+
+    def variants(self):
+        shapes = {"A": "unit", "B": "tuple"}
+        return [{"id": self.id(), "name": name, "shape": shape} for name, shape in shapes.items()]
 
     def inside(self, body):
-        """The items of a module: 20 nodes, fields and use trees."""
+        """The items of a module: 24 nodes, fields, variants and use trees."""
         make = self.make
         tree = {"path": "self", "list": [{"single": "S", "as": "P"}]}
         return [make("Fn", name="f", body=body), make("Struct", name="S"), make("Union", name="U", fields=["pub"]),
@@ -37,11 +44,12 @@ class Nodes:
                 make("TypeAlias", name="A"), make("Trait", name="T", items=[make("Fn", name="g", body=body)]),
                 make("Impl", trait=True, items=[make("Fn", name="h", body=body)]),
                 make("Impl", trait=False, items=[make("TypeAlias", name="B")]),
-                make("ExternBlock", nodes=[make("Fn", name="e"), make("Static", name="Y")]), make("Use", tree=tree)]
+                make("ExternBlock", nodes=[make("Fn", name="e"), make("Static", name="Y")]), make("Use", tree=tree),
+                make("Enum", name="E", variants=self.variants()), make("ExternCrate", name="self", **{"as": "own"})]
 
 
 def unit(nodes, body):
-    """Modules of all kinds of items that are taken, with their fields and use trees so many together."""
+    """Modules of all kinds of items that are taken, with their fields, variants and use trees so many together."""
     made = Nodes()
     whole = [made.make("Module", name=f"m{m}", nodes=made.inside(body)) for m in range(nodes // IN_MODULE)]
     rest = [made.make("Fn", name=f"f{k}", body=body) for k in range(nodes % IN_MODULE)]
@@ -53,10 +61,11 @@ def trees_in(tree):
 
 
 def size(nodes):
-    """How many nodes, fields and use trees there are, as the limit counts them."""
+    """How many nodes, fields, variants and use trees there are, as the limit counts them."""
     inner = [it for node in nodes for it in node.get("nodes", []) + node.get("items", [])]
-    more = sum(len(node.get("fields", [])) + (trees_in(node["tree"]) if "tree" in node else 0) for node in nodes)
-    return len(nodes) + more + (size(inner) if inner else 0)
+    parts = sum(len(node.get("fields", [])) + len(node.get("variants", [])) for node in nodes)
+    trees = sum(trees_in(node["tree"]) for node in nodes if "tree" in node)
+    return len(nodes) + parts + trees + (size(inner) if inner else 0)
 
 
 def crates():
@@ -68,20 +77,18 @@ def set_file(syntax):
 
 
 REFRESH = {"do": "refresh"}
+PAGE = {"do": "tree", "crate": 0, "file": "lib.rs"}
 
 
 def bodies(nodes):
+    """A unit is kept as it is handed in; the page of its tree is the first to have it lowered."""
     first = unit(nodes, "{ 0 }")
-    begin = [crates(), set_file(first), REFRESH]
-    once = best(SESSION, begin)
-    edits = 4
-    more = [it for k in range(1, edits + 1) for it in (set_file(unit(nodes, f"{{ {k} }}")), REFRESH)]
-    edited = (best(SESSION, begin + more) - once) / edits
-    alone = best(SESSION, [crates(), set_file(first)])
-    replies = run(SESSION, begin + more)[1]
-    print(f"unit of {size(first['nodes'])} nodes, {len(text([set_file(first)])) / 1e6:.1f} MB: read, checked and lowered in "
-          f"{alone:.3f} s, resolved in {once - alone:.3f} s; an edit of bodies alone and a refresh take {edited:.3f} s, "
-          f"and the refresh lists {replies[-1]}")
+    edits = [[set_file(unit(nodes, f"{{ {k} }}")), REFRESH] for k in range(1, 4)]
+    seconds, replies = best_parts(SESSION, [[crates(), set_file(first)], [PAGE], [REFRESH]] + edits, tries=3)
+    kept, shown, resolved, *edited = seconds
+    print(f"unit of {size(first['nodes'])} nodes, {len(text([set_file(first)])) / 1e6:.1f} MB: read, checked and kept in "
+          f"{kept:.3f} s, lowered and shown as a page in {shown:.3f} s, resolved in {resolved:.3f} s; an edit of bodies "
+          f"alone and a refresh take {min(edited):.3f} s, and the refresh lists {replies[-1].strip()}")
 
 
 def set_once(label, syntax):
