@@ -71,7 +71,7 @@ pub record Answered (lines : List (List ℕ)) (before after : Option (List ℕ))
   pub answered : AnswersLines first_state lines answers last
   pub written : Appends before after (replies_text answers)
 
--- the first of these lines were answered, and a front of their replies was written
+-- the first of these lines were answered, and a front of their replies was written, and not all of it
 pub record BrokenAt (old : MachineState) (all : List (List ℕ)) (before after : Option (List ℕ)) : Type 0 where
   pub lines : List (List ℕ)
   pub more : List (List ℕ)
@@ -82,7 +82,7 @@ pub record BrokenAt (old : MachineState) (all : List (List ℕ)) (before after :
   pub written : WritesPart before after (replies_text answers)
 
 -- what was written by the end of a run that read this input: all lines are answered at the end of the input,
--- the ended lines where a read failed, and a front of the text stands where a write failed
+-- the ended lines where a read failed, and a front of the text, from which some is missing, stands where a write failed
 abbrev pub Ends : Result (Unit {0}) Fault → List ℕ → Option (List ℕ) → Option (List ℕ) → Option (List ℕ) → Type 0
 Ends (Ok done) input left before after = IsAtEnd left × Answered (lines_of input) before after
 Ends (Err fault.ReadFault) input left before after = Answered (ended_lines input) before after

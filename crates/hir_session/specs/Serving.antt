@@ -26,7 +26,7 @@ abbrev pub Told : Server → List ℕ → Server → Option (List ℕ) → Optio
 Told old line new before after =
     (answer : Reply) × AnswersInput old.machine line answer new.machine × Appends before after (reply_line answer) × Holds new.line []
 
--- the line was answered, and a front of the reply was written
+-- the line was answered, and a front of the reply was written, and not all of it
 abbrev pub BreaksOff : Server → List ℕ → Option (List ℕ) → Option (List ℕ) → Type 0
 BreaksOff old line before after =
     (answer : Reply) × (new : MachineState) × AnswersInput old.machine line answer new × WritesPart before after (reply_line answer)
