@@ -4,9 +4,11 @@ pub mod Climb
 pub mod Modules
 pub mod SeenSegments
 pub mod JoinedSegments
+pub mod OpenEnds
 pub mod Steps
 pub mod Agreement
 pub mod LastSegment
+pub mod Holders
 pub mod LookUps
 pub mod Rewrites
 pub mod Parts

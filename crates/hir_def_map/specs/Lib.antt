@@ -21,6 +21,7 @@ pub mod Among
 pub mod World
 pub mod Parts
 pub mod Laws
+pub mod PathLaws
 pub mod Closed
 pub mod NoneOf
 pub mod Complete

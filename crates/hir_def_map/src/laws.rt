@@ -6,9 +6,13 @@ ghost use Rattle.hir_def_map.specs.Closed.{IsClosed, PathsLeadToWhatIsThere};
 ghost use Rattle.hir_def_map.specs.Complete.{AreWhole, BeginsOnly, NamesOnly};
 ghost use Rattle.hir_def_map.specs.Named.{is_complete};
 ghost use Rattle.hir_def_map.specs.StaysComplete.{DeclarationsNameWhatIsThere, ModulesNameWhatIsThere, PushesNameWhatIsThere};
+ghost use Rattle.hir_def_map.specs.PathLaws.{BlocksAskHolders, CratesAskThemselves, CrossedSegmentsAreSeen, EndsAreWalked, InheritedSegmentsAreSeen, InnerModulesAskPreludes, SegmentsGoOn, StartedSegmentsAreSeen, WalksAskBehind};
 ghost use Rattle.hir_def_map.specs.State.{Local, Map, Maps, beside};
+ghost use Rattle.hir_base.specs.Laws.{HashesAlike};
 
+use crate::nameres::local_def_map::LocalDefMap;
 use crate::nameres::module_ids::ModuleIds;
+use std::hash::Hash;
 
 /// A path means the same over maps that agree on its names.
 pub fn unnamed_bindings_do_not_matter()
@@ -28,11 +32,28 @@ pub fn segments_join()
     ensures whole { WalksAreResolved }
     ensures askers { AskersStay }
     ensures modules { ModulesAreWalkedTo }
+    ensures onward { SegmentsGoOn }
+    ensures ends { EndsAreWalked }
+    ensures behind { WalksAskBehind }
 {}
 
 /// One more name behind a path that leads to a module names what the module has, as far as it may be seen.
 pub fn last_segments_are_seen()
     ensures seen { LastSegmentsAreSeen }
+    ensures started { StartedSegmentsAreSeen }
+{}
+
+/// More names behind a path that leads to a module of another crate are asked by the module where the path goes on.
+pub fn paths_go_on_in_other_crates()
+    ensures crossed { CrossedSegmentsAreSeen }
+{}
+
+/// A block's root has what is asked of the module that holds it, by that module; other modules ask no holder.
+pub fn blocks_ask_their_holders()
+    ensures holders { BlocksAskHolders }
+    ensures inherited { InheritedSegmentsAreSeen }
+    ensures inner { InnerModulesAskPreludes }
+    ensures alone { CratesAskThemselves }
 {}
 
 /// One step up leads to the parent.
@@ -70,6 +91,11 @@ pub fn building_names_what_is_there()
     ensures pushed { PushesNameWhatIsThere }
     ensures listed { DeclarationsNameWhatIsThere }
     ensures made { ModulesNameWhatIsThere }
+{}
+
+/// Equal extern preludes are hashed alike.
+pub fn equal_local_maps_hash_alike()
+    ensures alike { HashesAlike (⟦<LocalDefMap as PartialEq>⟧.eq) (⟦<LocalDefMap as Hash>⟧.hash_input) }
 {}
 
 /// The walk over the modules that a file holds ends, and has then given its list.

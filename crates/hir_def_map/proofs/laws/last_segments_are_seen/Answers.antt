@@ -9,6 +9,7 @@ pub returns : goal.returns
 returns c = record {
   seen = λ maps asking from at path name modules outside leads own.
       start-of_crate maps asking from path.kind (path.segments ++ name ∷ []) outside
-      ∙ start_last maps at name asking from modules path.kind path.segments
+      ∙ start_last maps at name asking from path.kind path.segments
       (subst (λ (r : Resolution). LeadsTo at r) (start-of_crate maps asking from path.kind path.segments outside) leads) own;
+  started = λ maps asking from at path name. start_last maps at name asking from path.kind path.segments;
 }
