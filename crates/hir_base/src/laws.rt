@@ -1,11 +1,13 @@
 //! What equality, order and hash of the plain values keep. The functions do nothing: their contracts are the laws.
 ghost use Rattle.hir_base.specs.Laws.{HashesAlike, OrdersTotally};
 
-use crate::ast_id::{AstId, HirFileId};
+use crate::ast_id::{
+    AstId, AstKind, AttrId, BlockId, EditionedFileId, FileId, HirFileId, MacroCallId, SyntaxId,
+};
 use crate::file_path::FilePath;
 use crate::ids::{
-    AdtId, AssocItemId, ConstId, EnumId, EnumVariantId, ExternBlockId, ExternCrateId, FunctionId,
-    ImplId, ItemContainerId, MapId, ModuleDefId, ModuleId, StaticId, StructId, TraitId,
+    AdtId, AssocItemId, ConstId, Crate, EnumId, EnumVariantId, ExternBlockId, ExternCrateId,
+    FunctionId, ImplId, ItemContainerId, MapId, ModuleDefId, ModuleId, StaticId, StructId, TraitId,
     TypeAliasId, UnionId, UseId,
 };
 use crate::macro_kind::{BuiltinDeriveImplId, Macro2Id, MacroId, MacroRulesId, ProcMacroId};
@@ -162,4 +164,46 @@ pub fn item_ids_are_totally_ordered()
     orders_totally::<AdtId>();
     orders_totally::<AssocItemId>();
     orders_totally::<MacroId>();
+}
+
+/// Equal numbers of crates, files, calls, blocks and nodes are hashed alike.
+pub fn equal_numbers_hash_alike()
+    ensures crates { HashesAlike (⟦<Crate as PartialEq>⟧.eq) (⟦<Crate as Hash>⟧.hash_input) }
+    ensures files { HashesAlike (⟦<FileId as PartialEq>⟧.eq) (⟦<FileId as Hash>⟧.hash_input) }
+    ensures editioned_files { HashesAlike (⟦<EditionedFileId as PartialEq>⟧.eq) (⟦<EditionedFileId as Hash>⟧.hash_input) }
+    ensures calls { HashesAlike (⟦<MacroCallId as PartialEq>⟧.eq) (⟦<MacroCallId as Hash>⟧.hash_input) }
+    ensures blocks { HashesAlike (⟦<BlockId as PartialEq>⟧.eq) (⟦<BlockId as Hash>⟧.hash_input) }
+    ensures attributes { HashesAlike (⟦<AttrId as PartialEq>⟧.eq) (⟦<AttrId as Hash>⟧.hash_input) }
+    ensures kinds { HashesAlike (⟦<AstKind as PartialEq>⟧.eq) (⟦<AstKind as Hash>⟧.hash_input) }
+    ensures nodes { HashesAlike (⟦<SyntaxId as PartialEq>⟧.eq) (⟦<SyntaxId as Hash>⟧.hash_input) }
+{
+    hashes_alike::<Crate>();
+    hashes_alike::<FileId>();
+    hashes_alike::<EditionedFileId>();
+    hashes_alike::<MacroCallId>();
+    hashes_alike::<BlockId>();
+    hashes_alike::<AttrId>();
+    hashes_alike::<AstKind>();
+    hashes_alike::<SyntaxId>();
+}
+
+/// Numbers of crates, files, calls, blocks and nodes are totally ordered, in accord with their equality.
+pub fn numbers_are_totally_ordered()
+    ensures crates { OrdersTotally (⟦<Crate as PartialEq>⟧.eq) (⟦<Crate as Ord>⟧.cmp) }
+    ensures files { OrdersTotally (⟦<FileId as PartialEq>⟧.eq) (⟦<FileId as Ord>⟧.cmp) }
+    ensures editioned_files { OrdersTotally (⟦<EditionedFileId as PartialEq>⟧.eq) (⟦<EditionedFileId as Ord>⟧.cmp) }
+    ensures calls { OrdersTotally (⟦<MacroCallId as PartialEq>⟧.eq) (⟦<MacroCallId as Ord>⟧.cmp) }
+    ensures blocks { OrdersTotally (⟦<BlockId as PartialEq>⟧.eq) (⟦<BlockId as Ord>⟧.cmp) }
+    ensures attributes { OrdersTotally (⟦<AttrId as PartialEq>⟧.eq) (⟦<AttrId as Ord>⟧.cmp) }
+    ensures kinds { OrdersTotally (⟦<AstKind as PartialEq>⟧.eq) (⟦<AstKind as Ord>⟧.cmp) }
+    ensures nodes { OrdersTotally (⟦<SyntaxId as PartialEq>⟧.eq) (⟦<SyntaxId as Ord>⟧.cmp) }
+{
+    orders_totally::<Crate>();
+    orders_totally::<FileId>();
+    orders_totally::<EditionedFileId>();
+    orders_totally::<MacroCallId>();
+    orders_totally::<BlockId>();
+    orders_totally::<AttrId>();
+    orders_totally::<AstKind>();
+    orders_totally::<SyntaxId>();
 }
