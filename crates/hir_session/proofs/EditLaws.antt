@@ -1,7 +1,9 @@
 use Rattle.std.specs.Prelude.{is_some}
-use Rattle.std.proofs.Common.{◌≡◌, ◌≢◌, ℕ, true, Option, Some, None, refl, sym, subst, ap, ◌∙◌, Contains, List}
+use Rattle.std.proofs.Common.{◌≡◌, ◌≢◌, ℕ, true, nat_lt, if◌then◌else◌, length, Option, Some, None, Err, refl, sym, subst, ap, ◌∙◌, Contains, List}
 use Rattle.std.specs.Cmp.Lexicographic.{bytes_decides}
 use Rattle.hir_base.specs.CfgOptions.{is_set}
+use Rattle.hir_base.specs.ModPath.{Path}
+use Rattle.hir_base.specs.Place.{PlaceValue}
 use Rattle.hir_base.specs.declared.ast_id.AstKind.TheVariants.{Enum}
 use Rattle.hir_base.specs.declared.ast_id.HirFileId.{HirFileId}
 use Rattle.hir_base.specs.declared.ast_id.SyntaxId.{SyntaxId}
@@ -14,6 +16,11 @@ use Rattle.hir_def_collector.specs.Workspace.{Workspace, TreeLook}
 use Rattle.hir_def_collector.specs.Keys.{look}
 use Rattle.hir_def_collector.specs.declared.source_database.Key.{Key}
 use Rattle.hir_def_collector.specs.declared.source_database.Key.TheVariants as keys
+use Rattle.hir_wire.specs.declared.command.Shadow.{Shadow}
+use Rattle.hir_wire.specs.declared.command.MacroStyle.{MacroStyle}
+use Rattle.hir_wire.specs.declared.reply.Status.TheVariants as status
+use Rattle.hir_session.specs.declared.error.QueryError.TheVariants as error
+use Rattle.hir_session.specs.Answers.{answer_by, answer_of}
 use Rattle.hir_session.specs.Crates.{CrateValue, crate_in, options_in}
 use Rattle.hir_session.specs.Files.{Files, file_at, front_in, path_in, edited_at, tree_under, shown, variants_under, workspace_in}
 use Rattle.hir_session.specs.SessionState.{SessionState, Resolution, workspace_of, dependencies_of, kept_of, is_marked, IsSound}
@@ -23,7 +30,9 @@ use Rattle.hir_session.specs.Marks.{IsTouched}
 use Rattle.hir_session.specs.Marks.IsTouched.{before, asked_for}
 use Rattle.hir_session.specs.Marking.{is_enum_at, is_path}
 use Rattle.hir_session.specs.Changes.{Becomes}
-use Rattle.hir_session.specs.Laws.{BodyEditsMarkNothing, SetAbsentFileMarks, RemovePresentFileMarks, RemoveAbsentFileMarksNothing}
+use Rattle.hir_session.specs.Due.{IsBehind}
+use Rattle.hir_session.specs.Laws.{AnswersAlike, BodyEditsMarkNothing, BodyEditsLeaveAnswers, SetAbsentFileMarks, RemovePresentFileMarks, RemoveAbsentFileMarksNothing, RemoveAbsentFileLeavesAnswers}
+use Rattle.hir_session.proofs.Differ.{same_answer, unmarked_behind}
 use Rattle.hir_session.proofs.Truth.{clash, on_bool}
 use Rattle.hir_session.proofs.BodyVariants.{same_variants}
 use Rattle.hir_session.proofs.FileLemmas.{enum-other, enum-same, look-other, look-same, look-differs}
@@ -69,20 +78,60 @@ altered_marks {old} {new} path there k found krate file other is kept asked at =
     (look-differs old.crates old.paths old.files path there krate file
     (subst (λ (o : Option (List ℕ)). is_path path o ≡ true) (sym at) ((bytes_decides path path).1 refl)) other)))
 
+-- a marked place has an answer that tells of no more than its crate's number
+stale_answer : (s : SessionState) (place : PlaceValue) (path : Path) (shadow : Shadow) (style : Option MacroStyle) → is_marked s place.krate.0 ≡ true
+    → answer_of s place path shadow style ≡ answer_by (if nat_lt place.krate.0 (length s.crates) then status.Stale else status.Unknown) (Err error.UnknownPlace)
+stale_answer s place path shadow style on = on_bool (nat_lt place.krate.0 (length s.crates))
+    (λ there. rw (there, on) refl)
+    (λ not_there. rw not_there refl)
+
+-- an edit that leaves each key as it was leaves each answer as it was
+unaltered_answers : {old new : SessionState} {files : Files} → IsSound old → Becomes old files new
+    → ((key : Key) → look (workspace_in old.crates old.paths files) no_maps key ≡ look (workspace_of old) no_maps key) → AnswersAlike old new
+unaltered_answers {old} {new} sound is same place path shadow style = on_bool (is_marked old place.krate.0)
+    (λ on. stale_answer new place path shadow style (unaltered_marks sound is same place.krate.0 ∙ on)
+    ∙ ap (λ (cs : List CrateValue). answer_by (if nat_lt place.krate.0 (length cs) then status.Stale else status.Unknown) (Err error.UnknownPlace)) is.crates
+    ∙ sym (stale_answer old place path shadow style on))
+    (λ off.
+    let still = λ (j : ℕ) (behind : IsBehind old place.krate.0 j). unaltered_marks sound is same j ∙ unmarked_behind sound off behind in
+    same_answer place path shadow style sound off (record {
+      crates = is.crates;
+      paths = is.paths;
+      off = still;
+      kept = λ j behind. is.kept j (still j behind);
+    }))
+
+-- a file that is set to a source with other bodies leaves each key as it was
+same_but_bodies : BodyTextsLeaveTheTree → (s : SessionState) (path : List ℕ) (was source : SourceValue) → file_at s.files path ≡ Some was
+    → source_without_bodies was ≡ source_without_bodies source
+    → (key : Key) → look (workspace_in s.crates s.paths (edited_at s.files path (Some source))) no_maps key ≡ look (workspace_of s) no_maps key
+same_but_bodies law s path was source is_was alike = same_looks s path (Some source) (λ k.
+    let same : tree_under s.crates k (Some path) source ≡ tree_under s.crates k (Some path) was =
+    law (is_set (options_in s.crates k)) (front_in (crate_in s.crates k) (Some path)) source was (sym alike) in
+    ap (λ (t : Tree). let look : TreeLook = record { present = true; tree = t } in look) same ∙ ap (λ (o : Option SourceValue). shown s.crates k (Some path) o) (sym is_was))
+    (λ k id. same_variants (is_set (options_in s.crates k)) (record { kind = Enum; id = id }) source was (sym alike)
+    ∙ ap (λ (o : Option SourceValue). variants_under s.crates k o id) (sym is_was))
+
+-- a file that is removed where none is leaves each key as it was
+same_without : (s : SessionState) (path : List ℕ) → file_at s.files path ≡ None
+    → (key : Key) → look (workspace_in s.crates s.paths (edited_at s.files path None)) no_maps key ≡ look (workspace_of s) no_maps key
+same_without s path absent = same_looks s path None
+    (λ k. ap (λ (o : Option SourceValue). shown s.crates k (Some path) o) (sym absent))
+    (λ k id. ap (λ (o : Option SourceValue). variants_under s.crates k o id) (sym absent))
+
 pub body_edits_mark_nothing : BodyTextsLeaveTheTree → BodyEditsMarkNothing
 body_edits_mark_nothing law old new path was source sound is_was alike is =
-    unaltered_marks sound is (same_looks old path (Some source) (λ k.
-    let same : tree_under old.crates k (Some path) source ≡ tree_under old.crates k (Some path) was =
-    law (is_set (options_in old.crates k)) (front_in (crate_in old.crates k) (Some path)) source was (sym alike) in
-    ap (λ (t : Tree). let look : TreeLook = record { present = true; tree = t } in look) same ∙ ap (λ (o : Option SourceValue). shown old.crates k (Some path) o) (sym is_was))
-    (λ k id. same_variants (is_set (options_in old.crates k)) (record { kind = Enum; id = id }) source was (sym alike)
-    ∙ ap (λ (o : Option SourceValue). variants_under old.crates k o id) (sym is_was)))
+    unaltered_marks sound is (same_but_bodies law old path was source is_was alike)
+
+pub body_edits_leave_answers : BodyTextsLeaveTheTree → BodyEditsLeaveAnswers
+body_edits_leave_answers law old new path was source sound is_was alike is =
+    unaltered_answers sound is (same_but_bodies law old path was source is_was alike)
 
 pub remove_absent_file_marks_nothing : RemoveAbsentFileMarksNothing
-remove_absent_file_marks_nothing old new path sound absent is =
-    unaltered_marks sound is (same_looks old path None
-    (λ k. ap (λ (o : Option SourceValue). shown old.crates k (Some path) o) (sym absent))
-    (λ k id. ap (λ (o : Option SourceValue). variants_under old.crates k o id) (sym absent)))
+remove_absent_file_marks_nothing old new path sound absent is = unaltered_marks sound is (same_without old path absent)
+
+pub remove_absent_file_leaves_answers : RemoveAbsentFileLeavesAnswers
+remove_absent_file_leaves_answers old new path sound absent is = unaltered_answers sound is (same_without old path absent)
 
 -- what is there is not absent
 there_is_none : (crates : List CrateValue) (k : ℕ) (path : List ℕ) (x : SourceValue) (o : Option SourceValue) → o ≡ None

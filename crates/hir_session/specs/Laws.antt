@@ -1,21 +1,37 @@
 -- What holds of all that a session does?
-use Rattle.std.specs.Prelude.{◌≡◌, ℕ, true, List, Some, None, Contains}
+use Rattle.std.specs.Prelude.{◌≡◌, ℕ, true, List, Option, Some, None, Contains}
+use Rattle.hir_base.specs.ModPath.{Path}
+use Rattle.hir_base.specs.Place.{PlaceValue}
 use Rattle.hir_base.specs.declared.ids.Crate.{Crate}
 use Rattle.hir_base.specs.declared.ast_id.HirFileId.{HirFileId}
 use Rattle.hir_item_tree.specs.BodyTexts.{source_without_bodies}
 use Rattle.hir_item_tree.specs.Source.{SourceValue}
 use Rattle.hir_def_collector.specs.declared.source_database.Key.TheVariants.{Tree}
 use Rattle.hir_wire.specs.Edits.{set_file, remove_file}
+use Rattle.hir_wire.specs.declared.command.Shadow.{Shadow}
+use Rattle.hir_wire.specs.declared.command.MacroStyle.{MacroStyle}
+use Rattle.hir_session.specs.Answers.{answer_of}
 use Rattle.hir_session.specs.Files.{file_at, path_in}
 use Rattle.hir_session.specs.SessionState.{SessionState, Resolution, kept_of, is_marked, IsSound}
 use Rattle.hir_session.specs.Changes.{Applies}
 pub use Rattle.hir_session.specs.Histories.{History, WasAltered, DifferOnlyWhereAltered}
+
+-- each query has the same answer in both
+abbrev pub AnswersAlike : SessionState → SessionState → Type 0
+AnswersAlike old new = (place : PlaceValue) (path : Path) (shadow : Shadow) (style : Option MacroStyle)
+    → answer_of new place path shadow style ≡ answer_of old place path shadow style
 
 -- a file that was there is set to a source that differs in the texts of bodies alone: no mark changes
 abbrev pub BodyEditsMarkNothing : Type 0
 BodyEditsMarkNothing = (old new : SessionState) (path : List ℕ) (was source : SourceValue) → IsSound old
     → file_at old.files path ≡ Some was → source_without_bodies was ≡ source_without_bodies source → Applies old (set_file path source) new
     → (k : ℕ) → is_marked new k ≡ is_marked old k
+
+-- and no answer
+abbrev pub BodyEditsLeaveAnswers : Type 0
+BodyEditsLeaveAnswers = (old new : SessionState) (path : List ℕ) (was source : SourceValue) → IsSound old
+    → file_at old.files path ≡ Some was → source_without_bodies was ≡ source_without_bodies source → Applies old (set_file path source) new
+    → AnswersAlike old new
 
 -- a file that was absent is set, to an empty source too: each crate whose run asked for it is marked
 abbrev pub SetAbsentFileMarks : Type 0
@@ -35,3 +51,8 @@ RemovePresentFileMarks = (old new : SessionState) (path : List ℕ) (was : Sourc
 abbrev pub RemoveAbsentFileMarksNothing : Type 0
 RemoveAbsentFileMarksNothing = (old new : SessionState) (path : List ℕ) → IsSound old
     → file_at old.files path ≡ None → Applies old (remove_file path) new → (k : ℕ) → is_marked new k ≡ is_marked old k
+
+-- and no answer
+abbrev pub RemoveAbsentFileLeavesAnswers : Type 0
+RemoveAbsentFileLeavesAnswers = (old new : SessionState) (path : List ℕ) → IsSound old
+    → file_at old.files path ≡ None → Applies old (remove_file path) new → AnswersAlike old new

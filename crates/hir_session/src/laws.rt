@@ -1,7 +1,7 @@
 //! What holds of all that a session does; each function's contract is a law.
 ghost use Rattle.hir_session.specs.Histories.{DifferOnlyWhereAltered, RunsMakeHistories, LinesMakeHistories, LinesBeginHistories};
 ghost use Rattle.hir_session.specs.TwoReplies.{RepliesDifferOnlyWhereAltered};
-ghost use Rattle.hir_session.specs.Laws.{BodyEditsMarkNothing, SetAbsentFileMarks, RemovePresentFileMarks, RemoveAbsentFileMarksNothing};
+ghost use Rattle.hir_session.specs.Laws.{BodyEditsMarkNothing, BodyEditsLeaveAnswers, SetAbsentFileMarks, RemovePresentFileMarks, RemoveAbsentFileMarksNothing, RemoveAbsentFileLeavesAnswers};
 
 use hir_item_tree::laws::body_texts_leave_the_tree;
 
@@ -27,9 +27,10 @@ pub fn replies_differ_only_where_altered()
     ensures law { RepliesDifferOnlyWhereAltered }
 {}
 
-/// An edit that changes nothing but bodies leaves every answer as it is.
+/// An edit that changes nothing but bodies leaves every mark and every answer as it is.
 pub fn body_edits_mark_nothing()
     ensures law { BodyEditsMarkNothing }
+    ensures answers { BodyEditsLeaveAnswers }
 {
     body_texts_leave_the_tree();
 }
@@ -44,7 +45,8 @@ pub fn remove_present_file_marks()
     ensures law { RemovePresentFileMarks }
 {}
 
-/// Removing a file that isn't there leaves every answer as it is.
+/// Removing a file that isn't there leaves every mark and every answer as it is.
 pub fn remove_absent_file_marks_nothing()
     ensures law { RemoveAbsentFileMarksNothing }
+    ensures answers { RemoveAbsentFileLeavesAnswers }
 {}
