@@ -3,6 +3,7 @@ pub mod Shown
 pub mod UseTreeLemmas
 pub mod Walked
 pub mod Bodies
+pub mod Sides
 pub mod Associated
 pub mod AttributeLemmas
 pub mod UseTreePlaces

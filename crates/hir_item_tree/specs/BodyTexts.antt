@@ -1,4 +1,4 @@
--- Which laws hold of kept forests?
+-- Which sources differ in the texts of bodies alone?
 use Rattle.std.specs.Prelude.{◌≡◌, Bool, []}
 use Rattle.hir_base.specs.declared.cfg.CfgAtom.{CfgAtom}
 use Rattle.hir_item_tree.specs.Source.{Plain, import, extern_crate, function, structure, union_structure, enumeration, constant, static_item, type_alias, outline_module, macro_call, macro_rules, macro_def, Item, plain, holder, Items, no_items, item, SourceValue, broken, unit}

@@ -26,6 +26,7 @@ pub mod Limits
 pub mod SyntaxIds
 pub mod Check
 pub mod BodyTexts
+pub mod WithoutSides
 pub mod Laws
 pub mod Walks
 pub mod SideLists

@@ -1,5 +1,6 @@
 //! Laws of attributes, use trees and kept forests, over what the contracts say.
 ghost use Rattle.hir_item_tree.specs.BodyTexts.{BodyTextsLeaveTheTree};
+ghost use Rattle.hir_item_tree.specs.WithoutSides.{SideListsLeaveTheTree};
 ghost use Rattle.hir_item_tree.specs.Walks.{WalksAreDetermined, EachRowIsMetOnce};
 ghost use Rattle.hir_item_tree.specs.Sources.{UnreadSourcesKeepNoItems, OtherUnreadSourcesAreEmpty};
 ghost use Rattle.hir_item_tree.specs.Laws.{MergeIsAssociative, EmptyIsNeutralInFront, EmptyIsNeutralBehind, JoinedListsCollectAsMerged, PlaceHoldsItsLeaf};
@@ -28,6 +29,12 @@ pub fn place_holds_its_leaf()
 /// Sources that differ in the texts of bodies alone have equal trees.
 pub fn body_texts_leave_the_tree()
     ensures law { BodyTextsLeaveTheTree }
+{}
+
+/// Sources that differ in what is kept beside their trees alone have equal trees: in variants, macro texts,
+/// inputs and associated items. The texts of bodies may differ too.
+pub fn side_lists_leave_the_tree()
+    ensures law { SideListsLeaveTheTree }
 {}
 
 /// A source that is absent, or can't be read, has no items, and attributes only of a crate whose root it is.
