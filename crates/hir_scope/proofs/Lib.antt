@@ -5,6 +5,8 @@ pub mod Prevails
 pub mod SlotLemmas
 pub mod PushesSlots
 pub mod RecordLemmas
+pub mod Tells
+pub mod FilterLemmas
 pub mod ImportChainLemmas
 pub mod MergeLemmas
 pub mod AscendingLemmas

@@ -1,5 +1,6 @@
 pub mod PerNs
 pub mod PerNsItems
+pub mod Filtered
 pub mod Imports
 pub mod ItemInNs
 pub mod GlobImports
@@ -9,6 +10,7 @@ pub mod Room
 pub mod Offers
 pub mod ScopePushes
 pub mod Recorded
+pub mod Tells
 pub mod Updates
 pub mod MacroCalls
 pub mod Censored

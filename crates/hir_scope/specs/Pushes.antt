@@ -38,13 +38,6 @@ after_push bound push = record {
   macros = slot_after makro.ghosts.eq import_or_extern_crate.ghosts.eq bound.macros push.macros;
 }
 
--- whether a push changes what a name stands for
-abbrev pub changes : PerNs → PerNs → Bool
-changes bound push =
-    changes_slot module_def.ghosts.eq import_or_extern_crate.ghosts.eq bound.types push.types
-    || (changes_slot module_def.ghosts.eq import_or_glob.ghosts.eq bound.values push.values
-    || changes_slot makro.ghosts.eq import_or_extern_crate.ghosts.eq bound.macros push.macros)
-
 -- ---- a slot: a name in one namespace of a module
 
 -- what is bound there, and whether the glob table has the name

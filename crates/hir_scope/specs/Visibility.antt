@@ -4,8 +4,6 @@ use Rattle.hir_base.specs.declared.ids.MapId.{MapId}
 use Rattle.hir_base.specs.declared.ids.ModuleId.{ModuleId}
 use Rattle.hir_item_tree.specs.declared.raw_visibility.VisibilityExplicitness.{VisibilityExplicitness}
 use Rattle.hir_item_tree.specs.declared.raw_visibility.VisibilityExplicitness.TheVariants.{Explicit, Implicit}
-use Rattle.hir_item_tree.specs.declared.raw_visibility.RawVisibility.{RawVisibility}
-use Rattle.hir_item_tree.specs.declared.raw_visibility.RawVisibility.TheVariants as raws
 use Rattle.hir_scope.specs.declared.visibility.Visibility.{Visibility}
 use Rattle.hir_scope.specs.declared.visibility.Visibility.TheVariants.{Module, PubCrate, Public}
 use Rattle.hir_scope.specs.ModuleTree.{same_crate, same_block, same_map, same_module, is_at_or_above}
@@ -73,10 +71,3 @@ IsUnion seen w v u = (from : ModuleId) → seen w from ≡ (seen v from || seen 
 -- the set of modules that one visibility names is that of both of two
 abbrev pub IsMeet : (Visibility → ModuleId → Bool) → Visibility → Visibility → Visibility → Type 0
 IsMeet seen w v u = (from : ModuleId) → seen w from ≡ (seen v from && seen u from)
-
--- what a visibility means that is written in a module; a path isn't looked up yet, and counts as seen by all
-abbrev pub visibility_of : ModuleId → RawVisibility → Visibility
-visibility_of at (raws.Module path e) = Public
-visibility_of at (raws.PubSelf e) = Module at e
-visibility_of at raws.PubCrate = PubCrate at.map.krate
-visibility_of at raws.Public = Public

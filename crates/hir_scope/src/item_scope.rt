@@ -4,6 +4,7 @@ ghost use Rattle.hir_scope.specs.ItemScope.{empty_scope, binding_of};
 
 mod ascending;
 pub mod ask_names;
+pub mod bindings;
 pub mod calls;
 pub mod censor;
 pub mod define;

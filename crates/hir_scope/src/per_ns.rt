@@ -1,6 +1,7 @@
 //! What a name stands for in each namespace, after rust-analyzer's `per_ns.rs`.
 ghost use Rattle.std.specs.Prelude.{◌≡◌, Bool, true, false};
 ghost use Rattle.hir_scope.specs.PerNs.{nothing, types_only, values_only, macros_only, types_and_values, value_import, with_constructor, per_ns_of, is_full, is_nothing, def_of, or_of, keep_of, seen_as, item_seen_as};
+ghost use Rattle.hir_scope.specs.Filtered.{Passes, PassInOrder};
 ghost use Rattle.hir_scope.specs.declared.visibility.Visibility.{Visibility};
 ghost use Rattle.hir_scope.specs.declared.per_ns.PerNs.{PerNs};
 
@@ -188,24 +189,17 @@ impl PerNs {
         self.macros
     }
 
-    /// The items whose visibility passes the test.
-    pub fn filter_visibility<F: Fn(Visibility) -> bool + Drop>(self, test: F) -> PerNs
+    /// The items whose visibility passes the test, which is asked once for each item: types, values, macros.
+    pub fn filter_visibility<F: FnMut(Visibility) -> bool + Drop>(self, mut test: F) -> PerNs
         requires { F.IsAlwaysCallable test }
+        ensures asked { PassInOrder F.step test self result }
         ensures value { (keep : Visibility → Bool)
-            → ((v : Visibility) (b : Bool) → F.post test v b → b ≡ keep v) → result ≡ keep_of keep self }
+            → ((state : F) (vis : Visibility) (answer : Bool) (left : F) → F.step state vis answer left → answer ≡ keep vis)
+            → result ≡ keep_of keep self }
     {
-        let types = match self.types {
-            Some(ty) if test(ty.vis) => Some(ty),
-            _ => None,
-        };
-        let values = match self.values {
-            Some(value) if test(value.vis) => Some(value),
-            _ => None,
-        };
-        let macros = match self.macros {
-            Some(makro) if test(makro.vis) => Some(makro),
-            _ => None,
-        };
+        let types = passing(self.types, &mut test);
+        let values = passing(self.values, &mut test);
+        let macros = passing(self.macros, &mut test);
         PerNs {
             types,
             values,
@@ -238,8 +232,7 @@ impl PerNs {
     /// `or`, where the other is computed only if some namespace is empty.
     pub fn or_else<F: FnOnce() -> PerNs + Drop>(self, other: F) -> PerNs
         requires { is_full self ≡ false → F.pre other }
-        ensures value { (given : PerNs) → ((items : PerNs) → F.post other items → items ≡ given)
-            → result ≡ or_of self given }
+        ensures asked { is_full self ≡ false → (given : PerNs) × F.post other given × (result ≡ or_of self given) }
         ensures full { is_full self ≡ true → result ≡ self }
     {
         if self.is_full() {
@@ -247,6 +240,21 @@ impl PerNs {
         } else {
             self.or(other())
         }
+    }
+}
+
+/// The item, if it passes the test, which is asked about its visibility.
+fn passing<Def: Copy, Import: Copy, F: FnMut(Visibility) -> bool>(
+    item: Option<Item<Def, Import>>,
+    test: &mut F,
+) -> Option<Item<Def, Import>>
+    requires { F.IsAlwaysCallable test.old }
+    ensures asked { Passes F.step test.old item result test.new }
+    ensures callable { F.IsAlwaysCallable test.new }
+{
+    match item {
+        Some(item) if test(item.vis) => Some(item),
+        _ => None,
     }
 }
 

@@ -5,11 +5,11 @@ ghost use Rattle.std.specs.Fn.{FnOnceReturnsAt};
 ghost use Rattle.hir_scope.specs.declared.visibility.Visibility.{Visibility};
 ghost use Rattle.hir_scope.specs.declared.visibility.Visibility.TheVariants.{Module, Public};
 ghost use Rattle.hir_scope.specs.ModuleTree.{is_at_or_above};
-ghost use Rattle.hir_scope.specs.Visibility.{stands_for, is_visible, greater_of, lesser_of, either_written, upper_of, lower_of, IsUnion, IsMeet, visibility_of};
+ghost use Rattle.hir_scope.specs.Visibility.{stands_for, is_visible, greater_of, lesser_of, either_written, upper_of, lower_of, IsUnion, IsMeet};
 
 use crate::module_tree::ModuleTree;
 use hir_base::ids::{Crate, MapId, ModuleId};
-use hir_item_tree::raw_visibility::{RawVisibility, VisibilityExplicitness};
+use hir_item_tree::raw_visibility::VisibilityExplicitness;
 
 /// The modules that may see an item.
 #[derive(Clone, Copy, Debug, PartialEq, Eq, Hash)]
@@ -21,19 +21,6 @@ pub enum Visibility {
 }
 
 impl Visibility {
-    /// What a visibility means that is written in a module.
-    ///
-    /// A path isn't looked up yet, and counts as seen by all.
-    pub fn of_raw(at: ModuleId, raw: &RawVisibility) -> Visibility
-        ensures value { result ≡ visibility_of at raw.now }
-    {
-        match raw {
-            RawVisibility::Module(_, _) | RawVisibility::Public => Visibility::Public,
-            RawVisibility::PubSelf(written) => Visibility::Module(at, *written),
-            RawVisibility::PubCrate => Visibility::PubCrate(at.map.krate),
-        }
-    }
-
     /// What a visibility means that is written somewhere; one whose path doesn't lead to a module counts as public.
     ///
     /// The look-up is a function from `&RawVisibility`. It is asked once, for what is written, whose type is left open here.

@@ -1,18 +1,27 @@
 //! The laws of walks.
 ghost use Rattle.std.specs.Prelude.{List};
 ghost use Rattle.std.specs.Option.{option_copied};
+ghost use Rattle.std.specs.Map.Iter.{deref_pair};
 ghost use Rattle.hir_scope.specs.PerNsItems.{items_left};
-ghost use Rattle.hir_scope.specs.WalkLaws.{EntriesAscend, GivesItsList, ImportsAscend};
+ghost use Rattle.hir_scope.specs.WalkLaws.{BindingsAscend, EntriesAscend, GivesItsList, ImportsAscend};
 
+use crate::imports::{ImportOrExternCrate, ImportOrGlob};
 use crate::item_scope::ItemScope;
+use crate::item_scope::bindings::Bindings;
 use crate::item_scope::calls::MacroCalls;
 use crate::item_scope::entries::{Entries, Resolutions};
 use crate::item_scope::impls::Impls;
 use crate::item_scope::import_ids::Imports;
+use crate::item_scope::macro_calls::{DeriveAttributes, LegacyMacros};
+use crate::item_scope::tables::TableEntries;
 use crate::item_scope::walks::{ModulesInScope, Traits};
 use crate::per_ns_items::PerNsItems;
+use hir_base::ast_id::{AstId, MacroCallId};
+use hir_base::ids::ModuleDefId;
+use hir_base::macro_kind::MacroId;
+use hir_base::name::Name;
 
-/// Each walk ends, and has then given its list. A walk of a standard library's type has that law from there.
+/// Each walk ends, and has then given its list.
 pub fn walks_give_their_list()
     ensures items { GivesItsList ⟦<PerNsItems as Iterator>⟧.next_gives (λ item. item) items_left }
     ensures impls { GivesItsList ⟦<Impls<'static> as Iterator>⟧.next_gives (λ id. id) (λ (left : List _). left) }
@@ -23,7 +32,22 @@ pub fn walks_give_their_list()
     ensures entries { GivesItsList ⟦<Entries<'static> as Iterator>⟧.next_gives (λ entry. (entry.0.now, entry.1)) (λ (left : List _). left) }
     ensures resolutions { GivesItsList ⟦<Resolutions<'static> as Iterator>⟧.next_gives
         (λ entry. (option_copied entry.0, entry.1)) (λ (left : List _). left) }
+    ensures types { GivesItsList ⟦<Bindings<'static, ModuleDefId, ImportOrExternCrate> as Iterator>⟧.next_gives deref_pair (λ (left : List _). left) }
+    ensures values { GivesItsList ⟦<Bindings<'static, ModuleDefId, ImportOrGlob> as Iterator>⟧.next_gives deref_pair (λ (left : List _). left) }
+    ensures macros { GivesItsList ⟦<Bindings<'static, MacroId, ImportOrExternCrate> as Iterator>⟧.next_gives deref_pair (λ (left : List _). left) }
+    ensures legacy_macros { GivesItsList ⟦<TableEntries<'static, Name, LegacyMacros> as Iterator>⟧.next_gives deref_pair (λ (left : List _). left) }
+    ensures macro_invocs { GivesItsList ⟦<TableEntries<'static, AstId, MacroCallId> as Iterator>⟧.next_gives deref_pair (λ (left : List _). left) }
+    ensures derive_macro_invocs { GivesItsList ⟦<TableEntries<'static, AstId, DeriveAttributes> as Iterator>⟧.next_gives deref_pair (λ (left : List _). left) }
 {}
+
+/// The names of types, of values and of macros come in ascending order, each once.
+pub fn bindings_ascend(scope: &ItemScope)
+    ensures types { BindingsAscend scope.now.types }
+    ensures values { BindingsAscend scope.now.values }
+    ensures macros { BindingsAscend scope.now.macros }
+{
+    scope.bindings_ascend();
+}
 
 /// The names of a scope and its imports come in ascending order, each once.
 pub fn entries_and_imports_ascend(scope: &ItemScope)

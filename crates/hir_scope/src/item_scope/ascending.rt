@@ -5,6 +5,7 @@ ghost use Rattle.std.specs.Map.{keys_of};
 ghost use Rattle.std.specs.Ordering.{nat_cmp};
 ghost use Rattle.hir_scope.specs.Entries.{scope_names};
 ghost use Rattle.hir_scope.specs.ImportLists.{import_order, imports_of_scope};
+ghost use Rattle.hir_scope.specs.WalkLaws.{BindingsAscend};
 
 use crate::glob_imports::keys_are_ordered;
 use crate::item_scope::ItemScope;
@@ -25,6 +26,16 @@ impl ItemScope {
         keys_ascend(&self.values);
         keys_ascend(&self.macros);
         keys_are_ordered(&self.unresolved);
+    }
+
+    pub(crate) fn bindings_ascend(&self)
+        ensures types { BindingsAscend self.now.types }
+        ensures values { BindingsAscend self.now.values }
+        ensures macros { BindingsAscend self.now.macros }
+    {
+        keys_ascend(&self.types);
+        keys_ascend(&self.values);
+        keys_ascend(&self.macros);
     }
 
     pub(crate) fn imports_ascend(&self)

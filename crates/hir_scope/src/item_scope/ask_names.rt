@@ -13,7 +13,7 @@ use std::collections::btree_map;
 impl ItemScope {
     /// Asks about each name under which an item is bound, by name, until there is an answer: with its visibility, and whether
     /// it has no import.
-    pub fn names_of<T, F: FnMut(&str, Visibility, bool) -> Option<T> + Drop>(
+    pub fn names_of<T, F: FnMut(&Name, Visibility, bool) -> Option<T> + Drop>(
         &self,
         item: ItemInNs,
         cb: F,
@@ -34,7 +34,7 @@ fn ask_names<
     Def: Copy + PartialEq,
     Import: Copy,
     T,
-    F: FnMut(&str, Visibility, bool) -> Option<T> + Drop,
+    F: FnMut(&Name, Visibility, bool) -> Option<T> + Drop,
 >(entries: btree_map::Iter<'a, Name, Item<Def, Import>>, def: Def, mut cb: F) -> Option<T>
     requires { F.IsAlwaysCallable cb }
     ensures value { AsksInOrder F.step cb (names_with Def.eq def entries.entry) result }
@@ -42,7 +42,7 @@ fn ask_names<
     let mut left = entries;
     'next: while let Some((name, item)) = left.next() {
         if item.def == def {
-            if let Some(answer) = cb(name.as_str(), item.vis, item.import.is_none()) {
+            if let Some(answer) = cb(name, item.vis, item.import.is_none()) {
                 return Some(answer);
             }
         }

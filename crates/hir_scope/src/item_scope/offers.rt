@@ -107,6 +107,22 @@ fn record_entry<Def: Copy, Import: Copy>(offer: Offer<Def, Import>) -> Option<(I
     }
 }
 
+/// Adds a name to those that globs brought, if a glob brings it; says whether it was added.
+fn add_glob(
+    globs: &mut BTreeSet<(ModuleId, Name)>,
+    at: &(ModuleId, Name),
+    is_glob: bool,
+) -> Result<bool, AllocError>
+    ensures ok { IfOk result (λ added. IsKeyFor place_cmp globs.old.keys at.now is_glob added globs.new.keys) }
+    ensures err { OnErr result (globs.new.keys ≡ globs.old.keys) }
+{
+    if is_glob {
+        add_key(globs, (at.0, at.1.clone()?))
+    } else {
+        Ok(false)
+    }
+}
+
 /// Adds an item under a name, and the name to those that globs brought if a glob brings it; says of both whether
 /// they were added.
 fn add_name<Def: Copy, Import: Copy>(
@@ -121,10 +137,8 @@ fn add_name<Def: Copy, Import: Copy>(
     ensures err_items { OnErr result (items.new.entries ≡ items.old.entries) }
     ensures err_globs { OnErr result (globs.new.keys ≡ globs.old.keys) }
 {
-    let name = at.1.clone()?;
-    let place = (at.0, at.1.clone()?);
-    let item_added = add_entry(items, Some((name, item)))?;
-    match add_key(globs, place, is_glob) {
+    let item_added = add_entry(items, Some((at.1.clone()?, item)))?;
+    match add_glob(globs, at, is_glob) {
         Ok(glob_added) => Ok((item_added, glob_added)),
         Err(refused) => {
             take_entry_back(items, &at.1, item_added);

@@ -1,9 +1,11 @@
 //! Binding names in a scope, after rust-analyzer's `push_res_with_import`.
-ghost use Rattle.std.specs.Prelude.{◌≡◌, not, OnOk, OnErr, IfOk};
+ghost use Rattle.std.specs.Prelude.{◌≡◌, ◌≢◌, true, false, not, OnOk, OnErr, IfOk};
 ghost use Rattle.hir_scope.specs.ImportRecords.{is_glob, reached_by, value_reached_by};
 ghost use Rattle.hir_scope.specs.Offers.{type_offer, value_offer, macro_offer, offered_globs};
 ghost use Rattle.hir_scope.specs.ScopePushes.{taken_type, taken_value, taken_macro, with_macro, with_value, offered_scope, offered_names, is_some_offer, is_unresolved, with_unresolved, pushed_scope, pushed_globs, push_changes, PushesType, PushesValue, PushesMacro};
+ghost use Rattle.hir_scope.specs.PerNs.{is_nothing};
 ghost use Rattle.hir_scope.specs.Recorded.{RecordsType, RecordsValue, RecordsMacro};
+ghost use Rattle.hir_scope.specs.Tells.{IsNewlyUnresolved, slots_of};
 
 use crate::glob_imports::PerNsGlobImports;
 use crate::imports::{ImportOrDef, ImportOrExternCrate, ImportOrGlob};
@@ -117,6 +119,15 @@ impl ItemScope {
         ensures ok { OnOk result (self.new ≡ pushed_scope glob_imports.old lookup def import self.old) }
         ensures globs { OnOk result (glob_imports.new ≡ pushed_globs self.old lookup def import glob_imports.old) }
         ensures changed { IfOk result (λ changed. changed ≡ push_changes self.old glob_imports.old lookup def import) }
+
+        // Where it says no, nothing changed, records included; where yes, a binding of the name or its entry in the glob
+        // table did, or after a push of nothing the name is newly unresolved.
+        ensures stays { IfOk result (λ changed. changed ≡ false → self.new ≡ self.old) }
+        ensures stays_globs { IfOk result (λ changed. changed ≡ false → glob_imports.new ≡ glob_imports.old) }
+        ensures moves { IfOk result (λ changed. changed ≡ true → is_nothing def ≡ false
+            → slots_of self.new glob_imports.new lookup ≢ slots_of self.old glob_imports.old lookup) }
+        ensures notes { IfOk result (λ changed. changed ≡ true → is_nothing def ≡ true
+            → IsNewlyUnresolved lookup.1 self.old self.new) }
 
         // So each slot of the name takes what is pushed to it, and the other names of the module stay.
         ensures types { OnOk result (PushesType lookup def import self.old glob_imports.old self.new glob_imports.new) }

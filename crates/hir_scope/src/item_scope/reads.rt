@@ -5,36 +5,13 @@ ghost use Rattle.hir_scope.specs.ScopeReads.{type_at, macro_at, legacy_at, at_no
 
 use crate::item_scope::ItemScope;
 use crate::item_scope::macro_calls::DeriveAttribute;
-use crate::per_ns::{MacrosItem, TypesItem, ValuesItem};
 use crate::visibility::Visibility;
 use hir_base::ast_id::{AstId, AttrId, MacroCallId};
 use hir_base::ids::{ConstId, ExternBlockId, ExternCrateId, ModuleDefId, TraitId, UseId};
 use hir_base::macro_kind::{BuiltinDeriveImplId, MacroId};
 use hir_base::name::Name;
-use std::collections::btree_map;
 
 impl ItemScope {
-    /// The values, by name.
-    pub fn values(&self) -> btree_map::Iter<'_, Name, ValuesItem>
-        ensures value { result ≡ self.now.values }
-    {
-        self.values.iter()
-    }
-
-    /// The types, by name.
-    pub fn types(&self) -> btree_map::Iter<'_, Name, TypesItem>
-        ensures value { result ≡ self.now.types }
-    {
-        self.types.iter()
-    }
-
-    /// The macros, by name; those in textual scope don't count.
-    pub fn macros(&self) -> btree_map::Iter<'_, Name, MacrosItem>
-        ensures value { result ≡ self.now.macros }
-    {
-        self.macros.iter()
-    }
-
     /// The definitions that are declared here.
     pub fn declarations(&self) -> &[ModuleDefId]
         ensures value { result.now ≡ self.now.declarations }

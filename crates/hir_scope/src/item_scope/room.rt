@@ -1,5 +1,5 @@
 //! Room in maps and sets, which is made before anything is written.
-ghost use Rattle.std.specs.Prelude.{◌≡◌, Bool, false, List, Some, OnErr, IfOk};
+ghost use Rattle.std.specs.Prelude.{◌≡◌, Bool, true, false, List, Some, OnErr, IfOk};
 ghost use Rattle.hir_scope.specs.ImportRecords.{with_some_entry};
 ghost use Rattle.hir_scope.specs.Room.{IsRoomFor, IsKeyFor};
 
@@ -65,18 +65,11 @@ pub(crate) fn write_entry<K: Ord + Drop, V: Drop>(
     }
 }
 
-/// Adds a key, if it is wanted, unless it is there, and says whether it was added.
-pub(crate) fn add_key<K: Ord + Drop>(
-    set: &mut BTreeSet<K>,
-    key: K,
-    wanted: bool,
-) -> Result<bool, AllocError>
-    ensures ok { IfOk result (λ added. IsKeyFor K.cmp set.old.keys key wanted added set.new.keys) }
+/// Adds a key unless it is there, and says whether it was added.
+pub(crate) fn add_key<K: Ord + Drop>(set: &mut BTreeSet<K>, key: K) -> Result<bool, AllocError>
+    ensures ok { IfOk result (λ added. IsKeyFor K.cmp set.old.keys key true added set.new.keys) }
     ensures err { OnErr result (set.new.keys ≡ set.old.keys) }
 {
-    if !wanted {
-        return Ok(false);
-    }
     Ok(set.insert(key)?)
 }
 

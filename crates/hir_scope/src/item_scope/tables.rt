@@ -1,5 +1,7 @@
 //! The tables of a scope: macros in textual scope, and what calls, attributes and derives became.
-ghost use Rattle.std.specs.Prelude.{◌≡◌};
+ghost use Rattle.std.specs.Prelude.{◌≡◌, List};
+ghost use Rattle.std.specs.Iterator.{YieldsFirstBy, item_count};
+ghost use Rattle.std.specs.Map.Iter.{deref_pair};
 
 use crate::item_scope::ItemScope;
 use crate::item_scope::macro_calls::{DeriveAttribute, DeriveAttributes, LegacyMacros};
@@ -7,6 +9,22 @@ use either::Either;
 use hir_base::ast_id::{AstId, AttrId, MacroCallId};
 use hir_base::macro_kind::{BuiltinDeriveImplId, MacroId};
 use hir_base::name::Name;
+use std::marker::Model;
+
+/// Names or nodes, each with what a table of a scope has of it; see `ItemScope::legacy_macros`, `iter_macro_invoc`,
+/// `attr_macro_invocs` and `derive_macro_invocs`.
+#[derive(Drop)]
+pub struct TableEntries<'a, K, V> {
+    left: indexmap::map::Iter<'a, K, V>,
+}
+
+impl<'a, K, V> Model for TableEntries<'a, K, V> {
+    ghost use Rattle.std.specs.Prelude.{List};
+
+    ghost Value = { List (K × V) };
+
+    ghost view = { λ walk. walk.left };
+}
 
 impl DeriveAttribute {
     pub fn attr_id(&self) -> AttrId
@@ -48,30 +66,50 @@ impl LegacyMacros {
 
 impl ItemScope {
     /// The names of macros in textual scope, each with its macros, the last one last.
-    pub fn legacy_macros(&self) -> indexmap::map::Iter<'_, Name, LegacyMacros>
+    pub fn legacy_macros(&self) -> TableEntries<'_, Name, LegacyMacros>
         ensures value { result ≡ self.now.legacy_macros }
     {
-        self.legacy_macros.iter()
+        TableEntries {
+            left: self.legacy_macros.iter(),
+        }
     }
 
     /// Each macro call with what it became.
-    pub fn iter_macro_invoc(&self) -> indexmap::map::Iter<'_, AstId, MacroCallId>
+    pub fn iter_macro_invoc(&self) -> TableEntries<'_, AstId, MacroCallId>
         ensures value { result ≡ self.now.macro_calls }
     {
-        self.macro_calls.iter()
+        TableEntries {
+            left: self.macro_calls.iter(),
+        }
     }
 
     /// Each item with what its attribute became.
-    pub fn attr_macro_invocs(&self) -> indexmap::map::Iter<'_, AstId, MacroCallId>
+    pub fn attr_macro_invocs(&self) -> TableEntries<'_, AstId, MacroCallId>
         ensures value { result ≡ self.now.attr_macros }
     {
-        self.attr_macros.iter()
+        TableEntries {
+            left: self.attr_macros.iter(),
+        }
     }
 
     /// Each item with its `derive` attributes.
-    pub fn derive_macro_invocs(&self) -> indexmap::map::Iter<'_, AstId, DeriveAttributes>
+    pub fn derive_macro_invocs(&self) -> TableEntries<'_, AstId, DeriveAttributes>
         ensures value { result ≡ self.now.derive_macros }
     {
-        self.derive_macros.iter()
+        TableEntries {
+            left: self.derive_macros.iter(),
+        }
+    }
+}
+
+impl<'a, K, V> Iterator for TableEntries<'a, K, V> {
+    type Item = (&'a K, &'a V);
+
+    ghost next_gives = { YieldsFirstBy deref_pair (λ (left : List (K × V)). left) };
+
+    ghost remaining = { item_count (λ (left : List _). left) };
+
+    fn next(&mut self) -> Option<(&'a K, &'a V)> {
+        self.left.next()
     }
 }

@@ -1,3 +1,4 @@
+use Rattle.std.specs.Map.Iter.{deref_pair}
 use Rattle.std.specs.Option.{option_copied}
 use Rattle.hir_scope.specs.PerNsItems.{items_left}
 use Rattle.hir_scope.proofs.WalkLemmas.{gives_its_list}
@@ -14,4 +15,10 @@ returns c = record {
   imports = gives_its_list (λ id. id) (λ left. left);
   entries = gives_its_list (λ entry. (entry.0.now, entry.1)) (λ left. left);
   resolutions = gives_its_list (λ entry. (option_copied entry.0, entry.1)) (λ left. left);
+  types = gives_its_list deref_pair (λ left. left);
+  values = gives_its_list deref_pair (λ left. left);
+  macros = gives_its_list deref_pair (λ left. left);
+  legacy_macros = gives_its_list deref_pair (λ left. left);
+  macro_invocs = gives_its_list deref_pair (λ left. left);
+  derive_macro_invocs = gives_its_list deref_pair (λ left. left);
 }

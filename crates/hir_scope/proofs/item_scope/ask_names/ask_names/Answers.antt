@@ -9,5 +9,5 @@ next-preserved-in_default-cb g c =
       search of_calls,
       λ outcome asks. c.next.invariant.1 outcome
           (unanswered (goal.F-step g) g.Def.PartialEq.eq c.args.def c.next.cb c.cb.new.self (c.in-Some.name.now, c.in-Some.item.now) c.next-in-next.new.self c.next.left
-          c.as_str.result c.is_none.result c.cb.result outcome (search rules) (search rules) (search rules) (other_side _ _ c.is_none.ensures) c.in_default-cb.is c.cb.ensures asks),
+          c.in-Some.name c.is_none.result c.cb.result outcome (search rules) (search rules) (search rules) (other_side _ _ c.is_none.ensures) c.in_default-cb.is c.cb.ensures asks),
     )

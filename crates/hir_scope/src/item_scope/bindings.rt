@@ -1,0 +1,70 @@
+//! Walks over what names stand for in one namespace.
+ghost use Rattle.std.specs.Prelude.{◌≡◌, ℕ, List};
+ghost use Rattle.std.specs.Iterator.{YieldsFirstBy, item_count};
+ghost use Rattle.std.specs.Map.Iter.{deref_pair};
+ghost use Rattle.hir_scope.specs.declared.per_ns.Item.{Item};
+
+use crate::imports::{ImportOrExternCrate, ImportOrGlob};
+use crate::item_scope::ItemScope;
+use crate::per_ns::Item;
+use hir_base::ids::ModuleDefId;
+use hir_base::macro_kind::MacroId;
+use hir_base::name::Name;
+use std::collections::btree_map;
+use std::marker::Model;
+
+/// Names with what they stand for in one namespace; see `ItemScope::types`, `values` and `macros`.
+#[derive(Drop)]
+pub struct Bindings<'a, Def, Import> {
+    left: btree_map::Iter<'a, Name, Item<Def, Import>>,
+}
+
+impl<'a, Def, Import> Model for Bindings<'a, Def, Import> {
+    ghost use Rattle.std.specs.Prelude.{ℕ, List};
+    ghost use Rattle.hir_scope.specs.declared.per_ns.Item.{Item};
+
+    ghost Value = { List (List ℕ × Item Def Import) };
+
+    ghost view = { λ walk. walk.left };
+}
+
+impl ItemScope {
+    /// The types, by name.
+    pub fn types(&self) -> Bindings<'_, ModuleDefId, ImportOrExternCrate>
+        ensures value { result ≡ self.now.types }
+    {
+        Bindings {
+            left: self.types.iter(),
+        }
+    }
+
+    /// The values, by name.
+    pub fn values(&self) -> Bindings<'_, ModuleDefId, ImportOrGlob>
+        ensures value { result ≡ self.now.values }
+    {
+        Bindings {
+            left: self.values.iter(),
+        }
+    }
+
+    /// The macros, by name; those in textual scope don't count.
+    pub fn macros(&self) -> Bindings<'_, MacroId, ImportOrExternCrate>
+        ensures value { result ≡ self.now.macros }
+    {
+        Bindings {
+            left: self.macros.iter(),
+        }
+    }
+}
+
+impl<'a, Def, Import> Iterator for Bindings<'a, Def, Import> {
+    type Item = (&'a Name, &'a Item<Def, Import>);
+
+    ghost next_gives = { YieldsFirstBy deref_pair (λ (left : List (List ℕ × Item Def Import)). left) };
+
+    ghost remaining = { item_count (λ (left : List _). left) };
+
+    fn next(&mut self) -> Option<(&'a Name, &'a Item<Def, Import>)> {
+        self.left.next()
+    }
+}
