@@ -1,7 +1,8 @@
 -- What does reading a part of a line give?
-use Rattle.std.specs.Prelude.{◌≡◌, ℕ, List, [], ◌∷◌, Bool, Option, Some, None, is_some, Result, Ok, Err, if◌then◌else◌, nat_lt, ⊤}
+use Rattle.std.specs.Prelude.{◌≡◌, ℕ, List, [], ◌∷◌, ◌++◌, codes, Bool, Option, Some, None, is_some, Result, Ok, Err, if◌then◌else◌, nat_lt, ⊤}
 use Rattle.serde_json.specs.Data.{Data, Items, no_items, item, Members}
 use Rattle.serde_json.specs.Find.{get_member, as_array}
+use Rattle.hir_base.specs.Limit.{limit_text}
 use Rattle.hir_base.specs.declared.limit.Limit.TheVariants as limit
 use Rattle.hir_wire.specs.declared.read_error.ReadError.{ReadError}
 use Rattle.hir_wire.specs.declared.read_error.ReadError.TheVariants.{Json, Command, TooLarge, Memory}
@@ -9,6 +10,13 @@ use Rattle.hir_wire.specs.declared.read_error.ReadError.TheVariants.{Json, Comma
 -- what a part of a line means, or why it means nothing
 abbrev pub Reading : Type 0 → Type 0
 Reading A = Result A ReadError
+
+-- the text of an error
+abbrev pub error_text : ReadError → List ℕ
+error_text Json = codes "the line is no JSON"
+error_text Command = codes "the line is no command"
+error_text (TooLarge l) = codes "the line passes a limit: " ++ limit_text l
+error_text Memory = codes "out of memory"
 
 -- how soon an error is told: a fault of form before a limit, a limit before those that come after it
 abbrev pub gravity : ReadError → ℕ

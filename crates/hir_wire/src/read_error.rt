@@ -1,6 +1,6 @@
 //! Why a line is no command.
-ghost use Rattle.std.specs.Prelude.{◌≡◌};
-ghost use Rattle.hir_wire.specs.Reading.{gravity, graver, paired};
+ghost use Rattle.std.specs.Prelude.{◌≡◌, Some};
+ghost use Rattle.hir_wire.specs.Reading.{error_text, gravity, graver, paired};
 
 use hir_base::limit::Limit;
 use std::alloc::{AllocError, AllocFailed};
@@ -42,6 +42,8 @@ impl<T: Drop> From<AllocFailed<T>> for ReadError {
 }
 
 impl Display for ReadError {
+    ghost output = { λ error. Some (error_text error) };
+
     fn fmt<W: Write>(&self, f: &mut Formatter<W>) -> std::fmt::Result {
         match *self {
             ReadError::Json => f.write_str("the line is no JSON"),
