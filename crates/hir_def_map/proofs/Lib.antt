@@ -18,3 +18,4 @@ pub mod Falling
 pub mod Entries
 pub mod FallingSteps
 pub mod Reached
+pub mod Sourced

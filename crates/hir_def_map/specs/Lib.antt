@@ -26,6 +26,7 @@ pub mod Closed
 pub mod NoneOf
 pub mod Complete
 pub mod StaysComplete
+pub mod Sources
 pub mod DefMaps
 pub mod AskMaps
 pub mod Inserted

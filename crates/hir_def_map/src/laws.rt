@@ -7,6 +7,7 @@ ghost use Rattle.hir_def_map.specs.Complete.{AreWhole, BeginsOnly, NamesOnly};
 ghost use Rattle.hir_def_map.specs.Named.{is_complete};
 ghost use Rattle.hir_def_map.specs.StaysComplete.{DeclarationsNameWhatIsThere, ModulesNameWhatIsThere, PushesNameWhatIsThere};
 ghost use Rattle.hir_def_map.specs.PathLaws.{BlocksAskHolders, CratesAskThemselves, CrossedSegmentsAreSeen, EndsAreWalked, InheritedSegmentsAreSeen, InnerModulesAskPreludes, SegmentsGoOn, StartedSegmentsAreSeen, WalksAskBehind};
+ghost use Rattle.hir_def_map.specs.Sources.{PathsAnswerFromSources};
 ghost use Rattle.hir_def_map.specs.State.{Local, Map, Maps, beside};
 ghost use Rattle.hir_base.specs.Laws.{HashesAlike};
 
@@ -76,6 +77,12 @@ pub fn declarations_keep_names()
 /// A path leads only to what is there, where all that is named lies among the maps.
 pub fn paths_lead_to_what_is_there()
     ensures there { PathsLeadToWhatIsThere }
+{}
+
+/// A path answers only what is written where the maps bind, brought by items there, and visible from modules that
+/// visibilities there name.
+pub fn paths_answer_from_sources()
+    ensures sources { PathsAnswerFromSources }
 {}
 
 /// Where each map names only what is there, all that is named lies among them; so does what a map names that is
