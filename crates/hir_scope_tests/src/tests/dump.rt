@@ -107,9 +107,25 @@ fn types_and_values(rt: HostRuntime) -> Result<(), Fail> {
 }
 
 #[test]
+fn all_namespaces(rt: HostRuntime) -> Result<(), Fail> {
+    let alloc = rt.alloc();
+    let bang = a_macro(3, MacroCallStyles::FN_LIKE);
+    let all = a_type(1).or(a_value(1)).or(bang);
+    line_of(&rt, alloc, all, None, "- A : type value macro!\n")?;
+    line_of(
+        &rt,
+        alloc,
+        all,
+        by_import(1),
+        "- A : type (import) value (import) macro! (import)\n",
+    )
+}
+
+#[test]
 fn macro_of_two_styles(rt: HostRuntime) -> Result<(), Fail> {
     let both = a_macro(3, BOTH_STYLES);
-    line_of(&rt, rt.alloc(), both, None, "- A : macro!#\n")
+    line_of(&rt, rt.alloc(), both, None, "- A : macro!#\n")?;
+    line_of(&rt, rt.alloc(), both, by_glob(1), "- A : macro!# (glob)\n")
 }
 
 #[test]
@@ -131,6 +147,7 @@ fn macros(rt: HostRuntime) -> Result<(), Fail> {
 }
 
 fn print_names(rt: &impl Abort, alloc: Global, scope: &mut ItemScope) -> Result<(), Fail> {
+    bind(alloc, scope, "gen", a_value(1), None)?;
     bind(alloc, scope, "fn", a_value(1), None)?;
     bind(alloc, scope, "b", a_value(1), None)?;
     bind(alloc, scope, "a", a_value(1), None)?;
@@ -138,7 +155,7 @@ fn print_names(rt: &impl Abort, alloc: Global, scope: &mut ItemScope) -> Result<
         rt,
         alloc,
         scope,
-        "- a : value\n- b : value\n- r#fn : value\n",
+        "- a : value\n- b : value\n- r#fn : value\n- r#gen : value\n",
     )
 }
 
@@ -160,8 +177,11 @@ fn print_macros(rt: &impl Abort, alloc: Global, scope: &mut ItemScope) -> Result
     define(alloc, scope, "y", macro_of(1, MacroCallStyles::FN_LIKE))?;
     define(alloc, scope, "x", macro_of(2, MacroCallStyles::FN_LIKE))?;
     define(alloc, scope, "y", macro_of(3, MacroCallStyles::ATTR))?;
+    define(alloc, scope, "y", macro_of(4, BOTH_STYLES))?;
+    define(alloc, scope, "gen", macro_of(5, MacroCallStyles::DERIVE))?;
     bind(alloc, scope, "z", a_value(1), None)?;
-    let expected = "- z : value\n- (legacy) x : macro!\n- (legacy) y : macro! macro#\n";
+    let expected =
+        "- z : value\n- (legacy) r#gen : macro#\n- (legacy) x : macro!\n- (legacy) y : macro! macro# macro!#\n";
     prints(rt, alloc, scope, expected)
 }
 
@@ -186,4 +206,22 @@ fn traits_without_a_name(rt: HostRuntime) -> Result<(), Fail> {
     let alloc = rt.alloc();
     let mut scope = empty_scope(alloc)?;
     print_traits(&rt, alloc, &mut scope)
+}
+
+/// A trait without a name, a name, and a macro in textual scope under that name.
+fn print_all(rt: &impl Abort, alloc: Global, scope: &mut ItemScope) -> Result<(), Fail> {
+    prints(rt, alloc, scope, "")?;
+    define(alloc, scope, "m", macro_of(1, MacroCallStyles::FN_LIKE))?;
+    let bang = a_macro(1, MacroCallStyles::FN_LIKE);
+    bind(alloc, scope, "m", bang, None)?;
+    scope.push_unnamed_trait(trait_of(1), Visibility::Public, Some(import(0, 1)))?;
+    let expected = "- _ : type (import)\n- m : macro!\n- (legacy) m : macro!\n";
+    prints(rt, alloc, scope, expected)
+}
+
+#[test]
+fn lines_of_each_kind_in_order(rt: HostRuntime) -> Result<(), Fail> {
+    let alloc = rt.alloc();
+    let mut scope = empty_scope(alloc)?;
+    print_all(&rt, alloc, &mut scope)
 }
