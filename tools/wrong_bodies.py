@@ -34,9 +34,15 @@ rt = load_rt()
 
 
 class Function:
-    """The innermost function around a line of a source file: in its body, or in its head where that is kept whole."""
+    """The innermost function around a line of a source file: in its body, or in its head where that is kept whole.
+
+    Where the line is the head of an impl, and kept whole, it is what the edit writes behind it.
+    """
 
     def __init__(self, path, lines, at, is_kept):
+        if is_kept and lines[at].startswith("impl "):
+            self.path, self.name, self.lines = path, lines[at], range(at + 1, at + 2)
+            return
         for first in range(at, -1, -1):
             head = FN.match(lines[first])
             if not head:

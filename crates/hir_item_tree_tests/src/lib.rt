@@ -4,6 +4,10 @@
 #[cfg(test)]
 mod attributes;
 #[cfg(test)]
+mod equal_trees;
+#[cfg(test)]
+mod first_limits;
+#[cfg(test)]
 mod item_tree;
 #[cfg(test)]
 mod large;
@@ -19,5 +23,7 @@ mod sources;
 mod trees;
 #[cfg(test)]
 mod units;
+#[cfg(test)]
+mod use_items;
 #[cfg(test)]
 mod use_trees;

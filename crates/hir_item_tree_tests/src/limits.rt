@@ -28,7 +28,13 @@ fn function(alloc: Global, index: u16) -> Result<Source, Fail> {
 }
 
 /// The text between as many opening and closing texts.
-fn nested(alloc: Global, open: &str, times: u32, text: &str, close: &str) -> Result<String, Fail> {
+pub fn nested(
+    alloc: Global,
+    open: &str,
+    times: u32,
+    text: &str,
+    close: &str,
+) -> Result<String, Fail> {
     let mut all = String::new(alloc);
     for _ in 0..times {
         all.push_str(open)?;
@@ -154,7 +160,7 @@ fn source(alloc: Global, handed: Handed<'_>) -> Result<Source, Fail> {
 }
 
 /// What a source is refused for.
-fn refusal(alloc: Global, source: &Source) -> Result<String, Fail> {
+pub fn refusal(alloc: Global, source: &Source) -> Result<String, Fail> {
     match check(alloc, source) {
         Ok(()) => Ok(String::from_str(alloc, "none")?),
         Err(CheckError::TooLarge(limit)) => Ok(format!(in alloc; "too large: {limit}")?),

@@ -29,7 +29,7 @@ fn imports(alloc: Global, tree: &UseTree) -> Result<Vec<Import>, Fail> {
 }
 
 /// Adds place, path, kind and alias of an import.
-fn put_import(text: &mut String, import: &Import) -> Result<(), Fail> {
+pub fn put_import(text: &mut String, import: &Import) -> Result<(), Fail> {
     let place = import.place;
     let kind = import.kind;
     let path = import.path.display(Edition::Edition2021);

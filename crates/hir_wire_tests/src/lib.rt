@@ -6,6 +6,8 @@ mod answers;
 #[cfg(test)]
 mod lines;
 #[cfg(test)]
+mod node_parts;
+#[cfg(test)]
 mod nodes;
 #[cfg(test)]
 mod refused_lines;

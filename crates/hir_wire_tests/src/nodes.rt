@@ -85,12 +85,20 @@ fn units(rt: HostRuntime) -> Result<(), Fail> {
 /// A node of each kind, and the page of a file with it.
 const KINDS: &[(&str, &str)] = &[
     (
+        r#"{"kind":"Use","id":[1,0],"tree":{"single":"a::b"}}"#,
+        "// AstId: Use[0001, 0]\npub(self) use a::b;\n",
+    ),
+    (
         r#"{"kind":"ExternCrate","id":[1,0],"name":"self","as":"me"}"#,
         "// AstId: ExternCrate[0001, 0]\npub(self) extern crate self as me;\n",
     ),
     (
         r#"{"kind":"ExternBlock","id":[1,0],"nodes":[{"kind":"Fn","id":[2,0],"name":"f","body":"{}"}]}"#,
         "// AstId: ExternBlock[0001, 0]\nextern {\n    // AstId: Fn[0002, 0]\n    pub(self) fn f;\n}\n",
+    ),
+    (
+        r#"{"kind":"Fn","id":[1,0],"name":"f","body":"{}","vis":"crate"}"#,
+        "// AstId: Fn[0001, 0]\npub(crate) fn f;\n",
     ),
     (
         r#"{"kind":"Struct","id":[1,0],"name":"S","shape":"tuple","fields":["pub",null,{"in":"crate::a"}],"vis":"pub"}"#,
