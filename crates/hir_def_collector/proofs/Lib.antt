@@ -17,3 +17,4 @@ pub mod Reached
 pub mod LastVariants
 pub mod WholeEnums
 pub mod Whole
+pub mod Sourced

@@ -579,7 +579,7 @@ module _ (paths : PathsLeadToWhatIsThere) (finished : Maps) (whole : AreWhole fi
     prelude_there = by_core map.crate_data.no_core
 
   -- a run begins with what is there
-  begins : (w : Workspace) (start : Start) → StandsOnWhole w finished start → NamesWhatIsThere finished (start_of w finished start)
+  pub begins : (w : Workspace) (start : Start) → StandsOnWhole w finished start → NamesWhatIsThere finished (start_of w finished start)
   begins w start stands =
       let tree = root_tree w start in
       let crate_data : CrateData = start_data tree (behind_in w start.krate) start in

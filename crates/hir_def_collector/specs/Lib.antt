@@ -17,3 +17,4 @@ pub mod Derivation
 pub mod CollectedCodes
 pub mod Moves
 pub mod Whole
+pub mod Sources

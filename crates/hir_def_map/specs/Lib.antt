@@ -27,6 +27,7 @@ pub mod NoneOf
 pub mod Complete
 pub mod StaysComplete
 pub mod Sources
+pub mod StaysSourced
 pub mod DefMaps
 pub mod AskMaps
 pub mod Inserted

@@ -9,6 +9,7 @@ ghost use Rattle.hir_def_map.specs.StaysComplete.{DeclarationsNameWhatIsThere, M
 ghost use Rattle.hir_def_map.specs.PathLaws.{BlocksAskHolders, CratesAskThemselves, CrossedSegmentsAreSeen, EndsAreWalked, InheritedSegmentsAreSeen, InnerModulesAskPreludes, SegmentsGoOn, StartedSegmentsAreSeen, WalksAskBehind};
 ghost use Rattle.hir_def_map.specs.Sources.{PathsAnswerFromSources};
 ghost use Rattle.hir_def_map.specs.State.{Local, Map, Maps, beside};
+ghost use Rattle.hir_def_map.specs.StaysSourced.{EnumsKeepToSources, ListsKeepToSources, ModulesKeepToSources, PushesKeepToSources};
 ghost use Rattle.hir_base.specs.Laws.{HashesAlike};
 
 use crate::nameres::local_def_map::LocalDefMap;
@@ -98,6 +99,14 @@ pub fn building_names_what_is_there()
     ensures pushed { PushesNameWhatIsThere }
     ensures listed { DeclarationsNameWhatIsThere }
     ensures made { ModulesNameWhatIsThere }
+{}
+
+/// Pushes, lists, modules and enums leave a map that binds only what is written where it and they do.
+pub fn building_keeps_to_sources()
+    ensures pushed { PushesKeepToSources }
+    ensures listed { ListsKeepToSources }
+    ensures made { ModulesKeepToSources }
+    ensures enums { EnumsKeepToSources }
 {}
 
 /// Equal extern preludes are hashed alike.

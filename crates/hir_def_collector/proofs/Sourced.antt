@@ -1,0 +1,586 @@
+-- A run binds only what its root file writes, and what the finished maps bind.
+use Rattle.std.specs.Prelude.{◌≡◌, ◌==◌, ◌&&◌, ◌||◌, ℕ, zero, suc, ◌<◌, ◌≤◌, ◌+◌, ◌++◌, List, [], ◌∷◌, length, Bool, true, false, is_some, Option, None, Some, cond, fold, not, map as list_map, option_and_then, option_map, slice_get, slice_set, unwrap_or, if◌then◌else◌}
+use Rattle.std.specs.List.{list_any}
+use Rattle.std.specs.Ordering.{nat_cmp}
+use Rattle.std.specs.Cmp.Lexicographic.{slice_cmp}
+use Rattle.std.proofs.Common.{ap, refl, subst, sym, ◌∙◌, arith}
+use mathlib.Core.Bool.{true≢false}
+use Rattle.hir_base.specs.ModPath.{Path}
+use Rattle.hir_base.specs.contracts.ids.MapIdPartialEq.TheImpl as map_id
+use Rattle.hir_base.specs.declared.ids.AdtId.TheVariants as adts
+use Rattle.hir_base.specs.declared.ids.Crate.{Crate}
+use Rattle.hir_base.specs.declared.ids.EnumId.{EnumId}
+use Rattle.hir_base.specs.declared.ids.ExternCrateId.{ExternCrateId}
+use Rattle.hir_base.specs.declared.ids.MapId.{MapId}
+use Rattle.hir_base.specs.declared.ids.ModuleDefId.{ModuleDefId}
+use Rattle.hir_base.specs.declared.ids.ModuleDefId.TheVariants as definitions
+use Rattle.hir_base.specs.declared.ids.ModuleId.{ModuleId}
+use Rattle.hir_base.specs.declared.macro_kind.MacroId.{MacroId}
+use Rattle.hir_item_tree.specs.Collected.{is_enabled}
+use Rattle.hir_item_tree.specs.Imports.{imports_of}
+use Rattle.hir_item_tree.specs.KeptForest.{Head, Leaf, KeptItem, KeptForest, extern_block, inline_module, leaf, holder, item, no_items, import, extern_crate, function, structure, union_structure, enumeration, constant, static_item, trait_item, implementation, type_alias, outline_module, macro_call, macro_rules, macro_def}
+use Rattle.hir_item_tree.specs.UseTree.{UseTree}
+use Rattle.hir_item_tree.specs.declared.expand.Import.{Import}
+use Rattle.hir_item_tree.specs.declared.raw_visibility.RawVisibility.{RawVisibility}
+use Rattle.hir_item_tree.specs.declared.raw_visibility.RawVisibility.TheVariants as raws
+use Rattle.hir_item_tree.specs.declared.raw_visibility.VisibilityExplicitness.{VisibilityExplicitness}
+use Rattle.hir_item_tree.specs.declared.shape.ExternCrateName.{ExternCrateName}
+use Rattle.hir_item_tree.specs.declared.shape.FieldsShape.{FieldsShape}
+use Rattle.hir_item_tree.specs.declared.shape.FieldsShape.TheVariants.{Record, Tuple, Unit as UnitShape}
+use Rattle.hir_item_tree.specs.declared.shape.ImportAlias.{ImportAlias}
+use Rattle.hir_item_tree.specs.declared.shape.ImportKind.{ImportKind}
+use Rattle.hir_item_tree.specs.declared.shape.ImportKind.TheVariants as import_kinds
+use Rattle.hir_item_tree.specs.declared.side_lists.VariantItem.{VariantItem}
+use Rattle.hir_scope.specs.ModuleTree.{is_at_or_above, same_crate, same_map, same_module}
+use Rattle.hir_scope.specs.PerNs.{keep_item, keep_of}
+use Rattle.hir_scope.specs.Visibility.{both_in, either_written, lesser_of, lower_of}
+use Rattle.hir_scope.specs.declared.imports.ImportOrExternCrate.{ImportOrExternCrate}
+use Rattle.hir_scope.specs.declared.imports.ImportOrGlob.{ImportOrGlob}
+use Rattle.hir_scope.specs.declared.per_ns.Item.{Item}
+use Rattle.hir_scope.specs.declared.per_ns.PerNs.{PerNs}
+use Rattle.hir_scope.specs.declared.visibility.Visibility.{Visibility}
+use Rattle.hir_scope.specs.declared.visibility.Visibility.TheVariants as visibilities
+use Rattle.hir_def_map.specs.Beside.{same_id}
+use Rattle.hir_def_map.specs.Chains.{above_in}
+use Rattle.hir_def_map.specs.Closed.{AreThere, IsClosed, IsThere, ModuleIsThere, PathsLeadToWhatIsThere, TypeIsThere}
+use Rattle.hir_def_map.specs.Complete.{AreWhole}
+use Rattle.hir_def_map.specs.Declaration.{listed}
+use Rattle.hir_def_map.specs.Named.{is_missing}
+use Rattle.hir_def_map.specs.NoneOf.{neither, none_at, none_inserted, none_more, not_first, not_second}
+use Rattle.hir_def_map.specs.Reaches.{by_import}
+use Rattle.hir_def_map.specs.Scoping.{Resolution, resolution_of}
+use Rattle.hir_def_map.specs.Sources.{HoldsNowhere, HoldsNowhereIn, HoldsOfNone, HoldsOfNoExtern, PathsAnswerFromSources, SourceTest, on_def, on_extern_entry, on_import, on_macro, on_macro_item, on_some, on_type, on_value, on_value_import, on_values, on_variant, on_visibility}
+use Rattle.hir_def_map.specs.State.{CrateData, Local, Map, Maps, ModuleValue, Placed, Variants, beside, crate_root, module_at, module_in, new_id, new_module, no_globs, numbered, placed_in, root_of, with_declared, with_enum, with_module, with_name, with_prelude, with_scope}
+use Rattle.hir_def_map.specs.StaysComplete.{IsClosed-beside, LocalIsThere-begins, module_there}
+use Rattle.hir_def_map.specs.StaysSourced.{HoldsNowhere-beside, HoldsNowhereIn-enum, HoldsNowhereIn-listed, HoldsNowhereIn-made, HoldsNowhereIn-prelude, HoldsNowhereIn-pushed}
+use Rattle.hir_def_map.specs.Visibilities.{answer_seen, by_visibility, module_seen, path_seen, resolved_visibility, type_seen, within_map}
+use Rattle.hir_def_map.specs.declared.nameres.declaration.Declaration.{Declaration as Listing}
+use Rattle.hir_def_map.specs.declared.nameres.declaration.Declaration.TheVariants as listings
+use Rattle.hir_def_collector.specs.declared.collector.Start.{Start}
+use Rattle.hir_def_collector.specs.declared.collector.declaration.Declaration.{Declaration}
+use Rattle.hir_def_collector.specs.declared.collector.imports.ImportSource.{ImportSource}
+use Rattle.hir_def_collector.specs.declared.collector.imports.ImportSource.TheVariants as sources
+use Rattle.hir_def_collector.specs.declared.collector.imports.ReachedImport.{ReachedImport}
+use Rattle.hir_def_collector.specs.declared.collector.imports.Taken.{Taken}
+use Rattle.hir_def_collector.specs.declared.collector.site.Site.{Site}
+use Rattle.hir_def_collector.specs.declared.source_database.Dependency.{Dependency}
+use Rattle.hir_def_collector.specs.Derivation.{CollectedValue, Ends, begin_of, read_by}
+use Rattle.hir_def_collector.specs.Enums.{handed_variants, variant_of, variants_by_name, variants_of, with_variant}
+use Rattle.hir_def_collector.specs.Imports.{answer_by_kind, answer_by_source, answer_in, answer_to, bound_as, bound_in, brought, brought_type, crate_import, extern_after, extern_by, imported, imports_by, is_of_extern_crate, is_one_name, is_public, kept_by_kind, kind_of, name_of, offered_by, open_items, pushing, reached_import, way_of}
+use Rattle.hir_def_collector.specs.ItemIds.{const_id, enum_id, extern_block_id, extern_crate_id, impl_id, module_id, use_id}
+use Rattle.hir_def_collector.specs.Items.{constructor_of, declaration_of, declared_by, declared_by_leaf, declared_module, declared_struct, declared_type, inline_origin, lesser_in, meet_of, own_visibility, visibility_in}
+use Rattle.hir_def_collector.specs.Preludes.{extern_prelude, joins, prelude_of, with_dependency}
+use Rattle.hir_def_collector.specs.Sources.{IsClearOf}
+use Rattle.hir_def_collector.specs.Start.{root_file, root_map, root_site, root_tree, start_data, start_of}
+use Rattle.hir_def_collector.specs.State.{State, Visit, visits}
+use Rattle.hir_def_collector.specs.Steps.{CanTake, IsNext, Step, Steps, none, more, drops_item, passes_over, declares_item, declares_enum, lists_constant, lists_impl, opens_module, enters_block, reaches_imports, reaches_crate, takes_import, after_declare, after_enter, after_enum, after_leave, after_list_constant, after_list_impl, after_open, after_reach, after_reach_crate, after_take, inside_block, inside_module, visit, with_bound_module, with_declaration, with_declared_enum}
+use Rattle.hir_def_collector.specs.Whole.{StandsOnWhole}
+use Rattle.hir_def_collector.specs.Workspace.{Workspace, behind_in, dependencies_in}
+use Rattle.hir_def_collector.proofs.Grows.{Grows, Grows-Step}
+use Rattle.hir_def_collector.proofs.Whole.{ImportsBelow, NamesWhatIsThere, VisitsBelow, begins, steps_keep}
+
+-- ---- what is written at sites, and what brings bindings
+
+abbrev pub on_site : SourceTest → Visit → Bool
+on_site t v = t.holder v.site.file None
+
+abbrev pub on_reached : SourceTest → ReachedImport → Bool
+on_reached t r = on_import t (way_of r.source)
+
+-- a test holds of nothing that a run has come upon
+pub record IsSourced (t : SourceTest) (s : State) : Type 0 where
+  pub map : HoldsNowhereIn t s.map
+  pub local : HoldsOfNoExtern t s.local
+  pub visits : list_any (on_site t) s.agenda ≡ false
+  pub reached : list_any (on_reached t) s.reached ≡ false
+
+-- nor of a module that is there
+abbrev ShowsThere : SourceTest → Maps → Map → Type 0
+ShowsThere t finished m = (at : ModuleId) → ModuleIsThere (beside finished m) at → t.shown at ≡ false
+
+-- ---- modules stay there
+
+some_at : {A : Type 0} (xs ys : List A) → length xs ≤ length ys → (k : ℕ) → is_some (slice_get xs k) ≡ true → is_some (slice_get ys k) ≡ true
+some_at [] ys low k e = absurd (true≢false (sym e))
+some_at (x ∷ xs) [] low k e = absurd (omega arith)
+some_at (x ∷ xs) (y ∷ ys) low zero e = refl
+some_at (x ∷ xs) (y ∷ ys) low (suc k) e = some_at xs ys (omega arith) k e
+
+stays_there : (finished : Maps) (old new : Map) → new.id ≡ old.id → Grows old new → (m : ModuleId) → ModuleIsThere (beside finished old) m → ModuleIsThere (beside finished new) m
+stays_there finished old new same grows m e =
+    ap (λ (id : MapId). is_some (option_and_then (λ (p : Placed). module_at p.map m.index) (cond (map_id.ghosts.eq m.map id) (Some (placed_in finished new)) (finished m.map)))) same
+    ∙ go (map_id.ghosts.eq m.map old.id) e
+  where
+    go : (b : Bool) → is_some (option_and_then (λ (p : Placed). module_at p.map m.index) (cond b (Some (placed_in finished old)) (finished m.map))) ≡ true
+        → is_some (option_and_then (λ (p : Placed). module_at p.map m.index) (cond b (Some (placed_in finished new)) (finished m.map))) ≡ true
+    go true f = some_at old.modules new.modules grows.longer m.index f
+    go false f = f
+
+same_as : (old new : State) (m : Map) → new.map ≡ m → m.id ≡ old.map.id → new.map.id ≡ old.map.id
+same_as old new m is same = ap (λ (x : Map). x.id) is ∙ same
+
+bound_id : (m : Map) (home : ℕ) (o : Option (List ℕ)) (items : PerNs) (source : ImportSource) → (bound_as m home o items source).id ≡ m.id
+bound_id m home None items source = refl
+bound_id m home (Some name) items source = refl
+
+step_id : {w : Workspace} {finished : Maps} {old new : State} → Step w finished old new → new.map.id ≡ old.map.id
+step_id {old = old} {new = new} (drops_item v rest next off is) = same_as old new _ (ap (λ (s : State). s.map) is) refl
+step_id {old = old} {new = new} (passes_over site head l rest next pass is) = same_as old new _ (ap (λ (s : State). s.map) is) refl
+step_id {old = old} {new = new} (declares_item v d rest next declares is) = same_as old new _ (ap (λ (s : State). s.map) is) refl
+step_id {old = old} {new = new} (declares_enum site head name rest next is) = same_as old new _ (ap (λ (s : State). s.map) is) refl
+step_id {old = old} {new = new} (lists_constant site head rest next is) = same_as old new _ (ap (λ (s : State). s.map) is) refl
+step_id {old = old} {new = new} (lists_impl site head of_trait rest next is) = same_as old new _ (ap (λ (s : State). s.map) is) refl
+step_id {old = old} {new = new} (opens_module site head name items rest next is) = same_as old new _ (ap (λ (s : State). s.map) is) refl
+step_id {old = old} {new = new} (enters_block site head items rest next is) = same_as old new _ (ap (λ (s : State). s.map) is) refl
+step_id {old = old} {new = new} (reaches_imports site head tree rest next is) = same_as old new _ (ap (λ (s : State). s.map) is) refl
+step_id {old = old} {new = new} (reaches_crate site head name alias rest next is) = same_as old new _ (ap (λ (s : State). s.map) is) refl
+step_id {finished = finished} {old = old} {new = new} (takes_import i r t can is) =
+    same_as old new _ (ap (λ (s : State). s.map) is) (bound_id old.map r.home (name_of r) (offered_by finished old.local old.map r) r.source)
+
+-- ---- lists
+
+none_joined : {A : Type 0} (p : A → Bool) (xs ys : List A) → list_any p xs ≡ false → list_any p ys ≡ false → list_any p (xs ++ ys) ≡ false
+none_joined p [] ys f g = g
+none_joined p (x ∷ xs) ys f g = neither (p x) (list_any p (xs ++ ys)) (not_first (p x) (list_any p xs) f) (none_joined p xs ys (not_second (p x) (list_any p xs) f) g)
+
+module _ (t : SourceTest) where
+  site_visits : (s : Site) → t.holder s.file None ≡ false → (is : KeptForest) → list_any (on_site t) (visits s is) ≡ false
+  site_visits s f no_items = refl
+  site_visits s f (item i is) = neither (t.holder s.file None) (list_any (on_site t) (visits s is)) f (site_visits s f is)
+
+  next_visits : (vs : List Visit) (v : Visit) (rest : List Visit) → list_any (on_site t) vs ≡ false → vs ≡ v ∷ rest → (t.holder v.site.file None ≡ false) × (list_any (on_site t) rest ≡ false)
+  next_visits vs v rest f e =
+      let both : list_any (on_site t) (v ∷ rest) ≡ false = subst (λ (xs : List Visit). list_any (on_site t) xs ≡ false) e f in
+      (not_first (on_site t v) (list_any (on_site t) rest) both, not_second (on_site t v) (list_any (on_site t) rest) both)
+
+  use_imports : (m : Map) (s : Site) (head : Head) → t.holder s.file None ≡ false → (is : List Import) → list_any (on_reached t) (list_map (reached_import s.home (use_id m s head.id) head.visibility) is) ≡ false
+  use_imports m s head f [] = refl
+  use_imports m s head f (i ∷ is) = neither (t.holder s.file None) (list_any (on_reached t) (list_map (reached_import s.home (use_id m s head.id) head.visibility) is)) f (use_imports m s head f is)
+
+  -- ---- bindings
+
+  bare : (a v : Bool) → a ≡ false → v ≡ false → (a || (v || false)) ≡ false
+  bare a v f g = neither a (v || false) f (neither v false g refl)
+
+  type_of : (def : ModuleDefId) (vis : Visibility) → on_def t def ≡ false → on_visibility t vis ≡ false → HoldsOfNone t (declared_type def vis)
+  type_of def vis f g = record { types = bare (on_def t def) (on_visibility t vis) f g; values = refl; macros = refl }
+
+  value_of : (def : ModuleDefId) (vis : Visibility) → on_def t def ≡ false → on_visibility t vis ≡ false
+      → HoldsOfNone t (record { types = None; values = Some (record { def = def; vis = vis; import = None }); macros = None })
+  value_of def vis f g = record { types = refl; values = bare (on_def t def) (on_visibility t vis) f g; macros = refl }
+
+  struct_of : (def : ModuleDefId) (vis : Visibility) (c : Option Visibility) → on_def t def ≡ false → on_visibility t vis ≡ false → on_some (on_visibility t) c ≡ false → HoldsOfNone t (declared_struct def vis c)
+  struct_of def vis None f g h = type_of def vis f g
+  struct_of def vis (Some c) f g h = record { types = bare (on_def t def) (on_visibility t vis) f g; values = bare (on_def t def) (on_visibility t c) f h; macros = refl }
+
+  kept_item : {D I : Type 0} (test : Item D I → Bool) (keep : Visibility → Bool) (o : Option (Item D I)) → on_some test o ≡ false → on_some test (keep_item keep o) ≡ false
+  kept_item test keep None f = refl
+  kept_item test keep (Some i) f = go (keep i.vis)
+    where
+      go : (b : Bool) → on_some test (cond b (Some i) None) ≡ false
+      go true = f
+      go false = refl
+
+  open_of : (crossing : Bool) (items : PerNs) → HoldsOfNone t items → HoldsOfNone t (open_items crossing items)
+  open_of true items f = record {
+    types = kept_item (on_type t) is_public items.types f.types;
+    values = kept_item (on_value t) is_public items.values f.values;
+    macros = kept_item (on_macro_item t) is_public items.macros f.macros;
+  }
+  open_of false items f = f
+
+  kept_of_kind : (kind : ImportKind) (items : PerNs) → HoldsOfNone t items → HoldsOfNone t (kept_by_kind kind items)
+  kept_of_kind import_kinds.Plain items f = f
+  kept_of_kind import_kinds.TypeOnly items f = record { types = f.types; values = refl; macros = refl }
+  kept_of_kind import_kinds.Glob items f = f
+
+  answer_of_kind : (kind : ImportKind) (answer : Resolution) → HoldsOfNone t answer.resolved_def → HoldsOfNone t (answer_by_kind kind answer).resolved_def
+  answer_of_kind import_kinds.Plain answer f = f
+  answer_of_kind import_kinds.TypeOnly answer f = f
+  answer_of_kind import_kinds.Glob answer f = record { types = refl; values = refl; macros = refl }
+
+  answer_of_source : (source : ImportSource) (answer : Resolution) → HoldsOfNone t answer.resolved_def → HoldsOfNone t (answer_by_source source answer).resolved_def
+  answer_of_source (sources.Use id kind) answer f = answer_of_kind kind answer f
+  answer_of_source (sources.ExternCrate id None) answer f = record { types = refl; values = refl; macros = refl }
+  answer_of_source (sources.ExternCrate id (Some c)) answer f = record { types = refl; values = refl; macros = refl }
+
+  -- ---- visibilities
+
+  module _ (finished : Maps) (m : Map) where
+    lower : (above : ModuleId → List ModuleId) (x : ModuleId) (d : VisibilityExplicitness) (y : ModuleId) (e : VisibilityExplicitness) → t.shown x ≡ false → t.shown y ≡ false
+        → on_some (on_visibility t) (lower_of above m.id x d y e) ≡ false
+    lower above x d y e f g = go (same_module x y) (both_in m.id x y) (is_at_or_above above y x) (is_at_or_above above x y)
+      where
+        go : (a b c h : Bool) → on_some (on_visibility t) (cond a (Some (visibilities.Module x (either_written d e)))
+            (cond b (cond c (Some (visibilities.Module x d)) (cond h (Some (visibilities.Module y e)) None)) None)) ≡ false
+        go true b c h = f
+        go false false c h = refl
+        go false true true h = f
+        go false true false true = g
+        go false true false false = refl
+
+    lesser : (a b : Visibility) → on_visibility t a ≡ false → on_visibility t b ≡ false → on_some (on_visibility t) (lesser_in finished m a b) ≡ false
+    unfolding lesser_in
+    lesser visibilities.Public b f g = g
+    lesser (visibilities.PubCrate c) visibilities.Public f g = refl
+    lesser (visibilities.PubCrate c) (visibilities.PubCrate d) f g = go (same_crate c d)
+      where
+        go : (b : Bool) → on_some (on_visibility t) (cond b (Some (visibilities.PubCrate c)) None) ≡ false
+        go true = refl
+        go false = refl
+    lesser (visibilities.PubCrate c) (visibilities.Module x e) f g = go (same_crate x.map.krate c)
+      where
+        go : (b : Bool) → on_some (on_visibility t) (cond b (Some (visibilities.Module x e)) None) ≡ false
+        go true = g
+        go false = refl
+    lesser (visibilities.Module x e) visibilities.Public f g = f
+    lesser (visibilities.Module x e) (visibilities.PubCrate c) f g = go (same_crate x.map.krate c)
+      where
+        go : (b : Bool) → on_some (on_visibility t) (cond b (Some (visibilities.Module x e)) None) ≡ false
+        go true = f
+        go false = refl
+    lesser (visibilities.Module x d) (visibilities.Module y e) f g = lower (above_in (beside finished m)) x d y e f g
+
+    least_or : (o : Option Visibility) (own : Visibility) → on_some (on_visibility t) o ≡ false → on_visibility t own ≡ false → on_visibility t (unwrap_or o own) ≡ false
+    least_or None own f g = g
+    least_or (Some v) own f g = f
+
+    meet : (least : Visibility) (vs : List Visibility) → on_visibility t least ≡ false → list_any (on_visibility t) vs ≡ false → on_some (on_visibility t) (meet_of finished m least vs) ≡ false
+    meet least [] f g = f
+    meet least (v ∷ vs) f g =
+        go (λ next h. meet next vs h (not_second (on_visibility t v) (list_any (on_visibility t) vs) g))
+        (lesser_in finished m least v) (lesser least v f (not_first (on_visibility t v) (list_any (on_visibility t) vs) g))
+      where
+        go : ((next : Visibility) → on_visibility t next ≡ false → on_some (on_visibility t) (meet_of finished m next vs) ≡ false)
+            → (o : Option Visibility) → on_some (on_visibility t) o ≡ false → on_some (on_visibility t) (option_and_then (λ next. meet_of finished m next vs) o) ≡ false
+        go below None h = refl
+        go below (Some next) h = below next h
+
+    shaped : (own : Visibility) (shape : FieldsShape) (vs : List Visibility) → on_visibility t own ≡ false → list_any (on_visibility t) vs ≡ false
+        → on_some (on_visibility t) (constructor_of finished m own shape vs) ≡ false
+    shaped own Record vs f g = refl
+    shaped own Tuple vs f g = least_or (meet_of finished m own vs) own (meet own vs f g) f
+    shaped own UnitShape vs f g = f
+
+    lesser_or : (own vis : Visibility) → on_visibility t own ≡ false → on_visibility t vis ≡ false → on_visibility t (unwrap_or (lesser_in finished m own vis) own) ≡ false
+    lesser_or own vis f g = least_or (lesser_in finished m own vis) own (lesser own vis f g) f
+
+    -- an item under another visibility
+    under : (d v i u : Bool) → (d || (v || i)) ≡ false → u ≡ false → (d || (u || i)) ≡ false
+    under d v i u f g = neither d (u || i) (not_first d (v || i) f) (neither u i g (not_second v i (not_second d (v || i) f)))
+
+    seen : (d v i : Bool) → (d || (v || i)) ≡ false → v ≡ false
+    seen d v i f = not_first v i (not_second d (v || i) f)
+
+    import_of : (own : Visibility) (alone : Bool) (items : PerNs) → on_visibility t own ≡ false → HoldsOfNone t items → HoldsOfNone t (imported finished m own alone items)
+    import_of own alone items f g = record { types = types items.types g.types; values = values items.values g.values; macros = macros items.macros g.macros }
+      where
+        types : (o : Option (Item ModuleDefId ImportOrExternCrate)) → on_some (on_type t) o ≡ false → on_some (on_type t) (option_map (brought_type finished m own alone) o) ≡ false
+        types None h = refl
+        types (Some i) h = go (alone && is_of_extern_crate i.import)
+          where
+            go : (b : Bool) → on_type t (cond b (record i { vis = own }) (brought finished m own i)) ≡ false
+            go true = under (on_def t i.def) (on_visibility t i.vis) (on_some (on_import t) i.import) (on_visibility t own) h f
+            go false =
+                under (on_def t i.def) (on_visibility t i.vis) (on_some (on_import t) i.import) (on_visibility t (unwrap_or (lesser_in finished m own i.vis) own)) h
+                (lesser_or own i.vis f (seen (on_def t i.def) (on_visibility t i.vis) (on_some (on_import t) i.import) h))
+
+        values : (o : Option (Item ModuleDefId ImportOrGlob)) → on_some (on_value t) o ≡ false → on_some (on_value t) (option_map (brought finished m own) o) ≡ false
+        values None h = refl
+        values (Some i) h =
+            under (on_def t i.def) (on_visibility t i.vis) (on_some (on_value_import t) i.import) (on_visibility t (unwrap_or (lesser_in finished m own i.vis) own)) h
+            (lesser_or own i.vis f (seen (on_def t i.def) (on_visibility t i.vis) (on_some (on_value_import t) i.import) h))
+
+        macros : (o : Option (Item MacroId ImportOrExternCrate)) → on_some (on_macro_item t) o ≡ false → on_some (on_macro_item t) (option_map (brought finished m own) o) ≡ false
+        macros None h = refl
+        macros (Some i) h =
+            under (on_macro t i.def) (on_visibility t i.vis) (on_some (on_import t) i.import) (on_visibility t (unwrap_or (lesser_in finished m own i.vis) own)) h
+            (lesser_or own i.vis f (seen (on_macro t i.def) (on_visibility t i.vis) (on_some (on_import t) i.import) h))
+
+  -- ---- variants
+
+  of_variants : (id : EnumId) → t.holder id.file_id id.block ≡ false → (o : Option (List VariantItem)) → on_values (on_variant t) (variants_of id o) ≡ false
+  of_variants id f None = refl
+  of_variants id f (Some items) = go [] items refl
+    where
+      go : (vs : Variants) (items : List VariantItem) → on_values (on_variant t) vs ≡ false → on_values (on_variant t) (fold (with_variant id) vs items) ≡ false
+      go vs [] g = g
+      go vs (i ∷ is) g = go (with_variant id vs i) is (none_inserted (on_variant t) (slice_cmp nat_cmp) vs i.name (variant_of id i) g f)
+
+  -- ---- steps
+
+  module _ (answers : PathsAnswerFromSources) (paths : PathsLeadToWhatIsThere) (finished : Maps) (whole : AreWhole finished) (nowhere : HoldsNowhere t finished) where
+    module _ (s : State) (names : NamesWhatIsThere finished s) (shown : ShowsThere t finished s.map) (f : IsSourced t s) where
+      abbrev maps : Maps
+      maps = beside finished s.map
+
+      closed : IsClosed maps
+      closed = IsClosed-beside finished s.map names.apart whole names.names
+
+      -- a visibility that is written in a module of the map
+      written : (at : ℕ) → at < length s.map.modules → (raw : RawVisibility) → on_visibility t (visibility_in finished s.local s.map (module_id s.map at) raw) ≡ false
+      unfolding visibility_in
+      written at low (raws.PubSelf e) = shown (module_id s.map at) (module_there finished s.map at low)
+      written at low raws.PubCrate = refl
+      written at low raws.Public = refl
+      written at low (raws.Module path e) = by_stop answer.segment_index
+        where
+          answer : Resolution
+          answer = resolution_of maps (by_visibility s.local) (module_id s.map at) path
+
+          there : AreThere maps answer.resolved_def
+          there = paths maps (by_visibility s.local) (module_id s.map at) path closed (LocalIsThere-begins maps s.local names.begins) (module_there finished s.map at low)
+
+          within : (b : Bool) (m : ModuleId) → t.shown m ≡ false → t.shown (cond b m (root_of s.map.id)) ≡ false
+          within true m g = g
+          within false m g = shown (root_of s.map.id) (module_there finished s.map 0 names.names.root)
+
+          present : (b : Bool) → not b ≡ false → b ≡ true
+          present true g = refl
+          present false g = absurd (true≢false g)
+
+          by_def : (d : ModuleDefId) → IsThere maps d → on_visibility t (unwrap_or (module_seen false s.map.id e d) visibilities.Public) ≡ false
+          by_def (definitions.ModuleId m) g = within (same_map m.map s.map.id) m (shown m (present (is_some (module_in maps m)) g))
+          by_def (definitions.FunctionId x) g = refl
+          by_def (definitions.AdtId x) g = refl
+          by_def (definitions.EnumVariantId x) g = refl
+          by_def (definitions.ConstId x) g = refl
+          by_def (definitions.StaticId x) g = refl
+          by_def (definitions.TraitId x) g = refl
+          by_def (definitions.TypeAliasId x) g = refl
+          by_def (definitions.BuiltinType x) g = refl
+          by_def (definitions.MacroId x) g = refl
+
+          by_type : (o : Option (Item ModuleDefId ImportOrExternCrate)) → TypeIsThere maps o → on_visibility t (unwrap_or (type_seen false s.map.id e o) visibilities.Public) ≡ false
+          by_type None g = refl
+          by_type (Some i) g = by_def i.def g
+
+          by_stop : (o : Option ℕ) → on_visibility t (unwrap_or (path_seen false s.map.id e o answer.resolved_def) visibilities.Public) ≡ false
+          by_stop None = by_type answer.resolved_def.types there
+          by_stop (Some i) = refl
+
+      all_written : (at : ℕ) → at < length s.map.modules → (rest : List RawVisibility) → list_any (on_visibility t) (list_map (visibility_in finished s.local s.map (module_id s.map at)) rest) ≡ false
+      all_written at low [] = refl
+      all_written at low (raw ∷ rest) =
+          neither (on_visibility t (visibility_in finished s.local s.map (module_id s.map at) raw)) (list_any (on_visibility t) (list_map (visibility_in finished s.local s.map (module_id s.map at)) rest))
+          (written at low raw) (all_written at low rest)
+
+      -- the next item is of a module of the map, in a file of which the test doesn't hold
+      first_below : (vs : List Visit) (v : Visit) (rest : List Visit) → VisitsBelow (length s.map.modules) vs → vs ≡ v ∷ rest → v.site.home < length s.map.modules
+      first_below vs v rest g e = (subst (VisitsBelow (length s.map.modules)) e g).0
+
+      low : (v : Visit) (rest : List Visit) → s.agenda ≡ v ∷ rest → v.site.home < length s.map.modules
+      low v rest e = first_below s.agenda v rest names.visits e
+
+      file : (v : Visit) (rest : List Visit) → s.agenda ≡ v ∷ rest → t.holder v.site.file None ≡ false
+      file v rest e = (next_visits s.agenda v rest f.visits e).0
+
+      left : (v : Visit) (rest : List Visit) → s.agenda ≡ v ∷ rest → list_any (on_site t) rest ≡ false
+      left v rest e = (next_visits s.agenda v rest f.visits e).1
+
+      declares : (v : Visit) (d : Declaration) → v.site.home < length s.map.modules → t.holder v.site.file None ≡ false → declaration_of finished s.local s.map v ≡ Some d → HoldsOfNone t d.items
+      declares v d below own e = go v.item e
+        where
+          is_d : (a : Declaration) → HoldsOfNone t a.items → Some a ≡ Some d → HoldsOfNone t d.items
+          is_d a g h = let same : a ≡ d = cc in subst (λ (x : Declaration). HoldsOfNone t x.items) same g
+
+          vis : (h : Head) → on_visibility t (own_visibility finished s.local s.map v.site h) ≡ false
+          vis h = written v.site.home below h.visibility
+
+          by_leaf : (h : Head) (l : Leaf) → declared_by_leaf finished s.local s.map v.site h l ≡ Some d → HoldsOfNone t d.items
+          by_leaf h (import tree) g = absurd cc
+          by_leaf h (extern_crate name alias) g = absurd cc
+          by_leaf h (function name) g = is_d _ (value_of _ (own_visibility finished s.local s.map v.site h) own (vis h)) g
+          by_leaf h (structure name shape fields) g =
+              let seen_by = list_map (visibility_in finished s.local s.map (module_id s.map v.site.home)) fields in
+              let own_vis : Visibility = own_visibility finished s.local s.map v.site h in
+              is_d _ (struct_of _ own_vis (constructor_of finished s.map own_vis shape seen_by) own (vis h)
+              (shaped finished s.map own_vis shape seen_by (vis h) (all_written v.site.home below fields))) g
+          by_leaf h (union_structure name fields) g = is_d _ (type_of _ (own_visibility finished s.local s.map v.site h) own (vis h)) g
+          by_leaf h (enumeration name) g = absurd cc
+          by_leaf h (constant None) g = absurd cc
+          by_leaf h (constant (Some name)) g = is_d _ (value_of _ (own_visibility finished s.local s.map v.site h) own (vis h)) g
+          by_leaf h (static_item name) g = is_d _ (value_of _ (own_visibility finished s.local s.map v.site h) own (vis h)) g
+          by_leaf h (trait_item name) g = is_d _ (type_of _ (own_visibility finished s.local s.map v.site h) own (vis h)) g
+          by_leaf h (implementation of_trait) g = absurd cc
+          by_leaf h (type_alias name) g = is_d _ (type_of _ (own_visibility finished s.local s.map v.site h) own (vis h)) g
+          by_leaf h (outline_module name) g = absurd cc
+          by_leaf h (macro_call path) g = absurd cc
+          by_leaf h (macro_rules name expander helpers) g = absurd cc
+          by_leaf h (macro_def name expander helpers) g = absurd cc
+
+          go : (i : KeptItem) → declared_by finished s.local s.map v.site i ≡ Some d → HoldsOfNone t d.items
+          go (leaf h l) g = by_leaf h l g
+          go (holder h k items) g = absurd cc
+
+      bound_of : (m : Map) (home : ℕ) (name : List ℕ) (items : PerNs) → HoldsNowhereIn t m → HoldsOfNone t items → HoldsNowhereIn t (bound_in m home name items None)
+      bound_of m home name items g h = HoldsNowhereIn-pushed t m no_globs home name items None h refl g
+
+      with_type : (home : ℕ) (def : ModuleDefId) (name : List ℕ) (vis : Visibility) (m : Map) → HoldsNowhereIn t m → on_def t def ≡ false → on_visibility t vis ≡ false
+          → HoldsNowhereIn t (bound_in (with_declared m home def) home name (declared_type def vis) None)
+      with_type home def name vis m g h k = bound_of (with_declared m home def) home name (declared_type def vis) (HoldsNowhereIn-listed t m home (listings.Def def) g) (type_of def vis h k)
+
+      -- what an import offers
+      reaches : (r : ReachedImport) → HoldsOfNone t (answer_in finished s.local s.map (module_id s.map r.home) r.path).resolved_def
+      unfolding answer_in
+      reaches r = answers t maps (by_import s.local) (module_id s.map r.home) r.path (HoldsNowhere-beside t finished s.map nowhere f.map) f.local
+
+      offers : (r : ReachedImport) → r.home < length s.map.modules → HoldsOfNone t (offered_by finished s.local s.map r)
+      offers r below =
+          let answer : Resolution = answer_to finished s.local s.map r in
+          let own : Visibility = visibility_in finished s.local s.map (module_id s.map r.home) r.visibility in
+          let open_ : PerNs = open_items answer.prefix_info.differing_crate answer.resolved_def in
+          import_of finished s.map own (is_one_name r.path) (kept_by_kind (kind_of r.source) open_) (written r.home below r.visibility)
+          (kept_of_kind (kind_of r.source) open_
+          (open_of answer.prefix_info.differing_crate answer.resolved_def
+          (answer_of_source r.source (answer_in finished s.local s.map (module_id s.map r.home) r.path) (reaches r))))
+
+      imports_at : (rs : List ReachedImport) (i : ℕ) (r : ReachedImport) → ImportsBelow (length s.map.modules) rs → slice_get rs i ≡ Some r → r.home < length s.map.modules
+      imports_at [] i r g e = absurd cc
+      imports_at (x ∷ xs) zero r g e = let same : x ≡ r = cc in subst (λ (y : ReachedImport). y.home < length s.map.modules) same g.0
+      imports_at (x ∷ xs) (suc i) r g e = imports_at xs i r g.1 e
+
+      takes : (r : ReachedImport) → r.home < length s.map.modules → on_reached t r ≡ false → (o : Option (List ℕ)) → HoldsNowhereIn t (bound_as s.map r.home o (offered_by finished s.local s.map r) r.source)
+      takes r below g None = f.map
+      takes r below g (Some name) = HoldsNowhereIn-pushed t s.map no_globs r.home name (offered_by finished s.local s.map r) (pushing (Some r.source)) (offers r below) g f.map
+
+      extern_of : (source : ImportSource) (name : Option (List ℕ)) → on_import t (way_of source) ≡ false → HoldsOfNoExtern t (extern_by s.local source name)
+      extern_of (sources.Use id kind) name g = f.local
+      extern_of (sources.ExternCrate id None) name g = f.local
+      extern_of (sources.ExternCrate id (Some c)) None g = f.local
+      extern_of (sources.ExternCrate id (Some c)) (Some name) g = none_inserted (on_extern_entry t) (slice_cmp nat_cmp) s.local name (crate_root c, Some id) f.local g
+
+      externs_after : (r : ReachedImport) → on_reached t r ≡ false → HoldsOfNoExtern t (extern_after s.local r)
+      externs_after r g = go (r.home == 0)
+        where
+          go : (b : Bool) → HoldsOfNoExtern t (cond b (extern_by s.local r.source (name_of r)) s.local)
+          go true = extern_of r.source (name_of r) g
+          go false = f.local
+
+      leaves : (v : Visit) (rest : List Visit) → s.agenda ≡ v ∷ rest → IsSourced t (after_leave s rest)
+      leaves v rest e = record { map = f.map; local = f.local; visits = left v rest e; reached = f.reached }
+
+      step_keeps : (w : Workspace) (new : State) → Step w finished s new → IsSourced t new
+      step_keeps w new (drops_item v rest next disabled is) = subst (IsSourced t) (sym is) (leaves v rest next)
+      step_keeps w new (passes_over site head l rest next passed is) = subst (IsSourced t) (sym is) (leaves (visit site (leaf head l)) rest next.next)
+      step_keeps w new (declares_item v d rest next declared is) = subst (IsSourced t) (sym is) (record {
+        map = bound_of (with_declared s.map v.site.home d.def) v.site.home d.name d.items (HoldsNowhereIn-listed t s.map v.site.home (listings.Def d.def) f.map)
+            (declares v d (low v rest next.next) (file v rest next.next) declared);
+        local = f.local;
+        visits = left v rest next.next;
+        reached = f.reached;
+      })
+      step_keeps w new (declares_enum site head name rest next is) =
+          let v : Visit = visit site (leaf head (enumeration name)) in
+          let id : EnumId = enum_id s.map site head.id in
+          subst (IsSourced t) (sym is) (record {
+            map = with_type site.home (definitions.AdtId (adts.EnumId id)) name (own_visibility finished s.local s.map site head) (with_enum s.map id (handed_variants w id))
+                (HoldsNowhereIn-enum t s.map id (handed_variants w id) (of_variants id (file v rest next.next) (w.variants id)) f.map)
+                (file v rest next.next) (written site.home (low v rest next.next) head.visibility);
+            local = f.local;
+            visits = left v rest next.next;
+            reached = f.reached;
+          })
+      step_keeps w new (lists_constant site head rest next is) = subst (IsSourced t) (sym is) (record {
+        map = HoldsNowhereIn-listed t s.map site.home (listings.UnnamedConst (const_id s.map site head.id)) f.map;
+        local = f.local;
+        visits = left (visit site (leaf head (constant None))) rest next.next;
+        reached = f.reached;
+      })
+      step_keeps w new (lists_impl site head of_trait rest next is) = subst (IsSourced t) (sym is) (record {
+        map = HoldsNowhereIn-listed t s.map site.home (listings.Impl (impl_id s.map site head.id) of_trait) f.map;
+        local = f.local;
+        visits = left (visit site (leaf head (implementation of_trait))) rest next.next;
+        reached = f.reached;
+      })
+      step_keeps w new (opens_module site head name items rest next is) =
+          let v : Visit = visit site (holder head (inline_module name) items) in
+          let vis : Visibility = own_visibility finished s.local s.map site head in
+          let origin = inline_origin site.file head.id in
+          let made : Map = with_module s.map site.home name (new_module origin vis (Some (module_id s.map site.home))) in
+          subst (IsSourced t) (sym is) (record {
+            map = with_type site.home (definitions.ModuleId (new_id s.map)) name vis made
+                (HoldsNowhereIn-made t s.map site.home name origin vis (Some (module_id s.map site.home)) (file v rest next.next) f.map)
+                refl (written site.home (low v rest next.next) head.visibility);
+            local = f.local;
+            visits = none_joined (on_site t) (visits (inside_module s.map site) items) rest (site_visits (inside_module s.map site) (file v rest next.next) items) (left v rest next.next);
+            reached = f.reached;
+          })
+      step_keeps w new (enters_block site head items rest next is) =
+          let v : Visit = visit site (holder head extern_block items) in
+          subst (IsSourced t) (sym is) (record {
+            map = HoldsNowhereIn-listed t s.map site.home (listings.ExternBlock (extern_block_id s.map site head.id)) f.map;
+            local = f.local;
+            visits = none_joined (on_site t) (visits (inside_block s.map site head) items) rest (site_visits (inside_block s.map site head) (file v rest next.next) items) (left v rest next.next);
+            reached = f.reached;
+          })
+      step_keeps w new (reaches_imports site head tree rest next is) =
+          let v : Visit = visit site (leaf head (import tree)) in
+          subst (IsSourced t) (sym is) (record {
+            map = HoldsNowhereIn-listed t s.map site.home (listings.Use (use_id s.map site head.id)) f.map;
+            local = f.local;
+            visits = left v rest next.next;
+            reached = none_joined (on_reached t) s.reached (imports_by s.map site head tree) f.reached (use_imports s.map site head (file v rest next.next) (imports_of tree));
+          })
+      step_keeps w new (reaches_crate site head name alias rest next is) =
+          let v : Visit = visit site (leaf head (extern_crate name alias)) in
+          let noted : ReachedImport = crate_import s.map s.dependencies site head name alias in
+          subst (IsSourced t) (sym is) (record {
+            map = HoldsNowhereIn-listed t s.map site.home (listings.ExternCrate (extern_crate_id s.map site head.id)) f.map;
+            local = externs_after noted (file v rest next.next);
+            visits = left v rest next.next;
+            reached = none_more (on_reached t) s.reached noted f.reached (file v rest next.next);
+          })
+      step_keeps w new (takes_import i r taken can is) = subst (IsSourced t) (sym is) (record {
+        map = takes r (imports_at s.reached i r names.imports can.import) (none_at (on_reached t) s.reached f.reached i r can.import) (name_of r);
+        local = f.local;
+        visits = f.visits;
+        reached = f.reached;
+      })
+
+    -- so are all states to which steps lead, as far as the test holds of no module there
+    all_sourced : (w : Workspace) (from to : State) → NamesWhatIsThere finished from → IsSourced t from → Steps w finished from to → ShowsThere t finished to.map → IsSourced t to
+    all_sourced w from to names first none shown = first
+    all_sourced w from to names first (more old new before last) shown =
+        let earlier : ShowsThere t finished old.map = λ m e. shown m (stays_there finished old.map new.map (step_id last) (Grows-Step last) m e) in
+        step_keeps old (steps_keep paths finished whole w from old names before) earlier (all_sourced w from old names first before earlier) w new last
+
+  -- ---- where a run begins
+
+  local_begins : (crate_data : CrateData) (local : Local) (ds : List Dependency) → HoldsOfNoExtern t local → HoldsOfNoExtern t (extern_prelude crate_data local ds)
+  local_begins crate_data local [] f = f
+  local_begins crate_data local (d ∷ ds) f = local_begins crate_data (with_dependency crate_data local d) ds (go (joins crate_data local d))
+    where
+      go : (b : Bool) → HoldsOfNoExtern t (cond b (with_name local d.name (crate_root d.krate, None)) local)
+      go true = none_inserted (on_extern_entry t) (slice_cmp nat_cmp) local d.name (crate_root d.krate, None) f refl
+      go false = f
+
+  first_sourced : (finished : Maps) (w : Workspace) (start : Start) → t.holder (root_file start) None ≡ false → IsSourced t (start_of w finished start)
+  first_sourced finished w start written =
+      let tree = root_tree w start in
+      let crate_data : CrateData = start_data tree (behind_in w start.krate) start in
+      let one : Map = root_map crate_data start in
+      let local : Local = extern_prelude crate_data [] (dependencies_in w start.krate) in
+      record {
+        map = HoldsNowhereIn-prelude t one (prelude_of finished one local) (record { origins = refl; types = refl; values = refl; macros = refl; legacy = refl; enums = refl; macro_use = refl });
+        local = local_begins crate_data [] (dependencies_in w start.krate) refl;
+        visits = go (is_enabled tree.attributes) tree.items;
+        reached = refl;
+      }
+    where
+      go : (b : Bool) (is : KeptForest) → list_any (on_site t) (if b then visits (root_site start) is else []) ≡ false
+      go true is = site_visits (root_site start) written is
+      go false is = refl
+
+  -- it ends with a map in which the test holds nowhere
+  pub ends_sourced : PathsAnswerFromSources → PathsLeadToWhatIsThere → (finished : Maps) → AreWhole finished → (w : Workspace) (all : Maps) (start : Start) (answer : CollectedValue)
+      → read_by w all start ≡ finished → StandsOnWhole w finished start → Ends w all start answer → IsClearOf t finished start answer.map
+      → HoldsNowhereIn t answer.map × HoldsOfNoExtern t answer.local
+  ends_sourced answers paths finished whole w all start answer same stands e clear =
+      let from : State = begin_of w all start in
+      let names : NamesWhatIsThere finished from = subst (λ (x : Maps). NamesWhatIsThere finished (start_of w x start)) (sym same) (begins paths finished whole w start stands) in
+      let first : IsSourced t from = first_sourced (read_by w all start) w start clear.written in
+      let derived : Steps w finished from e.end = subst (λ (x : Maps). Steps w x from e.end) same e.derived in
+      let shown : ShowsThere t finished e.end.map = subst (λ (m : Map). ShowsThere t finished m) e.map_is clear.shown in
+      let end : IsSourced t e.end = all_sourced answers paths finished whole clear.read w from e.end names first derived shown in
+      (subst (HoldsNowhereIn t) (sym e.map_is) end.map, subst (HoldsOfNoExtern t) (sym e.local_is) end.local)

@@ -1,0 +1,11 @@
+-- It begins with what its root file writes, and each step adds only that or what a path answers.
+use Rattle.std.proofs.Common.{refl}
+use Rattle.hir_def_collector.specs.Derivation.{read_by}
+use Rattle.hir_def_collector.proofs.Sourced.{ends_sourced}
+use Rattle.hir_def_collector.proofs.laws.runs_bind_from_sources.Goals as goal
+
+pub returns : goal.returns
+returns c = record {
+  sources = λ t w finished start answer whole stands e clear.
+      ends_sourced t c.paths_answer_from_sources.ensures.sources c.paths_lead_to_what_is_there.ensures.there (read_by w finished start) whole w finished start answer refl stands e clear;
+}
