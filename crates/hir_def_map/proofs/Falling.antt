@@ -5,7 +5,6 @@ use Rattle.std.specs.Option.{option_map}
 use Rattle.std.specs.Cmp.{first_so, second_so}
 use Rattle.std.specs.List.{list_any}
 use Rattle.std.specs.BTreeMap.{BTreeMap, get, is_at, Updates}
-use Rattle.std.specs.Map.{lookup}
 use Rattle.hir_base.specs.declared.ids.MapId.{MapId}
 use Rattle.hir_base.specs.declared.ids.ModuleId.{ModuleId}
 use Rattle.hir_base.specs.contracts.ids.MapIdOrd.TheImpl as map_order
@@ -17,8 +16,9 @@ use Rattle.hir_def_map.specs.Chains.{HolderLeads, IsPlaced, frame_of, frames_of,
 use Rattle.hir_def_map.specs.Beside.{exact_map}
 use Rattle.hir_def_map.specs.Named.{is_missing, is_there, lies_in, map_named, names_map, names_some}
 use Rattle.hir_def_map.specs.World.{IsChecked, IsFinished, finished_in, placed_of}
-use Rattle.hir_def_map.specs.Removal.{Depends, IsClosed, IsFalling, lacks_some, lists_in, lists_of, names_in, names_of}
+use Rattle.hir_def_map.specs.Removal.{Depends, FallsWith, IsClosed, IsFalling, IsUpward, lacks_some, lists_in, lists_of, names_in, names_of}
 use Rattle.hir_def_map.specs.Removal.Depends.{itself, through}
+use Rattle.hir_def_map.proofs.Depending.{depends_still, falls_by}
 use Rattle.hir_def_map.proofs.Joined.{finds_some, finished_kept, holder_named, nothing_missing, own_id, same_id, there_in}
 
 abbrev pub Store : Type 0
@@ -137,15 +137,18 @@ module _ (old new : Store) (id : MapId) (falling : IsFalling old new id) (closed
     | inr fell ↦ absurd (true≢false (sym i ∙ ap is_some fell.0))
   ]
 
-  all_gone : (k : MapId) → Depends (lists_in old) id k → at new k ≡ None
-  all_gone _ (itself k e) = ap (at new) e ∙ falling.gone
-  all_gone _ (through k other l d) = go (all_gone other d) (at new k) refl
+  -- what lists a map that is gone is gone
+  pub gone_upward : IsUpward (lists_in old) (λ k. not (is_some (at new k)))
+  gone_upward k other l g = go (at new k) refl
     where
-      go : at new other ≡ None → (o : Option Finished) → at new k ≡ o → at new k ≡ None
-      go n None s = s
-      go n (Some f) s =
+      go : (o : Option Finished) → at new k ≡ o → not (is_some (at new k)) ≡ true
+      go None s = ap (λ (o : Option Finished). not (is_some o)) s
+      go (Some f) s =
           let same : at new k ≡ at old k = was_there k (ap is_some s) in
-          absurd (true≢false (sym (lacks_from new (at new k) other (ap (λ (o : Option Finished). lists_of o other) same ∙ l) n) ∙ closed k))
+          absurd (true≢false (sym (lacks_from new (at new k) other (ap (λ (o : Option Finished). lists_of o other) same ∙ l) (is_there_or (at new other) g)) ∙ closed k))
+
+  pub all_gone : (k : MapId) → FallsWith (lists_in old) id k → at new k ≡ None
+  all_gone k d = is_there_or (at new k) (d (λ x. not (is_some (at new x))) (ap (λ (o : Option Finished). not (is_some o)) falling.gone) gone_upward)
 
 -- ---- checked maps
 
@@ -157,21 +160,29 @@ some_placed : (o : Option Finished) → is_some o ≡ true → is_some (option_m
 some_placed None e = absurd cc
 some_placed (Some f) e = refl
 
+names_there : (o : Option Finished) (j : MapId) → names_of o j ≡ true → is_some o ≡ true
+names_there None j e = absurd cc
+names_there (Some f) j e = refl
+
 framed_some : (o : Option Placed) → is_some (option_map frame_of o) ≡ true → is_some o ≡ true
 framed_some None e = absurd cc
 framed_some (Some p) e = refl
 
 module _ (old : Store) (checked : IsChecked old) where
-  -- the ids that are kept are those of the maps that are named
-  names_at : (k j : MapId) → names_in old k j ≡ lists_in old k j
-  names_at k j = go (at old k) refl
+  -- an id that is kept is that of a map that is named
+  names_at : (k j : MapId) → lists_in old k j ≡ true → names_in old k j ≡ true
+  names_at k j l = go (at old k) refl l
     where
-      go : (o : Option Finished) → at old k ≡ o → names_of o j ≡ lists_of o j
-      go None s = refl
-      go (Some f) s = sym ((checked.each k f s).named.has j)
+      go : (o : Option Finished) → at old k ≡ o → lists_of o j ≡ true → names_of o j ≡ true
+      go None s e = absurd cc
+      go (Some f) s e = (checked.each k f s).named j e
 
-  pub names_alike : names_in old ≡ lists_in old
-  names_alike = λ i k j. names_at k j i
+  -- so what depends on a map by the ids that are kept does by the names, and falls with it by them
+  pub by_names : (a b : MapId) → Depends (lists_in old) a b → Depends (names_in old) a b
+  by_names a b d = depends_still (lists_in old) (names_in old) names_at a b d
+
+  pub by_lists : (a b : MapId) → Depends (names_in old) a b → FallsWith (lists_in old) a b
+  by_lists a b d = falls_by (names_in old) (lists_in old) checked.covered a b d
 
   -- a map that is named is there
   named_there : (k : MapId) (f : Finished) → at old k ≡ Some f → (j : MapId) → names_map f.map f.local j ≡ true → is_some (at old j) ≡ true
@@ -205,7 +216,7 @@ module _ (old : Store) (checked : IsChecked old) where
       go false s = refl
       go true s =
           let h = which_lacks old (at old k) s in
-          absurd (true≢false (sym (known h.0 (at old k) refl (names_at k h.0 ∙ h.1)) ∙ ap is_some h.2))
+          absurd (true≢false (sym (known h.0 (at old k) refl (names_at k h.0 h.1)) ∙ ap is_some h.2))
 
 under_head : (A : Maps) (k : MapId) (o : Option ModuleId) (h : ModuleId) (hs : List ModuleId) → holders_under A k o ≡ h ∷ hs → o ≡ Some h
 under_head A k None h hs e = absurd cc
@@ -233,6 +244,56 @@ module _ (old new : Store) (id : MapId) (checked : IsChecked old) (falling : IsF
   unfolding finished_in
   here k g e = some_placed (at old k) (ap is_some (was k g e))
 
+  -- so is what it names
+  named_stays : (k j : MapId) → names_in old k j ≡ true → is_some (at new k) ≡ true → is_some (at new j) ≡ true
+  named_stays k j n i = go (at new j) refl
+    where
+      go : (o : Option Finished) → at new j ≡ o → is_some (at new j) ≡ true
+      go (Some f) s = ap is_some s
+      go None s =
+          let away : not (is_some (at new k)) ≡ true = checked.covered k j n (λ x. not (is_some (at new x))) (ap (λ (o : Option Finished). not (is_some o)) s) (gone_upward old new id falling closed) in
+          absurd (true≢false (sym away ∙ ap not i))
+
+  -- and it falls with the same maps as before
+  module _ (falls : MapId → Bool) (up : IsUpward (lists_in new) falls) where
+    abbrev or_gone : MapId → Bool
+    or_gone x = not (is_some (at new x)) || falls x
+
+    up_or_gone : IsUpward (lists_in old) or_gone
+    up_or_gone k other l f = go (at new k) refl
+      where
+        later : (a b : Bool) → b ≡ true → (a || b) ≡ true
+        later true b e = refl
+        later false b e = e
+
+        listed : is_some (at new k) ≡ true → lists_in new k other ≡ true
+        listed i = ap (λ (o : Option Finished). lists_of o other) (was_there old new id falling closed k i) ∙ l
+
+        here : is_some (at new k) ≡ true → is_some (at new other) ≡ true
+        here i = still (at new other) refl
+          where
+            still : (o : Option Finished) → at new other ≡ o → is_some (at new other) ≡ true
+            still (Some g) s = ap is_some s
+            still None s = absurd (true≢false (sym (lacks_from new (at new k) other (listed i) s) ∙ closed k))
+
+        go : (o : Option Finished) → at new k ≡ o → or_gone k ≡ true
+        go None s = ap (λ (o : Option Finished). not (is_some o) || falls k) s
+        go (Some g) s =
+            let i : is_some (at new k) ≡ true = ap is_some s in
+            later (not (is_some (at new k))) (falls k) (up k other (listed i) (ap (λ (b : Bool). not b || falls other) (sym (here i)) ∙ f))
+
+    still_falls : (k j : MapId) → names_in old k j ≡ true → is_some (at new k) ≡ true → falls j ≡ true → falls k ≡ true
+    still_falls k j n i f = ap (λ (b : Bool). not b || falls k) (sym i) ∙ checked.covered k j n or_gone (later (not (is_some (at new j))) (falls j) f) up_or_gone
+      where
+        later : (a b : Bool) → b ≡ true → (a || b) ≡ true
+        later true b e = refl
+        later false b e = e
+
+  covered_still : (k j : MapId) → names_in new k j ≡ true → FallsWith (lists_in new) j k
+  covered_still k j n falls f up =
+      let i : is_some (at new k) ≡ true = names_there (at new k) j n in
+      still_falls falls up k j (ap (λ (o : Option Finished). names_of o j) (sym (was_there old new id falling closed k i)) ∙ n) i f
+
   -- what is still there finds the maps that it names as they were
   same : (k : MapId) (g : Finished) → at new k ≡ Some g → (j : MapId) → names_some (lies_in j) g.map g.local ≡ true → before j ≡ after j
   same k g e j named = go (is_at (map_order.ghosts.cmp g.map.id) j) refl
@@ -240,16 +301,14 @@ module _ (old new : Store) (id : MapId) (checked : IsChecked old) (falling : IsF
       finished : IsFinished before k g
       finished = checked.each k g (was k g e)
 
-      there : names_map g.map g.local j ≡ true → (o : Option Finished) → at new j ≡ o → is_some (at new j) ≡ true
-      there n (Some f) s = ap is_some s
-      there n None s =
-          absurd (true≢false (sym (lacks_from new (at new k) j (ap (λ (o : Option Finished). lists_of o j) e ∙ finished.named.has j ∙ n) s) ∙ closed k))
+      there : names_map g.map g.local j ≡ true → is_some (at new j) ≡ true
+      there n = named_stays k j (ap (λ (o : Option Finished). names_of o j) (was k g e) ∙ n) (ap is_some e)
 
       go : (b : Bool) → is_at (map_order.ghosts.cmp g.map.id) j ≡ b → before j ≡ after j
       go true s =
           let P : MapId → Type 0 = λ x. before x ≡ after x in
           subst P (sym finished.own ∙ same_id g.map.id j s) (same_maps k (was_there old new id falling closed k (ap is_some e)))
-      go false s = same_maps j (was_there old new id falling closed j (there (ap (λ (b : Bool). not b && names_some (lies_in j) g.map g.local) s ∙ named) (at new j) refl))
+      go false s = same_maps j (was_there old new id falling closed j (there (ap (λ (b : Bool). not b && names_some (lies_in j) g.map g.local) s ∙ named)))
 
   placed_after : IsPlaced after
   unfolding finished_in frames_of
@@ -273,17 +332,18 @@ module _ (old new : Store) (id : MapId) (checked : IsChecked old) (falling : IsF
   fallen_checked = record {
     placed = placed_after;
     each = λ k g e. finished_kept before after k g (checked.each k g (was k g e)) (here k g e) (λ j named i. same k g e j named);
+    covered = covered_still;
   }
 
   -- all that depend on the map are gone
   pub dependents_gone : (k : MapId) → Depends (names_in old) id k → at new k ≡ None
-  dependents_gone k d = let P : (MapId → MapId → Bool) → Type 0 = λ x. Depends x id k in all_gone old new id falling closed k (subst P (names_alike old checked) d)
+  dependents_gone k d = all_gone old new id falling closed k (by_lists old checked id k d)
 
   -- and all others stay
   pub others_stay : (k : MapId) → ¬ Depends (names_in old) id k → at new k ≡ at old k
   others_stay k free = elim (falling.each k) [
     | inl same ↦ same
-    | inr fell ↦ (let P : (MapId → MapId → Bool) → Type 0 = λ x. Depends x id k in absurd (free (subst P (sym (names_alike old checked)) fell.1)))
+    | inr fell ↦ absurd (free (by_names old checked id k fell.1))
   ]
 
 pub none_there : (o : Option Finished) → is_some o ≡ false → o ≡ None

@@ -22,8 +22,11 @@ use Rattle.hir_def_map.specs.State.{Local, Map, Maps, ModuleValue, Placed, besid
 use Rattle.hir_def_map.specs.Chains.{IsPlaced}
 use Rattle.hir_def_map.specs.Beside.{exact_map, IsPlaced-beside}
 use Rattle.hir_def_map.specs.Named.{each_leads_to_root, has_its_parents, is_complete, is_holder_for, is_missing, is_there, lies_in, map_named, named_by, names_in_module, names_own_crate, names_some, prelude_named, test_child, test_crate, test_extern, test_of, test_type}
-use Rattle.hir_def_map.specs.World.{IsChecked, IsFinished, IsNamedBy, finished_in, placed_of}
+use Rattle.hir_def_map.specs.World.{IsChecked, IsFinished, finished_in, placed_of}
+use Rattle.hir_def_map.specs.Removal.{FallsWith, lists_in, lists_of, names_in, names_of}
+use Rattle.hir_def_map.specs.Kept.{IsKeptOf}
 use Rattle.hir_def_map.specs.Inserted.{may_join}
+use Rattle.hir_def_map.proofs.Depending.{falls_in_step, falls_on, falls_still}
 
 -- ---- ids that are equal by the order
 
@@ -117,6 +120,15 @@ module _ (map : Map) (local : Local) where
       (or_left (test_of (lies_in h.map) (option_map named.Module map.holder)) (from_externs (lies_in h.map))
       (ap (λ (o : Option ModuleId). test_of (lies_in h.map) (option_map named.Module o)) e ∙ own_id h.map)))
 
+  -- so are the crates on which its crate stands
+  pub crate_named : (k : MapId) → list_any (test_crate (lies_in k)) map.crate_data.dependencies ≡ true → names_some (lies_in k) map local ≡ true
+  crate_named k e =
+      or_right (list_any (names_in_module (lies_in k)) map.modules) (from_prelude (lies_in k))
+      (or_right (test_of (lies_in k) (prelude_named map.prelude)) (from_holder (lies_in k))
+      (or_right (test_of (lies_in k) (option_map named.Module map.holder)) (from_externs (lies_in k))
+      (or_right (list_any (test_extern (lies_in k)) local) (in_crates (lies_in k))
+      (or_left (list_any (test_crate (lies_in k)) map.crate_data.dependencies) (names_own_crate (lies_in k) map.id) e))))
+
 -- ---- what is there in maps stays so in others that have the same where it matters
 
 -- beside one map, maps that have the same finished map of an id have the same there
@@ -150,7 +162,7 @@ there_in A (named.Module m) e = has_first (λ (placed : Placed). module_at place
 there_in A (named.Enum id) e = has_first (λ (placed : Placed). variants_at placed.map id) (A id.container.map) e
 there_in A (named.Map id) e = e
 
-both : (a b : Bool) → a ≡ true → b ≡ true → (a && b) ≡ true
+pub both : (a b : Bool) → a ≡ true → b ≡ true → (a && b) ≡ true
 both a b p q = ap (λ x. x && b) p ∙ q
 
 not_so : (b : Bool) → not b ≡ true → b ≡ false
@@ -262,7 +274,7 @@ not_placed None e = refl
 not_placed (Some g) e = absurd cc
 
 module _ (maps maps' : BTreeMap MapId Finished) (f : Finished) (may : may_join (finished_in maps) f.map f.local ≡ true)
-    (holders : f.holders.items ≡ holders_under (finished_in maps) f.map.id f.map.holder) (named : IsNamedBy f.named f.map f.local)
+    (holders : f.holders.items ≡ holders_under (finished_in maps) f.map.id f.map.holder) (kept : IsKeptOf maps f.named f.map f.local)
     (updates : Updates map_order.ghosts.cmp maps maps' f.map.id (Some f)) where
   abbrev before : Maps
   before = finished_in maps
@@ -324,7 +336,7 @@ module _ (maps maps' : BTreeMap MapId Finished) (f : Finished) (may : may_join (
     own = refl;
     holders = holders ∙ holders_kept before after f.map.id f.map.holder (λ h e. grows h.map) (holder before f.map f.local complete);
     complete = complete_kept before f.map f.local complete after (λ k n e. twice k) (λ h e. grows h.map);
-    named = named;
+    named = kept.named;
   }
 
   old_finished : (id : MapId) (g : Finished) → get map_order.ghosts.cmp maps id ≡ Some g → IsFinished before id g → IsFinished after id g
@@ -342,12 +354,37 @@ module _ (maps maps' : BTreeMap MapId Finished) (f : Finished) (may : may_join (
           subst P this (subst Q (same_id f.map.id id s) new_finished)
       go false s t = old_finished id g t (checked.each id g t)
 
+  -- what lists a map lists it still
+  lists_still : (k j : MapId) → lists_in maps k j ≡ true → lists_in maps' k j ≡ true
+  lists_still k j e = ap (λ (o : Option Finished). lists_of o j) (updates.0 k) ∙ go (is_at (map_order.ghosts.cmp f.map.id) k) refl
+    where
+      go : (b : Bool) → is_at (map_order.ghosts.cmp f.map.id) k ≡ b → lists_of (cond b (Some f) (get map_order.ghosts.cmp maps k)) j ≡ true
+      go true s = absurd (true≢false (sym e ∙ ap (λ (o : Option Finished). lists_of o j) (sym (ap (get map_order.ghosts.cmp maps) (same_id f.map.id k s)) ∙ absent)))
+      go false s = e
+
+  falls_after : (on id : MapId) → FallsWith (lists_in maps) on id → FallsWith (lists_in maps') on id
+  falls_after on id d = falls_still (lists_in maps) (lists_in maps') lists_still on id d
+
+  covered_after : IsChecked maps → (id other : MapId) → names_in maps' id other ≡ true → FallsWith (lists_in maps') other id
+  covered_after checked id other e = go (is_at (map_order.ghosts.cmp f.map.id) id) refl (sym (ap (λ (o : Option Finished). names_of o other) (updates.0 id)) ∙ e)
+    where
+      new : names_of (Some f) other ≡ true → FallsWith (lists_in maps') other f.map.id
+      new n =
+          let h = kept.each other n in
+          let own : lists_in maps' f.map.id h.by ≡ true = ap (λ (o : Option Finished). lists_of o h.by) updates.1 ∙ h.is_kept in
+          falls_on (lists_in maps') other h.by f.map.id (falls_after other h.by h.falls) (falls_in_step (lists_in maps') f.map.id h.by own)
+
+      go : (b : Bool) → is_at (map_order.ghosts.cmp f.map.id) id ≡ b → names_of (cond b (Some f) (get map_order.ghosts.cmp maps id)) other ≡ true → FallsWith (lists_in maps') other id
+      go true s n = let P : MapId → Type 0 = λ x. FallsWith (lists_in maps') other x in subst P (same_id f.map.id id s) (new n)
+      go false s n = falls_after other id (checked.covered id other n)
+
   pub still_checked : IsChecked maps → IsChecked maps'
   still_checked checked =
       let whole : after ≡ finished_in maps' = λ i id. sym (joined id) i in
       record {
         placed = subst IsPlaced whole (IsPlaced-beside before f.map checked.placed);
         each = λ id g e. let P : Maps → Type 0 = λ x. IsFinished x id g in subst P whole (each_after checked id g e);
+        covered = covered_after checked;
       }
 
 alike_maps : (maps maps' : BTreeMap MapId Finished) → ((id : MapId) → get map_order.ghosts.cmp maps' id ≡ get map_order.ghosts.cmp maps id) → finished_in maps ≡ finished_in maps'
@@ -362,16 +399,19 @@ alike_checked maps maps' same checked =
     record {
       placed = subst IsPlaced whole checked.placed;
       each = λ id g e. let P : Maps → Type 0 = λ x. IsFinished x id g in subst P whole (checked.each id g (sym (alike id) ∙ e));
+      covered = λ id other e.
+          falls_still (lists_in maps) (lists_in maps') (λ k j l. ap (λ (o : Option Finished). lists_of o j) (alike k) ∙ l) other id
+          (checked.covered id other (sym (ap (λ (o : Option Finished). names_of o other) (alike id)) ∙ e));
     }
 
 -- after an insertion that may fail
 pub insert_checked : {V E : Type 0} (r : Result V E) (maps maps' : BTreeMap MapId Finished) (f : Finished) (id : MapId) → id ≡ f.map.id
-    → may_join (finished_in maps) f.map f.local ≡ true → f.holders.items ≡ holders_under (finished_in maps) f.map.id f.map.holder → IsNamedBy f.named f.map f.local
+    → may_join (finished_in maps) f.map f.local ≡ true → f.holders.items ≡ holders_under (finished_in maps) f.map.id f.map.holder → IsKeptOf maps f.named f.map f.local
     → OnOk r (Updates map_order.ghosts.cmp maps maps' id (Some f)) → OnErr r (IsUnchanged maps maps') → IsChecked maps → IsChecked maps'
-insert_checked (Ok v) maps maps' f id own may holders named updates err checked = let P : MapId → Type 0 = λ x. Updates map_order.ghosts.cmp maps maps' x (Some f) in still_checked maps maps' f may holders named (subst P own updates) checked
-insert_checked (Err e) maps maps' f id own may holders named updates err checked = alike_checked maps maps' err checked
+insert_checked (Ok v) maps maps' f id own may holders kept updates err checked = let P : MapId → Type 0 = λ x. Updates map_order.ghosts.cmp maps maps' x (Some f) in still_checked maps maps' f may holders kept (subst P own updates) checked
+insert_checked (Err e) maps maps' f id own may holders kept updates err checked = alike_checked maps maps' err checked
 
 pub joined_under : (maps maps' : BTreeMap MapId Finished) (f : Finished) (id : MapId) → id ≡ f.map.id
-    → may_join (finished_in maps) f.map f.local ≡ true → f.holders.items ≡ holders_under (finished_in maps) f.map.id f.map.holder → IsNamedBy f.named f.map f.local
+    → may_join (finished_in maps) f.map f.local ≡ true → f.holders.items ≡ holders_under (finished_in maps) f.map.id f.map.holder → IsKeptOf maps f.named f.map f.local
     → Updates map_order.ghosts.cmp maps maps' id (Some f) → (k : MapId) → finished_in maps' k ≡ beside (finished_in maps) f.map k
-joined_under maps maps' f id own may holders named updates = let P : MapId → Type 0 = λ x. Updates map_order.ghosts.cmp maps maps' x (Some f) in joined maps maps' f may holders named (subst P own updates)
+joined_under maps maps' f id own may holders kept updates = let P : MapId → Type 0 = λ x. Updates map_order.ghosts.cmp maps maps' x (Some f) in joined maps maps' f may holders kept (subst P own updates)

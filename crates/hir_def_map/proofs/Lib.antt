@@ -13,7 +13,9 @@ pub mod LookUps
 pub mod Rewrites
 pub mod Parts
 pub mod Gaining
+pub mod Depending
 pub mod Joined
+pub mod Kept
 pub mod Falling
 pub mod Entries
 pub mod FallingSteps

@@ -1,7 +1,7 @@
 -- A path leads only to what is there.
 use Rattle.std.proofs.Common.{◌≡◌, ◌∙◌, ap, sym, refl, ℕ, zero, suc, ◌+◌, List, [], ◌∷◌, Bool, true, false, ◌&&◌, ◌||◌, cond, Option, None, Some}
 use Rattle.std.specs.List.{All}
-use Rattle.std.specs.Option.{option_and_then, option_map}
+use Rattle.std.specs.Option.{option_and_then}
 use Rattle.std.specs.Prelude.{is_some, not}
 use Rattle.std.proofs.lemmas.List.Elements.{All-head, All-tail}
 use Rattle.hir_base.specs.declared.builtin_type.BuiltinType.{BuiltinType as AnyBuiltin}
@@ -32,8 +32,8 @@ use Rattle.hir_def_map.specs.Closed.{AreThere, IsClosed, IsThere, LocalIsThere, 
 use Rattle.hir_def_map.specs.Named.{crate_map}
 use Rattle.hir_def_map.specs.Scoping.Asking.{Asking}
 use Rattle.hir_def_map.specs.Scoping.Blocks.{from_blocks, in_preludes, inherited, joined, with_preludes}
-use Rattle.hir_def_map.specs.Scoping.FirstSegment.{builtin_bound, builtin_name, extern_bound, extern_name, fits, is_block_root, legacy_bound, legacy_name, legacy_of, macro_use_bound, macro_use_name, macro_use_of, name_in_module, name_in_preludes, name_in_crate_root_or_extern_prelude, names_module, of_style, prelude_bound, prelude_name, prelude_of, scope_name, shadow_before, unless_block_root, with_builtin}
-use Rattle.hir_def_map.specs.Scoping.Segments.{after_enum, crossing, nearest_non_block_among, nearest_non_block_module, rest, seen, stopped, through, through_adt, through_module, through_type, unresolved, variant_in}
+use Rattle.hir_def_map.specs.Scoping.FirstSegment.{builtin_bound, builtin_name, extern_bound, extern_name, fits, is_block_root, legacy_bound, legacy_name, legacy_of, macro_use_bound, macro_use_name, macro_use_of, name_in_module, name_in_preludes, name_in_crate_root_or_extern_prelude, names_module, prelude_bound, prelude_name, prelude_of, scope_name, shadow_before, unless_block_root, with_builtin}
+use Rattle.hir_def_map.specs.Scoping.Segments.{after_enum, crossing, nearest_non_block_among, nearest_non_block_module, rest, seen, through, through_adt, through_type, unresolved, variant_in}
 use Rattle.hir_def_map.specs.Scoping.Start.{abs_from, climb, crate_root, from_start, is_dependency, is_import, is_in_reach, module_bound, is_in_edition_2015, settled_in_block, super_from}
 use Rattle.hir_def_map.specs.declared.nameres.enum_variants.EnumVariant.{EnumVariant}
 use Rattle.hir_def_map.specs.declared.nameres.path_resolution.BuiltinShadowMode.{BuiltinShadowMode}

@@ -17,7 +17,7 @@ IsKept-keep_item test (Some i) = go (test i.vis) refl
   where
     go : (b : Bool) → test i.vis ≡ b → IsKept test (Some i) (cond b (Some i) None)
     go true e = (refl, e)
-    go false e = tt
+    go false e = e
 
 -- a test keeps what passes it, as it is
 pub AreKept-keep_of : (test : Visibility → Bool) (p : PerNs) → AreKept test p (keep_of test p)

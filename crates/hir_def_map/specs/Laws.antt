@@ -65,9 +65,14 @@ UnnamedBindingsDoNotMatter = (one other : Maps) (asking : Asking) (from : Module
 abbrev pub may_see : Maps → ModuleId → Visibility → Bool
 may_see maps from vis = is_visible (above_in maps) (holders_in maps) vis from
 
--- what is kept of an item is the item, and it passes the test
+-- an item that isn't kept fails the test
+abbrev pub IsLeftOut : {D I : Type 0} → (Visibility → Bool) → Option (Item D I) → Type 0
+IsLeftOut test None = Unit {0}
+IsLeftOut test (Some item) = test item.vis ≡ false
+
+-- what is kept of an item is the item, and it passes the test; nothing is kept of one that fails, and of no other
 abbrev pub IsKept : {D I : Type 0} → (Visibility → Bool) → Option (Item D I) → Option (Item D I) → Type 0
-IsKept test bound None = Unit {0}
+IsKept test bound None = IsLeftOut test bound
 IsKept test bound (Some item) = (bound ≡ Some item) × IsTrue (test item.vis)
 
 -- in each namespace

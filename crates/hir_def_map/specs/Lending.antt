@@ -1,6 +1,7 @@
 -- What becomes of a def map, a part of which is lent?
-use Rattle.std.specs.Prelude.{ℕ, slice_set}
-use Rattle.std.specs.Borrow.{Lends, MutBor, Fml}
+use Rattle.std.specs.Prelude.{ℕ, List, length, slice_set}
+use Rattle.std.specs.Borrow.{Lends, MutBor, Fml, Array}
+use Rattle.std.specs.List.{refill}
 use Rattle.hir_base.specs.declared.ids.ModuleId.{ModuleId}
 use Rattle.hir_def_map.specs.State.{CrateData, Map, ModuleValue}
 use Rattle.hir_def_map.specs.contracts.nameres.DefMap as def_map
@@ -19,3 +20,8 @@ LendsModuleAt lender at lent =
 -- the same of the module of an id
 abbrev pub LendsModule : MutBor Map → ModuleId → MutBor ModuleValue → Fml
 LendsModule lender id lent = LendsModuleAt lender id.index lent
+
+-- each module ends as what is left in its place; there are as many as before
+abbrev pub LendsModules : MutBor Map → MutBor (List ModuleValue) → Fml
+LendsModules lender lent = Lends def_map.the_row (Array module_data.the_row 0) lender lent
+    (λ left. record lender.now { modules = refill (length lender.now.modules) lender.now.modules left })

@@ -18,6 +18,8 @@ pub mod Grown
 pub mod Listed
 pub mod Named
 pub mod Among
+pub mod Removal
+pub mod Kept
 pub mod World
 pub mod Parts
 pub mod Laws
@@ -31,7 +33,6 @@ pub mod StaysSourced
 pub mod DefMaps
 pub mod AskMaps
 pub mod Inserted
-pub mod Removal
 pub mod Dependents
 pub mod SameMacros
 pub mod Same

@@ -1,5 +1,5 @@
 -- What does a def map say of itself?
-use Rattle.std.specs.Prelude.{ℕ, List, length, Bool, ◌&&◌, ◌||◌, nat_lt, Option, option_and_then}
+use Rattle.std.specs.Prelude.{ℕ, None, cond, List, length, Bool, ◌&&◌, ◌||◌, nat_lt, Option, option_and_then}
 use Rattle.std.specs.List.{list_any}
 use Rattle.std.specs.Ordering.{nat_cmp}
 use Rattle.std.specs.Cmp.Lexicographic.{slice_cmp}
@@ -13,9 +13,9 @@ use Rattle.hir_def_map.specs.State.{CrateData, Map, ModuleValue, module_at}
 abbrev pub contains_module : Map → ModuleId → Bool
 contains_module map m = map_id.ghosts.eq m.map map.id && nat_lt m.index (length map.modules)
 
--- what a module is in, where it is there: its parent, or for a root the module that holds the block
-abbrev pub containing_module : Map → ℕ → Option ModuleId
-containing_module map at = option_and_then (λ (m : ModuleValue). first_of m.parent map.holder) (module_at map at)
+-- what one of the modules is in: its parent, or for a root the module that holds the block
+abbrev pub containing_module : Map → ModuleId → Option ModuleId
+containing_module map id = cond (contains_module map id) (option_and_then (λ (m : ModuleValue). first_of m.parent map.holder) (module_at map id.index)) None
 
 -- whether the crate lists a feature
 abbrev pub feature_in : CrateData → List ℕ → Bool

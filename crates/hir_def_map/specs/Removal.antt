@@ -8,10 +8,21 @@ use Rattle.hir_base.specs.contracts.ids.MapIdOrd.TheImpl as map_order
 use Rattle.hir_def_map.specs.declared.world.finished.Finished.{Finished}
 use Rattle.hir_def_map.specs.Named.{names_map}
 
+abbrev pub Names : Type 0
+Names = MapId → MapId → Bool
+
 -- the least set that holds a map, and each one that names one in it
 pub data Depends (names : MapId → MapId → Bool) (on : MapId) : MapId → Type 0 where
   itself : (id : MapId) → id ≡ on → Depends names on id
   through : (id other : MapId) → names id other ≡ true → Depends names on other → Depends names on id
+
+-- a set that holds with a map each one that names it
+abbrev pub IsUpward : Names → (MapId → Bool) → Type 0
+IsUpward names falls = (k j : MapId) → names k j ≡ true → falls j ≡ true → falls k ≡ true
+
+-- each such set that holds the one holds the other
+abbrev pub FallsWith : Names → MapId → MapId → Type 0
+FallsWith names on id = (falls : MapId → Bool) → falls on ≡ true → IsUpward names falls → falls id ≡ true
 
 abbrev pub names_of : Option Finished → MapId → Bool
 names_of None id = false

@@ -5,7 +5,7 @@ ghost use Rattle.hir_base.specs.Refusal.{Gives};
 ghost use Rattle.hir_def_map.specs.State.{at_name, child_at, entry_at, parent_at, module_at, empty_map, scope_at, root_of, variants_at, with_child, with_enum, with_macro_use, with_module, with_prelude, changed_at, changes_module, globs_in, globs_after, pushed_module, pushed, push_changes, IsNumbered};
 ghost use Rattle.hir_def_map.specs.Scoping.FirstSegment.{legacy_of};
 ghost use Rattle.hir_def_map.specs.Building.{new_module_verdict, IsMemory};
-ghost use Rattle.hir_def_map.specs.Lending.{LendsCrateData};
+ghost use Rattle.hir_def_map.specs.Lending.{LendsCrateData, LendsModules};
 
 pub mod crate_data;
 pub mod declaration;
@@ -175,6 +175,14 @@ impl DefMap {
         ensures value { result.now ≡ record { map = self.now.id; modules = self.now.modules } }
     {
         &self.modules
+    }
+
+    /// The modules by number, to be changed; there are as many as before.
+    pub fn modules_mut(&mut self) -> &mut [ModuleData]
+        ensures value { result.now ≡ self.old.modules }
+        ensures* lends { sem 𝓛 (LendsModules self.entry result) }
+    {
+        &mut self.modules
     }
 
     /// Whether the map has a module of this number.

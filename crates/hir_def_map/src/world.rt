@@ -9,6 +9,7 @@ mod complete;
 pub mod dependents;
 pub mod finished;
 pub mod insert;
+mod kept;
 pub mod look_up;
 pub mod named;
 mod names;

@@ -7,10 +7,12 @@ mod first_segments;
 mod fixed_points;
 mod modules;
 mod nested_blocks;
+mod path_facts;
 mod paths;
 mod pushes;
 mod reports;
 mod visibilities;
+mod world_reads;
 mod worlds;
 
 use hir_base::ast_id::{AstId, AstKind, EditionedFileId, FileId, HirFileId, SyntaxId};

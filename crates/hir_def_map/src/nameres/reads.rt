@@ -1,6 +1,6 @@
 //! What a def map says of itself, of its crate and of its modules.
 ghost use Rattle.std.specs.Prelude.{◌≡◌, ◌||◌, ◌&&◌, ◌<◌, Option, option_map, length, nat_lt, slice_get};
-ghost use Rattle.hir_def_map.specs.State.{at_name, crate_root, module_at, parent_at};
+ghost use Rattle.hir_def_map.specs.State.{at_name, crate_root, module_at, parent_at, root_of};
 ghost use Rattle.hir_def_map.specs.Reads.{containing_module, contains_module, feature_in, is_without_std};
 
 use crate::nameres::DefMap;
@@ -50,15 +50,21 @@ impl DefMap {
         module.map == self.id() && module.index < self.module_count()
     }
 
-    /// What a module is in: its parent, or for a root the module that holds the block. A number that no module has is in
-    /// nothing.
-    pub fn containing_module(&self, at: u32) -> Option<ModuleId>
-        ensures value { result ≡ containing_module self.now at }
+    /// The module that all others of the map are below.
+    pub fn root_module_id(&self) -> ModuleId
+        ensures value { result ≡ root_of self.now.id }
     {
-        if !self.has_module(at) {
+        self.root()
+    }
+
+    /// What a module is in: its parent, or for a root the module that holds the block. A module of another map is in nothing.
+    pub fn containing_module(&self, module: ModuleId) -> Option<ModuleId>
+        ensures value { result ≡ containing_module self.now «module» }
+    {
+        if !self.contains(module) {
             return None;
         }
-        match self.parent_of(at) {
+        match self.parent_of(module.index) {
             Some(parent) => Some(parent),
             None => self.parent(),
         }

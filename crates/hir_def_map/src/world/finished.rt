@@ -13,6 +13,6 @@ pub struct Finished {
     pub local: LocalDefMap,
     /// The module that holds the block, the one that holds that one's block, and so on.
     pub holders: Vec<ModuleId>,
-    /// The maps that it names.
+    /// Maps that it names: on each that it names it depends through these.
     pub named: BTreeSet<MapId>,
 }

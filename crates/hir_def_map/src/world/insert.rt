@@ -7,14 +7,14 @@ ghost use Rattle.hir_base.specs.declared.ids.MapId.{MapId};
 ghost use Rattle.hir_def_map.specs.State.{beside, holders_under};
 ghost use Rattle.hir_def_map.specs.Dependents.{HasRoom, IsEntered, IsIndexed};
 ghost use Rattle.hir_def_map.specs.Inserted.{may_join, Inserts};
-ghost use Rattle.hir_def_map.specs.World.{finished_in, local_in, IsNamedBy};
+ghost use Rattle.hir_def_map.specs.Kept.{IsKeptOf};
+ghost use Rattle.hir_def_map.specs.World.{finished_in, local_in};
 
 use crate::nameres::DefMap;
 use crate::nameres::local_def_map::LocalDefMap;
 use crate::world::World;
 use crate::world::dependents::Dependents;
 use crate::world::finished::Finished;
-use crate::world::names::maps_named;
 use hir_base::ids::{MapId, ModuleId};
 use std::alloc::AllocError;
 use std::collections::{BTreeMap, BTreeSet};
@@ -143,10 +143,10 @@ impl World {
         local: &LocalDefMap,
     ) -> Result<(Vec<ModuleId>, BTreeSet<MapId>), AllocError>
         ensures holders { IfOk result (λ both. both.0.items ≡ holders_under (finished_in self.now.maps) map.now.id map.now.holder) }
-        ensures named { IfOk result (λ both. IsNamedBy both.1 map.now local.now) }
+        ensures named { IfOk result (λ both. IsKeptOf self.now.maps both.1 map.now local.now) }
     {
         let holders = self.holders_under(map.id(), map.parent())?;
-        let named = maps_named(self.alloc, map, local)?;
+        let named = self.kept(map, local)?;
         Ok((holders, named))
     }
 

@@ -17,7 +17,7 @@ use std::test::Fail;
 /// How many crates stand beside one another.
 const MANY: u32 = 10_000;
 
-/// How many crates stand each on the one before.
+/// How many crates stand each on the one before, and through it on all before that.
 const LONG: u32 = 1_000;
 
 /// What a path leads to from the root of a crate.
@@ -103,13 +103,19 @@ fn many_crates(rt: HostRuntime) -> Result<(), Fail> {
     Ok(())
 }
 
-/// What a crate's top says that stands on the crate before it.
-fn data_above(alloc: Global, krate: u32) -> Result<DefMapCrateData, Fail> {
-    if krate == 0 {
-        data_over(alloc, &[])
-    } else {
-        data_over(alloc, &[Crate(krate - 1)])
+/// The crates of smaller numbers.
+fn crates_below(alloc: Global, krate: u32) -> Result<Vec<Crate>, Fail> {
+    let mut crates = Vec::new(alloc);
+    for below in 0..krate {
+        crates.push(Crate(below))?;
     }
+    Ok(crates)
+}
+
+/// What a crate's top says that stands on the crate before it, and through it on all before that.
+fn data_above(alloc: Global, krate: u32) -> Result<DefMapCrateData, Fail> {
+    let crates = crates_below(alloc, krate)?;
+    data_over(alloc, crates.as_slice())
 }
 
 /// A crate over the one before it.

@@ -9,10 +9,12 @@ use hir_def_map::nameres::module_data::ModuleData;
 use hir_def_map::nameres::origin::ModuleOrigin;
 use hir_def_map::nameres::{BlockInfo, DefMap};
 use hir_def_map::world::World;
+use hir_def_map::world::insert::InsertError;
 use hir_scope::glob_imports::PerNsGlobImports;
 use hir_scope::per_ns::PerNs;
 use hir_scope::visibility::Visibility;
 use std::alloc::Global;
+use std::process::Abort;
 use std::test::Fail;
 
 pub(super) const PUBLIC: Visibility = Visibility::Public;
@@ -102,4 +104,21 @@ pub(super) fn rooted(
 /// Whether a map joins the world.
 pub(super) fn joins(world: &mut World, map: DefMap, local: LocalDefMap) -> bool {
     world.insert(map, local).is_ok()
+}
+
+/// Asserts that a map doesn't join the world, unchecked, and is handed back as it was with the crates beside it.
+pub(super) fn stays_out(
+    rt: &impl Abort,
+    world: &mut World,
+    given: (DefMap, LocalDefMap),
+    same: (DefMap, LocalDefMap),
+    row: &str,
+) {
+    let answer = world.insert(given.0, given.1);
+    assert!(rt; answer.is_err(), "{row}");
+    if let Err(refused) = answer {
+        assert_eq!(rt; refused.why, InsertError::Unchecked, "{row}");
+        let is_back = refused.map == same.0 && refused.local == same.1;
+        assert!(rt; is_back, "{row}: handed back");
+    }
 }

@@ -167,3 +167,23 @@ fn changes_in_place(rt: HostRuntime) -> Result<(), Fail> {
     assert_eq!(rt; map.child(5, &name), None);
     Ok(())
 }
+
+/// Gives each module a child.
+fn change_each(map: &mut DefMap, name: &Name) -> Result<(), Fail> {
+    for module in map.modules_mut() {
+        module.add_child(name.clone()?, at(crate_map(0), 3))?;
+    }
+    Ok(())
+}
+
+/// What is written through all modules at once is in each of them.
+#[test]
+fn changes_of_all_modules(rt: HostRuntime) -> Result<(), Fail> {
+    let mut map = spread(rt.alloc())?;
+    let name = Name::new(rt.alloc(), "e")?;
+    change_each(&mut map, &name)?;
+    for index in 0..map.module_count() {
+        assert_eq!(rt; map.child(index, &name), Some(at(crate_map(0), 3)));
+    }
+    Ok(())
+}

@@ -34,6 +34,34 @@ fn parents(rt: &impl Abort, map: &DefMap) {
     is_module(rt, map.parent(), None, "no block");
 }
 
+fn around(rt: &impl Abort, map: &DefMap) {
+    is_module(
+        rt,
+        map.containing_module(module(2)),
+        Some(module(1)),
+        "around a module",
+    );
+    is_module(
+        rt,
+        map.containing_module(module(0)),
+        None,
+        "around a crate's root",
+    );
+    is_module(
+        rt,
+        map.containing_module(module(9)),
+        None,
+        "around no module",
+    );
+    is_module(
+        rt,
+        map.containing_module(elsewhere_root()),
+        None,
+        "another map",
+    );
+    is_module(rt, Some(map.root_module_id()), Some(module(0)), "the root");
+}
+
 fn origins(rt: &impl Abort, map: &DefMap) {
     assert_eq!(rt; map.origin(4), Some(inline(20)));
     assert_eq!(rt; map.origin(5), None);
@@ -45,14 +73,17 @@ fn rest(rt: &impl Abort, map: &DefMap) {
     assert_eq!(rt; map.id(), MAP);
 }
 
-fn elsewhere(rt: &impl Abort, maps: DefMaps<'_>, a: &Name) {
-    let elsewhere = ModuleId {
-        map: MapId {
-            krate: Crate(1),
-            block: None,
-        },
-        index: 0,
+/// The root of another crate.
+fn elsewhere_root() -> ModuleId {
+    let map = MapId {
+        krate: Crate(1),
+        block: None,
     };
+    ModuleId { map, index: 0 }
+}
+
+fn elsewhere(rt: &impl Abort, maps: DefMaps<'_>, a: &Name) {
+    let elsewhere = elsewhere_root();
     are_items(rt, maps.entry(elsewhere, a), PerNs::none(), "another map");
     is_module(rt, maps.parent_of(elsewhere), None, "another map");
 }
@@ -74,6 +105,7 @@ fn read_modules(
     add_second(rt, alloc, map, a.clone()?)?;
     children(rt, map, a, b);
     parents(rt, map);
+    around(rt, map);
     origins(rt, map);
     rest(rt, map);
     by_ids(rt, alloc, map, a);

@@ -298,6 +298,27 @@ fn holders_of_nested_blocks(rt: HostRuntime) -> Result<(), Fail> {
     Ok(())
 }
 
+/// Asserts the module around one of a map, where the map is there.
+fn is_around(rt: &impl Abort, world: &World, of: ModuleId, expected: ModuleId) {
+    let around = match world.map(of.map) {
+        Some(map) => map.containing_module(of),
+        None => None,
+    };
+    assert_eq!(rt; around, Some(expected));
+}
+
+/// Around a block's root is the module in which the block is written.
+#[test]
+fn modules_around(rt: HostRuntime) -> Result<(), Fail> {
+    let world = world(&rt, rt.alloc())?;
+    is_around(&rt, &world, at(LOWEST, 0), at(BELOW, 0));
+    is_around(&rt, &world, at(BELOW, 0), at(OUTER, 1));
+    is_around(&rt, &world, at(OUTER, 1), at(OUTER, 0));
+    is_around(&rt, &world, at(OUTER, 0), at(KRATE, 1));
+    is_around(&rt, &world, at(KRATE, 1), at(KRATE, 0));
+    Ok(())
+}
+
 #[test]
 fn nested_blocks(rt: HostRuntime) -> Result<(), Fail> {
     let world = world(&rt, rt.alloc())?;

@@ -1,5 +1,5 @@
 //! Several maps: what paths lead to over a world, and which maps join it.
-use super::builds::{PUBLIC, at, item, joins, name_items, name_module, rooted};
+use super::builds::{PUBLIC, at, item, joins, name_items, name_module, rooted, stays_out};
 use super::{FILE, are_items, both, data_over, node, types};
 use hir_base::ast_id::{BlockId, HirFileId};
 use hir_base::ids::{AdtId, Crate, EnumId, EnumVariantId, MapId, ModuleDefId, ModuleId, StructId};
@@ -22,18 +22,18 @@ use std::alloc::Global;
 use std::process::Abort;
 use std::test::Fail;
 
-const ZERO: MapId = MapId {
+pub(super) const ZERO: MapId = MapId {
     krate: Crate(0),
     block: None,
 };
 
-const ONE: MapId = MapId {
+pub(super) const ONE: MapId = MapId {
     krate: Crate(1),
     block: None,
 };
 
 /// A block in the module `m` of crate 1.
-const BLOCK: MapId = MapId {
+pub(super) const BLOCK: MapId = MapId {
     krate: Crate(1),
     block: Some(BlockId(7)),
 };
@@ -72,7 +72,7 @@ fn name_variants(alloc: Global, map: &mut DefMap) -> Result<(), Fail> {
 }
 
 /// `pub mod a { pub struct S; struct P; } pub enum E { A(), B {} }`
-fn crate_zero(alloc: Global) -> Result<DefMap, Fail> {
+pub(super) fn crate_zero(alloc: Global) -> Result<DefMap, Fail> {
     let data = data_over(alloc, &[])?;
     let mut map = rooted(alloc, data, Crate(0), None)?;
     name_module(alloc, &mut map, "a", 10)?;
@@ -86,7 +86,7 @@ fn crate_zero(alloc: Global) -> Result<DefMap, Fail> {
 }
 
 /// `pub struct T; pub mod m { pub struct V; }` over crate 0, the module `a` of which is the prelude.
-fn crate_one(alloc: Global) -> Result<DefMap, Fail> {
+pub(super) fn crate_one(alloc: Global) -> Result<DefMap, Fail> {
     let data = data_over(alloc, &[Crate(0)])?;
     let mut map = rooted(alloc, data, Crate(1), None)?;
     map.set_prelude(Some((at(ZERO, 1), None)));
@@ -97,7 +97,7 @@ fn crate_one(alloc: Global) -> Result<DefMap, Fail> {
 }
 
 /// `pub struct U; pub mod n {}` in a block in the module `m` of crate 1.
-fn block(alloc: Global) -> Result<DefMap, Fail> {
+pub(super) fn block(alloc: Global) -> Result<DefMap, Fail> {
     let data = data_over(alloc, &[])?;
     let info = BlockInfo {
         block: BlockId(7),
@@ -110,14 +110,14 @@ fn block(alloc: Global) -> Result<DefMap, Fail> {
 }
 
 /// Crate 0 as `zero`.
-fn extern_zero(alloc: Global) -> Result<LocalDefMap, Fail> {
+pub(super) fn extern_zero(alloc: Global) -> Result<LocalDefMap, Fail> {
     let mut local = LocalDefMap::empty(alloc);
     local.add_extern(Name::new(alloc, "zero")?, at(ZERO, 0), None)?;
     Ok(local)
 }
 
 /// The crates 0 and 1, and the block.
-fn world(rt: &impl Abort, alloc: Global) -> Result<World, Fail> {
+pub(super) fn world(rt: &impl Abort, alloc: Global) -> Result<World, Fail> {
     let mut world = World::new(alloc);
     assert!(rt; joins(&mut world, crate_zero(alloc)?, LocalDefMap::empty(alloc)));
     assert!(rt; joins(&mut world, crate_one(alloc)?, extern_zero(alloc)?));
@@ -127,7 +127,7 @@ fn world(rt: &impl Abort, alloc: Global) -> Result<World, Fail> {
 
 /// What a path leads to: the items of a struct or of a variant, or a type alone.
 #[derive(Clone, Copy)]
-enum Reached {
+pub(super) enum Reached {
     Nothing,
     Struct(MapId, u16),
     TypeAlone(MapId, u16),
@@ -136,7 +136,7 @@ enum Reached {
     RecordVariant,
 }
 
-fn items_of(reached: Reached) -> PerNs {
+pub(super) fn items_of(reached: Reached) -> PerNs {
     match reached {
         Reached::Nothing => PerNs::none(),
         Reached::Struct(map, number) => both(item(map, number), PUBLIC),
@@ -150,13 +150,13 @@ fn items_of(reached: Reached) -> PerNs {
 /// A path, the module that asks, what it leads to and where it stops.
 type Row = (&'static str, (MapId, u32), Reached, Option<usize>);
 
-const S: Reached = Reached::Struct(ZERO, 1);
+pub(super) const S: Reached = Reached::Struct(ZERO, 1);
 
-const T: Reached = Reached::Struct(ONE, 1);
+pub(super) const T: Reached = Reached::Struct(ONE, 1);
 
-const U: Reached = Reached::Struct(BLOCK, 1);
+pub(super) const U: Reached = Reached::Struct(BLOCK, 1);
 
-const V: Reached = Reached::Struct(ONE, 2);
+pub(super) const V: Reached = Reached::Struct(ONE, 2);
 
 const BETWEEN_CRATES: [Row; 14] = [
     ("zero::a::S", (ONE, 0), S, None),
@@ -242,39 +242,59 @@ fn paths_in_a_block(rt: HostRuntime) -> Result<(), Fail> {
     lead(&rt, rt.alloc(), &world, &local, &IN_A_BLOCK)
 }
 
-/// A map that names a crate, a module or an enum that isn't there doesn't join, and the world is as before.
+/// A crate with what its paths may begin with.
+fn one(alloc: Global) -> Result<(DefMap, LocalDefMap), Fail> {
+    Ok((crate_one(alloc)?, extern_zero(alloc)?))
+}
+
+/// A map whose paths begin with no crate.
+fn alone(alloc: Global, map: DefMap) -> (DefMap, LocalDefMap) {
+    (map, LocalDefMap::empty(alloc))
+}
+
+/// A map that names a crate or a module that isn't there doesn't join, and the world is as before.
 fn stay_out(rt: &impl Abort, alloc: Global) -> Result<(), Fail> {
     let mut world = World::new(alloc);
-    assert!(rt;
-        !joins(&mut world, crate_one(alloc)?, extern_zero(alloc)?),
-        "a missing crate"
-    );
-    assert!(rt;
-        !joins(&mut world, block(alloc)?, LocalDefMap::empty(alloc)),
-        "a missing holder"
-    );
-    assert!(rt; world.map(ONE).is_none(), "refused");
-    assert!(rt;
-        joins(&mut world, crate_zero(alloc)?, LocalDefMap::empty(alloc)),
-        "a crate by itself"
-    );
-    assert!(rt;
-        !joins(&mut world, crate_zero(alloc)?, LocalDefMap::empty(alloc)),
-        "its id is taken"
-    );
+    stays_out(rt, &mut world, one(alloc)?, one(alloc)?, "a missing crate");
+    let map = alone(alloc, block(alloc)?);
+    let same = alone(alloc, block(alloc)?);
+    stays_out(rt, &mut world, map, same, "a missing holder");
+    let ids = [ZERO, ONE, BLOCK];
+    assert!(rt; world.agrees(&World::new(alloc), &ids), "no map is there");
     Ok(())
 }
 
-fn stays_out(rt: &impl Abort, alloc: Global) -> Result<(), Fail> {
-    let mut world = World::new(alloc);
+/// No two maps have one id; the first stays.
+fn first_stays(rt: &impl Abort, alloc: Global) -> Result<(), Fail> {
+    let mut world = world(rt, alloc)?;
+    let other = alone(alloc, lone(alloc, 0)?);
+    let same = alone(alloc, lone(alloc, 0)?);
+    stays_out(rt, &mut world, other, same, "its id is taken");
+    let zero = crate_zero(alloc)?;
+    assert!(rt; world.map(ZERO) == Some(&zero), "the first is there");
+    Ok(())
+}
+
+/// A crate that stands on none and has no names.
+pub(super) fn lone(alloc: Global, krate: u32) -> Result<DefMap, Fail> {
     let data = data_over(alloc, &[])?;
-    let mut map = rooted(alloc, data, Crate(0), None)?;
+    rooted(alloc, data, Crate(krate), None)
+}
+
+/// `enum E {}`, the variants of which aren't kept.
+fn without_variants(alloc: Global) -> Result<DefMap, Fail> {
+    let mut map = lone(alloc, 0)?;
     let def = ModuleDefId::AdtId(AdtId::EnumId(choice()));
     name_items(alloc, &mut map, 0, "E", types(def, PUBLIC))?;
-    assert!(rt;
-        !joins(&mut world, map, LocalDefMap::empty(alloc)),
-        "an enum without variants"
-    );
+    Ok(map)
+}
+
+fn stays_out_with_its_enum(rt: &impl Abort, alloc: Global) -> Result<(), Fail> {
+    let mut world = World::new(alloc);
+    let map = alone(alloc, without_variants(alloc)?);
+    let same = alone(alloc, without_variants(alloc)?);
+    stays_out(rt, &mut world, map, same, "an enum without variants");
+    assert!(rt; world.map(ZERO).is_none(), "it isn't there");
     Ok(())
 }
 
@@ -315,7 +335,8 @@ fn fall_again(rt: &impl Abort, alloc: Global) -> Result<(), Fail> {
 #[test]
 fn worlds(rt: HostRuntime) -> Result<(), Fail> {
     stay_out(&rt, rt.alloc())?;
-    stays_out(&rt, rt.alloc())?;
+    first_stays(&rt, rt.alloc())?;
+    stays_out_with_its_enum(&rt, rt.alloc())?;
     fall(&rt, rt.alloc())?;
     fall_again(&rt, rt.alloc())
 }

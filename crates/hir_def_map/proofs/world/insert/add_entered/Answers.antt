@@ -1,5 +1,5 @@
 -- The index has what joins, and loses what doesn't.
-use Rattle.std.proofs.Common.{sym, subst, Some}
+use Rattle.std.proofs.Common.{subst, Some}
 use Rattle.std.specs.BTreeMap.{Updates}
 use Rattle.hir_base.specs.declared.ids.MapId.{MapId}
 use Rattle.hir_base.specs.contracts.ids.MapIdOrd.TheImpl as map_order

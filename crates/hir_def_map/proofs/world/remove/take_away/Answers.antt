@@ -1,6 +1,6 @@
 -- Each map that falls depends on the first, and none is left that lists a missing one.
 use Rattle.std.proofs.Common.{arith}
-use Rattle.hir_def_map.proofs.FallingSteps.{emptied, half-end, half-popped, half-pushed, half-start, listed_by_index, none_listed, room_for}
+use Rattle.hir_def_map.proofs.FallingSteps.{emptied, half-end, half-popped, half-pushed, half-start, listed_by_index, none_listed}
 use Rattle.hir_def_map.proofs.world.remove.take_away.Goals as goal
 
 pub fall-init : goal.fall-init
