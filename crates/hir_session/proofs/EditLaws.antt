@@ -8,7 +8,7 @@ use Rattle.hir_base.specs.declared.ast_id.AstKind.TheVariants.{Enum}
 use Rattle.hir_base.specs.declared.ast_id.HirFileId.{HirFileId}
 use Rattle.hir_base.specs.declared.ast_id.SyntaxId.{SyntaxId}
 use Rattle.hir_base.specs.declared.ids.Crate.{Crate}
-use Rattle.hir_item_tree.specs.BodyTexts.{BodyTextsLeaveTheTree}
+use Rattle.hir_item_tree.specs.BodyTexts.{BodyTextsLeaveTheTree, source_without_bodies}
 use Rattle.hir_item_tree.specs.ItemTree.{Tree}
 use Rattle.hir_item_tree.specs.Source.{SourceValue}
 use Rattle.hir_def_map.specs.State.{no_maps}
@@ -94,7 +94,7 @@ unaltered_answers {old} {new} sound is same place path shadow style = on_bool (i
     ∙ sym (stale_answer old place path shadow style on))
     (λ off.
     let still = λ (j : ℕ) (behind : IsBehind old place.krate.0 j). unaltered_marks sound is same j ∙ unmarked_behind sound off behind in
-    same_answer place path shadow style sound off (record {
+    same_answer {to = new} place path shadow style sound off (record {
       crates = is.crates;
       paths = is.paths;
       off = still;
