@@ -1,16 +1,13 @@
 -- A run binds only what its root file writes, and what the finished maps bind.
-use Rattle.std.specs.Prelude.{◌≡◌, ◌==◌, ◌&&◌, ◌||◌, ℕ, zero, suc, ◌<◌, ◌≤◌, ◌+◌, ◌++◌, List, [], ◌∷◌, length, Bool, true, false, is_some, Option, None, Some, cond, fold, not, map as list_map, option_and_then, option_map, slice_get, slice_set, unwrap_or, if◌then◌else◌}
+use Rattle.std.specs.Prelude.{◌≡◌, ◌==◌, ◌&&◌, ◌||◌, ℕ, zero, suc, ◌<◌, ◌≤◌, ◌+◌, ◌++◌, List, [], ◌∷◌, length, Bool, true, false, is_some, Option, None, Some, cond, fold, not, map as list_map, option_and_then, option_map, slice_get, unwrap_or, if◌then◌else◌}
 use Rattle.std.specs.List.{list_any}
 use Rattle.std.specs.Ordering.{nat_cmp}
 use Rattle.std.specs.Cmp.Lexicographic.{slice_cmp}
 use Rattle.std.proofs.Common.{ap, refl, subst, sym, ◌∙◌, arith}
 use mathlib.Core.Bool.{true≢false}
-use Rattle.hir_base.specs.ModPath.{Path}
 use Rattle.hir_base.specs.contracts.ids.MapIdPartialEq.TheImpl as map_id
 use Rattle.hir_base.specs.declared.ids.AdtId.TheVariants as adts
-use Rattle.hir_base.specs.declared.ids.Crate.{Crate}
 use Rattle.hir_base.specs.declared.ids.EnumId.{EnumId}
-use Rattle.hir_base.specs.declared.ids.ExternCrateId.{ExternCrateId}
 use Rattle.hir_base.specs.declared.ids.MapId.{MapId}
 use Rattle.hir_base.specs.declared.ids.ModuleDefId.{ModuleDefId}
 use Rattle.hir_base.specs.declared.ids.ModuleDefId.TheVariants as definitions
@@ -19,61 +16,54 @@ use Rattle.hir_base.specs.declared.macro_kind.MacroId.{MacroId}
 use Rattle.hir_item_tree.specs.Collected.{is_enabled}
 use Rattle.hir_item_tree.specs.Imports.{imports_of}
 use Rattle.hir_item_tree.specs.KeptForest.{Head, Leaf, KeptItem, KeptForest, extern_block, inline_module, leaf, holder, item, no_items, import, extern_crate, function, structure, union_structure, enumeration, constant, static_item, trait_item, implementation, type_alias, outline_module, macro_call, macro_rules, macro_def}
-use Rattle.hir_item_tree.specs.UseTree.{UseTree}
 use Rattle.hir_item_tree.specs.declared.expand.Import.{Import}
 use Rattle.hir_item_tree.specs.declared.raw_visibility.RawVisibility.{RawVisibility}
 use Rattle.hir_item_tree.specs.declared.raw_visibility.RawVisibility.TheVariants as raws
 use Rattle.hir_item_tree.specs.declared.raw_visibility.VisibilityExplicitness.{VisibilityExplicitness}
-use Rattle.hir_item_tree.specs.declared.shape.ExternCrateName.{ExternCrateName}
 use Rattle.hir_item_tree.specs.declared.shape.FieldsShape.{FieldsShape}
 use Rattle.hir_item_tree.specs.declared.shape.FieldsShape.TheVariants.{Record, Tuple, Unit as UnitShape}
-use Rattle.hir_item_tree.specs.declared.shape.ImportAlias.{ImportAlias}
 use Rattle.hir_item_tree.specs.declared.shape.ImportKind.{ImportKind}
 use Rattle.hir_item_tree.specs.declared.shape.ImportKind.TheVariants as import_kinds
 use Rattle.hir_item_tree.specs.declared.side_lists.VariantItem.{VariantItem}
 use Rattle.hir_scope.specs.ModuleTree.{is_at_or_above, same_crate, same_map, same_module}
-use Rattle.hir_scope.specs.PerNs.{keep_item, keep_of}
-use Rattle.hir_scope.specs.Visibility.{both_in, either_written, lesser_of, lower_of}
+use Rattle.hir_scope.specs.PerNs.{keep_item}
+use Rattle.hir_scope.specs.Visibility.{both_in, either_written, lower_of}
 use Rattle.hir_scope.specs.declared.imports.ImportOrExternCrate.{ImportOrExternCrate}
 use Rattle.hir_scope.specs.declared.imports.ImportOrGlob.{ImportOrGlob}
 use Rattle.hir_scope.specs.declared.per_ns.Item.{Item}
 use Rattle.hir_scope.specs.declared.per_ns.PerNs.{PerNs}
 use Rattle.hir_scope.specs.declared.visibility.Visibility.{Visibility}
 use Rattle.hir_scope.specs.declared.visibility.Visibility.TheVariants as visibilities
-use Rattle.hir_def_map.specs.Beside.{same_id}
 use Rattle.hir_def_map.specs.Chains.{above_in}
 use Rattle.hir_def_map.specs.Closed.{AreThere, IsClosed, IsThere, ModuleIsThere, PathsLeadToWhatIsThere, TypeIsThere}
 use Rattle.hir_def_map.specs.Complete.{AreWhole}
 use Rattle.hir_def_map.specs.Declaration.{listed}
-use Rattle.hir_def_map.specs.Named.{is_missing}
 use Rattle.hir_def_map.specs.NoneOf.{neither, none_at, none_inserted, none_more, not_first, not_second}
 use Rattle.hir_def_map.specs.Reaches.{by_import}
 use Rattle.hir_def_map.specs.Scoping.{Resolution, resolution_of}
-use Rattle.hir_def_map.specs.Sources.{HoldsNowhere, HoldsNowhereIn, HoldsOfNone, HoldsOfNoExtern, PathsAnswerFromSources, SourceTest, on_def, on_extern_entry, on_import, on_macro, on_macro_item, on_some, on_type, on_value, on_value_import, on_values, on_variant, on_visibility}
-use Rattle.hir_def_map.specs.State.{CrateData, Local, Map, Maps, ModuleValue, Placed, Variants, beside, crate_root, module_at, module_in, new_id, new_module, no_globs, numbered, placed_in, root_of, with_declared, with_enum, with_module, with_name, with_prelude, with_scope}
+use Rattle.hir_def_map.specs.Sources.{HoldsNowhere, HoldsNowhereIn, HoldsOfNone, HoldsOfNoExtern, PathsAnswerFromSources, SourceTest, on_def, on_extern_entry, on_import, on_macro, on_macro_item, on_some, on_type, on_value, on_value_def, on_value_import, on_values, on_variant, on_visibility}
+use Rattle.hir_def_map.specs.State.{CrateData, Local, Map, Maps, Placed, Variants, beside, crate_root, module_at, module_in, new_id, new_module, no_globs, placed_in, root_of, with_declared, with_enum, with_module, with_name}
 use Rattle.hir_def_map.specs.StaysComplete.{IsClosed-beside, LocalIsThere-begins, module_there}
 use Rattle.hir_def_map.specs.StaysSourced.{HoldsNowhere-beside, HoldsNowhereIn-enum, HoldsNowhereIn-listed, HoldsNowhereIn-made, HoldsNowhereIn-prelude, HoldsNowhereIn-pushed}
-use Rattle.hir_def_map.specs.Visibilities.{answer_seen, by_visibility, module_seen, path_seen, resolved_visibility, type_seen, within_map}
-use Rattle.hir_def_map.specs.declared.nameres.declaration.Declaration.{Declaration as Listing}
+use Rattle.hir_def_map.specs.Visibilities.{by_visibility, module_seen, path_seen, type_seen}
 use Rattle.hir_def_map.specs.declared.nameres.declaration.Declaration.TheVariants as listings
 use Rattle.hir_def_collector.specs.declared.collector.Start.{Start}
 use Rattle.hir_def_collector.specs.declared.collector.declaration.Declaration.{Declaration}
 use Rattle.hir_def_collector.specs.declared.collector.imports.ImportSource.{ImportSource}
 use Rattle.hir_def_collector.specs.declared.collector.imports.ImportSource.TheVariants as sources
 use Rattle.hir_def_collector.specs.declared.collector.imports.ReachedImport.{ReachedImport}
-use Rattle.hir_def_collector.specs.declared.collector.imports.Taken.{Taken}
 use Rattle.hir_def_collector.specs.declared.collector.site.Site.{Site}
 use Rattle.hir_def_collector.specs.declared.source_database.Dependency.{Dependency}
 use Rattle.hir_def_collector.specs.Derivation.{CollectedValue, Ends, begin_of, read_by}
-use Rattle.hir_def_collector.specs.Enums.{handed_variants, variant_of, variants_by_name, variants_of, with_variant}
+use Rattle.hir_def_collector.specs.Enums.{handed_variants, variant_of, variants_of, with_variant}
 use Rattle.hir_def_collector.specs.Imports.{answer_by_kind, answer_by_source, answer_in, answer_to, bound_as, bound_in, brought, brought_type, crate_import, extern_after, extern_by, imported, imports_by, is_of_extern_crate, is_one_name, is_public, kept_by_kind, kind_of, name_of, offered_by, open_items, pushing, reached_import, way_of}
 use Rattle.hir_def_collector.specs.ItemIds.{const_id, enum_id, extern_block_id, extern_crate_id, impl_id, module_id, use_id}
-use Rattle.hir_def_collector.specs.Items.{constructor_of, declaration_of, declared_by, declared_by_leaf, declared_module, declared_struct, declared_type, inline_origin, lesser_in, meet_of, own_visibility, visibility_in}
+use Rattle.hir_def_collector.specs.Items.{constructor_of, declaration_of, declared_by, declared_by_leaf, declared_struct, declared_type, inline_origin, lesser_in, meet_of, own_visibility, visibility_in}
 use Rattle.hir_def_collector.specs.Preludes.{extern_prelude, joins, prelude_of, with_dependency}
 use Rattle.hir_def_collector.specs.Sources.{IsClearOf}
 use Rattle.hir_def_collector.specs.Start.{root_file, root_map, root_site, root_tree, start_data, start_of}
 use Rattle.hir_def_collector.specs.State.{State, Visit, visits}
-use Rattle.hir_def_collector.specs.Steps.{CanTake, IsNext, Step, Steps, none, more, drops_item, passes_over, declares_item, declares_enum, lists_constant, lists_impl, opens_module, enters_block, reaches_imports, reaches_crate, takes_import, after_declare, after_enter, after_enum, after_leave, after_list_constant, after_list_impl, after_open, after_reach, after_reach_crate, after_take, inside_block, inside_module, visit, with_bound_module, with_declaration, with_declared_enum}
+use Rattle.hir_def_collector.specs.Steps.{Step, Steps, none, more, drops_item, passes_over, declares_item, declares_enum, lists_constant, lists_impl, opens_module, enters_block, reaches_imports, reaches_crate, takes_import, after_leave, inside_block, inside_module, visit}
 use Rattle.hir_def_collector.specs.Whole.{StandsOnWhole}
 use Rattle.hir_def_collector.specs.Workspace.{Workspace, behind_in, dependencies_in}
 use Rattle.hir_def_collector.proofs.Grows.{Grows, Grows-Step}
@@ -165,13 +155,13 @@ module _ (t : SourceTest) where
   type_of : (def : ModuleDefId) (vis : Visibility) → on_def t def ≡ false → on_visibility t vis ≡ false → HoldsOfNone t (declared_type def vis)
   type_of def vis f g = record { types = bare (on_def t def) (on_visibility t vis) f g; values = refl; macros = refl }
 
-  value_of : (def : ModuleDefId) (vis : Visibility) → on_def t def ≡ false → on_visibility t vis ≡ false
+  value_of : (def : ModuleDefId) (vis : Visibility) → on_value_def t def ≡ false → on_visibility t vis ≡ false
       → HoldsOfNone t (record { types = None; values = Some (record { def = def; vis = vis; import = None }); macros = None })
-  value_of def vis f g = record { types = refl; values = bare (on_def t def) (on_visibility t vis) f g; macros = refl }
+  value_of def vis f g = record { types = refl; values = bare (on_value_def t def) (on_visibility t vis) f g; macros = refl }
 
-  struct_of : (def : ModuleDefId) (vis : Visibility) (c : Option Visibility) → on_def t def ≡ false → on_visibility t vis ≡ false → on_some (on_visibility t) c ≡ false → HoldsOfNone t (declared_struct def vis c)
-  struct_of def vis None f g h = type_of def vis f g
-  struct_of def vis (Some c) f g h = record { types = bare (on_def t def) (on_visibility t vis) f g; values = bare (on_def t def) (on_visibility t c) f h; macros = refl }
+  struct_of : (def : ModuleDefId) (vis : Visibility) (c : Option Visibility) → on_def t def ≡ false → on_value_def t def ≡ false → on_visibility t vis ≡ false → on_some (on_visibility t) c ≡ false → HoldsOfNone t (declared_struct def vis c)
+  struct_of def vis None f v g h = type_of def vis f g
+  struct_of def vis (Some c) f v g h = record { types = bare (on_def t def) (on_visibility t vis) f g; values = bare (on_value_def t def) (on_visibility t c) v h; macros = refl }
 
   kept_item : {D I : Type 0} (test : Item D I → Bool) (keep : Visibility → Bool) (o : Option (Item D I)) → on_some test o ≡ false → on_some test (keep_item keep o) ≡ false
   kept_item test keep None f = refl
@@ -288,8 +278,8 @@ module _ (t : SourceTest) where
         values : (o : Option (Item ModuleDefId ImportOrGlob)) → on_some (on_value t) o ≡ false → on_some (on_value t) (option_map (brought finished m own) o) ≡ false
         values None h = refl
         values (Some i) h =
-            under (on_def t i.def) (on_visibility t i.vis) (on_some (on_value_import t) i.import) (on_visibility t (unwrap_or (lesser_in finished m own i.vis) own)) h
-            (lesser_or own i.vis f (seen (on_def t i.def) (on_visibility t i.vis) (on_some (on_value_import t) i.import) h))
+            under (on_value_def t i.def) (on_visibility t i.vis) (on_some (on_value_import t) i.import) (on_visibility t (unwrap_or (lesser_in finished m own i.vis) own)) h
+            (lesser_or own i.vis f (seen (on_value_def t i.def) (on_visibility t i.vis) (on_some (on_value_import t) i.import) h))
 
         macros : (o : Option (Item MacroId ImportOrExternCrate)) → on_some (on_macro_item t) o ≡ false → on_some (on_macro_item t) (option_map (brought finished m own) o) ≡ false
         macros None h = refl
@@ -394,7 +384,7 @@ module _ (t : SourceTest) where
           by_leaf h (structure name shape fields) g =
               let seen_by = list_map (visibility_in finished s.local s.map (module_id s.map v.site.home)) fields in
               let own_vis : Visibility = own_visibility finished s.local s.map v.site h in
-              is_d _ (struct_of _ own_vis (constructor_of finished s.map own_vis shape seen_by) own (vis h)
+              is_d _ (struct_of _ own_vis (constructor_of finished s.map own_vis shape seen_by) own own (vis h)
               (shaped finished s.map own_vis shape seen_by (vis h) (all_written v.site.home below fields))) g
           by_leaf h (union_structure name fields) g = is_d _ (type_of _ (own_visibility finished s.local s.map v.site h) own (vis h)) g
           by_leaf h (enumeration name) g = absurd cc

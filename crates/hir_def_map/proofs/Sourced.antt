@@ -1,5 +1,5 @@
 -- A path answers only what is written where the maps bind.
-use Rattle.std.proofs.Common.{◌≡◌, ◌∙◌, ap, sym, refl, ℕ, zero, suc, ◌+◌, ◌-◌, List, [], ◌∷◌, length, Bool, true, false, ◌&&◌, ◌||◌, cond, Option, None, Some}
+use Rattle.std.proofs.Common.{◌≡◌, refl, ℕ, ◌+◌, ◌-◌, List, [], ◌∷◌, length, Bool, true, false, ◌&&◌, ◌||◌, cond, Option, None, Some}
 use Rattle.std.specs.List.{list_any}
 use Rattle.std.specs.Map.{lookup}
 use Rattle.std.specs.Option.{option_and_then, option_map}
@@ -31,14 +31,14 @@ use Rattle.hir_scope.specs.ModuleTree.{same_block, same_crate}
 use Rattle.hir_scope.specs.PerNs.{first_of, keep_item, keep_of, nothing, or_of, with_constructor}
 use Rattle.hir_scope.specs.ScopeReads.{legacy_at}
 use Rattle.hir_scope.specs.Visibility.{is_visible}
-use Rattle.hir_def_map.specs.State.{Map, Maps, ModuleValue, Placed, Variants, at_name, entry_in, entry_of, map_in, module_at, module_in, parent_in, variants_at, variants_in}
+use Rattle.hir_def_map.specs.State.{Maps, ModuleValue, Placed, Variants, at_name, entry_in, entry_of, map_in, module_at, module_in, variants_at}
 use Rattle.hir_def_map.specs.Chains.{above_in, holders_in}
 use Rattle.hir_def_map.specs.NoneOf.{neither, none_at, none_found, not_first, not_second}
-use Rattle.hir_def_map.specs.Sources.{SourceTest, HoldsOfNone, HoldsNowhereIn, HoldsNowhere, HoldsOfNoExtern, on_some, on_values, on_def, on_macro, on_import, on_extern, on_visibility, on_type, on_value, on_macro_item, on_variant, on_macro_use, on_extern_entry, on_types_in, on_values_in, on_macros_in, on_legacy_in}
+use Rattle.hir_def_map.specs.Sources.{SourceTest, HoldsOfNone, HoldsNowhere, HoldsOfNoExtern, on_some, on_values, on_def, on_macro, on_visibility, on_type, on_value, on_macro_item, on_variant, on_macro_use, on_extern_entry, on_types_in, on_values_in, on_macros_in, on_legacy_in}
 use Rattle.hir_def_map.specs.Scoping.Asking.{Asking}
 use Rattle.hir_def_map.specs.Scoping.Blocks.{from_blocks, in_preludes, inherited, joined, with_preludes}
 use Rattle.hir_def_map.specs.Scoping.FirstSegment.{builtin_bound, builtin_name, extern_bound, extern_name, fits, is_block_root, keep_fitting, last_macro, legacy_bound, legacy_name, legacy_of, macro_use_bound, macro_use_name, macro_use_of, name_in_module, name_in_preludes, name_in_crate_root_or_extern_prelude, names_module, of_style, prelude_bound, prelude_name, prelude_of, scope_name, shadow_before, unless_block_root, with_builtin}
-use Rattle.hir_def_map.specs.Scoping.Segments.{after_enum, crossing, nearest_non_block_module, rest, seen, stopped, through, through_adt, through_module, through_type, unresolved, variant_in}
+use Rattle.hir_def_map.specs.Scoping.Segments.{after_enum, crossing, nearest_non_block_module, rest, seen, through, through_adt, through_type, unresolved, variant_in}
 use Rattle.hir_def_map.specs.Scoping.Start.{abs_from, climb, crate_root, from_start, is_import, is_in_reach, module_bound, is_in_edition_2015, settled_in_block, super_from}
 use Rattle.hir_def_map.specs.declared.nameres.enum_variants.EnumVariant.{EnumVariant}
 use Rattle.hir_def_map.specs.declared.nameres.path_resolution.BuiltinShadowMode.{BuiltinShadowMode}

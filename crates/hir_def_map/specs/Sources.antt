@@ -1,5 +1,5 @@
 -- Where is written what a map binds, and what a path answers?
-use Rattle.std.specs.Prelude.{◌≡◌, ℕ, Bool, false, ◌||◌, List, Option, None, Some, option_map}
+use Rattle.std.specs.Prelude.{◌≡◌, Bool, true, false, ◌||◌, List, Option, None, Some, option_map}
 use Rattle.std.specs.List.{list_any}
 use Rattle.hir_base.specs.ModPath.{Path}
 use Rattle.hir_base.specs.declared.ast_id.BlockId.{BlockId}
@@ -68,6 +68,19 @@ on_def t (def.TypeAliasId i) = t.holder i.file_id i.block
 on_def t (def.BuiltinType b) = false
 on_def t (def.MacroId i) = on_macro t i
 
+-- a definition as a value; it holds of each module, and no value is one
+abbrev pub on_value_def : SourceTest → ModuleDefId → Bool
+on_value_def t (def.ModuleId m) = true
+on_value_def t (def.FunctionId i) = t.holder i.file_id i.block
+on_value_def t (def.AdtId i) = on_adt t i
+on_value_def t (def.EnumVariantId i) = t.holder i.parent.file_id i.parent.block
+on_value_def t (def.ConstId i) = t.holder i.file_id i.block
+on_value_def t (def.StaticId i) = t.holder i.file_id i.block
+on_value_def t (def.TraitId i) = t.holder i.file_id i.block
+on_value_def t (def.TypeAliasId i) = t.holder i.file_id i.block
+on_value_def t (def.BuiltinType b) = false
+on_value_def t (def.MacroId i) = on_macro t i
+
 -- a module, by the item or the block that it is; a crate's root is none
 abbrev pub on_origin : SourceTest → ModuleOrigin → Bool
 on_origin t (origin.CrateRoot file) = false
@@ -104,7 +117,7 @@ abbrev pub on_type : SourceTest → Item ModuleDefId ImportOrExternCrate → Boo
 on_type t i = on_item t (on_def t) (on_import t) i
 
 abbrev pub on_value : SourceTest → Item ModuleDefId ImportOrGlob → Bool
-on_value t i = on_item t (on_def t) (on_value_import t) i
+on_value t i = on_item t (on_value_def t) (on_value_import t) i
 
 abbrev pub on_macro_item : SourceTest → Item MacroId ImportOrExternCrate → Bool
 on_macro_item t i = on_item t (on_macro t) (on_import t) i

@@ -1,15 +1,14 @@
 -- What is built of what a test of sources doesn't hold of is none of which it holds.
-use Rattle.std.specs.Prelude.{◌≡◌, ℕ, ◌||◌, Bool, true, false, List, [], ◌∷◌, Option, None, Some, cond}
+use Rattle.std.specs.Prelude.{◌≡◌, ℕ, ◌||◌, Bool, true, false, List, Option, None, Some, cond}
 use Rattle.std.specs.List.{list_any}
 use Rattle.std.specs.Ordering.{nat_cmp}
 use Rattle.std.specs.Cmp.Lexicographic.{slice_cmp}
-use Rattle.std.proofs.Common.{ap, refl, subst, sym, ◌∙◌}
+use Rattle.std.proofs.Common.{ap, refl, subst, ◌∙◌}
 use Rattle.hir_base.specs.contracts.ids.EnumIdOrd.TheImpl as enum_order
 use Rattle.hir_base.specs.contracts.ids.MapIdPartialEq.TheImpl as map_id
 use Rattle.hir_base.specs.contracts.ids.ModuleDefIdPartialEq.TheImpl as module_def
 use Rattle.hir_base.specs.contracts.macro_kind.MacroIdPartialEq.TheImpl as makro
 use Rattle.hir_base.specs.declared.ids.EnumId.{EnumId}
-use Rattle.hir_base.specs.declared.ids.MapId.{MapId}
 use Rattle.hir_base.specs.declared.ids.ModuleDefId.{ModuleDefId}
 use Rattle.hir_base.specs.declared.ids.ModuleId.{ModuleId}
 use Rattle.hir_base.specs.declared.ids.UseId.{UseId}
@@ -34,7 +33,7 @@ use Rattle.hir_def_map.specs.declared.nameres.declaration.Declaration.TheVariant
 use Rattle.hir_def_map.specs.declared.nameres.origin.ModuleOrigin.{ModuleOrigin}
 use Rattle.hir_def_map.specs.Declaration.{listed}
 use Rattle.hir_def_map.specs.NoneOf.{neither, none_changed, none_inserted, none_more, none_with_entry, not_first, not_second}
-use Rattle.hir_def_map.specs.Sources.{SourceTest, HoldsOfNone, HoldsNowhere, HoldsNowhereIn, on_def, on_import, on_legacy_in, on_macro, on_macro_item, on_macros_in, on_origin, on_some, on_type, on_types_in, on_value, on_value_import, on_values, on_values_in, on_variant, on_visibility}
+use Rattle.hir_def_map.specs.Sources.{SourceTest, HoldsOfNone, HoldsNowhere, HoldsNowhereIn, on_def, on_import, on_legacy_in, on_macro, on_macro_item, on_macros_in, on_origin, on_some, on_type, on_types_in, on_value, on_value_def, on_value_import, on_values, on_values_in, on_variant, on_visibility}
 use Rattle.hir_def_map.specs.State.{Map, Maps, ModuleValue, Placed, Variants, beside, changed_at, new_id, new_module, place_at, placed_in, pushed, pushed_module, with_child, with_enum, with_module, with_module_scope, with_prelude, with_scope}
 
 -- an item by another import
@@ -76,7 +75,7 @@ module _ (t : SourceTest) where
       where
         bound : (i : Item ModuleDefId ImportOrGlob) → on_value t i ≡ false → (b : Bool) → on_values (on_value t) (offered_items place.1 (cond b (value_offer (Some i) by) None) scope.values) ≡ false
         bound i g true = none_with_entry (on_value t) (slice_cmp nat_cmp) scope.values place.1 (record { def = i.def; vis = i.vis; import = value_import by }) f
-            (by_import (on_def t i.def) (on_visibility t i.vis) (on_some (on_value_import t) i.import) (on_some (on_value_import t) (value_import by)) g (of_value_import by brought))
+            (by_import (on_value_def t i.def) (on_visibility t i.vis) (on_some (on_value_import t) i.import) (on_some (on_value_import t) (value_import by)) g (of_value_import by brought))
         bound i g false = f
 
         offered : (o : Option (Item ModuleDefId ImportOrGlob)) → on_some (on_value t) o ≡ false
