@@ -14,6 +14,7 @@ pub mod EntryLemmas
 pub mod OptionLemmas
 pub mod FileLemmas
 pub mod Differ
+pub mod LeftOut
 pub mod Stand
 pub mod Replies
 pub mod Histories

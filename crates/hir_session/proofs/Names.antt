@@ -213,7 +213,7 @@ among_more few more f id grows = go id.block (has_crate few id.krate) (has_crate
     go None true true s = inl refl
 
 -- the map of a crate among those of some
-among_at : (crates : List Crate) (kept : List (Option CollectedValue)) (krate : Crate) (found : CollectedValue) → has_crate crates krate ≡ true → kept_in kept krate.0 ≡ Some found
+pub among_at : (crates : List Crate) (kept : List (Option CollectedValue)) (krate : Crate) (found : CollectedValue) → has_crate crates krate ≡ true → kept_in kept krate.0 ≡ Some found
     → among crates (finished_by kept) (crate_map krate) ≡ Some (unheld found.map)
 unfolding among
 among_at crates kept krate found has is =
@@ -223,7 +223,7 @@ module _ (behind : ℕ → List Crate) (kept : List (Option CollectedValue)) (cr
     (whole : (krate : Crate) → has_crate crates krate ≡ true → IsKeptWhole (behind krate.0) kept krate)
     (closed : (krate c : Crate) → has_crate crates krate ≡ true → has_crate (behind krate.0) c ≡ true → has_crate crates c ≡ true) where
   -- what a crate's map names is there among the maps of the crates
-  Extends-behind : (krate : Crate) (has : has_crate crates krate ≡ true) → Extends (beside (among (behind krate.0) (finished_by kept)) (whole krate has).found.map) (among crates (finished_by kept))
+  pub Extends-behind : (krate : Crate) (has : has_crate crates krate ≡ true) → Extends (beside (among (behind krate.0) (finished_by kept)) (whole krate has).found.map) (among crates (finished_by kept))
   Extends-behind krate has = Extends-by (beside (among (behind krate.0) (finished_by kept)) (whole krate has).found.map) (among crates (finished_by kept)) each
     where
       each : (id : MapId) → (map_in (beside (among (behind krate.0) (finished_by kept)) (whole krate has).found.map) id ≡ map_in (among crates (finished_by kept)) id)

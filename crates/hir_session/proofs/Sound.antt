@@ -91,6 +91,7 @@ applied_sound s F hits M K sound judged sp forgotten = record {
             ((judged.told k).missed missed now.found now.is);
       };
   dropped = forgotten.gone;
+  rooted = sound.rooted;
 }
 
 -- and has its effect
@@ -173,4 +174,5 @@ resolved_sound s k r sound within first on gives =
       dropped = λ j marked. on_same j k
           (λ e. clash (subst (λ (i : ℕ). mark_in (set s.marked k false) i ≡ true) e marked) mark_here)
           (λ ne. kept_else j ne ∙ sound.dropped j (sym (mark_else j ne) ∙ marked));
+      rooted = sound.rooted;
     }

@@ -1,7 +1,11 @@
-use Rattle.std.proofs.Common.{◌≡◌, Option, Some, None, Result, Ok, refl, sym, ap, ◌∙◌, nat_lt, length}
+use Rattle.std.proofs.Common.{◌≡◌, Option, Some, None, Result, Ok, refl, sym, ap, subst, ◌∙◌, nat_lt, length}
 use Rattle.hir_base.specs.ModPath.{Path}
 use Rattle.hir_base.specs.Place.{PlaceValue}
+use Rattle.hir_def_map.specs.Closed.{PathsLeadToWhatIsThere}
+use Rattle.hir_def_map.specs.Scoping.{resolution_of}
+use Rattle.hir_def_map.specs.Sources.{PathsAnswerFromSources}
 use Rattle.hir_def_map.specs.State.{beside, root_of}
+use Rattle.hir_def_collector.specs.Sources.{RunsBindFromSources}
 use Rattle.hir_wire.specs.declared.answer.Answer.{Answer}
 use Rattle.hir_wire.specs.declared.command.Shadow.{Shadow}
 use Rattle.hir_wire.specs.declared.command.MacroStyle.{MacroStyle}
@@ -10,8 +14,10 @@ use Rattle.hir_wire.specs.declared.reply.Status.{Status}
 use Rattle.hir_wire.specs.declared.reply.Status.TheVariants as status
 use Rattle.hir_session.specs.declared.error.QueryError.{QueryError}
 use Rattle.hir_session.specs.Status.{module_below, module_of, status_of}
-use Rattle.hir_session.specs.Answers.{answer_of, answer_by, answer_from, answer_in}
+use Rattle.hir_session.specs.Answers.{answer_of, answer_by, answer_from, answer_in, asking_of}
 use Rattle.hir_session.specs.AnswersStand.{AnswersStand}
+use Rattle.hir_session.specs.LeavesOut.{LeavesNothingOut}
+use Rattle.hir_session.proofs.LeftOut.{whole}
 use Rattle.hir_session.proofs.Truth.{on_bool}
 
 on_option : {A X : Type 0} (o : Option X) → (o ≡ None → A) → ((x : X) → o ≡ Some x → A) → A
@@ -26,9 +32,9 @@ answer_of-current s place path shadow style current over =
     ap (λ (now : Status). answer_by now (answer_from s.paths (read_of s place.krate.0) (kept_of s place.krate.0) (module_of s place) path shadow style)) (sym current) ∙ over
 
 -- an answer that is given stands
-pub stands : (s : SessionState) (place : PlaceValue) (path : Path) (shadow : Shadow) (style : Option MacroStyle) (a : Answer) → IsSound s
+pub stands : RunsBindFromSources → PathsAnswerFromSources → PathsLeadToWhatIsThere → (s : SessionState) (place : PlaceValue) (path : Path) (shadow : Shadow) (style : Option MacroStyle) (a : Answer) → IsSound s
     → answer_of s place path shadow style ≡ Ok a → AnswersStand s place path shadow style a
-stands s place path shadow style a sound h =
+stands runs answers leads s place path shadow style a sound h =
     on_bool (nat_lt place.krate.0 (length s.crates))
     (λ within. on_bool (is_marked s place.krate.0)
     (λ stale. absurd (let wrong : ⊥ = cc (rw (within, stale) at h) in wrong))
@@ -43,6 +49,9 @@ stands s place path shadow style a sound h =
       present = now.gives.resolved;
       asked_from = m;
       named = some;
+      whole = subst (LeavesNothingOut (resolution_of (beside (read_of s place.krate.0) now.found.map) (asking_of now.found.local shadow style) m path).resolved_def)
+          (sym (let e : a ≡ answer_in s.paths (beside (read_of s place.krate.0) now.found.map) now.found.local m path shadow style = cc given in e))
+          (whole runs answers leads s sound place.krate.0 off place.elements m path shadow style some);
       is = let e : a ≡ answer_in s.paths (beside (read_of s place.krate.0) now.found.map) now.found.local m path shadow style = cc given in e;
     })))
     (λ past. absurd (let wrong : ⊥ = cc (rw past at h) in wrong))

@@ -1,6 +1,7 @@
-use Rattle.std.proofs.Common.{◌≡◌, ℕ, zero, suc, ◌+◌, ◌<◌, ◌≤◌, Bool, true, false, List, [], ◌∷◌, ◌++◌, length, map, replicate, drop, get_or, drop-cons, add-one, append_assoc, append-nil, drop_of_length-le, Option, None, refl, sym, ap, subst, ◌∙◌, Contains, arith, nat_le}
+use Rattle.std.proofs.Common.{◌≡◌, ℕ, zero, suc, ◌+◌, ◌<◌, ◌≤◌, Bool, true, false, List, [], ◌∷◌, ◌++◌, length, map, is_some, slice_get, replicate, drop, get_or, drop-cons, add-one, append_assoc, append-nil, drop_of_length-le, Option, None, refl, sym, ap, subst, ◌∙◌, Contains, arith, nat_le}
 use Rattle.std.proofs.lemmas.List.{length-map}
 use Rattle.std.proofs.lemmas.List.Folds.{list_any_at}
+use Rattle.hir_base.specs.declared.ast_id.EditionedFileId.{EditionedFileId}
 use Rattle.hir_base.specs.declared.ids.Crate.{Crate}
 use Rattle.hir_def_collector.specs.declared.source_database.Dependency.{Dependency}
 use Rattle.hir_wire.specs.CommandValue.{CrateInputValue, crate_input_view}
@@ -104,6 +105,22 @@ kept-replicate zero k = refl
 kept-replicate (suc n) zero = refl
 kept-replicate (suc n) (suc k) = kept-replicate n k
 
+-- the root file of a crate has the crate's number
+numbered_from : (n : ℕ) (inputs : List CrateInputValue) (crates : List CrateValue) → AreMade n inputs crates → (k : ℕ) → k < length crates
+    → (crate_in crates k).own.root.file_id.0 ≡ n + k
+numbered_from n [] [] made k within = absurd (omega arith)
+numbered_from n [] (c ∷ cs) made k within = absurd made
+numbered_from n (i ∷ is) [] made k within = absurd made
+numbered_from n (i ∷ is) (c ∷ cs) made zero within = let e : c.own.root.file_id.0 ≡ n = ap (λ (r : EditionedFileId). r.file_id.0) made.0.root in omega arith
+numbered_from n (i ∷ is) (c ∷ cs) made (suc k) within =
+    let e : (crate_in cs k).own.root.file_id.0 ≡ n + 1 + k = numbered_from (n + 1) is cs made.1 k (omega arith) in omega arith
+
+-- there is a path of each number of a crate
+path_handed_in : (inputs : List CrateInputValue) (k : ℕ) → k < length inputs → is_some (slice_get (map (λ c. c.root) inputs) k) ≡ true
+path_handed_in [] k within = absurd (omega arith)
+path_handed_in (i ∷ is) zero within = refl
+path_handed_in (i ∷ is) (suc k) within = path_handed_in is k (omega arith)
+
 -- a session is sound when it begins
 pub begins_sound : (inputs : List CrateInputValue) (s : SessionState) → length inputs ≤ 10000 → first_out_of_order 0 inputs ≡ None → Begins inputs s → IsSound s
 begins_sound inputs s few ordered is =
@@ -120,6 +137,12 @@ begins_sound inputs s few ordered is =
       closed = λ k d off among. clash (on k) off;
       current = λ k off. clash (on k) off;
       dropped = λ k marked. ap (λ (kept : List (Option Resolution)). kept_in kept k) is.kept ∙ kept-replicate (length inputs) k;
+      rooted = λ k within.
+          let number : (crate_in s.crates k).own.root.file_id.0 ≡ k =
+          (let from : (crate_in s.crates k).own.root.file_id.0 ≡ 0 + k = numbered_from 0 inputs s.crates is.crates k within in omega arith) in
+          ap (λ (n : ℕ). is_some (slice_get s.paths n)) number
+          ∙ ap (λ (paths : List (List ℕ)). is_some (slice_get paths k)) is.paths
+          ∙ path_handed_in inputs k (omega arith);
     }
 
 -- the parts of a session that begins

@@ -3,13 +3,15 @@ use Rattle.std.specs.Prelude.{◌≡◌, Some, Option}
 use Rattle.hir_base.specs.ModPath.{Path}
 use Rattle.hir_base.specs.Place.{PlaceValue}
 use Rattle.hir_base.specs.declared.ids.ModuleId.{ModuleId}
+use Rattle.hir_def_map.specs.Scoping.{resolution_of}
 use Rattle.hir_def_map.specs.State.{beside, root_of}
 use Rattle.hir_wire.specs.declared.answer.Answer.{Answer}
 use Rattle.hir_wire.specs.declared.command.Shadow.{Shadow}
 use Rattle.hir_wire.specs.declared.command.MacroStyle.{MacroStyle}
 use Rattle.hir_session.specs.SessionState.{SessionState, Resolution, workspace_of, finished_of, read_of, start_of, kept_of, IsResolved}
 use Rattle.hir_session.specs.Status.{module_below}
-use Rattle.hir_session.specs.Answers.{answer_in}
+use Rattle.hir_session.specs.Answers.{answer_in, asking_of}
+use Rattle.hir_session.specs.LeavesOut.{LeavesNothingOut}
 
 -- the answer is what the path means, from the place's module, over a resolution in which a derivation from the present sources ends, beside the
 -- finished maps of the crates on which its crate stands
@@ -20,4 +22,6 @@ pub record AnswersStand (s : SessionState) (place : PlaceValue) (path : Path) (s
   pub present : IsResolved (workspace_of s) (finished_of s) (start_of s place.krate.0) found
   pub asked_from : ModuleId
   pub named : module_below found.map (root_of found.map.id) place.elements ≡ Some asked_from
+  -- and it has a source item wherever scoping gives something
+  pub whole : LeavesNothingOut (resolution_of (beside (read_of s place.krate.0) found.map) (asking_of found.local shadow style) asked_from path).resolved_def answer
   pub is : answer ≡ answer_in s.paths (beside (read_of s place.krate.0) found.map) found.local asked_from path shadow style

@@ -19,6 +19,7 @@ pub mod Changes
 pub mod Status
 pub mod SourceItems
 pub mod Answers
+pub mod LeavesOut
 pub mod AnswersStand
 pub mod TreeText
 pub mod Machine

@@ -1,5 +1,5 @@
 -- Where does a session stand?
-use Rattle.std.specs.Prelude.{◌≡◌, ◌↔◌, ℕ, ◌<◌, ◌≤◌, Bool, true, false, List, length, map, Option, Some, None, slice_index_or, Contains}
+use Rattle.std.specs.Prelude.{◌≡◌, ◌↔◌, ℕ, ◌<◌, ◌≤◌, Bool, true, false, List, length, map, is_some, Option, Some, None, slice_index_or, Contains}
 use Rattle.hir_base.specs.declared.ids.Crate.{Crate}
 use Rattle.hir_def_map.specs.Among.{among}
 use Rattle.hir_def_map.specs.Complete.{BeginsOnly, NamesOnly}
@@ -8,10 +8,11 @@ use Rattle.hir_def_collector.specs.Workspace.{Workspace}
 use Rattle.hir_def_collector.specs.Keys.{AgreeOn}
 use Rattle.hir_def_collector.specs.Derivation.{CollectedValue, Ends, keys_of}
 use Rattle.hir_def_collector.specs.declared.collector.Start.{Start}
+use Rattle.hir_def_collector.specs.Start.{root_file}
 use Rattle.hir_session.specs.Crates.{CrateValue, behind_in, crate_in, dependencies_in, start_in}
 use Rattle.hir_session.specs.StandsOn.{StandsOn}
 use Rattle.hir_session.specs.Behind.{has_crate}
-use Rattle.hir_session.specs.Files.{Files, workspace_in}
+use Rattle.hir_session.specs.Files.{Files, path_in, workspace_in}
 use Rattle.hir_session.specs.Kept.{finished_by}
 
 -- what is kept of a crate that was resolved: its map, the imports left over, and the keys that were asked for
@@ -98,3 +99,5 @@ pub record IsSound (s : SessionState) : Type 0 where
   pub current : (k : ℕ) → is_marked s k ≡ false → IsCurrent s k
   -- nothing is kept of a marked crate
   pub dropped : (k : ℕ) → is_marked s k ≡ true → kept_of s k ≡ None
+  -- the root file of each crate is one of the table
+  pub rooted : (k : ℕ) → k < length s.crates → is_some (path_in s.paths (root_file (start_of s k))) ≡ true

@@ -18,7 +18,9 @@ use hir_base::file_path::FilePath;
 use hir_base::ids::{Crate, ModuleId};
 use hir_base::mod_path::ModPath;
 use hir_base::place::{Place, PlaceElement};
+use hir_def_collector::laws::runs_bind_from_sources;
 use hir_def_map::def_maps::DefMaps;
+use hir_def_map::laws::{paths_answer_from_sources, paths_lead_to_what_is_there};
 use hir_def_map::world::part::WorldPart;
 use hir_wire::answer::Answer;
 use hir_wire::command::{MacroStyle, Shadow};
@@ -105,6 +107,9 @@ impl Session {
         ensures stands { IfOk result (λ answer. AnswersStand self.now place.now path.now shadow style answer) }
     {
         self.sound();
+        runs_bind_from_sources();
+        paths_answer_from_sources();
+        paths_lead_to_what_is_there();
         match self.status(place) {
             Status::Current => {
                 let answer = self.answer_kept(alloc, place, path, shadow, style)?;

@@ -1,0 +1,333 @@
+-- Nothing is left out of an answer: what a path names in a current crate is written in files of the table.
+use Rattle.std.specs.Prelude.{◌≡◌, ℕ, zero, suc, ◌<◌, Bool, true, false, not, ◌||◌, is_some, List, [], ◌∷◌, length, Option, None, Some, option_map, option_and_then}
+use Rattle.std.specs.BTreeMap.{is_at}
+use Rattle.std.specs.Cmp.Lexicographic.{slice_cmp}
+use Rattle.std.specs.List.{list_any}
+use Rattle.std.specs.Ordering.{nat_cmp}
+use Rattle.std.proofs.Common.{ap, arith, refl, subst, sym, ◌∙◌}
+use mathlib.Core.Bool.{true≢false}
+use Rattle.hir_base.specs.ModPath.{Path}
+use Rattle.hir_base.specs.declared.ast_id.BlockId.{BlockId}
+use Rattle.hir_base.specs.declared.ast_id.HirFileId.{HirFileId}
+use Rattle.hir_base.specs.declared.ast_id.SyntaxId.{SyntaxId}
+use Rattle.hir_base.specs.declared.ids.AdtId.{AdtId}
+use Rattle.hir_base.specs.declared.ids.AdtId.TheVariants as adt
+use Rattle.hir_base.specs.declared.ids.Crate.{Crate}
+use Rattle.hir_base.specs.declared.ids.ModuleDefId.{ModuleDefId}
+use Rattle.hir_base.specs.declared.ids.ModuleDefId.TheVariants as def
+use Rattle.hir_base.specs.declared.ids.ModuleId.{ModuleId}
+use Rattle.hir_base.specs.declared.macro_kind.MacroId.{MacroId}
+use Rattle.hir_base.specs.declared.macro_kind.MacroId.TheVariants as macro
+use Rattle.hir_base.specs.declared.place.PlaceElement.{PlaceElement}
+use Rattle.hir_base.specs.declared.place.PlaceElement.TheVariants as element
+use Rattle.hir_scope.specs.declared.imports.ImportOrExternCrate.{ImportOrExternCrate}
+use Rattle.hir_scope.specs.declared.imports.ImportOrExternCrate.TheVariants as import
+use Rattle.hir_scope.specs.declared.imports.ImportOrGlob.{ImportOrGlob}
+use Rattle.hir_scope.specs.declared.imports.ImportOrGlob.TheVariants as value_import
+use Rattle.hir_scope.specs.declared.per_ns.Item.{Item}
+use Rattle.hir_scope.specs.declared.visibility.Visibility.{Visibility}
+use Rattle.hir_scope.specs.declared.visibility.Visibility.TheVariants as vis
+use Rattle.hir_def_map.specs.Closed.{AreThere, IsThere, ModuleIsThere, PathsLeadToWhatIsThere, TypeIsThere}
+use Rattle.hir_def_map.specs.Complete.{AreWhole, NamesOnly}
+use Rattle.hir_def_map.specs.Among.{unheld}
+use Rattle.hir_def_map.specs.Named.{crate_map, is_missing, names_in_module, test_child, test_of, test_type}
+use Rattle.hir_def_map.specs.NoneOf.{none_at, none_found, not_first, not_second}
+use Rattle.hir_def_map.specs.Scoping.{resolution_of}
+use Rattle.hir_def_map.specs.Scoping.Asking.{Asking}
+use Rattle.hir_def_map.specs.Sources.{HoldsNowhere, HoldsNowhereIn, HoldsOfNoExtern, HoldsOfNone, PathsAnswerFromSources, SourceTest, on_adt, on_def, on_import, on_macro, on_macro_item, on_origin, on_some, on_type, on_value, on_value_def, on_value_import, on_visibility}
+use Rattle.hir_def_map.specs.State.{Map, Maps, ModuleValue, Placed, beside, child_at, child_of, module_at, module_in, root_of}
+use Rattle.hir_def_map.specs.StaysComplete.{Extends-beside, IsClosed-beside, LocalIsThere-begins, module_there}
+use Rattle.hir_def_map.specs.StaysSourced.{HoldsNowhere-beside}
+use Rattle.hir_def_map.specs.declared.nameres.origin.ModuleOrigin.{ModuleOrigin}
+use Rattle.hir_def_map.specs.declared.nameres.origin.ModuleOrigin.TheVariants as origin
+use Rattle.hir_def_map.specs.declared.world.named.Named.TheVariants as named
+use Rattle.hir_def_collector.specs.Sources.{IsClearOf, RunsBindFromSources}
+use Rattle.hir_def_collector.specs.Start.{root_file}
+use Rattle.hir_def_collector.specs.Whole.{StandsOnWhole}
+use Rattle.hir_wire.specs.declared.answer.AnswerVisibility.{AnswerVisibility}
+use Rattle.hir_wire.specs.declared.answer.Definition.{Definition}
+use Rattle.hir_wire.specs.declared.answer.ImportSource.{ImportSource}
+use Rattle.hir_wire.specs.declared.answer.SourceKind.{SourceKind}
+use Rattle.hir_wire.specs.declared.command.MacroStyle.{MacroStyle}
+use Rattle.hir_wire.specs.declared.command.Shadow.{Shadow}
+use Rattle.hir_session.specs.Answers.{answer_in, asking_of}
+use Rattle.hir_session.specs.Behind.{has_crate}
+use Rattle.hir_session.specs.Crates.{behind_in}
+use Rattle.hir_session.specs.LeavesOut.{LeavesNothingOut}
+use Rattle.hir_session.specs.SessionState.{SessionState, Resolution, finished_of, is_marked, mark_in, read_of, start_of, workspace_of, IsSound}
+use Rattle.hir_session.specs.SourceItems.{adt_definition, answered_macro, answered_type, answered_value, definition_of, import_source, item_of, macro_definition, maybe_source, module_by, module_definition, source_of, together, value_import_source, visibility_source}
+use Rattle.hir_session.specs.Status.{module_below}
+use Rattle.hir_session.proofs.Names.{among_at, among_there}
+use Rattle.hir_session.proofs.Resolving.{behind_current, behind_extends, behind_whole, own_absent, read_is, stands_on_whole}
+use Rattle.hir_session.proofs.Worlds.{AgreeOn-refl, StandsOn-below, StandsOn-holds}
+
+-- ---- options
+
+present : (b : Bool) → not b ≡ false → b ≡ true
+present true f = refl
+present false f = absurd (true≢false f)
+
+mapped_some : {A B : Type 0} (f : A → B) (o : Option A) → is_some (option_map f o) ≡ is_some o
+mapped_some f None = refl
+mapped_some f (Some x) = refl
+
+-- ---- the crates on which a current crate stands
+
+-- a crate that isn't marked is there
+crate_there : (marked : List Bool) (k : ℕ) → mark_in marked k ≡ false → k < length marked
+crate_there [] k off = absurd (true≢false off)
+crate_there (m ∷ ms) zero off = omega arith
+crate_there (m ∷ ms) (suc k) off = let below : k < length ms = crate_there ms k off in omega arith
+
+unmarked_behind : (s : SessionState) → IsSound s → (k : ℕ) → is_marked s k ≡ false → (c : Crate) → has_crate (behind_in s.crates k) c ≡ true → is_marked s c.0 ≡ false
+unmarked_behind s sound k off c behind = StandsOn-holds {P = λ i. is_marked s i ≡ false} (λ i d p among. sound.closed i d p among) ((sound.behind k c).0 behind) off
+
+-- what is kept of a current crate
+abbrev current_of : (s : SessionState) → IsSound s → (k : ℕ) → is_marked s k ≡ false → Resolution
+current_of s sound k off = (sound.current k off).found
+
+own_apart : (s : SessionState) (sound : IsSound s) (k : ℕ) (off : is_marked s k ≡ false) → read_of s k (current_of s sound k off).map.id ≡ None
+own_apart s sound k off = ap (read_of s k) (sound.current k off).gives.own ∙ own_absent s k sound
+
+-- ---- what current crates bind, under a test of sources that holds of nothing that a root file writes
+
+module _ (runs : RunsBindFromSources) (s : SessionState) (sound : IsSound s) (t : SourceTest)
+    (written : (j : ℕ) → j < length s.crates → t.holder (root_file (start_of s j)) None ≡ false) where
+  -- it holds of no module that is there beside the maps that a crate reads
+  abbrev ShowsThere : ℕ → Resolution → Type 0
+  ShowsThere j r = (m : ModuleId) → ModuleIsThere (beside (read_of s j) r.map) m → t.shown m ≡ false
+
+  abbrev Nowhere : Resolution → Type 0
+  Nowhere r = HoldsNowhereIn t r.map × HoldsOfNoExtern t r.local
+
+  reads : (j : ℕ) (off : is_marked s j ≡ false) → ShowsThere j (current_of s sound j off)
+      → ((i : ℕ) → i < j → (still : is_marked s i ≡ false) → ShowsThere i (current_of s sound i still) → Nowhere (current_of s sound i still))
+      → HoldsNowhere t (read_of s j)
+  reads j off shows below id placed e =
+      let own : Resolution = current_of s sound j off in
+      let unmarked = unmarked_behind s sound j off in
+      let there = among_there (behind_in s.crates j) (finished_of s) id (ap (λ (o : Option Placed). is_some o) e) in
+      let w = behind_current s j sound unmarked id.krate there.1 in
+      let same : id ≡ crate_map id.krate = λ i. record { krate = id.krate; block = there.0 i } in
+      let is : placed ≡ unheld w.found.map =
+      (let both : Some placed ≡ Some (unheld w.found.map) = sym e ∙ ap (read_of s j) same ∙ among_at (behind_in s.crates j) s.kept id.krate w.found there.1 w.is in cc) in
+      let lower : id.krate.0 < j = StandsOn-below sound.below ((sound.behind j id.krate).0 there.1) in
+      let seen : ShowsThere id.krate.0 w.found =
+      λ m h. shows m (Extends-beside (read_of s j) own.map (own_apart s sound j off) (named.Module m) (behind_extends s j sound unmarked id.krate there.1 (named.Module m) h)) in
+      let bound : Nowhere w.found = below id.krate.0 lower (unmarked id.krate there.1) seen in
+      subst (λ (p : Placed). HoldsNowhereIn t p.map) (sym is) bound.0
+
+  binds : (n j : ℕ) → j < n → (off : is_marked s j ≡ false) → ShowsThere j (current_of s sound j off) → Nowhere (current_of s sound j off)
+  binds zero j low off shows = absurd (omega arith)
+  binds (suc n) j low off shows =
+      let now = sound.current j off in
+      let unmarked = unmarked_behind s sound j off in
+      let count : length s.marked ≡ length s.crates = sound.marked_len in
+      let within : j < length s.marked = crate_there s.marked j off in
+      let same = read_is s j in
+      let clear : IsClearOf t (read_of s j) (start_of s j) now.found.map =
+      record { written = written j (omega arith); shown = shows; read = reads j off shows (λ i lower still seen. binds n i (omega arith) still seen) } in
+      runs t (workspace_of s) (finished_of s) (start_of s j) now.found
+      (subst AreWhole same (behind_whole s j sound unmarked))
+      (subst (λ (maps : Maps). StandsOnWhole (workspace_of s) maps (start_of s j)) same (stands_on_whole s j sound unmarked))
+      (now.gives.resolved.ends (workspace_of s) (finished_of s) AgreeOn-refl)
+      (subst (λ (maps : Maps). IsClearOf t maps (start_of s j) now.found.map) same clear)
+
+-- ---- source items of what such a test doesn't hold of
+
+module _ (paths : List (List ℕ)) (maps : Maps) where
+  -- the test of what has no source item
+  abbrev unsourced : SourceTest
+  unsourced = record { holder = λ file block. not (is_some (source_of paths file block)); shown = λ m. is_missing maps (named.Module m) }
+
+  item_there : (krate : Crate) (kind : SourceKind) (file : HirFileId) (block : Option BlockId) (id : SyntaxId) → unsourced.holder file block ≡ false
+      → is_some (item_of paths krate kind file block id) ≡ true
+  item_there krate kind file block id f = mapped_some _ (source_of paths file block) ∙ present (is_some (source_of paths file block)) f
+
+  by_origin : (krate : Crate) (o : ModuleOrigin) → on_origin unsourced o ≡ false → is_some (module_by paths krate o) ≡ true
+  by_origin krate (origin.CrateRoot file) f = refl
+  by_origin krate (origin.File is_mod_rs at tree file) f = item_there krate _ at.file_id tree.block at.id f
+  by_origin krate (origin.Inline tree at) f = item_there krate _ at.file_id tree.block at.id f
+  by_origin krate (origin.BlockExpr id block) f = absurd (true≢false f)
+
+  adt_there : (a : AdtId) → on_adt unsourced a ≡ false → is_some (adt_definition paths a) ≡ true
+  adt_there (adt.StructId i) f = item_there i.container.map.krate _ i.file_id i.block i.id f
+  adt_there (adt.UnionId i) f = item_there i.container.map.krate _ i.file_id i.block i.id f
+  adt_there (adt.EnumId i) f = item_there i.container.map.krate _ i.file_id i.block i.id f
+
+  macro_there : (m : MacroId) → on_macro unsourced m ≡ false → is_some (macro_definition paths m) ≡ true
+  macro_there (macro.Macro2Id i) f = item_there i.container.map.krate _ i.file_id i.block i.id f
+  macro_there (macro.MacroRulesId i) f = item_there i.container.map.krate _ i.file_id i.block i.id f
+  macro_there (macro.ProcMacroId i) f = item_there i.container.map.krate _ i.file_id i.block i.id f
+
+  import_there : (i : ImportOrExternCrate) → on_import unsourced i ≡ false → is_some (import_source paths i) ≡ true
+  import_there (import.Glob g) f = mapped_some _ (source_of paths g.use_.file_id g.use_.block) ∙ present _ f
+  import_there (import.Import i) f = mapped_some _ (source_of paths i.use_.file_id i.use_.block) ∙ present _ f
+  import_there (import.ExternCrate i) f = mapped_some _ (source_of paths i.file_id i.block) ∙ present _ f
+
+  value_import_there : (i : ImportOrGlob) → on_value_import unsourced i ≡ false → is_some (value_import_source paths i) ≡ true
+  value_import_there (value_import.Glob g) f = mapped_some _ (source_of paths g.use_.file_id g.use_.block) ∙ present _ f
+  value_import_there (value_import.Import i) f = mapped_some _ (source_of paths i.use_.file_id i.use_.block) ∙ present _ f
+
+  maybe_there : {I : Type 0} (source : I → Option ImportSource) (test : I → Bool) → ((i : I) → test i ≡ false → is_some (source i) ≡ true)
+      → (o : Option I) → on_some test o ≡ false → is_some (maybe_source source o) ≡ true
+  maybe_there source test there None f = refl
+  maybe_there source test there (Some i) f = mapped_some _ (source i) ∙ there i f
+
+  all_there : (d : Option Definition) (i : Option (Option ImportSource)) (v : Option AnswerVisibility) → is_some d ≡ true → is_some i ≡ true → is_some v ≡ true
+      → is_some (together d i v) ≡ true
+  all_there None i v f g h = absurd (true≢false (sym f))
+  all_there (Some d) None v f g h = absurd (true≢false (sym g))
+  all_there (Some d) (Some i) None f g h = absurd (true≢false (sym h))
+  all_there (Some d) (Some i) (Some v) f g h = refl
+
+  module _ (nowhere : HoldsNowhere unsourced maps) where
+    module_shown : (m : ModuleId) → ModuleIsThere maps m → is_some (module_definition paths maps m) ≡ true
+    module_shown m there = go (maps m.map) refl there
+      where
+        found : (placed : Placed) → HoldsNowhereIn unsourced placed.map → (o : Option ModuleValue) → module_at placed.map m.index ≡ o → is_some o ≡ true
+            → is_some (option_and_then (λ (v : ModuleValue). module_by paths m.map.krate v.origin) o) ≡ true
+        found placed none None e f = f
+        found placed none (Some v) e f = by_origin m.map.krate v.origin (none_at (λ (x : ModuleValue). on_origin unsourced x.origin) placed.map.modules none.origins m.index v e)
+
+        go : (o : Option Placed) → maps m.map ≡ o → is_some (option_and_then (λ (p : Placed). module_at p.map m.index) o) ≡ true
+            → is_some (option_and_then (λ (v : ModuleValue). module_by paths m.map.krate v.origin) (option_and_then (λ (p : Placed). module_at p.map m.index) o)) ≡ true
+        go None e f = f
+        go (Some placed) e f = found placed (nowhere m.map placed e) (module_at placed.map m.index) refl f
+
+    visible : (v : Visibility) → on_visibility unsourced v ≡ false → is_some (visibility_source paths maps v) ≡ true
+    visible vis.Public f = refl
+    visible (vis.PubCrate c) f = refl
+    visible (vis.Module m written) f = mapped_some _ (module_definition paths maps m) ∙ module_shown m (present (is_some (module_in maps m)) f)
+
+    def_there : (d : ModuleDefId) → on_def unsourced d ≡ false → ((m : ModuleId) → d ≡ def.ModuleId m → ModuleIsThere maps m) → is_some (definition_of paths maps d) ≡ true
+    def_there (def.ModuleId m) f there = module_shown m (there m refl)
+    def_there (def.FunctionId i) f there = item_there _ _ i.file_id i.block i.id f
+    def_there (def.AdtId i) f there = adt_there i f
+    def_there (def.EnumVariantId i) f there = item_there _ _ i.parent.file_id i.parent.block i.id f
+    def_there (def.ConstId i) f there = item_there _ _ i.file_id i.block i.id f
+    def_there (def.StaticId i) f there = item_there _ _ i.file_id i.block i.id f
+    def_there (def.TraitId i) f there = item_there _ _ i.file_id i.block i.id f
+    def_there (def.TypeAliasId i) f there = item_there _ _ i.file_id i.block i.id f
+    def_there (def.BuiltinType b) f there = refl
+    def_there (def.MacroId i) f there = macro_there i f
+
+    -- a value is no module
+    value_def : (d : ModuleDefId) → on_value_def unsourced d ≡ false → on_def unsourced d ≡ false
+    value_def (def.ModuleId m) f = refl
+    value_def (def.FunctionId i) f = f
+    value_def (def.AdtId i) f = f
+    value_def (def.EnumVariantId i) f = f
+    value_def (def.ConstId i) f = f
+    value_def (def.StaticId i) f = f
+    value_def (def.TraitId i) f = f
+    value_def (def.TypeAliasId i) f = f
+    value_def (def.BuiltinType b) f = f
+    value_def (def.MacroId i) f = f
+
+    -- the parts of an item of which the test doesn't hold
+    of_def : (d v i : Bool) → (d || (v || i)) ≡ false → d ≡ false
+    of_def d v i f = not_first d (v || i) f
+
+    of_vis : (d v i : Bool) → (d || (v || i)) ≡ false → v ≡ false
+    of_vis d v i f = not_first v i (not_second d (v || i) f)
+
+    of_import : (d v i : Bool) → (d || (v || i)) ≡ false → i ≡ false
+    of_import d v i f = not_second v i (not_second d (v || i) f)
+
+    types : (o : Option (Item ModuleDefId ImportOrExternCrate)) → on_some (on_type unsourced) o ≡ false → TypeIsThere maps o
+        → is_some (option_and_then (answered_type paths maps) o) ≡ is_some o
+    types None f there = refl
+    types (Some i) f there =
+        let d = on_def unsourced i.def in
+        let v = on_visibility unsourced i.vis in
+        let by = on_some (on_import unsourced) i.import in
+        all_there (definition_of paths maps i.def) (maybe_source (import_source paths) i.import) (visibility_source paths maps i.vis)
+        (def_there i.def (of_def d v by f) (λ m e. present (is_some (module_in maps m)) (subst (λ (x : ModuleDefId). IsThere maps x) e there)))
+        (maybe_there (import_source paths) (on_import unsourced) import_there i.import (of_import d v by f))
+        (visible i.vis (of_vis d v by f))
+
+    values : (o : Option (Item ModuleDefId ImportOrGlob)) → on_some (on_value unsourced) o ≡ false
+        → is_some (option_and_then (answered_value paths maps) o) ≡ is_some o
+    values None f = refl
+    values (Some i) f =
+        let d = on_value_def unsourced i.def in
+        let v = on_visibility unsourced i.vis in
+        let by = on_some (on_value_import unsourced) i.import in
+        let none : on_value_def unsourced i.def ≡ false = of_def d v by f in
+        all_there (definition_of paths maps i.def) (maybe_source (value_import_source paths) i.import) (visibility_source paths maps i.vis)
+        (def_there i.def (value_def i.def none) (λ m e. absurd (true≢false (subst (λ (x : ModuleDefId). on_value_def unsourced x ≡ false) e none))))
+        (maybe_there (value_import_source paths) (on_value_import unsourced) value_import_there i.import (of_import d v by f))
+        (visible i.vis (of_vis d v by f))
+
+    macros : (o : Option (Item MacroId ImportOrExternCrate)) → on_some (on_macro_item unsourced) o ≡ false
+        → is_some (option_and_then (answered_macro paths maps) o) ≡ is_some o
+    macros None f = refl
+    macros (Some i) f =
+        let d = on_macro unsourced i.def in
+        let v = on_visibility unsourced i.vis in
+        let by = on_some (on_import unsourced) i.import in
+        all_there (macro_definition paths i.def) (maybe_source (import_source paths) i.import) (visibility_source paths maps i.vis)
+        (macro_there i.def (of_def d v by f))
+        (maybe_there (import_source paths) (on_import unsourced) import_there i.import (of_import d v by f))
+        (visible i.vis (of_vis d v by f))
+
+-- ---- the module that a place names
+
+module _ (finished : Maps) (map : Map) (names : NamesOnly (beside finished map) map) where
+  child_there : (at : ℕ) (name : List ℕ) (next : ModuleId) → child_at map at name ≡ Some next → ModuleIsThere (beside finished map) next
+  child_there at name next e = go (module_at map at) refl e
+    where
+      go : (o : Option ModuleValue) → module_at map at ≡ o → child_of o name ≡ Some next → ModuleIsThere (beside finished map) next
+      go None s f = absurd cc
+      go (Some v) s f =
+          let missing = is_missing (beside finished map) in
+          let rest = not_second (test_of missing (option_map named.Module v.parent)) (list_any (test_child missing) v.children || list_any (test_type missing) v.scope.types)
+          (none_at (names_in_module missing) map.modules names.modules at v s) in
+          present (is_some (module_in (beside finished map) next))
+          (none_found (λ (x : ModuleId). missing (named.Module x)) (is_at (slice_cmp nat_cmp name)) v.children next
+          (not_first (list_any (test_child missing) v.children) (list_any (test_type missing) v.scope.types) rest) f)
+
+  -- steps down from a module that is there lead to one
+  below_there : (elements : List PlaceElement) (from at : ModuleId) → ModuleIsThere (beside finished map) from → module_below map from elements ≡ Some at
+      → ModuleIsThere (beside finished map) at
+  below_there [] from at there e = let same : from ≡ at = cc in subst (λ (m : ModuleId). ModuleIsThere (beside finished map) m) same there
+  below_there (element.Module name ∷ more) from at there e = go (λ next. below_there more next at) (child_at map from.index name) refl e
+    where
+      go : ((next : ModuleId) → ModuleIsThere (beside finished map) next → module_below map next more ≡ Some at → ModuleIsThere (beside finished map) at)
+          → (o : Option ModuleId) → child_at map from.index name ≡ o → option_and_then (λ (next : ModuleId). module_below map next more) o ≡ Some at
+          → ModuleIsThere (beside finished map) at
+      go onward None s f = absurd cc
+      go onward (Some next) s f = onward next (child_there from.index name next s) f
+  below_there (element.Block id ∷ more) from at there e = absurd cc
+
+-- ---- answers
+
+-- an answer from a module of a current crate leaves nothing out
+pub whole : RunsBindFromSources → PathsAnswerFromSources → PathsLeadToWhatIsThere → (s : SessionState) (sound : IsSound s) (k : ℕ) (off : is_marked s k ≡ false)
+    → (elements : List PlaceElement) (at : ModuleId) (path : Path) (shadow : Shadow) (style : Option MacroStyle)
+    → module_below (current_of s sound k off).map (root_of (current_of s sound k off).map.id) elements ≡ Some at
+    → LeavesNothingOut
+    (resolution_of (beside (read_of s k) (current_of s sound k off).map) (asking_of (current_of s sound k off).local shadow style) at path).resolved_def
+    (answer_in s.paths (beside (read_of s k) (current_of s sound k off).map) (current_of s sound k off).local at path shadow style)
+whole runs answers leads s sound k off elements at path shadow style is =
+    let now = sound.current k off in
+    let r : Resolution = now.found in
+    let maps : Maps = beside (read_of s k) r.map in
+    let test : SourceTest = unsourced s.paths maps in
+    let written : (j : ℕ) → j < length s.crates → test.holder (root_file (start_of s j)) None ≡ false = λ j within. ap not (mapped_some _ _ ∙ sound.rooted j within) in
+    let shows : (m : ModuleId) → ModuleIsThere maps m → test.shown m ≡ false = λ m there. ap not there in
+    let own = binds runs s sound test written (suc k) k (omega arith) off shows in
+    let nowhere : HoldsNowhere test maps = HoldsNowhere-beside test (read_of s k) r.map (reads runs s sound test written k off shows (binds runs s sound test written k)) own.0 in
+    let asking : Asking = asking_of r.local shadow style in
+    let apart = own_apart s sound k off in
+    let closed = IsClosed-beside (read_of s k) r.map apart (behind_whole s k sound (unmarked_behind s sound k off)) now.gives.names in
+    let root = module_there (read_of s k) r.map 0 now.gives.names.root in
+    let there = below_there (read_of s k) r.map now.gives.names elements (root_of r.map.id) at root is in
+    let none : HoldsOfNone test (resolution_of maps asking at path).resolved_def = answers test maps asking at path nowhere own.1 in
+    let lead : AreThere maps (resolution_of maps asking at path).resolved_def = leads maps asking at path closed (LocalIsThere-begins maps r.local now.gives.begins) there in
+    record {
+      types = types s.paths maps nowhere (resolution_of maps asking at path).resolved_def.types none.types lead;
+      values = values s.paths maps nowhere (resolution_of maps asking at path).resolved_def.values none.values;
+      macros = macros s.paths maps nowhere (resolution_of maps asking at path).resolved_def.macros none.macros;
+    }
