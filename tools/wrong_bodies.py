@@ -152,8 +152,8 @@ class Trial:
             yield from self.alone(edit)
 
     def alone(self, edit):
-        well, said = rt.must_fail(self.crate, edit.file, self.flags, self.kept())
-        yield edit, well, re.sub(r"^must-fail \S+: ", "", said) + " (alone)"
+        outcome, said = rt.must_fail(self.crate, edit.file, self.flags, self.kept())
+        yield edit, outcome in (rt.REFUSED, rt.AT_LIMIT), re.sub(r"^must-fail \S+: ", "", said) + " (alone)"
 
     def edits(self, files):
         batches, single = [], []
