@@ -1,16 +1,22 @@
 #!/usr/bin/env python3
 """Tries the wrong bodies that stand beside the gate: each has to be refused by its crate's prover.
 
-usage: tools/wrong_bodies.py [CRATE | EDIT.edit] ..
+usage: tools/wrong_bodies.py [--list | --sample N [--seed S]] [CRATE | CRATE/NAME] ..
 
-With no name, all of each folder crates/CRATE/wrong-bodies/. Edits of different functions are tried together, in one
-check of a copy of the crate over what earlier checks kept, and each is refused where the prover refuses a goal of the
-function that it changes. What isn't seen so is tried again without those that were, and at last alone, as
-`rt must-fail` does. Prints a line an edit, and ends with 1 where one isn't refused.
+A crate's wrong bodies are the entries of crates/CRATE/wrong-bodies.txt: a name, a file, and the line that is there
+with the one in its place. With no name, those of all crates; with --sample, N of them, drawn by the seed, which is
+printed. --list tries none and says which can't be applied to the present sources.
+
+Bodies of different functions are tried together, in one check of a copy of the crate over what earlier checks kept, and
+each is refused where the prover refuses a goal of the function that it changes. What isn't seen so is tried again
+without those that were, and at last alone, as `rt must-fail` does. Prints a line a body, and ends with 1 where one
+isn't refused.
 """
+import argparse
 import importlib.machinery
 import importlib.util
 import os
+import random
 import re
 import shutil
 import sys
@@ -36,7 +42,7 @@ rt = load_rt()
 class Function:
     """The innermost function around a line of a source file: in its body, or in its head where that is kept whole.
 
-    Where the line is the head of an impl, and kept whole, it is what the edit writes behind it.
+    Where the line is the head of an impl, and kept whole, it is what the entry writes behind it.
     """
 
     def __init__(self, path, lines, at, is_kept):
@@ -72,14 +78,14 @@ class Function:
         return is_own and at[3].startswith("error:") and not NAMES.search(at[3])
 
 
-class Edit:
-    def __init__(self, file, crate):
-        self.file, self.name, self.crate = file, f"{crate.name}/{os.path.basename(file)}", crate
-        with open(file, encoding="utf-8") as it:
-            self.text = it.read()
+class WrongBody:
+    """One entry of a crate's wrong bodies."""
+
+    def __init__(self, crate, name, text):
+        self.crate, self.name, self.text = crate, f"{crate.name}/{name}", text
+        texts, self.fault = rt.edited(text, crate.folder)
         # The functions that it changes, or None where it changes something else too.
         self.functions = []
-        texts, _ = rt.edited(self.text, crate.folder)
         try:
             for path in texts or ["no file"]:
                 with open(f"{crate.folder}/{path}", encoding="utf-8") as it:
@@ -93,7 +99,7 @@ class Edit:
             self.functions = None
 
     def fits(self, batch):
-        others = [it for edit in batch for it in edit.functions]
+        others = [it for body in batch for it in body.functions]
         return len(batch) < AT_ONCE and not any(a.clashes(b) for a in self.functions for b in others)
 
 
@@ -104,7 +110,7 @@ def link_all(folder, to):
 
 
 class Trial:
-    """The checks of one crate's edits, each over a copy of what was kept of the crate itself."""
+    """The checks of one crate's wrong bodies, each over a copy of what was kept of the crate itself."""
 
     def __init__(self, crate):
         self.crate, self.flags, self.checks = crate, ["--jobs", "1"], 0
@@ -124,10 +130,10 @@ class Trial:
         return f"{self.room}/{self.checks}"
 
     def together(self, batch):
-        """Yields what each edit of a batch came to."""
+        """Yields what each body of a batch came to."""
         if len(batch) < 2:
-            for edit in batch:
-                yield from self.alone(edit)
+            for body in batch:
+                yield from self.alone(body)
             return
         texts, _ = rt.edited("\n".join(it.text for it in batch), self.crate.folder)
         ran = rt.checked(self.crate, texts, self.flags, self.kept()) if texts else None
@@ -139,48 +145,55 @@ class Trial:
             yield from self.together(batch[half:])
             return
         left = []
-        for edit in batch:
-            told = [it for it in lines if any(fn.is_refused_by(it) for fn in edit.functions)]
+        for body in batch:
+            told = [it for it in lines if any(fn.is_refused_by(it) for fn in body.functions)]
             if told:
-                yield edit, True, f"refused with {len(batch) - 1} others: {told[0][:160]}"
+                yield body, True, f"refused with {len(batch) - 1} others: {told[0][:160]}"
             else:
-                left.append(edit)
+                left.append(body)
         if len(left) < len(batch):
             yield from self.together(left)
             return
-        for edit in left:
-            yield from self.alone(edit)
+        for body in left:
+            yield from self.alone(body)
 
-    def alone(self, edit):
-        outcome, said = rt.must_fail(self.crate, edit.file, self.flags, self.kept())
-        yield edit, outcome in (rt.REFUSED, rt.AT_LIMIT), re.sub(r"^must-fail \S+: ", "", said) + " (alone)"
+    def alone(self, body):
+        edit = f"{self.room}/{os.path.basename(body.name)}.edit"
+        with open(edit, "w", encoding="utf-8") as it:
+            it.write(body.text)
+        outcome, said = rt.must_fail(self.crate, edit, self.flags, self.kept())
+        yield body, outcome in (rt.REFUSED, rt.AT_LIMIT), re.sub(r"^must-fail \S+: ", "", said) + " (alone)"
 
-    def edits(self, files):
+    def all(self, bodies):
         batches, single = [], []
-        for edit in [Edit(it, self.crate) for it in files]:
-            if edit.functions:
-                fits = next((it for it in batches if edit.fits(it)), None)
+        for body in bodies:
+            if body.functions:
+                fits = next((it for it in batches if body.fits(it)), None)
                 if fits is None:
-                    batches.append([edit])
+                    batches.append([body])
                 else:
-                    fits.append(edit)
+                    fits.append(body)
             else:
-                single.append([edit])
+                single.append([body])
         for batch in batches + single:
             yield from self.together(batch)
 
 
-def files_of(crate, names):
-    folder = f"{crate.folder}/wrong-bodies"
-    named = [os.path.realpath(it) for it in names if it.endswith(".edit")]
-    found = [it for it in named if it.startswith(f"{crate.folder}/")]
-    if os.path.isdir(folder) and (crate.name in names or not names):
-        found += sorted(f"{folder}/{it}" for it in os.listdir(folder) if it.endswith(".edit"))
-    return found
+def bodies_of(crate):
+    """Returns the wrong bodies of a crate, in the order of its file."""
+    path = f"{crate.folder}/wrong-bodies.txt"
+    if not os.path.isfile(path):
+        return []
+    with open(path, encoding="utf-8") as it:
+        blocks = it.read().split("\n\n")
+    entries = [re.match(r"name: (\w+)\n(.*)", it, re.DOTALL) for it in blocks if not it.startswith("#")]
+    if None in entries or len({it[1] for it in entries}) < len(entries):
+        sys.exit(f"{path}: an entry has no name, or another's")
+    return [WrongBody(crate, it[1], it[2]) for it in entries]
 
 
-def try_all(crate, files):
-    """Returns how many of a crate's edits are refused, and prints what each came to."""
+def try_all(crate, bodies):
+    """Returns how many of a crate's wrong bodies are refused, and prints what each came to."""
     for dep in crate.below():
         if dep.build_rlib(["--jobs", "1"], anew=False):
             sys.exit(f"{dep.name} is not proved")
@@ -188,27 +201,52 @@ def try_all(crate, files):
     try:
         if not trial.is_proved():
             sys.exit(f"{crate.name} is not proved")
-        for edit, well, said in trial.edits(files):
-            print(f"{edit.name}: {said}", flush=True)
+        for body, well, said in trial.all(bodies):
+            print(f"{body.name}: {said}", flush=True)
             refused += well
     finally:
         shutil.rmtree(trial.room, ignore_errors=True)
-    print(f"{crate.name}: {refused} of {len(files)} refused", flush=True)
+    print(f"{crate.name}: {refused} of {len(bodies)} refused", flush=True)
     return refused
 
 
-def main(names):
+def read_words(words):
+    """Returns what is asked for: a listing or not, how many are drawn by which seed (None: all), and the names."""
+    parser = argparse.ArgumentParser(description=__doc__, formatter_class=argparse.RawDescriptionHelpFormatter)
+    parser.add_argument("--list", action="store_true", dest="lists")
+    parser.add_argument("--sample", type=int, metavar="N")
+    parser.add_argument("--seed", type=int, default=None, metavar="S")
+    parser.add_argument("names", nargs="*", metavar="CRATE | CRATE/NAME")
+    return parser.parse_args(words)
+
+
+def main(words):
+    asked = read_words(words)
     rt.rtlib.guarded()
     crates = rt.rtlib.crates_below(ROOT)
-    unknown = {*names} - {it.name for it in crates} - {it for it in names if it.endswith(".edit") and os.path.isfile(it)}
+    bodies = [it for crate in crates for it in bodies_of(crate)]
+    unknown = {*asked.names} - {it.name for it in crates} - {it.name for it in bodies}
     if unknown:
-        sys.exit(f"no crate and no edit: {', '.join(sorted(unknown))}")
+        sys.exit(f"no crate and no wrong body: {', '.join(sorted(unknown))}")
+    if asked.names:
+        bodies = [it for it in bodies if it.crate.name in asked.names or it.name in asked.names]
+    if asked.sample is not None:
+        seed = random.randrange(2**32) if asked.seed is None else asked.seed
+        print(f"seed {seed}", flush=True)
+        drawn = {*random.Random(seed).sample(range(len(bodies)), min(asked.sample, len(bodies)))}
+        bodies = [it for at, it in enumerate(bodies) if at in drawn]
+    if asked.lists:
+        faults = [it for it in bodies if it.fault]
+        for it in faults:
+            print(f"{it.name}: {it.fault}")
+        print(f"{len(bodies) - len(faults)} of {len(bodies)} can be applied")
+        return 1 if faults else 0
     failed = 0
     for crate in crates:
-        files = files_of(crate, names)
-        if files:
+        own = [it for it in bodies if it.crate is crate]
+        if own:
             held = rt.rtlib.lock([crate, *crate.below()])
-            failed += len(files) - try_all(crate, files)
+            failed += len(own) - try_all(crate, own)
             for it in held:
                 os.close(it)
     return 1 if failed else 0
