@@ -1,10 +1,11 @@
 #!/usr/bin/env python3
-"""Times the program on generated units of several sizes, beside a program that only reads the same lines: seconds of
-processor, the least of some runs.
+"""Times the program on generated units of several sizes, beside Rust's serde_json reading the same lines into values:
+seconds of processor, the least of some runs.
 
 Usage, at the top of the repository: bench/first_path.py [ITEMS ..]
 Without sizes: 10,000, 20,000 and 40,000 items. Both programs must be built: `rt run < /dev/null` in
-crates/hir_session_main and in crates/json_lines.
+crates/hir_session_main, and `cargo build --release --offline` in bench/serde_json_lines (over Debian's
+librust-serde-json-dev).
 """
 import sys
 
@@ -14,7 +15,7 @@ SIZES = [int(it) for it in sys.argv[1:]] or [10_000, 20_000, 40_000]
 RESOLVES = 10_000
 LINKS = [500, 1_000, 2_000]
 SESSION = "crates/hir_session_main/out/hir_session_main"
-READER = "crates/json_lines/out/json_lines"
+READER = "bench/serde_json_lines/target/release/serde_json_lines"
 
 
 class Ids:
@@ -82,10 +83,10 @@ def one_unit(items):
     missing = sum(1 for it in replies[3:] if '"types":null' in it)
     print(f"unit of {items} items, {len(text(head)) / 1e6:.2f} MB of JSON, {memory(SESSION, head + REFRESH + asks):.0f} MB of memory; "
           f"{RESOLVES} resolves, {missing} of them without an answer")
-    print(f"  reading and keeping: {reading:.3f} s, {reading / alone:.1f} times reading alone ({alone:.3f} s)")
-    print(f"  first refresh: {refreshed - reading:.3f} s, {(refreshed - reading) / alone:.1f} times reading alone")
+    print(f"  reading and keeping: {reading:.3f} s, {reading / alone:.1f} times serde_json ({alone:.3f} s)")
+    print(f"  first refresh: {refreshed - reading:.3f} s, {(refreshed - reading) / alone:.1f} times serde_json")
     print(f"  {RESOLVES} resolves: {answered - refreshed:.3f} s, "
-          f"{(answered - refreshed) / asks_alone:.1f} times reading their lines alone")
+          f"{(answered - refreshed) / asks_alone:.1f} times serde_json on their lines")
 
 
 def one_chain(links):
