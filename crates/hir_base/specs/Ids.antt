@@ -16,39 +16,39 @@ use Rattle.hir_base.specs.declared.macro_kind.MacroId.TheVariants as macro
 
 -- the module itself, or the one that holds the extern block, trait or impl
 abbrev pub container_module : ItemContainerId → ModuleId
-container_module (container.ExternBlockId id) = id.container
+container_module (container.ExternBlockId id) = id.loc.container
 container_module (container.ModuleId id) = id
-container_module (container.ImplId id) = id.container
-container_module (container.TraitId id) = id.container
+container_module (container.ImplId id) = id.loc.container
+container_module (container.TraitId id) = id.loc.container
 
 -- the module that holds a struct, union or enum
 abbrev pub adt_module : AdtId → ModuleId
-adt_module (adt.StructId id) = id.container
-adt_module (adt.UnionId id) = id.container
-adt_module (adt.EnumId id) = id.container
+adt_module (adt.StructId id) = id.loc.container
+adt_module (adt.UnionId id) = id.loc.container
+adt_module (adt.EnumId id) = id.loc.container
 
 -- the module that holds a macro
 abbrev pub macro_module : MacroId → ModuleId
-macro_module (macro.Macro2Id id) = id.container
-macro_module (macro.MacroRulesId id) = id.container
-macro_module (macro.ProcMacroId id) = id.container
+macro_module (macro.Macro2Id id) = id.loc.container
+macro_module (macro.MacroRulesId id) = id.loc.container
+macro_module (macro.ProcMacroId id) = id.loc.container
 
 -- the module that holds the trait or impl of an item
 abbrev pub assoc_module : AssocItemId → ModuleId
-assoc_module (assoc.FunctionId id) = container_module id.container
-assoc_module (assoc.ConstId id) = container_module id.container
-assoc_module (assoc.TypeAliasId id) = container_module id.container
+assoc_module (assoc.FunctionId id) = container_module id.loc.container
+assoc_module (assoc.ConstId id) = container_module id.loc.container
+assoc_module (assoc.TypeAliasId id) = container_module id.loc.container
 
 -- the module itself, or the one that holds a definition; a builtin type has none
 abbrev pub definition_module : ModuleDefId → Option ModuleId
 definition_module (definition.ModuleId id) = Some id
-definition_module (definition.FunctionId id) = Some (container_module id.container)
+definition_module (definition.FunctionId id) = Some (container_module id.loc.container)
 definition_module (definition.AdtId id) = Some (adt_module id)
-definition_module (definition.EnumVariantId id) = Some id.parent.container
-definition_module (definition.ConstId id) = Some (container_module id.container)
-definition_module (definition.StaticId id) = Some (container_module id.container)
-definition_module (definition.TraitId id) = Some id.container
-definition_module (definition.TypeAliasId id) = Some (container_module id.container)
+definition_module (definition.EnumVariantId id) = Some id.parent.loc.container
+definition_module (definition.ConstId id) = Some (container_module id.loc.container)
+definition_module (definition.StaticId id) = Some (container_module id.loc.container)
+definition_module (definition.TraitId id) = Some id.loc.container
+definition_module (definition.TypeAliasId id) = Some (container_module id.loc.container)
 definition_module (definition.BuiltinType kind) = None
 definition_module (definition.MacroId id) = Some (macro_module id)
 

@@ -42,6 +42,6 @@ styles_of_kind Derive = derive_alone
 
 -- the styles in which a macro may be called
 abbrev pub styles_of : MacroId → MacroCallStyles
-styles_of (Macro2Id id) = styles_of_expander id.expander
-styles_of (MacroRulesId id) = styles_of_expander id.expander
-styles_of (ProcMacroId id) = styles_of_kind id.style
+styles_of (Macro2Id id) = styles_of_expander id.loc.expander
+styles_of (MacroRulesId id) = styles_of_expander id.loc.expander
+styles_of (ProcMacroId id) = styles_of_kind id.loc.style

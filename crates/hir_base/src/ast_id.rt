@@ -17,6 +17,10 @@ pub struct EditionedFileId {
 #[derive(Clone, Copy, Debug, PartialEq, Eq, PartialOrd, Ord, Hash)]
 pub struct MacroCallId(pub u32);
 
+/// An expansion, by its number in the table of expansions. Calls that expand alike share it.
+#[derive(Clone, Copy, Debug, PartialEq, Eq, PartialOrd, Ord, Hash)]
+pub struct EntryId(pub u32);
+
 /// A block expression, by its number in the table of blocks.
 #[derive(Clone, Copy, Debug, PartialEq, Eq, PartialOrd, Ord, Hash)]
 pub struct BlockId(pub u32);
@@ -66,6 +70,8 @@ pub struct SyntaxId {
 #[derive(Clone, Copy, Debug, PartialEq, Eq, PartialOrd, Ord, Hash)]
 pub struct AstId {
     pub file_id: HirFileId,
+    /// The block whose tree keeps the node, if any; the nodes of each block are numbered by themselves.
+    pub block: Option<BlockId>,
     pub kind: AstKind,
     pub id: SyntaxId,
 }

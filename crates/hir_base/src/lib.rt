@@ -8,16 +8,40 @@ pub mod cfg_options;
 pub mod display;
 pub mod edition;
 pub mod file_path;
-pub mod has_module;
 pub mod ids;
 pub mod laws;
 pub mod limit;
 pub mod locations;
-pub mod lookup;
 pub mod macro_kind;
 pub mod mod_path;
 pub mod name;
 mod parse_path;
 mod pieces;
 pub mod place;
+pub mod resolve_mode;
 pub mod text;
+
+pub use ast_id::{
+    AstId, AstKind, AttrId, BlockId, EditionedFileId, EntryId, FileId, HirFileId, InFile,
+    MacroCallId, SyntaxId,
+};
+pub use builtin_type::{BuiltinFloat, BuiltinInt, BuiltinType, BuiltinUint, all_builtin_types};
+pub use cfg::{CfgAtom, CfgExpr};
+pub use cfg_options::CfgOptions;
+pub use file_path::FilePath;
+pub use ids::{
+    AdtId, AssocItemId, ConstId, Crate, EnumId, EnumVariantId, ExternBlockId, ExternCrateId,
+    FunctionId, HasModule, ImplId, ItemContainerId, ItemLoc, Lookup, MapId, ModuleDefId, ModuleId,
+    StaticId, StructId, TraitId, TypeAliasId, UnionId, UseId,
+};
+pub use locations::{Locations, LocationsError};
+pub use macro_kind::{
+    BuiltinDeriveImplId, CallStyle, ExpansionKey, Macro2Id, MacroCallKind, MacroCallLoc,
+    MacroCallStyles, MacroExpander, MacroId, MacroLoc, MacroRulesId, MacroText, ProcMacroId,
+    ProcMacroLoc, ProcMacroStyle, macro_styles_from_id,
+};
+pub use mod_path::{ModPath, ParseError, PathKind};
+pub use name::{Name, NameError};
+pub use place::{BlockPlace, Place, PlaceElement};
+pub use resolve_mode::{BuiltinShadowMode, MacroSubNs};
+pub use text::Text;

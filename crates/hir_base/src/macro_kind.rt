@@ -1,9 +1,11 @@
-//! Macros: how they may be called, and their ids.
+//! Macros: how they may be called, their ids, and their calls.
 ghost use Rattle.std.specs.Prelude.{◌≡◌};
+ghost use Rattle.hir_base.specs.Ids.{adt_module, macro_module};
 ghost use Rattle.hir_base.specs.MacroKind.{every_style, contains_styles, styles_of_expander, styles_of_kind, styles_of};
 
-use crate::ast_id::{AttrId, BlockId, HirFileId, SyntaxId};
-use crate::ids::{AdtId, ModuleId};
+use crate::ast_id::{AstId, AttrId, BlockId, EntryId, HirFileId, SyntaxId};
+use crate::ids::{AdtId, Crate, HasModule, Lookup, ModuleId};
+use crate::text::Text;
 
 /// The styles in which a macro may be called.
 #[derive(Clone, Copy, Debug, PartialEq, Eq, PartialOrd, Ord, Hash)]
@@ -100,34 +102,90 @@ impl ProcMacroStyle {
     }
 }
 
-/// A `macro_rules!` macro.
+/// The location of a macro that is no procedural one, and what expands it.
 #[derive(Clone, Copy, Debug, PartialEq, Eq, PartialOrd, Ord, Hash)]
-pub struct MacroRulesId {
+pub struct MacroLoc {
     pub container: ModuleId,
     pub file_id: HirFileId,
+    /// The block whose tree keeps the item, if any.
     pub block: Option<BlockId>,
     pub id: SyntaxId,
     pub expander: MacroExpander,
+}
+
+impl HasModule for MacroLoc {
+    ghost module_of = { λ loc. loc.container };
+
+    fn module(self) -> ModuleId {
+        self.container
+    }
+}
+
+/// The location of a procedural macro's function, and the macro's style.
+#[derive(Clone, Copy, Debug, PartialEq, Eq, PartialOrd, Ord, Hash)]
+pub struct ProcMacroLoc {
+    pub container: ModuleId,
+    pub file_id: HirFileId,
+    /// The block whose tree keeps the function, if any.
+    pub block: Option<BlockId>,
+    pub id: SyntaxId,
+    pub style: ProcMacroStyle,
+}
+
+impl HasModule for ProcMacroLoc {
+    ghost module_of = { λ loc. loc.container };
+
+    fn module(self) -> ModuleId {
+        self.container
+    }
+}
+
+/// A `macro_rules!` macro.
+#[derive(Clone, Copy, Debug, PartialEq, Eq, PartialOrd, Ord, Hash)]
+pub struct MacroRulesId {
+    pub loc: MacroLoc,
+}
+
+impl Lookup for MacroRulesId {
+    type Loc = MacroLoc;
+
+    ghost loc_of = { λ id. id.loc };
+
+    fn lookup(self) -> MacroLoc {
+        self.loc
+    }
 }
 
 /// A `macro` item.
 #[derive(Clone, Copy, Debug, PartialEq, Eq, PartialOrd, Ord, Hash)]
 pub struct Macro2Id {
-    pub container: ModuleId,
-    pub file_id: HirFileId,
-    pub block: Option<BlockId>,
-    pub id: SyntaxId,
-    pub expander: MacroExpander,
+    pub loc: MacroLoc,
+}
+
+impl Lookup for Macro2Id {
+    type Loc = MacroLoc;
+
+    ghost loc_of = { λ id. id.loc };
+
+    fn lookup(self) -> MacroLoc {
+        self.loc
+    }
 }
 
 /// A procedural macro, by its function.
 #[derive(Clone, Copy, Debug, PartialEq, Eq, PartialOrd, Ord, Hash)]
 pub struct ProcMacroId {
-    pub container: ModuleId,
-    pub file_id: HirFileId,
-    pub block: Option<BlockId>,
-    pub id: SyntaxId,
-    pub style: ProcMacroStyle,
+    pub loc: ProcMacroLoc,
+}
+
+impl Lookup for ProcMacroId {
+    type Loc = ProcMacroLoc;
+
+    ghost loc_of = { λ id. id.loc };
+
+    fn lookup(self) -> ProcMacroLoc {
+        self.loc
+    }
 }
 
 /// A macro.
@@ -136,6 +194,18 @@ pub enum MacroId {
     Macro2Id(Macro2Id),
     MacroRulesId(MacroRulesId),
     ProcMacroId(ProcMacroId),
+}
+
+impl HasModule for MacroId {
+    ghost module_of = { macro_module };
+
+    fn module(self) -> ModuleId {
+        match self {
+            MacroId::Macro2Id(id) => id.loc.container,
+            MacroId::MacroRulesId(id) => id.loc.container,
+            MacroId::ProcMacroId(id) => id.loc.container,
+        }
+    }
 }
 
 /// The impl that a builtin derive macro stands for: which type it is on, which macro it is, and where the `derive`
@@ -148,13 +218,82 @@ pub struct BuiltinDeriveImplId {
     pub derive_index: u32,
 }
 
+impl BuiltinDeriveImplId {
+    /// The impl's location, which its id is.
+    pub fn lookup(self) -> BuiltinDeriveImplId
+        ensures value { result ≡ self }
+    {
+        self
+    }
+}
+
+impl HasModule for BuiltinDeriveImplId {
+    ghost module_of = { λ id. adt_module id.adt };
+
+    fn module(self) -> ModuleId {
+        self.adt.module()
+    }
+}
+
 /// The styles in which a macro may be called: those of its expander, of a procedural macro its one style.
 pub fn macro_styles_from_id(id: MacroId) -> MacroCallStyles
     ensures value { result ≡ styles_of id }
 {
     match id {
-        MacroId::Macro2Id(id) => id.expander.styles(),
-        MacroId::MacroRulesId(id) => id.expander.styles(),
-        MacroId::ProcMacroId(id) => id.style.styles(),
+        MacroId::Macro2Id(id) => id.loc.expander.styles(),
+        MacroId::MacroRulesId(id) => id.loc.expander.styles(),
+        MacroId::ProcMacroId(id) => id.loc.style.styles(),
     }
+}
+
+/// Where a macro is called: by a call, by a path of a `derive` attribute, or by an attribute.
+#[derive(Clone, Copy, Debug, PartialEq, Eq, PartialOrd, Ord, Hash)]
+pub enum MacroCallKind {
+    FnLike {
+        ast: AstId,
+    },
+    /// The item, the attribute, and the number of the path in it.
+    Derive {
+        ast: AstId,
+        attr: AttrId,
+        index: u32,
+    },
+    Attr {
+        ast: AstId,
+        attr: AttrId,
+    },
+}
+
+/// A macro call, and the expansion that it gets. It is the value of a `MacroCallId`.
+#[derive(Clone, Copy, Debug, PartialEq, Eq, PartialOrd, Ord, Hash)]
+pub struct MacroCallLoc {
+    pub kind: MacroCallKind,
+    pub entry: EntryId,
+}
+
+/// How a macro is called, as far as its expansion may depend on it.
+#[derive(Clone, Copy, Debug, PartialEq, Eq, PartialOrd, Ord, Hash)]
+pub enum CallStyle {
+    Bang,
+    Derive,
+    /// The attribute, by its number among those of the item.
+    Attribute(AttrId),
+}
+
+/// The text of a macro of a crate.
+#[derive(Debug, Drop, PartialEq, Eq, PartialOrd, Ord, Hash)]
+pub struct MacroText {
+    pub krate: Crate,
+    pub text: Text,
+}
+
+/// What an expansion depends on: the crate that calls, the macro that it calls, how, and on which input; of an eager
+/// call also the macros that its input reaches. It is the value of an `EntryId`.
+#[derive(Debug, Drop, PartialEq, Eq, PartialOrd, Ord, Hash)]
+pub struct ExpansionKey {
+    pub caller: Crate,
+    pub called: MacroText,
+    pub call: CallStyle,
+    pub input: Text,
+    pub reached: Vec<MacroText>,
 }

@@ -154,3 +154,10 @@ impl Hash for Place {
         self.elements.hash(state);
     }
 }
+
+/// A block expression, by the module or block that holds it and its id there. It is the value of a `BlockId`.
+#[derive(Drop, PartialEq, Eq, PartialOrd, Ord, Hash)]
+pub struct BlockPlace {
+    pub holder: Place,
+    pub id: SyntaxId,
+}

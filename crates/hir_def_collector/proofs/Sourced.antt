@@ -289,7 +289,7 @@ module _ (t : SourceTest) where
 
   -- ---- variants
 
-  of_variants : (id : EnumId) → t.holder id.file_id id.block ≡ false → (o : Option (List VariantItem)) → on_values (on_variant t) (variants_of id o) ≡ false
+  of_variants : (id : EnumId) → t.holder id.loc.file_id id.loc.block ≡ false → (o : Option (List VariantItem)) → on_values (on_variant t) (variants_of id o) ≡ false
   of_variants id f None = refl
   of_variants id f (Some items) = go [] items refl
     where

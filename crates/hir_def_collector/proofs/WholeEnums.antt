@@ -83,7 +83,7 @@ module _ (finished : Maps) (map : Map) (id : EnumId) (variants : Variants) where
       }
 
   -- an enum of the map itself is there
-  pub enum_there : map_id.ghosts.eq id.container.map map.id ≡ true → is_missing (beside finished grown) (named.Enum id) ≡ false
+  pub enum_there : map_id.ghosts.eq id.loc.container.map map.id ≡ true → is_missing (beside finished grown) (named.Enum id) ≡ false
   enum_there own =
-      ap (λ (b : Bool). not (is_some (option_and_then (λ (p : Placed). variants_at p.map id) (cond b (Some (placed_in finished grown)) (finished id.container.map))))) own
+      ap (λ (b : Bool). not (is_some (option_and_then (λ (p : Placed). variants_at p.map id) (cond b (Some (placed_in finished grown)) (finished id.loc.container.map))))) own
       ∙ ap not (now_there enum_order.ghosts.cmp enum_total map.enums id variants)

@@ -128,7 +128,7 @@ declaration_of finished local m v = declared_by finished local m v.site v.item
 
 -- the origin of a module that is written where it is declared
 abbrev pub inline_origin : HirFileId → SyntaxId → ModuleOrigin
-inline_origin file id = origins.Inline (record { file = file; block = None }) (record { file_id = file; kind = kinds.Module; id = id })
+inline_origin file id = origins.Inline (record { file = file; block = None }) (record { file_id = file; block = None; kind = kinds.Module; id = id })
 
 -- ---- what the rules don't speak of yet
 

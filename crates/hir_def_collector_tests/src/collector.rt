@@ -185,7 +185,10 @@ fn import_of_g(rt: &impl Abort, alloc: Global, map: &DefMap) -> Result<(), Fail>
 fn container_of_ext(rt: &impl Abort, alloc: Global, map: &DefMap) -> Result<(), Fail> {
     let foreign = entry(alloc, map, "ext")?.values.ok_or("a value")?;
     let held = match foreign.def {
-        ModuleDefId::FunctionId(id) => matches!(id.container, ItemContainerId::ExternBlockId(_)),
+        ModuleDefId::FunctionId(id) => matches!(
+            id.loc.container,
+            ItemContainerId::ExternBlockId(_)
+        ),
         _ => false,
     };
     assert!(rt; held);

@@ -159,7 +159,7 @@ has_first read (Some p) e = refl
 
 pub there_in : (A : Maps) (n : Named) → is_there A n ≡ true → is_some (A (map_named n)) ≡ true
 there_in A (named.Module m) e = has_first (λ (placed : Placed). module_at placed.map m.index) (A m.map) e
-there_in A (named.Enum id) e = has_first (λ (placed : Placed). variants_at placed.map id) (A id.container.map) e
+there_in A (named.Enum id) e = has_first (λ (placed : Placed). variants_at placed.map id) (A id.loc.container.map) e
 there_in A (named.Map id) e = e
 
 pub both : (a b : Bool) → a ≡ true → b ≡ true → (a && b) ≡ true

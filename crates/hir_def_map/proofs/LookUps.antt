@@ -39,15 +39,15 @@ module _ (maps : Maps) where
   pub parent-none : (m : ModuleId) → map_in maps m.map ≡ None → parent_in maps m ≡ None
   parent-none m e = ap parent_of (module-none m e)
 
-  variants-found : (id : EnumId) (map : Map) → map_in maps id.container.map ≡ Some map → variants_in maps id ≡ variants_at map id
-  variants-found id map e = go (maps id.container.map) e
+  variants-found : (id : EnumId) (map : Map) → map_in maps id.loc.container.map ≡ Some map → variants_in maps id ≡ variants_at map id
+  variants-found id map e = go (maps id.loc.container.map) e
     where
       go : (o : Option Placed) → option_map (λ (p : Placed). p.map) o ≡ Some map → option_and_then (λ (p : Placed). variants_at p.map id) o ≡ variants_at map id
       go None f = absurd cc
       go (Some p) f = let same : p.map ≡ map = cc in ap (λ (x : Map). variants_at x id) same
 
-  variants-none : (id : EnumId) → map_in maps id.container.map ≡ None → variants_in maps id ≡ None
-  variants-none id e = go (maps id.container.map) e
+  variants-none : (id : EnumId) → map_in maps id.loc.container.map ≡ None → variants_in maps id ≡ None
+  variants-none id e = go (maps id.loc.container.map) e
     where
       go : (o : Option Placed) → option_map (λ (p : Placed). p.map) o ≡ None → option_and_then (λ (p : Placed). variants_at p.map id) o ≡ None
       go None f = refl
@@ -56,13 +56,13 @@ module _ (maps : Maps) where
   abbrev among : List ℕ → Option Variants → Option EnumVariant
   among name o = option_and_then (λ (vs : Variants). at_name vs name) o
 
-  pub variant-found : (id : EnumId) (name : List ℕ) (map : Map) (vs : Variants) → map_in maps id.container.map ≡ Some map → variants_at map id ≡ Some vs → variant_in maps id name ≡ at_name vs name
+  pub variant-found : (id : EnumId) (name : List ℕ) (map : Map) (vs : Variants) → map_in maps id.loc.container.map ≡ Some map → variants_at map id ≡ Some vs → variant_in maps id name ≡ at_name vs name
   variant-found id name map vs e f = ap (among name) (variants-found id map e ∙ f)
 
-  pub variant-none : (id : EnumId) (name : List ℕ) (map : Map) → map_in maps id.container.map ≡ Some map → variants_at map id ≡ None → variant_in maps id name ≡ None
+  pub variant-none : (id : EnumId) (name : List ℕ) (map : Map) → map_in maps id.loc.container.map ≡ Some map → variants_at map id ≡ None → variant_in maps id name ≡ None
   variant-none id name map e f = ap (among name) (variants-found id map e ∙ f)
 
-  pub variant-no_map : (id : EnumId) (name : List ℕ) → map_in maps id.container.map ≡ None → variant_in maps id name ≡ None
+  pub variant-no_map : (id : EnumId) (name : List ℕ) → map_in maps id.loc.container.map ≡ None → variant_in maps id name ≡ None
   variant-no_map id name e = ap (among name) (variants-none id e)
 
   pub legacy-found : (m : ModuleId) (name : List ℕ) (map : Map) → map_in maps m.map ≡ Some map → legacy_of (module_in maps m) name ≡ legacy_of (module_at map m.index) name

@@ -41,9 +41,9 @@ use Rattle.hir_def_map.specs.Scoping.FirstSegment.{builtin_bound, builtin_name, 
 use Rattle.hir_def_map.specs.Scoping.Segments.{after_enum, crossing, nearest_non_block_module, rest, seen, through, through_adt, through_type, unresolved, variant_in}
 use Rattle.hir_def_map.specs.Scoping.Start.{abs_from, climb, crate_root, from_start, is_import, is_in_reach, module_bound, is_in_edition_2015, settled_in_block, super_from}
 use Rattle.hir_def_map.specs.declared.nameres.enum_variants.EnumVariant.{EnumVariant}
-use Rattle.hir_def_map.specs.declared.nameres.path_resolution.BuiltinShadowMode.{BuiltinShadowMode}
-use Rattle.hir_def_map.specs.declared.nameres.path_resolution.BuiltinShadowMode.TheVariants as shadow_modes
-use Rattle.hir_def_map.specs.declared.nameres.path_resolution.MacroSubNs.{MacroSubNs}
+use Rattle.hir_base.specs.declared.resolve_mode.BuiltinShadowMode.{BuiltinShadowMode}
+use Rattle.hir_base.specs.declared.resolve_mode.BuiltinShadowMode.TheVariants as shadow_modes
+use Rattle.hir_base.specs.declared.resolve_mode.MacroSubNs.{MacroSubNs}
 use Rattle.hir_def_map.specs.declared.nameres.path_resolution.ReachedFixedPoint.TheVariants.{Yes, No}
 use Rattle.hir_def_map.specs.declared.nameres.path_resolution.ResolvePathResult.{ResolvePathResult}
 
@@ -248,16 +248,16 @@ module _ (t : SourceTest) where
     of_seen from at name = of_keep (λ v. is_visible (above_in maps) (holders_in maps) v from) (entry_in maps at name) (of_entry at name)
 
     of_variant_in : (id : EnumId) (name : List ℕ) → on_some (on_variant t) (variant_in maps id name) ≡ false
-    of_variant_in id name = go (maps id.container.map) refl
+    of_variant_in id name = go (maps id.loc.container.map) refl
       where
         named : (o : Option Variants) → on_some (λ (vs : Variants). on_values (on_variant t) vs) o ≡ false → on_some (on_variant t) (option_and_then (λ (vs : Variants). at_name vs name) o) ≡ false
         named None f = refl
         named (Some vs) f = found (on_variant t) (is_at (slice_cmp nat_cmp name)) vs f
 
-        go : (o : Option Placed) → maps id.container.map ≡ o
+        go : (o : Option Placed) → maps id.loc.container.map ≡ o
             → on_some (on_variant t) (option_and_then (λ (vs : Variants). at_name vs name) (option_and_then (λ (placed : Placed). variants_at placed.map id) o)) ≡ false
         go None e = refl
-        go (Some placed) e = named (variants_at placed.map id) (found (λ (vs : Variants). on_values (on_variant t) vs) (is_at (enum_order.ghosts.cmp id)) placed.map.enums (nowhere id.container.map placed e).enums)
+        go (Some placed) e = named (variants_at placed.map id) (found (λ (vs : Variants). on_values (on_variant t) vs) (is_at (enum_order.ghosts.cmp id)) placed.map.enums (nowhere id.loc.container.map placed e).enums)
 
     of_enum : (ss : List (List ℕ)) (i : ℕ) (item : Item ModuleDefId ImportOrExternCrate) → on_type t item ≡ false → (o : Option EnumVariant) → on_some (on_variant t) o ≡ false
         → Answers (after_enum ss i item o)

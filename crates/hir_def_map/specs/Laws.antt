@@ -17,7 +17,7 @@ use Rattle.hir_scope.specs.GlobImports.{GlobNames}
 use Rattle.hir_scope.specs.ModuleTree.{same_block, same_crate}
 use Rattle.hir_scope.specs.Visibility.{is_visible}
 use Rattle.hir_def_map.specs.declared.nameres.declaration.Declaration.{Declaration}
-use Rattle.hir_def_map.specs.declared.nameres.path_resolution.BuiltinShadowMode.TheVariants as shadow_modes
+use Rattle.hir_base.specs.declared.resolve_mode.BuiltinShadowMode.TheVariants as shadow_modes
 use Rattle.hir_def_map.specs.declared.nameres.path_resolution.ResolvePathResult.{ResolvePathResult}
 use Rattle.hir_def_map.specs.Declaration.{listed}
 use Rattle.hir_def_map.specs.Listed.{KeepsNames}

@@ -41,7 +41,7 @@ named_by (def.MacroId id) = None
 -- the map in which it has to be
 abbrev pub map_named : Named → MapId
 map_named (named.Module m) = m.map
-map_named (named.Enum e) = e.container.map
+map_named (named.Enum e) = e.loc.container.map
 map_named (named.Map id) = id
 
 abbrev pub lies_in : MapId → Named → Bool

@@ -46,38 +46,38 @@ on_values test entries = list_any (λ e. test e.1) entries
 -- ---- whether a test holds of where something is written
 
 abbrev pub on_adt : SourceTest → AdtId → Bool
-on_adt t (adt.StructId i) = t.holder i.file_id i.block
-on_adt t (adt.UnionId i) = t.holder i.file_id i.block
-on_adt t (adt.EnumId i) = t.holder i.file_id i.block
+on_adt t (adt.StructId i) = t.holder i.loc.file_id i.loc.block
+on_adt t (adt.UnionId i) = t.holder i.loc.file_id i.loc.block
+on_adt t (adt.EnumId i) = t.holder i.loc.file_id i.loc.block
 
 abbrev pub on_macro : SourceTest → MacroId → Bool
-on_macro t (macro.Macro2Id i) = t.holder i.file_id i.block
-on_macro t (macro.MacroRulesId i) = t.holder i.file_id i.block
-on_macro t (macro.ProcMacroId i) = t.holder i.file_id i.block
+on_macro t (macro.Macro2Id i) = t.holder i.loc.file_id i.loc.block
+on_macro t (macro.MacroRulesId i) = t.holder i.loc.file_id i.loc.block
+on_macro t (macro.ProcMacroId i) = t.holder i.loc.file_id i.loc.block
 
 -- a definition; a builtin type is written nowhere, and a module is by its origin
 abbrev pub on_def : SourceTest → ModuleDefId → Bool
 on_def t (def.ModuleId m) = false
-on_def t (def.FunctionId i) = t.holder i.file_id i.block
+on_def t (def.FunctionId i) = t.holder i.loc.file_id i.loc.block
 on_def t (def.AdtId i) = on_adt t i
-on_def t (def.EnumVariantId i) = t.holder i.parent.file_id i.parent.block
-on_def t (def.ConstId i) = t.holder i.file_id i.block
-on_def t (def.StaticId i) = t.holder i.file_id i.block
-on_def t (def.TraitId i) = t.holder i.file_id i.block
-on_def t (def.TypeAliasId i) = t.holder i.file_id i.block
+on_def t (def.EnumVariantId i) = t.holder i.parent.loc.file_id i.parent.loc.block
+on_def t (def.ConstId i) = t.holder i.loc.file_id i.loc.block
+on_def t (def.StaticId i) = t.holder i.loc.file_id i.loc.block
+on_def t (def.TraitId i) = t.holder i.loc.file_id i.loc.block
+on_def t (def.TypeAliasId i) = t.holder i.loc.file_id i.loc.block
 on_def t (def.BuiltinType b) = false
 on_def t (def.MacroId i) = on_macro t i
 
 -- a definition as a value; it holds of each module, and no value is one
 abbrev pub on_value_def : SourceTest → ModuleDefId → Bool
 on_value_def t (def.ModuleId m) = true
-on_value_def t (def.FunctionId i) = t.holder i.file_id i.block
+on_value_def t (def.FunctionId i) = t.holder i.loc.file_id i.loc.block
 on_value_def t (def.AdtId i) = on_adt t i
-on_value_def t (def.EnumVariantId i) = t.holder i.parent.file_id i.parent.block
-on_value_def t (def.ConstId i) = t.holder i.file_id i.block
-on_value_def t (def.StaticId i) = t.holder i.file_id i.block
-on_value_def t (def.TraitId i) = t.holder i.file_id i.block
-on_value_def t (def.TypeAliasId i) = t.holder i.file_id i.block
+on_value_def t (def.EnumVariantId i) = t.holder i.parent.loc.file_id i.parent.loc.block
+on_value_def t (def.ConstId i) = t.holder i.loc.file_id i.loc.block
+on_value_def t (def.StaticId i) = t.holder i.loc.file_id i.loc.block
+on_value_def t (def.TraitId i) = t.holder i.loc.file_id i.loc.block
+on_value_def t (def.TypeAliasId i) = t.holder i.loc.file_id i.loc.block
 on_value_def t (def.BuiltinType b) = false
 on_value_def t (def.MacroId i) = on_macro t i
 
@@ -90,13 +90,13 @@ on_origin t (origin.BlockExpr id block) = t.holder block.file_id (Some id)
 
 -- what brought a binding
 abbrev pub on_import : SourceTest → ImportOrExternCrate → Bool
-on_import t (import.Glob g) = t.holder g.use_.file_id g.use_.block
-on_import t (import.Import i) = t.holder i.use_.file_id i.use_.block
-on_import t (import.ExternCrate i) = t.holder i.file_id i.block
+on_import t (import.Glob g) = t.holder g.use_.loc.file_id g.use_.loc.block
+on_import t (import.Import i) = t.holder i.use_.loc.file_id i.use_.loc.block
+on_import t (import.ExternCrate i) = t.holder i.loc.file_id i.loc.block
 
 abbrev pub on_value_import : SourceTest → ImportOrGlob → Bool
-on_value_import t (value_import.Glob g) = t.holder g.use_.file_id g.use_.block
-on_value_import t (value_import.Import i) = t.holder i.use_.file_id i.use_.block
+on_value_import t (value_import.Glob g) = t.holder g.use_.loc.file_id g.use_.loc.block
+on_value_import t (value_import.Import i) = t.holder i.use_.loc.file_id i.use_.loc.block
 
 -- an `extern crate` that names a crate or brought a macro, if one does
 abbrev pub on_extern : SourceTest → Option ExternCrateId → Bool

@@ -217,7 +217,7 @@ parent_in maps m = parent_of (module_in maps m)
 
 -- the variants of an enum, which stand in the map of the module that declares it
 abbrev pub variants_in : Maps → EnumId → Option Variants
-variants_in maps id = option_and_then (λ (placed : Placed). variants_at placed.map id) (maps id.container.map)
+variants_in maps id = option_and_then (λ (placed : Placed). variants_at placed.map id) (maps id.loc.container.map)
 
 -- ---- building
 

@@ -59,7 +59,7 @@ Extends-beside finished map new n there = go n there
 
     go : (n : Named) → is_there finished n ≡ true → is_there (beside finished map) n ≡ true
     go (named.Module m) t = let away = other m.map (from_some (λ (p : Placed). module_at p.map m.index) (finished m.map) t) in rw away t
-    go (named.Enum e) t = let away = other e.container.map (from_some (λ (p : Placed). variants_at p.map e) (finished e.container.map) t) in rw away t
+    go (named.Enum e) t = let away = other e.loc.container.map (from_some (λ (p : Placed). variants_at p.map e) (finished e.loc.container.map) t) in rw away t
     go (named.Map id) t = let away = other id t in rw away t
 
 module _ (finished : Maps) (old new : Map) (same : new.id ≡ old.id) (modules : (k : ℕ) → is_some (module_at old k) ≡ true → is_some (module_at new k) ≡ true)
@@ -72,10 +72,10 @@ module _ (finished : Maps) (old new : Map) (same : new.id ≡ old.id) (modules :
           → is_some (option_and_then (λ (p : Placed). module_at p.map m.index) (cond b (Some (placed_in finished new)) (finished m.map))) ≡ true
       go true f = modules m.index f
       go false f = f
-  Extends-grown (named.Enum e) t = ap (λ (id : MapId). is_some (option_and_then (λ (p : Placed). variants_at p.map e) (cond (map_id.ghosts.eq e.container.map id) (Some (placed_in finished new)) (finished e.container.map)))) same ∙ go (map_id.ghosts.eq e.container.map old.id) t
+  Extends-grown (named.Enum e) t = ap (λ (id : MapId). is_some (option_and_then (λ (p : Placed). variants_at p.map e) (cond (map_id.ghosts.eq e.loc.container.map id) (Some (placed_in finished new)) (finished e.loc.container.map)))) same ∙ go (map_id.ghosts.eq e.loc.container.map old.id) t
     where
-      go : (b : Bool) → is_some (option_and_then (λ (p : Placed). variants_at p.map e) (cond b (Some (placed_in finished old)) (finished e.container.map))) ≡ true
-          → is_some (option_and_then (λ (p : Placed). variants_at p.map e) (cond b (Some (placed_in finished new)) (finished e.container.map))) ≡ true
+      go : (b : Bool) → is_some (option_and_then (λ (p : Placed). variants_at p.map e) (cond b (Some (placed_in finished old)) (finished e.loc.container.map))) ≡ true
+          → is_some (option_and_then (λ (p : Placed). variants_at p.map e) (cond b (Some (placed_in finished new)) (finished e.loc.container.map))) ≡ true
       go true f = enums e f
       go false f = f
   Extends-grown (named.Map k) t = ap (λ (id : MapId). is_some (cond (map_id.ghosts.eq k id) (Some (placed_in finished new)) (finished k))) same ∙ go (map_id.ghosts.eq k old.id) t

@@ -16,7 +16,7 @@ use Rattle.hir_scope.specs.ModuleTree.{same_map}
 use Rattle.hir_def_map.specs.State.{Local, Maps, root_of}
 use Rattle.hir_def_map.specs.Scoping.{Resolution, resolution_of}
 use Rattle.hir_def_map.specs.Scoping.Asking.{Asking, by_other}
-use Rattle.hir_def_map.specs.declared.nameres.path_resolution.BuiltinShadowMode.TheVariants as shadow_modes
+use Rattle.hir_base.specs.declared.resolve_mode.BuiltinShadowMode.TheVariants as shadow_modes
 
 -- how the path of a visibility is asked for
 abbrev pub by_visibility : Local → Asking

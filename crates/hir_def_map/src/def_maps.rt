@@ -93,7 +93,7 @@ impl DefMaps<'_> {
     pub fn variant(&self, id: EnumId, name: &Name) -> Option<EnumVariant>
         ensures value { result ≡ variant_in (maps_of self.now) id name.now }
     {
-        match self.map(id.container.map) {
+        match self.map(id.loc.container.map) {
             Some(map) => match map.enum_variants(id) {
                 Some(variants) => variants.get(name),
                 None => None,

@@ -19,8 +19,8 @@ use hir_base::ast_id::{AstId, AstKind, EditionedFileId, FileId, HirFileId, Synta
 use hir_base::builtin_type::{BuiltinType, BuiltinUint};
 use hir_base::edition::Edition;
 use hir_base::ids::{
-    AdtId, Crate, ExternCrateId, FunctionId, ItemContainerId, MapId, ModuleDefId, ModuleId,
-    StructId, UseId,
+    AdtId, Crate, ExternCrateId, FunctionId, ItemContainerId, ItemLoc, MapId, ModuleDefId,
+    ModuleId, StructId, UseId,
 };
 use hir_base::name::Name;
 use hir_def_map::nameres::DefMap;
@@ -65,6 +65,7 @@ fn inline(number: u16) -> ModuleOrigin {
         definition_tree_id: TreeId::new(HirFileId::File(FILE), None),
         definition: AstId {
             file_id: HirFileId::File(FILE),
+            block: None,
             kind: AstKind::Module,
             id: node(number),
         },
@@ -74,29 +75,35 @@ fn inline(number: u16) -> ModuleOrigin {
 /// The struct of a node.
 fn structure(container: u32, number: u16) -> ModuleDefId {
     ModuleDefId::AdtId(AdtId::StructId(StructId {
-        container: module(container),
-        file_id: HirFileId::File(FILE),
-        block: None,
-        id: node(number),
+        loc: ItemLoc {
+            container: module(container),
+            file_id: HirFileId::File(FILE),
+            block: None,
+            id: node(number),
+        },
     }))
 }
 
 /// The function of a node.
 fn function(container: u32, number: u16) -> ModuleDefId {
     ModuleDefId::FunctionId(FunctionId {
-        container: ItemContainerId::ModuleId(module(container)),
-        file_id: HirFileId::File(FILE),
-        block: None,
-        id: node(number),
+        loc: ItemLoc {
+            container: ItemContainerId::ModuleId(module(container)),
+            file_id: HirFileId::File(FILE),
+            block: None,
+            id: node(number),
+        },
     })
 }
 
 fn use_item(number: u16) -> UseId {
     UseId {
-        container: module(0),
-        file_id: HirFileId::File(FILE),
-        block: None,
-        id: node(number),
+        loc: ItemLoc {
+            container: module(0),
+            file_id: HirFileId::File(FILE),
+            block: None,
+            id: node(number),
+        },
     }
 }
 
@@ -127,10 +134,12 @@ fn by_glob(number: u16) -> Option<ImportOrExternCrate> {
 /// The `extern crate` item of a node.
 fn by_extern_crate(number: u16) -> Option<ImportOrExternCrate> {
     Some(ImportOrExternCrate::ExternCrate(ExternCrateId {
-        container: module(0),
-        file_id: HirFileId::File(FILE),
-        block: None,
-        id: node(number),
+        loc: ItemLoc {
+            container: module(0),
+            file_id: HirFileId::File(FILE),
+            block: None,
+            id: node(number),
+        },
     }))
 }
 

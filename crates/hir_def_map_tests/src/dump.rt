@@ -1,7 +1,7 @@
 //! How maps print.
 use hir_base::ast_id::{AstId, AstKind, BlockId, EditionedFileId, FileId, HirFileId, SyntaxId};
 use hir_base::edition::Edition;
-use hir_base::ids::{AdtId, Crate, MapId, ModuleDefId, ModuleId, StructId};
+use hir_base::ids::{AdtId, Crate, ItemLoc, MapId, ModuleDefId, ModuleId, StructId};
 use hir_base::name::Name;
 use hir_def_map::nameres::crate_data::DefMapCrateData;
 use hir_def_map::nameres::local_def_map::LocalDefMap;
@@ -48,6 +48,7 @@ fn inline() -> ModuleOrigin {
         definition_tree_id: TreeId::new(HirFileId::File(FILE), None),
         definition: AstId {
             file_id: HirFileId::File(FILE),
+            block: None,
             kind: AstKind::Module,
             id: NODE,
         },
@@ -57,10 +58,12 @@ fn inline() -> ModuleOrigin {
 /// The type and the value of a struct.
 fn structure(container: ModuleId) -> PerNs {
     let def = ModuleDefId::AdtId(AdtId::StructId(StructId {
-        container,
-        file_id: HirFileId::File(FILE),
-        block: None,
-        id: NODE,
+        loc: ItemLoc {
+            container,
+            file_id: HirFileId::File(FILE),
+            block: None,
+            id: NODE,
+        },
     }));
     let value = PerNs {
         types: None,

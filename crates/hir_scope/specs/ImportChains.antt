@@ -40,7 +40,7 @@ goes_on scope_of rest None = None
 goes_on scope_of rest (Some (reached.Glob glob)) = None
 goes_on scope_of rest (Some (reached.ExternCrate declared)) = None
 goes_on scope_of rest (Some (reached.Def def)) = Some def
-goes_on scope_of rest (Some (reached.Import import)) = rest_in rest import (scope_of import.use_.container)
+goes_on scope_of rest (Some (reached.Import import)) = rest_in rest import (scope_of import.use_.loc.container)
 
 -- the definition at the end of a chain of at most so many records, which begins at an import of a scope
 unfoldable pub chain_end : (ModuleId → Option ScopeValue) → Namespace → ℕ → ScopeValue → ImportId → Option ModuleDefId

@@ -2,7 +2,7 @@
 ghost use Rattle.std.specs.Prelude.{◌≡◌};
 ghost use Rattle.hir_scope.specs.ItemInNs.{def_of_item, module_of_item, crate_of_item};
 
-use hir_base::ids::{Crate, ModuleDefId, ModuleId};
+use hir_base::ids::{Crate, HasModule, ModuleDefId, ModuleId};
 use hir_base::macro_kind::MacroId;
 
 /// An item, by the namespace that it stands in.

@@ -8,8 +8,10 @@ mod visibility;
 
 use hir_base::ast_id::{EditionedFileId, FileId, HirFileId, SyntaxId};
 use hir_base::edition::Edition;
-use hir_base::ids::{AdtId, Crate, ExternCrateId, MapId, ModuleDefId, ModuleId, StructId, UseId};
-use hir_base::macro_kind::{MacroCallStyles, MacroExpander, MacroId, MacroRulesId};
+use hir_base::ids::{
+    AdtId, Crate, ExternCrateId, ItemLoc, MapId, ModuleDefId, ModuleId, StructId, UseId,
+};
+use hir_base::macro_kind::{MacroCallStyles, MacroExpander, MacroId, MacroLoc, MacroRulesId};
 use hir_base::name::Name;
 use hir_scope::glob_imports::PerNsGlobImports;
 use hir_scope::imports::{GlobId, ImportId, ImportOrExternCrate};
@@ -43,10 +45,12 @@ fn node(number: u16) -> SyntaxId {
 
 fn adt(number: u16) -> AdtId {
     AdtId::StructId(StructId {
-        container: module(0),
-        file_id: FILE,
-        block: None,
-        id: node(number),
+        loc: ItemLoc {
+            container: module(0),
+            file_id: FILE,
+            block: None,
+            id: node(number),
+        },
     })
 }
 
@@ -56,20 +60,24 @@ fn structure(number: u16) -> ModuleDefId {
 
 fn macro_of(number: u16, styles: MacroCallStyles) -> MacroId {
     MacroId::MacroRulesId(MacroRulesId {
-        container: module(0),
-        file_id: FILE,
-        block: None,
-        id: node(number),
-        expander: MacroExpander::Declarative(styles),
+        loc: MacroLoc {
+            container: module(0),
+            file_id: FILE,
+            block: None,
+            id: node(number),
+            expander: MacroExpander::Declarative(styles),
+        },
     })
 }
 
 fn use_item(at: u32, number: u16) -> UseId {
     UseId {
-        container: module(at),
-        file_id: FILE,
-        block: None,
-        id: node(number),
+        loc: ItemLoc {
+            container: module(at),
+            file_id: FILE,
+            block: None,
+            id: node(number),
+        },
     }
 }
 
@@ -93,10 +101,12 @@ fn by_glob(number: u16) -> Option<ImportOrExternCrate> {
 
 fn extern_crate(number: u16) -> ExternCrateId {
     ExternCrateId {
-        container: module(0),
-        file_id: FILE,
-        block: None,
-        id: node(number),
+        loc: ItemLoc {
+            container: module(0),
+            file_id: FILE,
+            block: None,
+            id: node(number),
+        },
     }
 }
 

@@ -64,7 +64,7 @@ same_looks s path there same alike (keys.Tree krate file) = on_bool (is_path pat
     (λ on. look-same s.crates s.paths s.files path there krate file on (same krate.0))
     (λ off. look-other s.crates s.paths s.files path there krate file off)
 same_looks s path there same alike (keys.Variants id) = on_bool (is_enum_at s.paths path (keys.Variants id))
-    (λ on. enum-same s.crates s.paths s.files path there id on (alike id.container.map.krate.0 id.id))
+    (λ on. enum-same s.crates s.paths s.files path there id on (alike id.loc.container.map.krate.0 id.loc.id))
     (λ off. enum-other s.crates s.paths s.files path there id off)
 same_looks s path there same alike (keys.Map id) = refl
 

@@ -164,40 +164,40 @@ module _ (crates : List CrateValue) (paths : List (List ℕ)) (F : Files) (path 
   -- the variants of an enum of another file, or of a block
   pub enum-other : is_enum_at paths path (keys.Variants id) ≡ false
       → look (workspace_in crates paths (edited_at F path there)) no_maps (keys.Variants id) ≡ look (workspace_in crates paths F) no_maps (keys.Variants id)
-  enum-other h = go (is_none id.block) h
+  enum-other h = go (is_none id.loc.block) h
     where
-      go : (b : Bool) → (b && is_path path (path_in paths id.file_id)) ≡ false
-          → of_variants (cond b (variants_under crates id.container.map.krate.0 (source_in paths (edited_at F path there) id.file_id) id.id) None)
-          ≡ of_variants (cond b (variants_under crates id.container.map.krate.0 (source_in paths F id.file_id) id.id) None)
-      go true e = ap (λ (o : Option SourceValue). of_variants (variants_under crates id.container.map.krate.0 o id.id)) (source-other F path there (path_in paths id.file_id) e)
+      go : (b : Bool) → (b && is_path path (path_in paths id.loc.file_id)) ≡ false
+          → of_variants (cond b (variants_under crates id.loc.container.map.krate.0 (source_in paths (edited_at F path there) id.loc.file_id) id.loc.id) None)
+          ≡ of_variants (cond b (variants_under crates id.loc.container.map.krate.0 (source_in paths F id.loc.file_id) id.loc.id) None)
+      go true e = ap (λ (o : Option SourceValue). of_variants (variants_under crates id.loc.container.map.krate.0 o id.loc.id)) (source-other F path there (path_in paths id.loc.file_id) e)
       go false e = refl
 
   -- those of an enum of the file, which stay
   pub enum-same : is_enum_at paths path (keys.Variants id) ≡ true
-      → variants_under crates id.container.map.krate.0 there id.id ≡ variants_under crates id.container.map.krate.0 (file_at F path) id.id
+      → variants_under crates id.loc.container.map.krate.0 there id.loc.id ≡ variants_under crates id.loc.container.map.krate.0 (file_at F path) id.loc.id
       → look (workspace_in crates paths (edited_at F path there)) no_maps (keys.Variants id) ≡ look (workspace_in crates paths F) no_maps (keys.Variants id)
-  enum-same h alike = go (is_none id.block) h
+  enum-same h alike = go (is_none id.loc.block) h
     where
-      go : (b : Bool) → (b && is_path path (path_in paths id.file_id)) ≡ true
-          → of_variants (cond b (variants_under crates id.container.map.krate.0 (source_in paths (edited_at F path there) id.file_id) id.id) None)
-          ≡ of_variants (cond b (variants_under crates id.container.map.krate.0 (source_in paths F id.file_id) id.id) None)
+      go : (b : Bool) → (b && is_path path (path_in paths id.loc.file_id)) ≡ true
+          → of_variants (cond b (variants_under crates id.loc.container.map.krate.0 (source_in paths (edited_at F path there) id.loc.file_id) id.loc.id) None)
+          ≡ of_variants (cond b (variants_under crates id.loc.container.map.krate.0 (source_in paths F id.loc.file_id) id.loc.id) None)
       go true e =
-          ap (λ (o : Option SourceValue). of_variants (variants_under crates id.container.map.krate.0 o id.id)) (source-there F path there (path_in paths id.file_id) e)
+          ap (λ (o : Option SourceValue). of_variants (variants_under crates id.loc.container.map.krate.0 o id.loc.id)) (source-there F path there (path_in paths id.loc.file_id) e)
           ∙ ap (λ (v : Option (List VariantItem)). of_variants v) alike
-          ∙ sym (ap (λ (o : Option SourceValue). of_variants (variants_under crates id.container.map.krate.0 o id.id)) (source-was F path there (path_in paths id.file_id) e))
+          ∙ sym (ap (λ (o : Option SourceValue). of_variants (variants_under crates id.loc.container.map.krate.0 o id.loc.id)) (source-was F path there (path_in paths id.loc.file_id) e))
       go false e = clash e refl
 
   -- and which become others
   pub enum-differs : is_enum_at paths path (keys.Variants id) ≡ true
-      → variants_under crates id.container.map.krate.0 there id.id ≢ variants_under crates id.container.map.krate.0 (file_at F path) id.id
+      → variants_under crates id.loc.container.map.krate.0 there id.loc.id ≢ variants_under crates id.loc.container.map.krate.0 (file_at F path) id.loc.id
       → look (workspace_in crates paths (edited_at F path there)) no_maps (keys.Variants id) ≢ look (workspace_in crates paths F) no_maps (keys.Variants id)
-  enum-differs h other = go (is_none id.block) h
+  enum-differs h other = go (is_none id.loc.block) h
     where
-      go : (b : Bool) → (b && is_path path (path_in paths id.file_id)) ≡ true
-          → of_variants (cond b (variants_under crates id.container.map.krate.0 (source_in paths (edited_at F path there) id.file_id) id.id) None)
-          ≢ of_variants (cond b (variants_under crates id.container.map.krate.0 (source_in paths F id.file_id) id.id) None)
+      go : (b : Bool) → (b && is_path path (path_in paths id.loc.file_id)) ≡ true
+          → of_variants (cond b (variants_under crates id.loc.container.map.krate.0 (source_in paths (edited_at F path there) id.loc.file_id) id.loc.id) None)
+          ≢ of_variants (cond b (variants_under crates id.loc.container.map.krate.0 (source_in paths F id.loc.file_id) id.loc.id) None)
       go true e same = other (
-          sym (ap (λ (o : Option SourceValue). variants_under crates id.container.map.krate.0 o id.id) (source-there F path there (path_in paths id.file_id) e))
+          sym (ap (λ (o : Option SourceValue). variants_under crates id.loc.container.map.krate.0 o id.loc.id) (source-there F path there (path_in paths id.loc.file_id) e))
           ∙ variants-same _ _ same
-          ∙ ap (λ (o : Option SourceValue). variants_under crates id.container.map.krate.0 o id.id) (source-was F path there (path_in paths id.file_id) e))
+          ∙ ap (λ (o : Option SourceValue). variants_under crates id.loc.container.map.krate.0 o id.loc.id) (source-was F path there (path_in paths id.loc.file_id) e))
       go false e same = clash e refl

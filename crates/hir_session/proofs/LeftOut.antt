@@ -151,23 +151,23 @@ module _ (paths : List (List ℕ)) (maps : Maps) where
   by_origin krate (origin.BlockExpr id block) f = absurd (true≢false f)
 
   adt_there : (a : AdtId) → on_adt unsourced a ≡ false → is_some (adt_definition paths a) ≡ true
-  adt_there (adt.StructId i) f = item_there i.container.map.krate _ i.file_id i.block i.id f
-  adt_there (adt.UnionId i) f = item_there i.container.map.krate _ i.file_id i.block i.id f
-  adt_there (adt.EnumId i) f = item_there i.container.map.krate _ i.file_id i.block i.id f
+  adt_there (adt.StructId i) f = item_there i.loc.container.map.krate _ i.loc.file_id i.loc.block i.loc.id f
+  adt_there (adt.UnionId i) f = item_there i.loc.container.map.krate _ i.loc.file_id i.loc.block i.loc.id f
+  adt_there (adt.EnumId i) f = item_there i.loc.container.map.krate _ i.loc.file_id i.loc.block i.loc.id f
 
   macro_there : (m : MacroId) → on_macro unsourced m ≡ false → is_some (macro_definition paths m) ≡ true
-  macro_there (macro.Macro2Id i) f = item_there i.container.map.krate _ i.file_id i.block i.id f
-  macro_there (macro.MacroRulesId i) f = item_there i.container.map.krate _ i.file_id i.block i.id f
-  macro_there (macro.ProcMacroId i) f = item_there i.container.map.krate _ i.file_id i.block i.id f
+  macro_there (macro.Macro2Id i) f = item_there i.loc.container.map.krate _ i.loc.file_id i.loc.block i.loc.id f
+  macro_there (macro.MacroRulesId i) f = item_there i.loc.container.map.krate _ i.loc.file_id i.loc.block i.loc.id f
+  macro_there (macro.ProcMacroId i) f = item_there i.loc.container.map.krate _ i.loc.file_id i.loc.block i.loc.id f
 
   import_there : (i : ImportOrExternCrate) → on_import unsourced i ≡ false → is_some (import_source paths i) ≡ true
-  import_there (import.Glob g) f = mapped_some _ (source_of paths g.use_.file_id g.use_.block) ∙ present _ f
-  import_there (import.Import i) f = mapped_some _ (source_of paths i.use_.file_id i.use_.block) ∙ present _ f
-  import_there (import.ExternCrate i) f = mapped_some _ (source_of paths i.file_id i.block) ∙ present _ f
+  import_there (import.Glob g) f = mapped_some _ (source_of paths g.use_.loc.file_id g.use_.loc.block) ∙ present _ f
+  import_there (import.Import i) f = mapped_some _ (source_of paths i.use_.loc.file_id i.use_.loc.block) ∙ present _ f
+  import_there (import.ExternCrate i) f = mapped_some _ (source_of paths i.loc.file_id i.loc.block) ∙ present _ f
 
   value_import_there : (i : ImportOrGlob) → on_value_import unsourced i ≡ false → is_some (value_import_source paths i) ≡ true
-  value_import_there (value_import.Glob g) f = mapped_some _ (source_of paths g.use_.file_id g.use_.block) ∙ present _ f
-  value_import_there (value_import.Import i) f = mapped_some _ (source_of paths i.use_.file_id i.use_.block) ∙ present _ f
+  value_import_there (value_import.Glob g) f = mapped_some _ (source_of paths g.use_.loc.file_id g.use_.loc.block) ∙ present _ f
+  value_import_there (value_import.Import i) f = mapped_some _ (source_of paths i.use_.loc.file_id i.use_.loc.block) ∙ present _ f
 
   maybe_there : {I : Type 0} (source : I → Option ImportSource) (test : I → Bool) → ((i : I) → test i ≡ false → is_some (source i) ≡ true)
       → (o : Option I) → on_some test o ≡ false → is_some (maybe_source source o) ≡ true
@@ -202,13 +202,13 @@ module _ (paths : List (List ℕ)) (maps : Maps) where
 
     def_there : (d : ModuleDefId) → on_def unsourced d ≡ false → ((m : ModuleId) → d ≡ def.ModuleId m → ModuleIsThere maps m) → is_some (definition_of paths maps d) ≡ true
     def_there (def.ModuleId m) f there = module_shown m (there m refl)
-    def_there (def.FunctionId i) f there = item_there _ _ i.file_id i.block i.id f
+    def_there (def.FunctionId i) f there = item_there _ _ i.loc.file_id i.loc.block i.loc.id f
     def_there (def.AdtId i) f there = adt_there i f
-    def_there (def.EnumVariantId i) f there = item_there _ _ i.parent.file_id i.parent.block i.id f
-    def_there (def.ConstId i) f there = item_there _ _ i.file_id i.block i.id f
-    def_there (def.StaticId i) f there = item_there _ _ i.file_id i.block i.id f
-    def_there (def.TraitId i) f there = item_there _ _ i.file_id i.block i.id f
-    def_there (def.TypeAliasId i) f there = item_there _ _ i.file_id i.block i.id f
+    def_there (def.EnumVariantId i) f there = item_there _ _ i.parent.loc.file_id i.parent.loc.block i.id f
+    def_there (def.ConstId i) f there = item_there _ _ i.loc.file_id i.loc.block i.loc.id f
+    def_there (def.StaticId i) f there = item_there _ _ i.loc.file_id i.loc.block i.loc.id f
+    def_there (def.TraitId i) f there = item_there _ _ i.loc.file_id i.loc.block i.loc.id f
+    def_there (def.TypeAliasId i) f there = item_there _ _ i.loc.file_id i.loc.block i.loc.id f
     def_there (def.BuiltinType b) f there = refl
     def_there (def.MacroId i) f there = macro_there i f
 

@@ -77,7 +77,7 @@ there_in maps (named.Module m) e = go (maps m.map) e
     go : (o : Option Placed) → is_some (option_and_then (λ (p : Placed). module_at p.map m.index) o) ≡ true → is_some o ≡ true
     go None f = f
     go (Some p) f = refl
-there_in maps (named.Enum n) e = go (maps n.container.map) e
+there_in maps (named.Enum n) e = go (maps n.loc.container.map) e
   where
     go : (o : Option Placed) → is_some (option_and_then (λ (p : Placed). variants_at p.map n) o) ≡ true → is_some o ≡ true
     go None f = f
@@ -156,7 +156,7 @@ alike_there (Some x) (Some y) s e = refl
 -- where each map of the one is that of the other, what is there stays there
 pub Extends-by : (one other : Maps) → ((id : MapId) → (map_in one id ≡ map_in other id) ⊎ (one id ≡ None)) → Extends one other
 Extends-by one other same (named.Module m) e = alike (λ (x : Map). module_at x m.index) (one m.map) (other m.map) (same m.map) e
-Extends-by one other same (named.Enum n) e = alike (λ (x : Map). variants_at x n) (one n.container.map) (other n.container.map) (same n.container.map) e
+Extends-by one other same (named.Enum n) e = alike (λ (x : Map). variants_at x n) (one n.loc.container.map) (other n.loc.container.map) (same n.loc.container.map) e
 Extends-by one other same (named.Map id) e = alike_there (one id) (other id) (same id) e
 
 -- a map among those of some crates is as it is among all

@@ -73,7 +73,7 @@ variants_under crates k source id = option_and_then entry_variants (entry_of (re
 -- the variants of an enum; no block is set
 abbrev pub variants_in : List CrateValue → List (List ℕ) → Files → EnumId → Option (List VariantItem)
 variants_in crates paths files id =
-    cond (is_none id.block) (variants_under crates id.container.map.krate.0 (source_in paths files id.file_id) id.id) None
+    cond (is_none id.loc.block) (variants_under crates id.loc.container.map.krate.0 (source_in paths files id.loc.file_id) id.loc.id) None
 
 -- the workspace for which crates, a table of paths and files stand
 abbrev pub workspace_in : List CrateValue → List (List ℕ) → Files → Workspace

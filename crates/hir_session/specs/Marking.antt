@@ -24,7 +24,7 @@ is_path path (Some other) = pointwise nat_eq other path
 -- whether a key is of the variants of an enum in the file at the path
 abbrev pub is_enum_at : List (List ℕ) → List ℕ → Key → Bool
 is_enum_at paths path (Tree krate file) = false
-is_enum_at paths path (Variants id) = is_none id.block && is_path path (path_in paths id.file_id)
+is_enum_at paths path (Variants id) = is_none id.loc.block && is_path path (path_in paths id.loc.file_id)
 is_enum_at paths path (Map id) = false
 
 -- the two have the same at those of the keys that are of such variants, or at the others

@@ -61,10 +61,10 @@ item_of paths krate kind file block id = option_map (item_in krate kind id) (sou
 
 -- the crate of what holds an item
 abbrev pub crate_of : ItemContainerId → Crate
-crate_of (container.ExternBlockId b) = b.container.map.krate
+crate_of (container.ExternBlockId b) = b.loc.container.map.krate
 crate_of (container.ModuleId m) = m.map.krate
-crate_of (container.ImplId i) = i.container.map.krate
-crate_of (container.TraitId t) = t.container.map.krate
+crate_of (container.ImplId i) = i.loc.container.map.krate
+crate_of (container.TraitId t) = t.loc.container.map.krate
 
 -- the crate's root, or the module's node; a block is none
 abbrev pub module_by : List (List ℕ) → Crate → ModuleOrigin → Option Definition
@@ -79,27 +79,27 @@ module_definition paths maps m = option_and_then (λ found. module_by paths m.ma
 
 -- a struct, a union or an enum
 abbrev pub adt_definition : List (List ℕ) → AdtId → Option Definition
-adt_definition paths (adt.StructId i) = item_of paths i.container.map.krate (source.Node kind.Struct) i.file_id i.block i.id
-adt_definition paths (adt.UnionId i) = item_of paths i.container.map.krate (source.Node kind.Union) i.file_id i.block i.id
-adt_definition paths (adt.EnumId i) = item_of paths i.container.map.krate (source.Node kind.Enum) i.file_id i.block i.id
+adt_definition paths (adt.StructId i) = item_of paths i.loc.container.map.krate (source.Node kind.Struct) i.loc.file_id i.loc.block i.loc.id
+adt_definition paths (adt.UnionId i) = item_of paths i.loc.container.map.krate (source.Node kind.Union) i.loc.file_id i.loc.block i.loc.id
+adt_definition paths (adt.EnumId i) = item_of paths i.loc.container.map.krate (source.Node kind.Enum) i.loc.file_id i.loc.block i.loc.id
 
 -- a macro; a procedural one is named by its function
 abbrev pub macro_definition : List (List ℕ) → MacroId → Option Definition
-macro_definition paths (macro.Macro2Id i) = item_of paths i.container.map.krate (source.Node kind.MacroDef) i.file_id i.block i.id
-macro_definition paths (macro.MacroRulesId i) = item_of paths i.container.map.krate (source.Node kind.MacroRules) i.file_id i.block i.id
-macro_definition paths (macro.ProcMacroId i) = item_of paths i.container.map.krate source.ProcMacro i.file_id i.block i.id
+macro_definition paths (macro.Macro2Id i) = item_of paths i.loc.container.map.krate (source.Node kind.MacroDef) i.loc.file_id i.loc.block i.loc.id
+macro_definition paths (macro.MacroRulesId i) = item_of paths i.loc.container.map.krate (source.Node kind.MacroRules) i.loc.file_id i.loc.block i.loc.id
+macro_definition paths (macro.ProcMacroId i) = item_of paths i.loc.container.map.krate source.ProcMacro i.loc.file_id i.loc.block i.loc.id
 
 -- what a type or a value stands for
 abbrev pub definition_of : List (List ℕ) → Maps → ModuleDefId → Option Definition
 definition_of paths maps (def.ModuleId m) = module_definition paths maps m
-definition_of paths maps (def.FunctionId i) = item_of paths (crate_of i.container) (source.Node kind.Fn) i.file_id i.block i.id
+definition_of paths maps (def.FunctionId i) = item_of paths (crate_of i.loc.container) (source.Node kind.Fn) i.loc.file_id i.loc.block i.loc.id
 definition_of paths maps (def.AdtId i) = adt_definition paths i
 definition_of paths maps (def.EnumVariantId i) =
-    item_of paths i.parent.container.map.krate (source.Node kind.Variant) i.parent.file_id i.parent.block i.id
-definition_of paths maps (def.ConstId i) = item_of paths (crate_of i.container) (source.Node kind.Const) i.file_id i.block i.id
-definition_of paths maps (def.StaticId i) = item_of paths (crate_of i.container) (source.Node kind.Static) i.file_id i.block i.id
-definition_of paths maps (def.TraitId i) = item_of paths i.container.map.krate (source.Node kind.Trait) i.file_id i.block i.id
-definition_of paths maps (def.TypeAliasId i) = item_of paths (crate_of i.container) (source.Node kind.TypeAlias) i.file_id i.block i.id
+    item_of paths i.parent.loc.container.map.krate (source.Node kind.Variant) i.parent.loc.file_id i.parent.loc.block i.id
+definition_of paths maps (def.ConstId i) = item_of paths (crate_of i.loc.container) (source.Node kind.Const) i.loc.file_id i.loc.block i.loc.id
+definition_of paths maps (def.StaticId i) = item_of paths (crate_of i.loc.container) (source.Node kind.Static) i.loc.file_id i.loc.block i.loc.id
+definition_of paths maps (def.TraitId i) = item_of paths i.loc.container.map.krate (source.Node kind.Trait) i.loc.file_id i.loc.block i.loc.id
+definition_of paths maps (def.TypeAliasId i) = item_of paths (crate_of i.loc.container) (source.Node kind.TypeAlias) i.loc.file_id i.loc.block i.loc.id
 definition_of paths maps (def.BuiltinType b) = Some (definition.Builtin b)
 definition_of paths maps (def.MacroId i) = macro_definition paths i
 
@@ -124,13 +124,13 @@ import_in id made held = record { source = held; id = id; origin = made }
 
 -- a `use` item, with the kind and the place of its leaf
 abbrev pub use_source : List (List ℕ) → UseId → ImportOrigin → Option ImportSource
-use_source paths i made = option_map (import_in i.id made) (source_of paths i.file_id i.block)
+use_source paths i made = option_map (import_in i.loc.id made) (source_of paths i.loc.file_id i.loc.block)
 
 -- what made a type or a macro
 abbrev pub import_source : List (List ℕ) → ImportOrExternCrate → Option ImportSource
 import_source paths (import.Glob g) = use_source paths g.use_ (how.Glob g.idx)
 import_source paths (import.Import i) = use_source paths i.use_ (how.Import i.idx)
-import_source paths (import.ExternCrate i) = option_map (import_in i.id how.ExternCrate) (source_of paths i.file_id i.block)
+import_source paths (import.ExternCrate i) = option_map (import_in i.loc.id how.ExternCrate) (source_of paths i.loc.file_id i.loc.block)
 
 -- what made a value
 abbrev pub value_import_source : List (List ℕ) → ImportOrGlob → Option ImportSource

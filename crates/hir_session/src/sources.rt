@@ -69,16 +69,16 @@ impl<'a> SourceDatabase for Sources<'a> {
     }
 
     fn variants(&self, alloc: Global, id: EnumId) -> Result<Option<Vec<VariantItem>>, AllocError> {
-        if id.block.is_some() {
+        if id.loc.block.is_some() {
             return Ok(None);
         }
-        let krate = id.container.map.krate;
-        if krate == self.krate && id.file_id == self.file {
-            return copy_variants(alloc, variants_in(self.side, id.id));
+        let krate = id.loc.container.map.krate;
+        if krate == self.krate && id.loc.file_id == self.file {
+            return copy_variants(alloc, variants_in(self.side, id.loc.id));
         }
-        let source = source_at(self.paths, self.files, id.file_id);
+        let source = source_at(self.paths, self.files, id.loc.file_id);
         let side = side_index(alloc, self.crates, krate, source)?;
-        copy_variants(alloc, variants_in(&side, id.id))
+        copy_variants(alloc, variants_in(&side, id.loc.id))
     }
 }
 

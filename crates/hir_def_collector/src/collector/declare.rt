@@ -17,8 +17,8 @@ use crate::collector::run::Run;
 use crate::collector::site::{ItemHead, Site};
 use crate::collector::{CollectError, STEP_LIMIT};
 use hir_base::ids::{
-    AdtId, ConstId, FunctionId, ModuleDefId, ModuleId, StaticId, StructId, TraitId, TypeAliasId,
-    UnionId,
+    AdtId, ConstId, FunctionId, ItemLoc, ModuleDefId, ModuleId, StaticId, StructId, TraitId,
+    TypeAliasId, UnionId,
 };
 use hir_base::name::Name;
 use hir_def_map::world::part::WorldPart;
@@ -99,10 +99,12 @@ pub fn declare_function(
     ensures many { result ≡ Err CollectError.TooMany → STEP_LIMIT ≤ run.old.count }
 {
     let def = ModuleDefId::FunctionId(FunctionId {
-        container: run.container(site),
-        file_id: site.file,
-        block: None,
-        id: head.id,
+        loc: ItemLoc {
+            container: run.container(site),
+            file_id: site.file,
+            block: None,
+            id: head.id,
+        },
     });
     declare_value(run, world, site, head, name, def)?;
     Ok(())
@@ -121,10 +123,12 @@ pub fn declare_const(
     ensures many { result ≡ Err CollectError.TooMany → STEP_LIMIT ≤ run.old.count }
 {
     let def = ModuleDefId::ConstId(ConstId {
-        container: run.container(site),
-        file_id: site.file,
-        block: None,
-        id: head.id,
+        loc: ItemLoc {
+            container: run.container(site),
+            file_id: site.file,
+            block: None,
+            id: head.id,
+        },
     });
     declare_value(run, world, site, head, name, def)?;
     Ok(())
@@ -143,10 +147,12 @@ pub fn declare_static(
     ensures many { result ≡ Err CollectError.TooMany → STEP_LIMIT ≤ run.old.count }
 {
     let def = ModuleDefId::StaticId(StaticId {
-        container: run.container(site),
-        file_id: site.file,
-        block: None,
-        id: head.id,
+        loc: ItemLoc {
+            container: run.container(site),
+            file_id: site.file,
+            block: None,
+            id: head.id,
+        },
     });
     declare_value(run, world, site, head, name, def)?;
     Ok(())
@@ -165,10 +171,12 @@ pub fn declare_type_alias(
     ensures many { result ≡ Err CollectError.TooMany → STEP_LIMIT ≤ run.old.count }
 {
     let def = ModuleDefId::TypeAliasId(TypeAliasId {
-        container: run.container(site),
-        file_id: site.file,
-        block: None,
-        id: head.id,
+        loc: ItemLoc {
+            container: run.container(site),
+            file_id: site.file,
+            block: None,
+            id: head.id,
+        },
     });
     declare_type(run, world, site, head, name, def)?;
     Ok(())
@@ -187,10 +195,12 @@ pub fn declare_trait(
     ensures many { result ≡ Err CollectError.TooMany → STEP_LIMIT ≤ run.old.count }
 {
     let def = ModuleDefId::TraitId(TraitId {
-        container: run.module_id(site.home),
-        file_id: site.file,
-        block: None,
-        id: head.id,
+        loc: ItemLoc {
+            container: run.module_id(site.home),
+            file_id: site.file,
+            block: None,
+            id: head.id,
+        },
     });
     declare_type(run, world, site, head, name, def)?;
     Ok(())
@@ -209,10 +219,12 @@ pub fn declare_union(
     ensures many { result ≡ Err CollectError.TooMany → STEP_LIMIT ≤ run.old.count }
 {
     let def = ModuleDefId::AdtId(AdtId::UnionId(UnionId {
-        container: run.module_id(site.home),
-        file_id: site.file,
-        block: None,
-        id: head.id,
+        loc: ItemLoc {
+            container: run.module_id(site.home),
+            file_id: site.file,
+            block: None,
+            id: head.id,
+        },
     }));
     declare_type(run, world, site, head, name, def)?;
     Ok(())
@@ -296,10 +308,12 @@ pub fn declare_struct(
 {
     let at = run.module_id(site.home);
     let def = ModuleDefId::AdtId(AdtId::StructId(StructId {
-        container: at,
-        file_id: site.file,
-        block: None,
-        id: head.id,
+        loc: ItemLoc {
+            container: at,
+            file_id: site.file,
+            block: None,
+            id: head.id,
+        },
     }));
     let own = run.visibility(world, site, head);
     let constructor = constructor(run, world, at, own, item.shape, item.fields);

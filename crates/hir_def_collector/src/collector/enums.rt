@@ -14,7 +14,7 @@ use crate::collector::run::Run;
 use crate::collector::site::{ItemHead, Site};
 use crate::collector::{CollectError, STEP_LIMIT};
 use crate::source_database::SourceDatabase;
-use hir_base::ids::{AdtId, EnumId, EnumVariantId, ModuleDefId};
+use hir_base::ids::{AdtId, EnumId, EnumVariantId, ItemLoc, ModuleDefId};
 use hir_base::name::Name;
 use hir_def_map::nameres::enum_variants::{EnumVariant, EnumVariants};
 use hir_def_map::world::part::WorldPart;
@@ -76,10 +76,12 @@ pub fn declare_enum<D: SourceDatabase>(
     ensures many { result ≡ Err CollectError.TooMany → STEP_LIMIT ≤ run.old.count }
 {
     let id = EnumId {
-        container: run.module_id(site.home),
-        file_id: site.file,
-        block: None,
-        id: head.id,
+        loc: ItemLoc {
+            container: run.module_id(site.home),
+            file_id: site.file,
+            block: None,
+            id: head.id,
+        },
     };
     let vis = run.visibility(world, site, head);
     let found = db.variants(run.allocator(), id)?;

@@ -17,7 +17,7 @@ use crate::collector::imports::{ImportSource, ReachedImport};
 use crate::collector::run::Run;
 use crate::collector::site::{ItemHead, Site};
 use crate::collector::{CollectError, STEP_LIMIT};
-use hir_base::ids::{ExternCrateId, UseId};
+use hir_base::ids::{ExternCrateId, ItemLoc, UseId};
 use hir_base::mod_path::{ModPath, PathKind};
 use hir_item_tree::expand::Import;
 use hir_item_tree::raw_visibility::RawVisibility;
@@ -97,10 +97,12 @@ pub fn reach_use(
     ensures many { result ≡ Err CollectError.TooMany → STEP_LIMIT ≤ run.old.count }
 {
     let use_ = UseId {
-        container: run.module_id(site.home),
-        file_id: site.file,
-        block: None,
-        id: head.id,
+        loc: ItemLoc {
+            container: run.module_id(site.home),
+            file_id: site.file,
+            block: None,
+            id: head.id,
+        },
     };
     let imports = expanded(run.allocator(), tree)?;
     run.list_use(site.home, use_)?;
@@ -174,10 +176,12 @@ pub fn reach_extern_crate(
     ensures many { result ≡ Err CollectError.TooMany → STEP_LIMIT ≤ run.old.count }
 {
     let id = ExternCrateId {
-        container: run.module_id(site.home),
-        file_id: site.file,
-        block: None,
-        id: head.id,
+        loc: ItemLoc {
+            container: run.module_id(site.home),
+            file_id: site.file,
+            block: None,
+            id: head.id,
+        },
     };
     let import = crate_import(run, site, head, id, name, alias)?;
     run.list_extern_crate(site.home, id)?;

@@ -26,7 +26,7 @@ use crate::collector::site::{ItemHead, Site, head_at};
 use crate::collector::{CollectError, STEP_LIMIT};
 use crate::source_database::SourceDatabase;
 use hir_base::ast_id::{AstId, AstKind};
-use hir_base::ids::{ConstId, ExternBlockId, ImplId, ModuleDefId};
+use hir_base::ids::{ConstId, ExternBlockId, ImplId, ItemLoc, ModuleDefId};
 use hir_base::name::Name;
 use hir_def_map::nameres::origin::ModuleOrigin;
 use hir_def_map::world::part::WorldPart;
@@ -50,10 +50,12 @@ fn list_const(run: &mut Run, site: Site, head: ItemHead<'_>) -> Result<(), Colle
     ensures many { result ≡ Err CollectError.TooMany → STEP_LIMIT ≤ run.old.count }
 {
     let id = ConstId {
-        container: run.container(site),
-        file_id: site.file,
-        block: None,
-        id: head.id,
+        loc: ItemLoc {
+            container: run.container(site),
+            file_id: site.file,
+            block: None,
+            id: head.id,
+        },
     };
     run.list_unnamed_const(site.home, id)?;
     run.tick()?;
@@ -91,10 +93,12 @@ fn list_impl(
     ensures many { result ≡ Err CollectError.TooMany → STEP_LIMIT ≤ run.old.count }
 {
     let id = ImplId {
-        container: run.module_id(site.home),
-        file_id: site.file,
-        block: None,
-        id: head.id,
+        loc: ItemLoc {
+            container: run.module_id(site.home),
+            file_id: site.file,
+            block: None,
+            id: head.id,
+        },
     };
     run.list_impl(site.home, id, of_trait)?;
     run.tick()?;
@@ -120,6 +124,7 @@ fn open(
         definition_tree_id: TreeId::new(site.file, None),
         definition: AstId {
             file_id: site.file,
+            block: None,
             kind: AstKind::Module,
             id: head.id,
         },
@@ -150,10 +155,12 @@ fn enter(run: &mut Run, site: Site, head: ItemHead<'_>) -> Result<Site, CollectE
     ensures many { result ≡ Err CollectError.TooMany → STEP_LIMIT ≤ run.old.count }
 {
     let id = ExternBlockId {
-        container: run.module_id(site.home),
-        file_id: site.file,
-        block: None,
-        id: head.id,
+        loc: ItemLoc {
+            container: run.module_id(site.home),
+            file_id: site.file,
+            block: None,
+            id: head.id,
+        },
     };
     run.list_extern_block(site.home, id)?;
     run.tick()?;

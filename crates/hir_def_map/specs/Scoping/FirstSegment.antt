@@ -17,10 +17,10 @@ use Rattle.hir_scope.specs.declared.visibility.Visibility.TheVariants.{Public}
 use Rattle.hir_scope.specs.PerNs.{nothing, types_only, macros_only, or_of}
 use Rattle.hir_scope.specs.ScopeReads.{legacy_at}
 use Rattle.hir_def_map.specs.State.{Local, Map, Maps, ModuleValue, at_name, crate_root, entry_in, map_in, module_in}
-use Rattle.hir_def_map.specs.declared.nameres.path_resolution.BuiltinShadowMode.{BuiltinShadowMode}
-use Rattle.hir_def_map.specs.declared.nameres.path_resolution.BuiltinShadowMode.TheVariants as shadow_modes
-use Rattle.hir_def_map.specs.declared.nameres.path_resolution.MacroSubNs.{MacroSubNs}
-use Rattle.hir_def_map.specs.declared.nameres.path_resolution.MacroSubNs.TheVariants.{Bang, Attr}
+use Rattle.hir_base.specs.declared.resolve_mode.BuiltinShadowMode.{BuiltinShadowMode}
+use Rattle.hir_base.specs.declared.resolve_mode.BuiltinShadowMode.TheVariants as shadow_modes
+use Rattle.hir_base.specs.declared.resolve_mode.MacroSubNs.{MacroSubNs}
+use Rattle.hir_base.specs.declared.resolve_mode.MacroSubNs.TheVariants.{Bang, Attr}
 
 -- ---- styles of macros
 

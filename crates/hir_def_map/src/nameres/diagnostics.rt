@@ -7,28 +7,11 @@ use hir_base::ast_id::{AstId, AttrId};
 use hir_base::cfg::CfgExpr;
 use hir_base::cfg_options::CfgOptions;
 use hir_base::ids::{ModuleId, UseId};
+pub use hir_base::macro_kind::MacroCallKind;
 use hir_base::mod_path::ModPath;
 use hir_base::text::Text;
 use std::alloc::AllocError;
 use std::marker::Model;
-
-/// Where a macro is called: by a call, by a path of a `derive` attribute, or by an attribute.
-#[derive(Clone, Copy, Debug, PartialEq, Eq, Hash)]
-pub enum MacroCallKind {
-    FnLike {
-        ast: AstId,
-    },
-    /// The item, the attribute, and the number of the path in it.
-    Derive {
-        ast: AstId,
-        attr: AttrId,
-        index: u32,
-    },
-    Attr {
-        ast: AstId,
-        attr: AttrId,
-    },
-}
 
 #[derive(Drop, PartialEq, Eq)]
 pub enum DefDiagnosticKind {

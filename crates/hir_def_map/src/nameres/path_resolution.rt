@@ -20,6 +20,7 @@ use crate::world::World;
 use crate::world::part::WorldPart;
 use hir_base::ids::ModuleId;
 use hir_base::mod_path::ModPath;
+pub use hir_base::resolve_mode::{BuiltinShadowMode, MacroSubNs};
 use hir_scope::per_ns::PerNs;
 
 /// Whether an import asks, or something else.
@@ -27,22 +28,6 @@ use hir_scope::per_ns::PerNs;
 pub enum ResolveMode {
     Import,
     Other,
-}
-
-/// Whether a module comes before a builtin type of its name.
-#[derive(Clone, Copy, Debug, PartialEq, Eq)]
-pub enum BuiltinShadowMode {
-    /// It does.
-    Module,
-    /// The builtin type does, as where a type is wanted.
-    Other,
-}
-
-/// Which macros are asked for.
-#[derive(Clone, Copy, Debug, PartialEq, Eq)]
-pub enum MacroSubNs {
-    Bang,
-    Attr,
 }
 
 /// Whether further items could not change the answer.

@@ -35,10 +35,10 @@ impl World {
     fn has_enum(&self, map: &DefMap, id: EnumId) -> bool
         ensures value { result ≡ is_some (variants_in (beside (finished_in self.now.maps) map.now) id) }
     {
-        if id.container.map == map.id() {
+        if id.loc.container.map == map.id() {
             return map.enum_variants(id).is_some();
         }
-        match self.maps.get(&id.container.map) {
+        match self.maps.get(&id.loc.container.map) {
             Some(finished) => finished.map.enum_variants(id).is_some(),
             None => false,
         }

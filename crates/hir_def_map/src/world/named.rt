@@ -30,7 +30,7 @@ impl Named {
     {
         match self {
             Named::Module(id) => id.map,
-            Named::Enum(id) => id.container.map,
+            Named::Enum(id) => id.loc.container.map,
             Named::Map(id) => id,
         }
     }

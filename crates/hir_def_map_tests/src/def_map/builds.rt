@@ -1,7 +1,7 @@
 //! Maps and worlds that are built by hand.
 use super::{FILE, inline, node, types};
 use hir_base::ast_id::HirFileId;
-use hir_base::ids::{AdtId, Crate, MapId, ModuleDefId, ModuleId, StructId};
+use hir_base::ids::{AdtId, Crate, ItemLoc, MapId, ModuleDefId, ModuleId, StructId};
 use hir_base::name::Name;
 use hir_def_map::nameres::crate_data::DefMapCrateData;
 use hir_def_map::nameres::local_def_map::LocalDefMap;
@@ -26,10 +26,12 @@ pub(super) fn at(map: MapId, index: u32) -> ModuleId {
 /// The struct of a node.
 pub(super) fn item(map: MapId, number: u16) -> ModuleDefId {
     ModuleDefId::AdtId(AdtId::StructId(StructId {
-        container: at(map, 0),
-        file_id: HirFileId::File(FILE),
-        block: None,
-        id: node(number),
+        loc: ItemLoc {
+            container: at(map, 0),
+            file_id: HirFileId::File(FILE),
+            block: None,
+            id: node(number),
+        },
     }))
 }
 

@@ -27,6 +27,7 @@ fn file(number: u32) -> EditionedFileId {
 fn item(number: u16) -> AstId {
     AstId {
         file_id: HirFileId::File(FILE),
+        block: None,
         kind: AstKind::Module,
         id: node(number),
     }

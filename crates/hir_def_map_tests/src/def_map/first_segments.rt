@@ -7,7 +7,7 @@ use hir_base::ast_id::HirFileId;
 use hir_base::builtin_type::BuiltinUint;
 use hir_base::edition::Edition;
 use hir_base::ids::{Crate, MapId};
-use hir_base::macro_kind::{MacroCallStyles, MacroExpander, MacroId, MacroRulesId};
+use hir_base::macro_kind::{MacroCallStyles, MacroExpander, MacroId, MacroLoc, MacroRulesId};
 use hir_base::mod_path::ModPath;
 use hir_base::name::Name;
 use hir_def_map::nameres::DefMap;
@@ -38,11 +38,13 @@ const STYLES: [Option<MacroSubNs>; 3] = [None, Some(MacroSubNs::Bang), Some(Macr
 /// The macro of a node, with its one style.
 fn makro(map: MapId, number: u16, styles: MacroCallStyles) -> PerNs {
     let id = MacroId::MacroRulesId(MacroRulesId {
-        container: at(map, 0),
-        file_id: HirFileId::File(FILE),
-        block: None,
-        id: node(number),
-        expander: MacroExpander::Declarative(styles),
+        loc: MacroLoc {
+            container: at(map, 0),
+            file_id: HirFileId::File(FILE),
+            block: None,
+            id: node(number),
+            expander: MacroExpander::Declarative(styles),
+        },
     });
     PerNs::macros(id, PUBLIC, None)
 }

@@ -2,8 +2,10 @@
 use super::{FILE, module, node, sample};
 use either::Either;
 use hir_base::ast_id::{AstId, AstKind, HirFileId, MacroCallId};
-use hir_base::ids::{FunctionId, ItemContainerId};
-use hir_base::macro_kind::{MacroExpander, MacroId, MacroRulesId, ProcMacroId, ProcMacroStyle};
+use hir_base::ids::{FunctionId, ItemContainerId, ItemLoc};
+use hir_base::macro_kind::{
+    MacroExpander, MacroId, MacroLoc, MacroRulesId, ProcMacroId, ProcMacroLoc, ProcMacroStyle,
+};
 use hir_base::name::Name;
 use hir_base::text::Text;
 use hir_def_map::def_maps::DefMaps;
@@ -21,6 +23,7 @@ use std::test::Fail;
 fn item(kind: AstKind, number: u16) -> AstId {
     AstId {
         file_id: HirFileId::File(FILE),
+        block: None,
         kind,
         id: node(number),
     }
@@ -28,30 +31,36 @@ fn item(kind: AstKind, number: u16) -> AstId {
 
 fn exporter() -> FunctionId {
     FunctionId {
-        container: ItemContainerId::ModuleId(module(0)),
-        file_id: HirFileId::File(FILE),
-        block: None,
-        id: node(30),
+        loc: ItemLoc {
+            container: ItemContainerId::ModuleId(module(0)),
+            file_id: HirFileId::File(FILE),
+            block: None,
+            id: node(30),
+        },
     }
 }
 
 fn exported() -> ProcMacroId {
     ProcMacroId {
-        container: module(0),
-        file_id: HirFileId::File(FILE),
-        block: None,
-        id: node(30),
-        style: ProcMacroStyle::Attr,
+        loc: ProcMacroLoc {
+            container: module(0),
+            file_id: HirFileId::File(FILE),
+            block: None,
+            id: node(30),
+            style: ProcMacroStyle::Attr,
+        },
     }
 }
 
 fn defined() -> MacroId {
     MacroId::MacroRulesId(MacroRulesId {
-        container: module(0),
-        file_id: HirFileId::File(FILE),
-        block: None,
-        id: node(31),
-        expander: MacroExpander::Builtin,
+        loc: MacroLoc {
+            container: module(0),
+            file_id: HirFileId::File(FILE),
+            block: None,
+            id: node(31),
+            expander: MacroExpander::Builtin,
+        },
     })
 }
 

@@ -2,7 +2,9 @@
 use super::builds::{PUBLIC, at, item, joins, name_items, name_module, rooted, stays_out};
 use super::{FILE, are_items, both, data_over, node, types};
 use hir_base::ast_id::{BlockId, HirFileId};
-use hir_base::ids::{AdtId, Crate, EnumId, EnumVariantId, MapId, ModuleDefId, ModuleId, StructId};
+use hir_base::ids::{
+    AdtId, Crate, EnumId, EnumVariantId, ItemLoc, MapId, ModuleDefId, ModuleId, StructId,
+};
 use hir_base::mod_path::ModPath;
 use hir_base::name::Name;
 use hir_def_map::nameres::crate_data::DefMapCrateData;
@@ -41,10 +43,12 @@ pub(super) const BLOCK: MapId = MapId {
 /// The enum of crate 0.
 fn choice() -> EnumId {
     EnumId {
-        container: at(ZERO, 0),
-        file_id: HirFileId::File(FILE),
-        block: None,
-        id: node(5),
+        loc: ItemLoc {
+            container: at(ZERO, 0),
+            file_id: HirFileId::File(FILE),
+            block: None,
+            id: node(5),
+        },
     }
 }
 

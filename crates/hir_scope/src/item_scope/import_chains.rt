@@ -65,7 +65,7 @@ fn chain_end<S: Scopes>(
         left -= 1;
         match scope.record_of(namespace, import) {
             Some(ImportOrDef::Import(next)) => {
-                let Some(holder) = scopes.scope(next.use_.container) else {
+                let Some(holder) = scopes.scope(next.use_.loc.container) else {
                     return None;
                 };
                 scope = holder;

@@ -3,7 +3,7 @@ use super::{
     FILE, a_macro, a_type, a_value, by_extern_crate, by_glob, by_import, empty_scope, import,
     macro_of, module, node,
 };
-use hir_base::ids::TraitId;
+use hir_base::ids::{ItemLoc, TraitId};
 use hir_base::macro_kind::{MacroCallStyles, MacroId};
 use hir_base::name::Name;
 use hir_scope::glob_imports::PerNsGlobImports;
@@ -17,10 +17,12 @@ use std::test::Fail;
 
 fn trait_of(number: u16) -> TraitId {
     TraitId {
-        container: module(0),
-        file_id: FILE,
-        block: None,
-        id: node(number),
+        loc: ItemLoc {
+            container: module(0),
+            file_id: FILE,
+            block: None,
+            id: node(number),
+        },
     }
 }
 

@@ -12,6 +12,7 @@ use std::test::Fail;
 fn item(number: u16) -> AstId {
     AstId {
         file_id: FILE,
+        block: None,
         kind: AstKind::Struct,
         id: node(number),
     }

@@ -25,7 +25,7 @@ fn is_enum_at(paths: &Vec<FilePath>, path: &FilePath, key: Key) -> bool
     ensures value { result ≡ is_enum_at paths.now.items path.now key }
 {
     match key {
-        Key::Variants(id) => id.block.is_none() && is_file_at(paths, id.file_id, path),
+        Key::Variants(id) => id.loc.block.is_none() && is_file_at(paths, id.loc.file_id, path),
         Key::Tree(_, _) | Key::Map(_) => false,
     }
 }
@@ -115,8 +115,8 @@ fn is_enum_altered(
     }
     match key {
         Key::Variants(id) => {
-            let krate = id.container.map.krate;
-            are_variants_altered(alloc, crates, files, path, new, sides, krate, id.id)
+            let krate = id.loc.container.map.krate;
+            are_variants_altered(alloc, crates, files, path, new, sides, krate, id.loc.id)
         }
         Key::Tree(_, _) | Key::Map(_) => Ok(false),
     }

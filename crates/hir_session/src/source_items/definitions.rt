@@ -19,10 +19,10 @@ fn crate_at(container: ItemContainerId) -> Crate
     ensures value { result ≡ crate_of container }
 {
     match container {
-        ItemContainerId::ExternBlockId(id) => id.container.map.krate,
+        ItemContainerId::ExternBlockId(id) => id.loc.container.map.krate,
         ItemContainerId::ModuleId(id) => id.map.krate,
-        ItemContainerId::ImplId(id) => id.container.map.krate,
-        ItemContainerId::TraitId(id) => id.container.map.krate,
+        ItemContainerId::ImplId(id) => id.loc.container.map.krate,
+        ItemContainerId::TraitId(id) => id.loc.container.map.krate,
     }
 }
 
@@ -89,18 +89,42 @@ fn adt_at(
     match adt {
         AdtId::StructId(i) => {
             let kind = SourceKind::Node(AstKind::Struct);
-            let krate = i.container.map.krate;
-            item_at(alloc, paths, krate, kind, i.file_id, i.block, i.id)
+            let krate = i.loc.container.map.krate;
+            item_at(
+                alloc,
+                paths,
+                krate,
+                kind,
+                i.loc.file_id,
+                i.loc.block,
+                i.loc.id,
+            )
         }
         AdtId::UnionId(i) => {
             let kind = SourceKind::Node(AstKind::Union);
-            let krate = i.container.map.krate;
-            item_at(alloc, paths, krate, kind, i.file_id, i.block, i.id)
+            let krate = i.loc.container.map.krate;
+            item_at(
+                alloc,
+                paths,
+                krate,
+                kind,
+                i.loc.file_id,
+                i.loc.block,
+                i.loc.id,
+            )
         }
         AdtId::EnumId(i) => {
             let kind = SourceKind::Node(AstKind::Enum);
-            let krate = i.container.map.krate;
-            item_at(alloc, paths, krate, kind, i.file_id, i.block, i.id)
+            let krate = i.loc.container.map.krate;
+            item_at(
+                alloc,
+                paths,
+                krate,
+                kind,
+                i.loc.file_id,
+                i.loc.block,
+                i.loc.id,
+            )
         }
     }
 }
@@ -116,18 +140,42 @@ pub fn macro_at(
     match makro {
         MacroId::Macro2Id(i) => {
             let kind = SourceKind::Node(AstKind::MacroDef);
-            let krate = i.container.map.krate;
-            item_at(alloc, paths, krate, kind, i.file_id, i.block, i.id)
+            let krate = i.loc.container.map.krate;
+            item_at(
+                alloc,
+                paths,
+                krate,
+                kind,
+                i.loc.file_id,
+                i.loc.block,
+                i.loc.id,
+            )
         }
         MacroId::MacroRulesId(i) => {
             let kind = SourceKind::Node(AstKind::MacroRules);
-            let krate = i.container.map.krate;
-            item_at(alloc, paths, krate, kind, i.file_id, i.block, i.id)
+            let krate = i.loc.container.map.krate;
+            item_at(
+                alloc,
+                paths,
+                krate,
+                kind,
+                i.loc.file_id,
+                i.loc.block,
+                i.loc.id,
+            )
         }
         MacroId::ProcMacroId(i) => {
             let kind = SourceKind::ProcMacro;
-            let krate = i.container.map.krate;
-            item_at(alloc, paths, krate, kind, i.file_id, i.block, i.id)
+            let krate = i.loc.container.map.krate;
+            item_at(
+                alloc,
+                paths,
+                krate,
+                kind,
+                i.loc.file_id,
+                i.loc.block,
+                i.loc.id,
+            )
         }
     }
 }
@@ -163,25 +211,25 @@ pub fn definition_at(
             held_item_at(
                 alloc,
                 paths,
-                i.container,
+                i.loc.container,
                 AstKind::Fn,
-                i.file_id,
-                i.block,
-                i.id,
+                i.loc.file_id,
+                i.loc.block,
+                i.loc.id,
             )
         }
         ModuleDefId::AdtId(adt) => adt_at(alloc, paths, adt),
         ModuleDefId::EnumVariantId(i) => {
             let kind = SourceKind::Node(AstKind::Variant);
             let parent = i.parent;
-            let krate = parent.container.map.krate;
+            let krate = parent.loc.container.map.krate;
             item_at(
                 alloc,
                 paths,
                 krate,
                 kind,
-                parent.file_id,
-                parent.block,
+                parent.loc.file_id,
+                parent.loc.block,
                 i.id,
             )
         }
@@ -189,38 +237,46 @@ pub fn definition_at(
             held_item_at(
                 alloc,
                 paths,
-                i.container,
+                i.loc.container,
                 AstKind::Const,
-                i.file_id,
-                i.block,
-                i.id,
+                i.loc.file_id,
+                i.loc.block,
+                i.loc.id,
             )
         }
         ModuleDefId::StaticId(i) => {
             held_item_at(
                 alloc,
                 paths,
-                i.container,
+                i.loc.container,
                 AstKind::Static,
-                i.file_id,
-                i.block,
-                i.id,
+                i.loc.file_id,
+                i.loc.block,
+                i.loc.id,
             )
         }
         ModuleDefId::TraitId(i) => {
             let kind = SourceKind::Node(AstKind::Trait);
-            let krate = i.container.map.krate;
-            item_at(alloc, paths, krate, kind, i.file_id, i.block, i.id)
+            let krate = i.loc.container.map.krate;
+            item_at(
+                alloc,
+                paths,
+                krate,
+                kind,
+                i.loc.file_id,
+                i.loc.block,
+                i.loc.id,
+            )
         }
         ModuleDefId::TypeAliasId(i) => {
             held_item_at(
                 alloc,
                 paths,
-                i.container,
+                i.loc.container,
                 AstKind::TypeAlias,
-                i.file_id,
-                i.block,
-                i.id,
+                i.loc.file_id,
+                i.loc.block,
+                i.loc.id,
             )
         }
         ModuleDefId::BuiltinType(builtin) => Ok(Some(Definition::Builtin(builtin))),

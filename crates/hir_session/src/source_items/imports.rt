@@ -18,10 +18,10 @@ fn use_at(
 ) -> Result<Option<ImportSource>, AllocError>
     ensures value { IfOk result (λ o. o ≡ use_source paths.now.items by origin) }
 {
-    match source_at(alloc, paths, by.file_id, by.block)? {
+    match source_at(alloc, paths, by.loc.file_id, by.loc.block)? {
         Some(source) => Ok(Some(ImportSource {
             source,
-            id: by.id,
+            id: by.loc.id,
             origin,
         })),
         None => Ok(None),
@@ -40,10 +40,10 @@ pub fn import_at(
         ImportOrExternCrate::Glob(g) => use_at(alloc, paths, g.use_, ImportOrigin::Glob(g.idx)),
         ImportOrExternCrate::Import(i) => use_at(alloc, paths, i.use_, ImportOrigin::Import(i.idx)),
         ImportOrExternCrate::ExternCrate(i) => {
-            match source_at(alloc, paths, i.file_id, i.block)? {
+            match source_at(alloc, paths, i.loc.file_id, i.loc.block)? {
                 Some(source) => Ok(Some(ImportSource {
                     source,
-                    id: i.id,
+                    id: i.loc.id,
                     origin: ImportOrigin::ExternCrate,
                 })),
                 None => Ok(None),

@@ -18,12 +18,12 @@ module _ (crates : List CrateValue) (paths : List (List ℕ)) (F : Files) (path 
   of_enum : is_enum_at paths path (Variants id) ≡ true
   of_enum = subst (λ (k : Key). is_enum_at paths path k ≡ true) is at
 
-  key-same : variants_under crates id.container.map.krate.0 there id.id ≡ variants_under crates id.container.map.krate.0 (file_at F path) id.id
+  key-same : variants_under crates id.loc.container.map.krate.0 there id.loc.id ≡ variants_under crates id.loc.container.map.krate.0 (file_at F path) id.loc.id
       → look (workspace_in crates paths (edited_at F path there)) no_maps key ≡ look (workspace_in crates paths F) no_maps key
   key-same alike = subst (λ (k : Key). look (workspace_in crates paths (edited_at F path there)) no_maps k ≡ look (workspace_in crates paths F) no_maps k) (sym is)
       (enum-same crates paths F path there id of_enum alike)
 
-  key-differs : variants_under crates id.container.map.krate.0 there id.id ≢ variants_under crates id.container.map.krate.0 (file_at F path) id.id
+  key-differs : variants_under crates id.loc.container.map.krate.0 there id.loc.id ≢ variants_under crates id.loc.container.map.krate.0 (file_at F path) id.loc.id
       → look (workspace_in crates paths (edited_at F path there)) no_maps key ≢ look (workspace_in crates paths F) no_maps key
   key-differs other = subst (λ (k : Key). look (workspace_in crates paths (edited_at F path there)) no_maps k ≢ look (workspace_in crates paths F) no_maps k) (sym is)
       (enum-differs crates paths F path there id of_enum other)
