@@ -1,5 +1,5 @@
 //! Places of modules and blocks in a workspace.
-ghost use Rattle.std.specs.Prelude.{refl, ◌≡◌, ◌++◌, IfOk};
+ghost use Rattle.std.specs.Prelude.{refl, ◌≡◌, [], ◌++◌, IfOk};
 ghost use Rattle.std.specs.Cmp.Lexicographic.{pointwise, lists_equiv, lists_total, lists_ties, slice_cmp};
 ghost use Rattle.std.specs.Ordering.{on, eq_of_both, then_cmp, as_partial_cmp};
 ghost use Rattle.std.specs.Cmp.{partial_equiv_from_equiv, and_equiv, on_equiv, on_total, then_total, both_tied, po};
@@ -9,7 +9,7 @@ ghost use Rattle.std.specs.Hash.{and-Alike, on_Alike, items_Alike};
 use crate::ast_id::SyntaxId;
 use crate::ids::Crate;
 use crate::name::Name;
-use std::alloc::AllocError;
+use std::alloc::{AllocError, Global};
 use std::cmp::Ordering;
 use std::hash::{Hash, Hasher};
 use std::marker::Model;
@@ -57,6 +57,13 @@ impl Place {
         ensures value { result ≡ record { krate = krate; elements = elements.items } }
     {
         Place { krate, elements }
+    }
+
+    /// The root module of a crate.
+    pub fn root(alloc: Global, krate: Crate) -> Place
+        ensures value { result ≡ record { krate = krate; elements = [] } }
+    {
+        Place::new(krate, Vec::new(alloc))
     }
 
     /// The crate.
