@@ -1,7 +1,7 @@
 -- The namespaces that an import keeps of those that it reaches.
 use Rattle.std.proofs.Common.{◌≡◌, Bool, true, false, Option, None, Some, is_some, refl, sym, ap, subst}
-use Rattle.hir_item_tree.specs.declared.shape.ImportKind.{ImportKind}
-use Rattle.hir_item_tree.specs.declared.shape.ImportKind.TheVariants as kinds
+use Rattle.hir_use_tree.specs.declared.imports.ImportKind.{ImportKind}
+use Rattle.hir_use_tree.specs.declared.imports.ImportKind.TheVariants as kinds
 use Rattle.hir_scope.specs.PerNs.{keep_item}
 use Rattle.hir_scope.specs.declared.per_ns.Item.{Item}
 use Rattle.hir_scope.specs.declared.per_ns.PerNs.{PerNs}

@@ -18,12 +18,12 @@ use Rattle.hir_base.specs.declared.ids.UseId.{UseId}
 use Rattle.hir_item_tree.specs.KeptForest.{Head, Leaf, KeptItem, KeptForest, extern_block, inline_module, leaf, holder, item, no_items, import, extern_crate, function, structure, union_structure, enumeration, constant, static_item, trait_item, implementation, type_alias, outline_module, macro_call, macro_rules, macro_def}
 use Rattle.hir_item_tree.specs.Imports.{imports_of}
 use Rattle.hir_item_tree.specs.UseTree.{UseTree}
-use Rattle.hir_item_tree.specs.declared.expand.Import.{Import}
-use Rattle.hir_item_tree.specs.declared.shape.ImportKind.{ImportKind}
-use Rattle.hir_item_tree.specs.declared.shape.ImportKind.TheVariants as import_kinds
+use Rattle.hir_use_tree.specs.declared.imports.Import.{Import}
+use Rattle.hir_use_tree.specs.declared.imports.ImportKind.{ImportKind}
+use Rattle.hir_use_tree.specs.declared.imports.ImportKind.TheVariants as import_kinds
 use Rattle.hir_item_tree.specs.declared.shape.ExternCrateName.{ExternCrateName}
 use Rattle.hir_item_tree.specs.declared.shape.ExternCrateName.TheVariants.{SelfCrate, Name}
-use Rattle.hir_item_tree.specs.declared.shape.ImportAlias.{ImportAlias}
+use Rattle.hir_use_tree.specs.declared.imports.ImportAlias.{ImportAlias}
 use Rattle.hir_item_tree.specs.declared.raw_visibility.RawVisibility.{RawVisibility}
 use Rattle.hir_item_tree.specs.declared.shape.FieldsShape.{FieldsShape}
 use Rattle.hir_scope.specs.declared.imports.ImportOrExternCrate.{ImportOrExternCrate}

@@ -11,16 +11,16 @@ use Rattle.hir_base.specs.declared.ids.UseId.{UseId}
 use Rattle.hir_base.specs.declared.mod_path.PathKind.{PathKind}
 use Rattle.hir_base.specs.declared.mod_path.PathKind.TheVariants as path_kinds
 use Rattle.hir_item_tree.specs.Imports.{imports_of}
-use Rattle.hir_item_tree.specs.declared.expand.Import.{Import}
+use Rattle.hir_use_tree.specs.declared.imports.Import.{Import}
 use Rattle.hir_item_tree.specs.KeptForest.{Head}
 use Rattle.hir_item_tree.specs.UseTree.{UseTree}
 use Rattle.hir_item_tree.specs.declared.raw_visibility.RawVisibility.{RawVisibility}
 use Rattle.hir_item_tree.specs.declared.shape.ExternCrateName.{ExternCrateName}
 use Rattle.hir_item_tree.specs.declared.shape.ExternCrateName.TheVariants.{SelfCrate, Name}
-use Rattle.hir_item_tree.specs.declared.shape.ImportAlias.{ImportAlias}
-use Rattle.hir_item_tree.specs.declared.shape.ImportAlias.TheVariants.{Underscore, Alias}
-use Rattle.hir_item_tree.specs.declared.shape.ImportKind.{ImportKind}
-use Rattle.hir_item_tree.specs.declared.shape.ImportKind.TheVariants as kinds
+use Rattle.hir_use_tree.specs.declared.imports.ImportAlias.{ImportAlias}
+use Rattle.hir_use_tree.specs.declared.imports.ImportAlias.TheVariants.{Underscore, Alias}
+use Rattle.hir_use_tree.specs.declared.imports.ImportKind.{ImportKind}
+use Rattle.hir_use_tree.specs.declared.imports.ImportKind.TheVariants as kinds
 use Rattle.hir_scope.specs.PerNs.{keep_of}
 use Rattle.hir_scope.specs.declared.imports.ImportOrExternCrate.{ImportOrExternCrate}
 use Rattle.hir_scope.specs.declared.imports.ImportOrExternCrate.TheVariants as ways

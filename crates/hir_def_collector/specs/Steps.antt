@@ -7,7 +7,7 @@ use Rattle.hir_item_tree.specs.Kinds.{item_head}
 use Rattle.hir_item_tree.specs.KeptForest.{Head, Leaf, KeptItem, KeptForest, leaf, import, extern_crate, enumeration, constant, implementation, holder, extern_block, inline_module}
 use Rattle.hir_item_tree.specs.UseTree.{UseTree}
 use Rattle.hir_item_tree.specs.declared.shape.ExternCrateName.{ExternCrateName}
-use Rattle.hir_item_tree.specs.declared.shape.ImportAlias.{ImportAlias}
+use Rattle.hir_use_tree.specs.declared.imports.ImportAlias.{ImportAlias}
 use Rattle.hir_def_map.specs.State.{Map, Maps, Variants, new_id, new_module, with_module, with_declared, with_enum, with_use, with_impl, with_extern_block, with_extern_crate, with_unnamed_const}
 use Rattle.hir_scope.specs.declared.visibility.Visibility.{Visibility}
 use Rattle.hir_def_collector.specs.declared.collector.declaration.Declaration.{Declaration}

@@ -3,7 +3,7 @@ use Rattle.std.proofs.Common.{◌≡◌, ℕ, ◌+◌, Bool, true, false, if◌t
 use Rattle.std.proofs.lemmas.List.{map-append, append_assoc}
 use Rattle.hir_base.specs.Cfg.{Cfg}
 use Rattle.hir_base.specs.declared.cfg.CfgAtom.{CfgAtom}
-use Rattle.hir_item_tree.specs.UseTree.{count_of}
+use Rattle.hir_use_tree.specs.UseTree.{count_of}
 use Rattle.hir_item_tree.specs.Attributes.{MetaValue, Attribute, meta, cfg, cfg_attr, Attributes, no_attributes, attribute, attribute_size}
 use Rattle.hir_item_tree.specs.Collected.{Numbered, Collected, merge, merged, empty, holds, collect, collect_all}
 use Rattle.hir_item_tree.specs.Laws.{MergeIsAssociative, EmptyIsNeutralBehind, Unnumbered, unnumbered, joined_attributes, JoinedListsCollectAsMerged}

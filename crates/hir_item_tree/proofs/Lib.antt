@@ -1,12 +1,9 @@
 pub mod Repeats
 pub mod Shown
-pub mod UseTreeLemmas
 pub mod Walked
 pub mod Bodies
 pub mod Sides
 pub mod Associated
 pub mod AttributeLemmas
-pub mod UseTreePlaces
-pub mod CallLemmas
 pub mod Walks
 pub mod SideIndexLemmas

@@ -10,48 +10,15 @@ use Rattle.hir_item_tree.specs.WithoutSides.{plain_without_sides, item_without_s
 
 leaf_without_sides : (p : Plain) → kept_leaf (plain_without_sides p) ≡ kept_leaf p
 leaf_without_sides (written.import t) = refl
-leaf_without_sides (written.extern_crate name alias) = refl
-leaf_without_sides (written.function name body) = refl
-leaf_without_sides (written.structure name shape fields) = refl
-leaf_without_sides (written.union_structure name fields) = refl
-leaf_without_sides (written.enumeration name variants) = refl
-leaf_without_sides (written.constant name body) = refl
-leaf_without_sides (written.static_item name body) = refl
-leaf_without_sides (written.type_alias name) = refl
-leaf_without_sides (written.outline_module name) = refl
-leaf_without_sides (written.macro_call path) = refl
-leaf_without_sides (written.macro_rules name definition) = refl
-leaf_without_sides (written.macro_def name definition) = refl
+leaf_without_sides _ = refl
 
 visibility_without_sides : (h : NodeHead) (p : Plain) → plain_visibility (plain_without_sides p) h.visibility ≡ plain_visibility p h.visibility
 visibility_without_sides h (written.import t) = refl
-visibility_without_sides h (written.extern_crate name alias) = refl
-visibility_without_sides h (written.function name body) = refl
-visibility_without_sides h (written.structure name shape fields) = refl
-visibility_without_sides h (written.union_structure name fields) = refl
-visibility_without_sides h (written.enumeration name variants) = refl
-visibility_without_sides h (written.constant name body) = refl
-visibility_without_sides h (written.static_item name body) = refl
-visibility_without_sides h (written.type_alias name) = refl
-visibility_without_sides h (written.outline_module name) = refl
-visibility_without_sides h (written.macro_call path) = refl
-visibility_without_sides h (written.macro_rules name definition) = refl
-visibility_without_sides h (written.macro_def name definition) = refl
+visibility_without_sides h _ = refl
 
 foreign_kind_without_sides : (p : Plain) → is_foreign_kind (plain_without_sides p) ≡ is_foreign_kind p
 foreign_kind_without_sides (written.import t) = refl
-foreign_kind_without_sides (written.extern_crate name alias) = refl
-foreign_kind_without_sides (written.function name body) = refl
-foreign_kind_without_sides (written.structure name shape fields) = refl
-foreign_kind_without_sides (written.union_structure name fields) = refl
-foreign_kind_without_sides (written.enumeration name variants) = refl
-foreign_kind_without_sides (written.constant name body) = refl
-foreign_kind_without_sides (written.static_item name body) = refl
-foreign_kind_without_sides (written.type_alias name) = refl
-foreign_kind_without_sides (written.outline_module name) = refl
-foreign_kind_without_sides (written.macro_call path) = refl
-foreign_kind_without_sides (written.macro_rules name definition) = refl
-foreign_kind_without_sides (written.macro_def name definition) = refl
+foreign_kind_without_sides _ = refl
 
 foreign_without_sides : (i : Item) → is_foreign (item_without_sides i) ≡ is_foreign i
 foreign_without_sides (written.plain h p) = foreign_kind_without_sides p

@@ -1,25 +1,16 @@
 -- Which sources differ in the texts of bodies alone?
 use Rattle.std.specs.Prelude.{◌≡◌, Bool, []}
 use Rattle.hir_base.specs.declared.cfg.CfgAtom.{CfgAtom}
-use Rattle.hir_item_tree.specs.Source.{Plain, import, extern_crate, function, structure, union_structure, enumeration, constant, static_item, type_alias, outline_module, macro_call, macro_rules, macro_def, Item, plain, holder, Items, no_items, item, SourceValue, broken, unit}
+use Rattle.hir_item_tree.specs.Source.{Plain, function, constant, static_item, Item, plain, holder, Items, no_items, item, SourceValue, broken, unit}
 use Rattle.hir_item_tree.specs.Attributes.{Attributes}
 use Rattle.hir_item_tree.specs.ItemTree.{tree_of}
 
 -- a kind without the text of its body
 abbrev pub plain_without_body : Plain → Plain
-plain_without_body (import t) = import t
-plain_without_body (extern_crate name alias) = extern_crate name alias
 plain_without_body (function name body) = function name []
-plain_without_body (structure name shape fields) = structure name shape fields
-plain_without_body (union_structure name fields) = union_structure name fields
-plain_without_body (enumeration name variants) = enumeration name variants
 plain_without_body (constant name body) = constant name []
 plain_without_body (static_item name body) = static_item name []
-plain_without_body (type_alias name) = type_alias name
-plain_without_body (outline_module name) = outline_module name
-plain_without_body (macro_call path) = macro_call path
-plain_without_body (macro_rules name definition) = macro_rules name definition
-plain_without_body (macro_def name definition) = macro_def name definition
+plain_without_body p = p
 
 abbrev mutual
   -- a node without the texts of bodies

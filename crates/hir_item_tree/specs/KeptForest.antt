@@ -7,12 +7,12 @@ use Rattle.hir_item_tree.specs.declared.raw_visibility.RawVisibility.{RawVisibil
 use Rattle.hir_item_tree.specs.declared.raw_visibility.RawVisibility.TheVariants as raw
 use Rattle.hir_item_tree.specs.declared.raw_visibility.VisibilityExplicitness.TheVariants as explicitness
 use Rattle.hir_item_tree.specs.declared.shape.FieldsShape.{FieldsShape}
-use Rattle.hir_item_tree.specs.declared.shape.ImportAlias.{ImportAlias}
+use Rattle.hir_use_tree.specs.declared.imports.ImportAlias.{ImportAlias}
 use Rattle.hir_item_tree.specs.declared.shape.ExternCrateName.{ExternCrateName}
 use Rattle.hir_base.specs.declared.cfg.CfgAtom.{CfgAtom}
 use Rattle.hir_item_tree.specs.Attributes.{Attributes}
 use Rattle.hir_item_tree.specs.Collected.{Collected, collect_all}
-use Rattle.hir_item_tree.specs.UseTree.{UseTree}
+use Rattle.hir_use_tree.specs.UseTree.{UseTree}
 use Rattle.hir_item_tree.specs.Source as written
 use Rattle.hir_item_tree.specs.Source.{NodeHead, Plain, Holder as WrittenHolder, Item, Items}
 
@@ -66,19 +66,9 @@ implicit_visibility = raw.PubSelf explicitness.Implicit
 
 -- the visibility that is kept of a kind without nodes, where this one is written
 abbrev pub plain_visibility : Plain → RawVisibility → RawVisibility
-plain_visibility (written.import tree) v = v
-plain_visibility (written.extern_crate name alias) v = v
-plain_visibility (written.function name body) v = v
-plain_visibility (written.structure name shape fields) v = v
-plain_visibility (written.union_structure name fields) v = v
-plain_visibility (written.enumeration name variants) v = v
-plain_visibility (written.constant name body) v = v
-plain_visibility (written.static_item name body) v = v
-plain_visibility (written.type_alias name) v = v
-plain_visibility (written.outline_module name) v = v
 plain_visibility (written.macro_call path) v = implicit_visibility
 plain_visibility (written.macro_rules name definition) v = implicit_visibility
-plain_visibility (written.macro_def name definition) v = v
+plain_visibility _ v = v
 
 -- the visibility that is kept of a kind with nodes inside, where this one is written
 abbrev pub holder_visibility : WrittenHolder → RawVisibility → RawVisibility
@@ -105,19 +95,11 @@ kept_leaf (written.macro_def name definition) = macro_def name definition.expand
 
 -- whether an extern block keeps a node of this kind
 abbrev pub is_foreign_kind : Plain → Bool
-is_foreign_kind (written.import tree) = false
-is_foreign_kind (written.extern_crate name alias) = false
 is_foreign_kind (written.function name body) = true
-is_foreign_kind (written.structure name shape fields) = false
-is_foreign_kind (written.union_structure name fields) = false
-is_foreign_kind (written.enumeration name variants) = false
-is_foreign_kind (written.constant name body) = false
 is_foreign_kind (written.static_item name body) = true
 is_foreign_kind (written.type_alias name) = true
-is_foreign_kind (written.outline_module name) = false
 is_foreign_kind (written.macro_call path) = true
-is_foreign_kind (written.macro_rules name definition) = false
-is_foreign_kind (written.macro_def name definition) = false
+is_foreign_kind _ = false
 
 -- whether an extern block keeps a node
 abbrev pub is_foreign : Item → Bool

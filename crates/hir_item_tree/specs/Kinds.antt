@@ -2,7 +2,7 @@
 use Rattle.std.specs.Prelude.{Option, Some, None}
 use Rattle.hir_base.specs.declared.ast_id.AstKind.{AstKind}
 use Rattle.hir_base.specs.declared.ast_id.AstKind.TheVariants as nodes
-use Rattle.hir_item_tree.specs.UseTree.{use_tree_view}
+use Rattle.hir_use_tree.specs.UseTree.{use_tree_view}
 use Rattle.hir_item_tree.specs.KeptForest.{Head, Leaf, import, extern_crate, function, structure, union_structure, enumeration, constant, static_item, trait_item, implementation, type_alias, outline_module, macro_call, macro_rules, macro_def, Holder, extern_block, inline_module, KeptItem, leaf, holder}
 use Rattle.hir_item_tree.specs.Rows.{Content, alone, with_items, numbers_of}
 use Rattle.hir_item_tree.specs.declared.kinds.RawVisibilityId.{RawVisibilityId}
@@ -45,7 +45,6 @@ kind_content (kinds.Macro2 i) = alone (macro_def i.name.now i.expander i.helpers
 abbrev pub kind_visibility : ModItemKind → Option RawVisibilityId
 kind_visibility (kinds.Use i) = Some i.visibility
 kind_visibility (kinds.ExternCrate i) = Some i.visibility
-kind_visibility (kinds.ExternBlock i) = None
 kind_visibility (kinds.Function i) = Some i.visibility
 kind_visibility (kinds.Struct i) = Some i.visibility
 kind_visibility (kinds.Union i) = Some i.visibility
@@ -53,12 +52,10 @@ kind_visibility (kinds.Enum i) = Some i.visibility
 kind_visibility (kinds.Const i) = Some i.visibility
 kind_visibility (kinds.Static i) = Some i.visibility
 kind_visibility (kinds.Trait i) = Some i.visibility
-kind_visibility (kinds.Impl i) = None
 kind_visibility (kinds.TypeAlias i) = Some i.visibility
 kind_visibility (kinds.Mod i) = Some i.visibility
-kind_visibility (kinds.MacroCall i) = None
-kind_visibility (kinds.MacroRules i) = None
 kind_visibility (kinds.Macro2 i) = Some i.visibility
+kind_visibility _ = None
 
 -- the kind of a node that a kind of item comes from
 abbrev pub kind_of : ModItemKind → AstKind

@@ -1,12 +1,11 @@
+pub use Rattle.hir_use_tree.specs.UseTree
+pub use Rattle.hir_use_tree.specs.Imports
+pub use Rattle.hir_use_tree.specs.Calls
+pub use Rattle.hir_use_tree.specs.AliasDisplay
 pub mod Attributes
 pub mod Collected
 pub mod AttrQuery
 pub mod Shape
-pub mod UseTree
-pub mod Imports
-pub mod Calls
-pub mod Positions
-pub mod AliasDisplay
 pub mod Source
 pub mod KeptForest
 pub mod Rows

@@ -7,20 +7,15 @@ use Rattle.hir_item_tree.specs.declared.raw_visibility.RawVisibility.TheVariants
 use Rattle.hir_item_tree.specs.declared.check.NodeId.{NodeId}
 use Rattle.hir_base.specs.Cfg.{Cfg, invalid, constant as constant_cfg, atom, all, any, unless, Cfgs, no_cfgs, cfg as next_cfg}
 use Rattle.hir_item_tree.specs.Attributes.{Tokens, paths, tokens, derive, Input, literal, parentheses, Attribute, meta, cfg, cfg_attr, Attributes, no_attributes, attribute}
-use Rattle.hir_item_tree.specs.UseTree.{UseTree, single, glob, prefixed, UseTrees, no_trees, tree, tree_depth}
-pub use Rattle.hir_item_tree.specs.UseTree.{tree_size}
+use Rattle.hir_use_tree.specs.UseTree.{UseTree, tree_depth}
+pub use Rattle.hir_use_tree.specs.UseTree.{tree_size}
+pub use Rattle.hir_use_tree.specs.Limits.{is_long, has_long_tree, Spent}
 use Rattle.hir_item_tree.specs.Source.{NodeHead, VariantValue, Plain, import, extern_crate, function, structure, union_structure, enumeration, constant, static_item, type_alias, outline_module, macro_call, macro_rules, macro_def, Holder, extern_block, trait_item, implementation, inline_module, Item, plain, holder, Items, no_items, item}
-
--- a path with more than 64 segments
-abbrev pub is_long : Path → Bool
-is_long p = nat_lt 64 (length p.segments)
 
 -- a visibility with a long path
 abbrev pub has_long_visibility : RawVisibility → Bool
 has_long_visibility (raw.Module p e) = is_long p
-has_long_visibility (raw.PubSelf e) = false
-has_long_visibility raw.PubCrate = false
-has_long_visibility raw.Public = false
+has_long_visibility _ = false
 
 -- parentheses with a long path in them
 abbrev pub has_long_tokens : Tokens → Bool
@@ -46,23 +41,6 @@ abbrev mutual
   have_long_attribute no_attributes = false
   have_long_attribute (attribute a rest) = has_long_attribute a || have_long_attribute rest
 
--- a long path, where there is one
-abbrev pub is_long_if_some : Option Path → Bool
-is_long_if_some None = false
-is_long_if_some (Some p) = is_long p
-
-abbrev mutual
-  -- a use tree with a long path in it
-  pub has_long_tree : UseTree → Bool
-  has_long_tree (single p alias) = is_long p
-  has_long_tree (glob p) = is_long_if_some p
-  has_long_tree (prefixed p ts) = is_long_if_some p || have_long_tree ts
-
-  -- trees with a long path in one of them
-  pub have_long_tree : UseTrees → Bool
-  have_long_tree no_trees = false
-  have_long_tree (tree t ts) = has_long_tree t || have_long_tree ts
-
 -- a variant with a long path
 abbrev pub has_long_variant : VariantValue → Bool
 has_long_variant v = have_long_attribute v.attributes
@@ -74,18 +52,11 @@ has_long_head h = has_long_visibility h.visibility || have_long_attribute h.attr
 -- a kind with a long path in it
 abbrev pub has_long_plain : Plain → Bool
 has_long_plain (import t) = has_long_tree t
-has_long_plain (extern_crate name alias) = false
-has_long_plain (function name body) = false
 has_long_plain (structure name shape fields) = list_any has_long_visibility fields
 has_long_plain (union_structure name fields) = list_any has_long_visibility fields
 has_long_plain (enumeration name variants) = list_any has_long_variant variants
-has_long_plain (constant name body) = false
-has_long_plain (static_item name body) = false
-has_long_plain (type_alias name) = false
-has_long_plain (outline_module name) = false
 has_long_plain (macro_call path) = is_long path
-has_long_plain (macro_rules name definition) = false
-has_long_plain (macro_def name definition) = false
+has_long_plain _ = false
 
 abbrev mutual
   -- a node with a long path in it
@@ -105,18 +76,10 @@ has_large_index n = nat_lt 2047 n.id.index
 -- how many variants, fields and use trees there are in a kind
 abbrev pub plain_size : Plain → ℕ
 plain_size (import t) = tree_size t
-plain_size (extern_crate name alias) = 0
-plain_size (function name body) = 0
 plain_size (structure name shape fields) = length fields
 plain_size (union_structure name fields) = length fields
 plain_size (enumeration name variants) = length variants
-plain_size (constant name body) = 0
-plain_size (static_item name body) = 0
-plain_size (type_alias name) = 0
-plain_size (outline_module name) = 0
-plain_size (macro_call path) = 0
-plain_size (macro_rules name definition) = 0
-plain_size (macro_def name definition) = 0
+plain_size _ = 0
 
 abbrev mutual
   -- how many nodes, variants, fields and use trees there are in a node, itself included
@@ -131,26 +94,13 @@ abbrev mutual
 
 -- how many modules a kind without nodes nests: one, where it is a module
 abbrev pub plain_depth : Plain → ℕ
-plain_depth (import t) = 0
-plain_depth (extern_crate name alias) = 0
-plain_depth (function name body) = 0
-plain_depth (structure name shape fields) = 0
-plain_depth (union_structure name fields) = 0
-plain_depth (enumeration name variants) = 0
-plain_depth (constant name body) = 0
-plain_depth (static_item name body) = 0
-plain_depth (type_alias name) = 0
 plain_depth (outline_module name) = 1
-plain_depth (macro_call path) = 0
-plain_depth (macro_rules name definition) = 0
-plain_depth (macro_def name definition) = 0
+plain_depth _ = 0
 
 -- how deep modules nest in a node of this kind, if they nest so deep inside
 abbrev pub holder_depth : Holder → ℕ → ℕ
-holder_depth extern_block inside = inside
-holder_depth (trait_item name) inside = inside
-holder_depth (implementation of_trait) inside = inside
 holder_depth (inline_module name) inside = suc inside
+holder_depth _ inside = inside
 
 abbrev mutual
   -- how deep modules nest in a node
@@ -170,18 +120,7 @@ is_deep_tree t = nat_lt 24 (tree_depth t)
 -- a kind with such a use tree
 abbrev pub has_deep_tree_in : Plain → Bool
 has_deep_tree_in (import t) = is_deep_tree t
-has_deep_tree_in (extern_crate name alias) = false
-has_deep_tree_in (function name body) = false
-has_deep_tree_in (structure name shape fields) = false
-has_deep_tree_in (union_structure name fields) = false
-has_deep_tree_in (enumeration name variants) = false
-has_deep_tree_in (constant name body) = false
-has_deep_tree_in (static_item name body) = false
-has_deep_tree_in (type_alias name) = false
-has_deep_tree_in (outline_module name) = false
-has_deep_tree_in (macro_call path) = false
-has_deep_tree_in (macro_rules name definition) = false
-has_deep_tree_in (macro_def name definition) = false
+has_deep_tree_in _ = false
 
 abbrev mutual
   -- a node with such a use tree in it
@@ -197,12 +136,10 @@ abbrev mutual
 abbrev mutual
   -- how deep `all`, `any` and `not` nest in a condition
   pub cfg_depth : Cfg → ℕ
-  cfg_depth invalid = 0
-  cfg_depth (constant_cfg holds) = 0
-  cfg_depth (atom a) = 0
   cfg_depth (all cs) = suc (cfgs_depth cs)
   cfg_depth (any cs) = suc (cfgs_depth cs)
   cfg_depth (unless c) = suc (cfg_depth c)
+  cfg_depth _ = 0
 
   -- how deep they nest in conditions
   pub cfgs_depth : Cfgs → ℕ
@@ -231,19 +168,8 @@ is_deep_variant v = are_deep v.attributes
 
 -- a kind with such attributes inside
 abbrev pub has_deep_variant : Plain → Bool
-has_deep_variant (import t) = false
-has_deep_variant (extern_crate name alias) = false
-has_deep_variant (function name body) = false
-has_deep_variant (structure name shape fields) = false
-has_deep_variant (union_structure name fields) = false
 has_deep_variant (enumeration name variants) = list_any is_deep_variant variants
-has_deep_variant (constant name body) = false
-has_deep_variant (static_item name body) = false
-has_deep_variant (type_alias name) = false
-has_deep_variant (outline_module name) = false
-has_deep_variant (macro_call path) = false
-has_deep_variant (macro_rules name definition) = false
-has_deep_variant (macro_def name definition) = false
+has_deep_variant _ = false
 
 abbrev mutual
   -- a node with such attributes in it
@@ -255,8 +181,3 @@ abbrev mutual
   pub have_deep_cfg : Items → Bool
   have_deep_cfg no_items = false
   have_deep_cfg (item i is) = has_deep_cfg i || have_deep_cfg is
-
--- what is left when so much is taken from a number, if it is that much
-abbrev pub Spent : Option ℕ → (much from : ℕ) → Type 0
-Spent None much from = from < much
-Spent (Some left) much from = left + much ≡ from

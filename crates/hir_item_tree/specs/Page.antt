@@ -7,14 +7,14 @@ use Rattle.hir_base.specs.declared.ast_id.SyntaxId.{SyntaxId}
 use Rattle.hir_base.specs.declared.edition.Edition.{Edition}
 use Rattle.hir_item_tree.specs.declared.raw_visibility.RawVisibility.{RawVisibility}
 use Rattle.hir_item_tree.specs.declared.raw_visibility.RawVisibility.TheVariants as raw
-use Rattle.hir_item_tree.specs.declared.shape.ImportAlias.{ImportAlias}
-use Rattle.hir_item_tree.specs.declared.shape.ImportAlias.TheVariants as aliases
+use Rattle.hir_use_tree.specs.declared.imports.ImportAlias.{ImportAlias}
+use Rattle.hir_use_tree.specs.declared.imports.ImportAlias.TheVariants as aliases
 use Rattle.hir_item_tree.specs.declared.shape.ExternCrateName.{ExternCrateName}
 use Rattle.hir_item_tree.specs.declared.shape.ExternCrateName.TheVariants as crates
 use Rattle.hir_base.specs.Cfg.{Cfg, cfg_text}
 use Rattle.hir_item_tree.specs.Attributes.{Tokens, paths, tokens, derive, Input, literal, parentheses, MetaValue}
 use Rattle.hir_item_tree.specs.Collected.{Numbered, Collected}
-use Rattle.hir_item_tree.specs.UseTree.{UseTree, single, glob, prefixed, UseTrees, no_trees, tree}
+use Rattle.hir_use_tree.specs.UseTree.{UseTree, single, glob, prefixed, UseTrees, no_trees, tree}
 use Rattle.hir_item_tree.specs.KeptForest.{Head, Leaf, import, extern_crate, function, structure, union_structure, enumeration, constant, static_item, trait_item, implementation, type_alias, outline_module, macro_call, macro_rules, macro_def, Holder, extern_block, inline_module, KeptItem, leaf, holder, KeptForest, no_items, item}
 use Rattle.hir_item_tree.specs.ItemTree.{Tree}
 

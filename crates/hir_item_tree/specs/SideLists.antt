@@ -46,19 +46,11 @@ enabled_variants set (v ∷ vs) = and_variant (is_enabled (kept_attributes set v
 
 -- whether a trait or an impl keeps a node of this kind
 abbrev pub is_associated_kind : Plain → Bool
-is_associated_kind (import t) = false
-is_associated_kind (extern_crate name alias) = false
 is_associated_kind (function name body) = true
-is_associated_kind (structure name shape fields) = false
-is_associated_kind (union_structure name fields) = false
-is_associated_kind (enumeration name vs) = false
 is_associated_kind (constant name body) = true
-is_associated_kind (static_item name body) = false
 is_associated_kind (type_alias name) = true
-is_associated_kind (outline_module name) = false
 is_associated_kind (macro_call path) = true
-is_associated_kind (macro_rules name definition) = false
-is_associated_kind (macro_def name definition) = false
+is_associated_kind _ = false
 
 -- whether a trait or an impl keeps a node
 abbrev pub is_associated : Item → Bool
@@ -76,19 +68,10 @@ kept_associated set (item i is) = and_associated (is_associated i) (kept_item se
 
 -- what is kept beside the item of a kind without nodes inside
 abbrev pub plain_side : (CfgAtom → Bool) → Plain → Side
-plain_side set (import t) = nothing
-plain_side set (extern_crate name alias) = nothing
-plain_side set (function name body) = nothing
-plain_side set (structure name shape fields) = nothing
-plain_side set (union_structure name fields) = nothing
 plain_side set (enumeration name vs) = variants (enabled_variants set vs)
-plain_side set (constant name body) = nothing
-plain_side set (static_item name body) = nothing
-plain_side set (type_alias name) = nothing
-plain_side set (outline_module name) = nothing
-plain_side set (macro_call path) = nothing
 plain_side set (macro_rules name definition) = macro_text definition.text
 plain_side set (macro_def name definition) = macro_text definition.text
+plain_side set _ = nothing
 
 -- what is kept beside the item of a kind with nodes inside
 abbrev pub holder_side : (CfgAtom → Bool) → Holder → Items → Side
@@ -138,24 +121,18 @@ entry_of n (e ∷ es) = if ghosts.eq e.node n then Some e else entry_of n es
 
 -- the variants of an entry, if it is an enum's
 abbrev pub variants_in : Side → Option (List VariantItem)
-variants_in nothing = None
 variants_in (variants vs) = Some vs
-variants_in (associated is) = None
-variants_in (macro_text text) = None
+variants_in _ = None
 
 -- the associated items of an entry, if it is a trait's or an impl's
 abbrev pub associated_in : Side → Option (List KeptItem)
-associated_in nothing = None
-associated_in (variants vs) = None
 associated_in (associated is) = Some is
-associated_in (macro_text text) = None
+associated_in _ = None
 
 -- the text of an entry, if it is a macro's
 abbrev pub text_in : Side → Option (List ℕ)
-text_in nothing = None
-text_in (variants vs) = None
-text_in (associated is) = None
 text_in (macro_text text) = Some text
+text_in _ = None
 
 abbrev pub entry_variants : SideEntry → Option (List VariantItem)
 entry_variants e = variants_in e.side

@@ -40,19 +40,8 @@ variant_id v = node_id kinds.Variant v.id
 
 -- the variants in a kind
 abbrev pub variant_ids : Plain → List NodeId
-variant_ids (import tree) = []
-variant_ids (extern_crate name alias) = []
-variant_ids (function name body) = []
-variant_ids (structure name shape fields) = []
-variant_ids (union_structure name fields) = []
 variant_ids (enumeration name variants) = map variant_id variants
-variant_ids (constant name body) = []
-variant_ids (static_item name body) = []
-variant_ids (type_alias name) = []
-variant_ids (outline_module name) = []
-variant_ids (macro_call path) = []
-variant_ids (macro_rules name definition) = []
-variant_ids (macro_def name definition) = []
+variant_ids _ = []
 
 abbrev mutual
   -- a node, its variants and those inside, in preorder

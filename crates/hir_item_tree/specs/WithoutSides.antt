@@ -1,7 +1,7 @@
 -- Which sources differ in what is kept beside their trees alone? In texts of bodies and macros, inputs, variants and associated items.
 use Rattle.std.specs.Prelude.{◌≡◌, Bool, []}
 use Rattle.hir_base.specs.declared.cfg.CfgAtom.{CfgAtom}
-use Rattle.hir_item_tree.specs.Source.{NodeHead, MacroValue, Plain, import, extern_crate, function, structure, union_structure, enumeration, constant, static_item, type_alias, outline_module, macro_call, macro_rules, macro_def, Holder, extern_block, trait_item, implementation, inline_module, Item, plain, holder, Items, no_items, item, SourceValue, broken, unit}
+use Rattle.hir_item_tree.specs.Source.{NodeHead, MacroValue, Plain, function, enumeration, constant, static_item, macro_rules, macro_def, Holder, trait_item, implementation, Item, plain, holder, Items, no_items, item, SourceValue, broken, unit}
 use Rattle.hir_item_tree.specs.Attributes.{Attributes}
 use Rattle.hir_item_tree.specs.ItemTree.{tree_of}
 
@@ -15,26 +15,19 @@ macro_without_text m = record { text = []; expander = m.expander; helpers = m.he
 
 -- a kind without the text of its body or its macro, and without variants
 abbrev pub plain_without_sides : Plain → Plain
-plain_without_sides (import t) = import t
-plain_without_sides (extern_crate name alias) = extern_crate name alias
 plain_without_sides (function name body) = function name []
-plain_without_sides (structure name shape fields) = structure name shape fields
-plain_without_sides (union_structure name fields) = union_structure name fields
 plain_without_sides (enumeration name variants) = enumeration name []
 plain_without_sides (constant name body) = constant name []
 plain_without_sides (static_item name body) = static_item name []
-plain_without_sides (type_alias name) = type_alias name
-plain_without_sides (outline_module name) = outline_module name
-plain_without_sides (macro_call path) = macro_call path
 plain_without_sides (macro_rules name definition) = macro_rules name (macro_without_text definition)
 plain_without_sides (macro_def name definition) = macro_def name (macro_without_text definition)
+plain_without_sides p = p
 
 -- of nodes inside those of a module or an extern block; those of a trait or an impl are associated items
 abbrev pub held_without_sides : Holder → Items → Items
-held_without_sides extern_block is = is
 held_without_sides (trait_item name) is = no_items
 held_without_sides (implementation of_trait) is = no_items
-held_without_sides (inline_module name) is = is
+held_without_sides _ is = is
 
 abbrev mutual
   -- a node without what is kept beside its item

@@ -6,10 +6,10 @@ ghost use Rattle.hir_base.specs.CfgOptions.{is_set};
 ghost use Rattle.hir_item_tree.specs.Collected.{numbered, collected_of, collected, collect, collect_all, merge, empty, is_enabled, holds};
 
 use crate::raw_attr::{Meta, RawAttr};
-use crate::use_tree::place_after;
 use hir_base::ast_id::AttrId;
 use hir_base::cfg::CfgExpr;
 use hir_base::cfg_options::CfgOptions;
+use hir_use_tree::use_tree::place_after;
 use std::alloc::{AllocError, Global};
 
 /// An attribute that is kept.

@@ -12,6 +12,7 @@ use crate::source::{Source, Unit};
 use hir_base::ast_id::{AstKind, SyntaxId};
 use hir_base::limit::Limit;
 use std::alloc::{AllocError, Global};
+use thiserror::Error;
 
 pub mod long_paths;
 pub mod nesting;
@@ -40,12 +41,15 @@ pub struct NodeId {
 }
 
 /// What a source is refused for.
-#[derive(Debug, Drop)]
+#[derive(Debug, Drop, Error)]
 pub enum CheckError {
     /// A limit is passed somewhere.
+    #[error("too large: {0}")]
     TooLarge(Limit),
     /// Two nodes of one kind have one id.
+    #[error("two nodes of kind {kind:?} have the id [{}, {}]", .id.hash, .id.index)]
     DuplicateId { kind: AstKind, id: SyntaxId },
+    #[error("out of memory")]
     Memory,
 }
 

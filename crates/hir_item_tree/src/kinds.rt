@@ -1,18 +1,23 @@
 //! The kinds of items as a tree lends them, after rust-analyzer's `ModItem` and its structs.
-ghost use Rattle.std.specs.Prelude.{◌≡◌, IfSome};
+ghost use Rattle.std.specs.Prelude.{◌≡◌, IfSome, OnOk, OnErr};
 ghost use Rattle.hir_item_tree.specs.Rows.{content_of};
 ghost use Rattle.hir_item_tree.specs.Kinds.{kind_content, kind_visibility};
+ghost use Rattle.hir_use_tree.specs.Calls.{HandsOut, HandsOutPartly};
+ghost use Rattle.hir_use_tree.specs.Imports.{imports_of};
+ghost use Rattle.hir_use_tree.specs.UseTree.{use_tree_view};
 
 use crate::raw_visibility::RawVisibility;
 use crate::rows::{ModItemId, Row, RowKind};
-use crate::shape::{ExternCrateName, FieldsShape, ImportAlias};
-use crate::use_tree::UseTree;
+use crate::shape::{ExternCrateName, FieldsShape};
 use hir_base::macro_kind::MacroExpander;
 use hir_base::mod_path::ModPath;
 use hir_base::name::Name;
+use hir_use_tree::imports::{ImportAlias, ImportKind};
+use hir_use_tree::use_tree::UseTree;
+use std::alloc::{AllocError, Global};
 
 /// A visibility of a tree, by the number of the item that has it.
-#[derive(Clone, Copy, Debug, PartialEq, Eq, PartialOrd, Ord, Hash)]
+#[derive(Clone, Copy, Debug, PartialEq, Eq)]
 pub struct RawVisibilityId(pub usize);
 
 /// An item of a tree.
@@ -41,6 +46,19 @@ pub enum ModItemKind<'a> {
 pub struct Use<'a> {
     pub visibility: RawVisibilityId,
     pub use_tree: &'a UseTree,
+}
+
+impl Use<'_> {
+    /// Hands out the imports of the item; see `UseTree::expand`.
+    pub fn expand<
+        F: FnMut(u32, ModPath, ImportKind, Option<ImportAlias>) -> Result<(), AllocError>,
+    >(&self, alloc: Global, cb: &mut F) -> Result<(), AllocError>
+        requires callable { F.IsAlwaysCallable cb.old }
+        ensures ok { OnOk result (HandsOut F.step cb.old (imports_of (use_tree_view self.now.use_tree.now)) cb.new) }
+        ensures err { OnErr result (HandsOutPartly F.step cb.old (imports_of (use_tree_view self.now.use_tree.now)) cb.new) }
+    {
+        self.use_tree.expand(alloc, cb)
+    }
 }
 
 /// An `extern crate` item.

@@ -1,9 +1,11 @@
-//! Laws of attributes, use trees and kept forests, over what the contracts say.
+//! Laws of attributes and kept forests, over what the contracts say.
 ghost use Rattle.hir_item_tree.specs.BodyTexts.{BodyTextsLeaveTheTree};
 ghost use Rattle.hir_item_tree.specs.WithoutSides.{SideListsLeaveTheTree};
 ghost use Rattle.hir_item_tree.specs.Walks.{WalksAreDetermined, EachRowIsMetOnce};
 ghost use Rattle.hir_item_tree.specs.Sources.{UnreadSourcesKeepNoItems, OtherUnreadSourcesAreEmpty};
-ghost use Rattle.hir_item_tree.specs.Laws.{MergeIsAssociative, EmptyIsNeutralInFront, EmptyIsNeutralBehind, JoinedListsCollectAsMerged, PlaceHoldsItsLeaf};
+ghost use Rattle.hir_item_tree.specs.Laws.{MergeIsAssociative, EmptyIsNeutralInFront, EmptyIsNeutralBehind, JoinedListsCollectAsMerged};
+
+pub use hir_use_tree::laws::place_holds_its_leaf;
 
 /// Of three merged, it doesn't matter which two are merged first.
 pub fn merge_is_associative()
@@ -19,11 +21,6 @@ pub fn empty_is_neutral()
 /// Numbers aside, two lists of attributes that are joined leave what they leave merged.
 pub fn joined_lists_collect_as_merged()
     ensures always { JoinedListsCollectAsMerged }
-{}
-
-/// An import's place holds the leaf that wrote it.
-pub fn place_holds_its_leaf()
-    ensures always { PlaceHoldsItsLeaf }
 {}
 
 /// Sources that differ in the texts of bodies alone have equal trees.

@@ -12,10 +12,10 @@ use crate::raw_attr::push_names;
 use crate::raw_visibility::VisibilityExplicitness::Implicit;
 use crate::raw_visibility::{RawVisibility, push_visibilities};
 use crate::rows::{ModItemId, Row, RowKind};
-use crate::shape::ImportAlias;
 use crate::source::{Node, NodeKind};
 use hir_base::cfg_options::CfgOptions;
 use hir_base::name::Name;
+use hir_use_tree::imports::ImportAlias;
 use std::alloc::{AllocError, Global};
 
 /// Adds the rows of what is kept of a node.

@@ -4,7 +4,7 @@ ghost use Rattle.std.specs.List.{slice_get};
 ghost use Rattle.hir_item_tree.specs.Collected.{collected_of};
 ghost use Rattle.hir_item_tree.specs.Rows.{numbers_of, content_of, row_view, rows_view, items_at, item_of, items_behind};
 ghost use Rattle.hir_item_tree.specs.Numbers.{IsWhole, AreBelow, ChildrenBelow};
-ghost use Rattle.hir_item_tree.specs.UseTree.{use_tree_view};
+ghost use Rattle.hir_use_tree.specs.UseTree.{use_tree_view};
 ghost use Rattle.hir_item_tree.specs.Page.{named, use_line, crate_line, constant_line, call_line, rules_line, id_line, head_text, close_text, gap, item_text, forest_text, constant_text, attributes_text, has_attributes, or_newline};
 ghost use Rattle.hir_item_tree.specs.PageRows.{content_word, content_line};
 
@@ -15,12 +15,13 @@ use crate::put_words::{
 };
 use crate::raw_visibility::RawVisibility;
 use crate::rows::{ModItemId, Row, RowKind};
-use crate::shape::{ExternCrateName, ImportAlias};
-use crate::use_tree::UseTree;
+use crate::shape::ExternCrateName;
 use hir_base::ast_id::SyntaxId;
 use hir_base::edition::Edition;
 use hir_base::mod_path::ModPath;
 use hir_base::name::Name;
+use hir_use_tree::imports::ImportAlias;
+use hir_use_tree::use_tree::UseTree;
 use std::alloc::{AllocError, Global};
 use std::fmt::Write;
 

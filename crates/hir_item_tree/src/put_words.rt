@@ -1,14 +1,15 @@
 //! Words of a page: names, paths, visibilities, use trees.
 ghost use Rattle.std.specs.Prelude.{◌≡◌, ◌++◌, false, OnOk, string_bytes};
-ghost use Rattle.hir_item_tree.specs.UseTree.{use_tree_view, use_trees_view};
+ghost use Rattle.hir_use_tree.specs.UseTree.{use_tree_view, use_trees_view};
 ghost use Rattle.hir_item_tree.specs.Page.{name_text, path_text, names_text, paths_text, visibility_text, alias_text, renamed_text, crate_text, prefix_text, use_text, uses_text, comma};
 
 use crate::raw_visibility::RawVisibility;
-use crate::shape::{ExternCrateName, ImportAlias};
-use crate::use_tree::{UseTree, UseTreeKind};
+use crate::shape::ExternCrateName;
 use hir_base::edition::Edition;
 use hir_base::mod_path::ModPath;
 use hir_base::name::Name;
+use hir_use_tree::imports::ImportAlias;
+use hir_use_tree::use_tree::{UseTree, UseTreeKind};
 use std::alloc::AllocError;
 use std::fmt::Write;
 

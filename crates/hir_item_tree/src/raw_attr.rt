@@ -1,12 +1,12 @@
 //! Attributes as they are handed in, after rust-analyzer's `RawAttrs`.
 ghost use Rattle.std.specs.Prelude.{◌≡◌, ◌++◌, IfOk, OnOk};
 ghost use Rattle.hir_item_tree.specs.Attributes.{meta_view, input_view, token_tree_view, attribute_view, attributes_view, attribute_size, attributes_size};
-ghost use Rattle.hir_item_tree.specs.UseTree.{count_of};
+ghost use Rattle.hir_use_tree.specs.UseTree.{count_of};
 
-use crate::use_tree::place_after;
 use hir_base::cfg::CfgExpr;
 use hir_base::mod_path::ModPath;
 use hir_base::name::Name;
+use hir_use_tree::use_tree::place_after;
 use std::alloc::AllocError;
 
 /// What stands in the parentheses of an attribute.

@@ -2,15 +2,16 @@
 
 use crate::attrs::AttrsOrCfg;
 use crate::raw_visibility::RawVisibility;
-use crate::shape::{ExternCrateName, FieldsShape, ImportAlias};
-use crate::use_tree::UseTree;
+use crate::shape::{ExternCrateName, FieldsShape};
 use hir_base::ast_id::SyntaxId;
 use hir_base::macro_kind::MacroExpander;
 use hir_base::mod_path::ModPath;
 use hir_base::name::Name;
+use hir_use_tree::imports::ImportAlias;
+use hir_use_tree::use_tree::UseTree;
 
 /// An item of a tree, by its number: an item that holds others comes after them.
-#[derive(Clone, Copy, Debug, PartialEq, Eq, PartialOrd, Ord, Hash)]
+#[derive(Clone, Copy, Debug, PartialEq, Eq)]
 pub struct ModItemId(pub usize);
 
 /// An item.

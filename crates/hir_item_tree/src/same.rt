@@ -2,38 +2,9 @@
 ghost use Rattle.std.specs.Prelude.{◌≡◌, ◌↔◌, IsTrue};
 
 use crate::raw_visibility::RawVisibility;
-use crate::shape::{ExternCrateName, ImportAlias};
-use hir_base::mod_path::ModPath;
+use crate::shape::ExternCrateName;
 use hir_base::name::Name;
-
-/// Whether two names are the same.
-pub fn same_name(a: &Name, b: &Name) -> bool
-    ensures exact { IsTrue result ↔ (a.now ≡ b.now) }
-{
-    a == b
-}
-
-/// Whether two lists of names are the same.
-pub fn same_names(a: &[Name], b: &[Name]) -> bool
-    ensures exact { IsTrue result ↔ (a.now ≡ b.now) }
-{
-    if a.len() != b.len() {
-        return false;
-    }
-    for i in 0..a.len() {
-        if !same_name(&a[i], &b[i]) {
-            return false;
-        }
-    }
-    true
-}
-
-/// Whether two paths are the same.
-pub fn same_path(a: &ModPath, b: &ModPath) -> bool
-    ensures exact { IsTrue result ↔ (a.now ≡ b.now) }
-{
-    a.kind() == b.kind() && same_names(a.segments(), b.segments())
-}
+pub use hir_use_tree::eq::{same_alias, same_name, same_names, same_path};
 
 /// Whether two visibilities are written alike.
 pub fn same_visibility(a: &RawVisibility, b: &RawVisibility) -> bool
@@ -61,17 +32,6 @@ pub fn same_visibilities(a: &[RawVisibility], b: &[RawVisibility]) -> bool
         }
     }
     true
-}
-
-/// Whether two aliases are the same.
-pub fn same_alias(a: &ImportAlias, b: &ImportAlias) -> bool
-    ensures exact { IsTrue result ↔ (a.now ≡ b.now) }
-{
-    match (a, b) {
-        (ImportAlias::Underscore, ImportAlias::Underscore) => true,
-        (ImportAlias::Alias(a), ImportAlias::Alias(b)) => same_name(a, b),
-        _ => false,
-    }
 }
 
 /// Whether two extern crates are named alike.

@@ -7,9 +7,9 @@ use crate::same::{
     same_crate_name, same_name, same_names, same_optional_name, same_path, same_visibilities,
     same_visibility,
 };
-use crate::same_use_tree::{same_optional_alias, same_use_tree};
 use hir_base::macro_kind::MacroExpander;
 use hir_base::name::Name;
+use hir_use_tree::eq::{same_optional_alias, same_use_tree};
 
 /// Whether two lists of numbers are the same.
 pub fn same_ids(a: &[ModItemId], b: &[ModItemId]) -> bool

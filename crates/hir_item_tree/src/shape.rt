@@ -1,12 +1,13 @@
-//! Shapes of structs and variants, aliases of imports, and names of extern crates.
+//! Shapes of structs and variants, and names of extern crates.
 ghost use Rattle.std.specs.Prelude.{◌≡◌, true, false, IfOk};
 ghost use Rattle.hir_item_tree.specs.Shape.{has_constructor};
 
 use hir_base::name::Name;
+pub use hir_use_tree::imports::{ImportAlias, ImportKind};
 use std::alloc::AllocError;
 
 /// How the fields of a struct or variant are written.
-#[derive(Clone, Copy, Debug, PartialEq, Eq, PartialOrd, Ord, Hash)]
+#[derive(Clone, Copy, Debug, PartialEq, Eq, Hash)]
 pub enum FieldsShape {
     Record,
     Tuple,
@@ -21,26 +22,6 @@ impl FieldsShape {
         match self {
             FieldsShape::Record => false,
             FieldsShape::Tuple | FieldsShape::Unit => true,
-        }
-    }
-}
-
-/// The alias of an import.
-#[derive(Drop)]
-pub enum ImportAlias {
-    /// `as _`.
-    Underscore,
-    Alias(Name),
-}
-
-impl ImportAlias {
-    /// The same alias again.
-    pub fn clone(&self) -> Result<ImportAlias, AllocError>
-        ensures value { IfOk result (λ a. a ≡ self.now) }
-    {
-        match self {
-            ImportAlias::Underscore => Ok(ImportAlias::Underscore),
-            ImportAlias::Alias(name) => Ok(ImportAlias::Alias(name.clone()?)),
         }
     }
 }
@@ -63,12 +44,4 @@ impl ExternCrateName {
             ExternCrateName::Name(name) => Ok(ExternCrateName::Name(name.clone()?)),
         }
     }
-}
-
-/// What an import brings.
-#[derive(Clone, Copy, Debug, PartialEq, Eq, PartialOrd, Ord, Hash)]
-pub enum ImportKind {
-    Plain,
-    Glob,
-    TypeOnly,
 }

@@ -5,12 +5,13 @@
 
 use crate::raw_attr::RawAttr;
 use crate::raw_visibility::RawVisibility;
-use crate::shape::{ExternCrateName, FieldsShape, ImportAlias};
-use crate::use_tree::UseTree;
+use crate::shape::{ExternCrateName, FieldsShape};
 use hir_base::ast_id::SyntaxId;
 use hir_base::macro_kind::MacroExpander;
 use hir_base::mod_path::ModPath;
 use hir_base::name::Name;
+use hir_use_tree::imports::ImportAlias;
+use hir_use_tree::use_tree::UseTree;
 
 /// A source: its syntax, or word that it can't be read.
 #[derive(Drop)]

@@ -1,7 +1,7 @@
 -- What can't be taken yet?
 use Rattle.std.specs.Prelude.{Bool, true, false, ◌&&◌, not, List, [], ◌∷◌, Option, Some, None}
-use Rattle.hir_item_tree.specs.declared.shape.ImportAlias.{ImportAlias}
-use Rattle.hir_item_tree.specs.declared.shape.ImportAlias.TheVariants as alias
+use Rattle.hir_use_tree.specs.declared.imports.ImportAlias.{ImportAlias}
+use Rattle.hir_use_tree.specs.declared.imports.ImportAlias.TheVariants as alias
 use Rattle.hir_item_tree.specs.Attributes.{Attribute, meta, cfg, cfg_attr, Attributes, no_attributes, attribute}
 use Rattle.hir_item_tree.specs.UseTree.{UseTree, single, glob, prefixed, UseTrees, no_trees, tree}
 use Rattle.hir_item_tree.specs.Source.{VariantValue, Plain, import, extern_crate, function, structure, union_structure, enumeration, constant, static_item, type_alias, outline_module, macro_call, macro_rules, macro_def, Item, plain, holder, Items, no_items, item, SourceValue, broken, unit}

@@ -8,8 +8,8 @@ ghost use Rattle.hir_item_tree.specs.Limits.{is_long, has_long_visibility, has_l
 use crate::raw_attr::{AttrInput, Meta, RawAttr, TokenTree};
 use crate::raw_visibility::RawVisibility;
 use crate::source::{Node, NodeKind, Variant};
-use crate::use_tree_limits::{has_long_path, is_long_path};
 use hir_base::mod_path::ModPath;
+use hir_use_tree::limits::{has_long_path, is_long_path};
 
 fn any_long(paths: &[ModPath]) -> bool
     ensures value { result ≡ list_any is_long paths.now }

@@ -4,15 +4,15 @@ ghost use Rattle.std.specs.List.{list_any};
 ghost use Rattle.hir_item_tree.specs.Attributes.{attribute_view, attributes_view};
 ghost use Rattle.hir_base.specs.Cfg.{cfg_view, cfgs_view};
 ghost use Rattle.hir_item_tree.specs.Source.{node_view, nodes_view, variant_view};
-ghost use Rattle.hir_item_tree.specs.UseTree.{use_tree_view};
+ghost use Rattle.hir_use_tree.specs.UseTree.{use_tree_view};
 ghost use Rattle.hir_item_tree.specs.Limits.{item_depth, depth, is_deep_tree, has_deep_tree, have_deep_tree, cfg_depth, cfgs_depth, attribute_depth, attributes_depth, are_deep, is_deep_variant, has_deep_cfg, have_deep_cfg};
 
 use crate::check::MAX_CFG;
 use crate::raw_attr::RawAttr;
 use crate::source::{Node, NodeKind, Variant};
-use crate::use_tree::UseTree;
-use crate::use_tree_limits::{MAX_NESTING, fits_nesting};
 use hir_base::cfg::CfgExpr;
+use hir_use_tree::limits::{MAX_NESTING, fits_nesting};
+use hir_use_tree::use_tree::UseTree;
 
 // Whether modules nest at most so deep.
 #[cycle(fits)]

@@ -3,7 +3,7 @@ ghost use Rattle.hir_item_tree.specs.Source.{node_view, nodes_view};
 ghost use Rattle.hir_item_tree.specs.Limits.{item_size, size, Spent};
 
 use crate::source::{Node, NodeKind};
-use crate::use_tree_limits::spend_tree;
+use hir_use_tree::limits::spend_tree;
 
 // What is left of a number when a node and its parts are taken from it.
 #[cycle(spend)]

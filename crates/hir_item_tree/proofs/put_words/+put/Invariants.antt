@@ -1,5 +1,5 @@
 use Rattle.std.proofs.Common.{◌≡◌, ◌++◌, drop, string_bytes, false}
-use Rattle.hir_item_tree.specs.UseTree.{use_trees_view}
+use Rattle.hir_use_tree.specs.UseTree.{use_trees_view}
 use Rattle.hir_item_tree.specs.Page.{uses_text}
 use Rattle.hir_item_tree.proofs.put_words.+put.Given as goal
 

@@ -1,5 +1,5 @@
 use Rattle.std.proofs.Common.{◌≡◌, ◌+◌, drop}
-use Rattle.hir_item_tree.specs.UseTree.{count_of}
+use Rattle.hir_use_tree.specs.UseTree.{count_of}
 use Rattle.hir_item_tree.specs.Attributes.{attributes_view, attributes_size}
 use Rattle.hir_item_tree.proofs.raw_attr.+count.Given as goal
 

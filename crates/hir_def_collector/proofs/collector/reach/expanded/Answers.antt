@@ -1,7 +1,7 @@
 use Rattle.std.proofs.Common.{rules, ◌≡◌, ◌++◌, [], ◌∷◌, List, refl}
 use Rattle.std.specs.List.{FoldsTo}
 use Rattle.std.proofs.lemmas.Fn.{chained_keeps}
-use Rattle.hir_item_tree.specs.declared.expand.Import.{Import}
+use Rattle.hir_use_tree.specs.declared.imports.Import.{Import}
 use Rattle.hir_def_collector.specs.contracts.collector.reach.fn.expanded.expand as closure
 use Rattle.hir_def_collector.proofs.collector.reach.expanded.Goals as goal
 

@@ -3,7 +3,7 @@ use Rattle.std.specs.declared.alloc.Global.{Global}
 use Rattle.serde_json.specs.Find.{get_member}
 use Rattle.serde_json.specs.View.{view, members_view}
 use Rattle.hir_item_tree.specs.UseTree.{use_tree_view}
-use Rattle.hir_item_tree.specs.declared.use_tree.UseTree.{UseTree}
+use Rattle.hir_use_tree.specs.declared.use_tree.UseTree.{UseTree}
 use Rattle.hir_wire.specs.UseTrees.{prefixed_in, tree_of, trees_of}
 use Rattle.hir_wire.proofs.NodeLemmas.{trees_in-get_member}
 use Rattle.hir_wire.proofs.ReadingLemmas.{both_refused, list_next}

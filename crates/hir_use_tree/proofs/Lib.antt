@@ -1,0 +1,3 @@
+pub mod UseTreeLemmas
+pub mod CallLemmas
+pub mod UseTreePlaces
