@@ -2,9 +2,12 @@
 //!
 //! A node's kind has the name and the parts that the item has in the text. What another crate has to
 //! read, or nobody reads, as a body, is opaque text.
+ghost use Rattle.std.specs.Prelude.{◌≡◌, [], string_bytes};
+ghost use Rattle.hir_item_tree.specs.declared.raw_visibility.RawVisibility.TheVariants as RawVisibility;
+ghost use Rattle.hir_item_tree.specs.declared.raw_visibility.VisibilityExplicitness.TheVariants.{Implicit};
 
 use crate::raw_attr::RawAttr;
-use crate::raw_visibility::RawVisibility;
+use crate::raw_visibility::{RawVisibility, VisibilityExplicitness};
 use crate::shape::{ExternCrateName, FieldsShape};
 use hir_base::ast_id::SyntaxId;
 use hir_base::macro_kind::MacroExpander;
@@ -12,6 +15,7 @@ use hir_base::mod_path::ModPath;
 use hir_base::name::Name;
 use hir_use_tree::imports::ImportAlias;
 use hir_use_tree::use_tree::UseTree;
+use std::alloc::Global;
 
 /// A source: its syntax, or word that it can't be read.
 #[derive(Drop)]
@@ -28,6 +32,19 @@ pub struct Unit {
     pub nodes: Vec<Node>,
 }
 
+impl Unit {
+    /// These nodes, with no attributes at the top.
+    pub fn new(alloc: Global, nodes: Vec<Node>) -> Unit
+        ensures attrs { result.attrs.items ≡ [] }
+        ensures nodes { result.nodes ≡ nodes }
+    {
+        Unit {
+            attrs: Vec::new(alloc),
+            nodes,
+        }
+    }
+}
+
 /// One item.
 #[derive(Drop)]
 #[cycle(node)]
@@ -39,6 +56,25 @@ pub struct Node {
     /// What attribute and derive calls on the item get, and a macro call itself.
     pub input: String,
     pub kind: NodeKind,
+}
+
+impl Node {
+    /// A private item, with no attributes and no input.
+    pub fn new(alloc: Global, id: SyntaxId, kind: NodeKind) -> Node
+        ensures id { result.id ≡ id }
+        ensures attrs { result.attrs.items ≡ [] }
+        ensures vis { result.vis ≡ RawVisibility.PubSelf Implicit }
+        ensures input { string_bytes result.input ≡ [] }
+        ensures kind { result.kind ≡ kind }
+    {
+        Node {
+            id,
+            attrs: Vec::new(alloc),
+            vis: RawVisibility::PubSelf(VisibilityExplicitness::Implicit),
+            input: String::new(alloc),
+            kind,
+        }
+    }
 }
 
 /// What an item is.
