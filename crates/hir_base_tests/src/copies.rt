@@ -1,4 +1,4 @@
-//! Places and sets of options that are copied.
+//! Copies of places and of sets of options.
 
 use hir_base::ast_id::SyntaxId;
 use hir_base::cfg::CfgAtom;
@@ -25,22 +25,6 @@ fn block_in_module(alloc: Global) -> Result<Place, Fail> {
     elements.push(module(alloc)?)?;
     elements.push(block())?;
     Ok(Place::new(Crate(3), elements))
-}
-
-/// The copy of a step equals the step, and not the other.
-fn step_is_copied(rt: &impl Abort, step: &PlaceElement, other: &PlaceElement) -> Result<(), Fail> {
-    let copy = step.clone()?;
-    assert_eq!(rt; copy, *step);
-    assert_ne!(rt; copy, *other);
-    Ok(())
-}
-
-#[test]
-fn copies_of_steps(rt: HostRuntime) -> Result<(), Fail> {
-    let module = module(rt.alloc())?;
-    let block = block();
-    step_is_copied(&rt, &module, &block)?;
-    step_is_copied(&rt, &block, &module)
 }
 
 /// The copy of a place equals the place, crate and steps.
