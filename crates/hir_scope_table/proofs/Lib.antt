@@ -1,0 +1,6 @@
+pub mod Lookups
+pub mod RollBack
+pub mod Prevails
+pub mod Pushes
+pub mod Picks
+pub mod Ascending

@@ -1,0 +1,12 @@
+-- ---- names and what they are bound to
+pub mod Entries
+pub mod Bindings
+pub mod Globs
+pub mod Table
+pub mod Laws
+
+-- ---- walks in order
+pub mod Merge
+
+-- ---- words of private code
+pub mod Inner

@@ -1,0 +1,84 @@
+//! Entries and keys that are added to maps and sets before anything is written.
+ghost use Rattle.std.specs.Prelude.{◌≡◌, Bool, true, false, List, Some, OnErr, IfOk};
+ghost use Rattle.hir_scope_table.specs.Entries.{with_some_entry};
+ghost use Rattle.hir_scope_table.specs.Inner.Reserved.{IsEntryFor, IsKeyFor};
+
+use std::alloc::AllocError;
+use std::collections::{BTreeMap, BTreeSet};
+
+/// What was added to a table and to the glob table before a candidate is written.
+#[derive(Clone, Copy)]
+pub struct Reserved {
+    pub(crate) item: bool,
+    pub(crate) glob: bool,
+    pub(crate) source: bool,
+}
+
+/// Adds an entry unless its key is there, and says whether it was added.
+pub(crate) fn add_entry<K: Ord + Drop, V: Drop>(
+    map: &mut BTreeMap<K, V>,
+    entry: Option<(K, V)>,
+) -> Result<bool, AllocError>
+    ensures ok { IfOk result (λ added. IsEntryFor K.cmp map.old.entries entry added map.new.entries) }
+    ensures err { OnErr result (map.new.entries ≡ map.old.entries) }
+{
+    let Some((key, value)) = entry else {
+        return Ok(false);
+    };
+    if map.contains_key(&key) {
+        return Ok(false);
+    }
+    map.insert(key, value)?;
+    Ok(true)
+}
+
+/// Takes out an entry that was added.
+pub(crate) fn remove_entry<K: Ord + Drop, V: Drop>(
+    map: &mut BTreeMap<K, V>,
+    key: &K,
+    added: bool,
+)
+    ensures back { (earlier : List (K × V)) (value : V) → IsEntryFor K.cmp earlier (Some (key.now, value)) added map.old.entries
+        → map.new.entries ≡ earlier }
+    ensures kept { added ≡ false → map.new.entries ≡ map.old.entries }
+{
+    if added {
+        map.remove(key);
+    }
+}
+
+/// Writes a value at a key that is there.
+pub(crate) fn write_entry<K: Ord + Drop, V: Drop>(
+    map: &mut BTreeMap<K, V>,
+    key: &K,
+    value: V,
+    added: bool,
+)
+    ensures written { (earlier : List (K × V)) → IsEntryFor K.cmp earlier (Some (key.now, value)) added map.old.entries
+        → map.new.entries ≡ with_some_entry K.cmp earlier (Some (key.now, value)) }
+{
+    if added {
+        return;
+    }
+    if let Some(place) = map.get_mut(key) {
+        *place = value;
+    }
+}
+
+/// Adds a key unless it is there, and says whether it was added.
+pub(crate) fn add_key<K: Ord + Drop>(set: &mut BTreeSet<K>, key: K) -> Result<bool, AllocError>
+    ensures ok { IfOk result (λ added. IsKeyFor K.cmp set.old.keys key true added set.new.keys) }
+    ensures err { OnErr result (set.new.keys ≡ set.old.keys) }
+{
+    Ok(set.insert(key)?)
+}
+
+/// Takes out a key that was added.
+pub(crate) fn remove_key<K: Ord + Drop>(set: &mut BTreeSet<K>, key: &K, added: bool)
+    ensures back { (earlier : List K) (wanted : Bool) → IsKeyFor K.cmp earlier key.now wanted added set.old.keys
+        → set.new.keys ≡ earlier }
+{
+    if added {
+        set.remove(key);
+    }
+}
