@@ -8,11 +8,10 @@ use Rattle.std.specs.declared.cmp.Ordering.TheVariants.{Less, Equal, Greater}
 use Rattle.std.proofs.lemmas.Bool.{cases_lt}
 use Rattle.std.proofs.lemmas.Cmp.{nat_list_cmp_total}
 use Rattle.std.proofs.lemmas.Map.Lookups.{exact_bytes}
-use Rattle.hir_scope.specs.PerNs.{nothing}
-use Rattle.hir_scope.specs.Pushes.{slot_after, gives_way, after_push}
+use Rattle.hir_scope.specs.PerNs.{nothing, Item}
+use Rattle.hir_scope.specs.Bindings.{slot_after, gives_way, after_push}
 use Rattle.hir_scope.specs.ImportRecords.{is_glob}
 use Rattle.hir_scope.specs.declared.imports.ImportOrExternCrate.{ImportOrExternCrate}
-use Rattle.hir_scope.specs.declared.per_ns.Item.{Item}
 use Rattle.hir_scope.specs.declared.per_ns.PerNs.{PerNs}
 use Rattle.hir_scope.specs.declared.visibility.Visibility.{Visibility}
 use Rattle.hir_def_map.specs.State.{Map, Maps, ModuleValue, changed_at, module_at, entry_at, no_globs, with_module}

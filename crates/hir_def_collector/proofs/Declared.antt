@@ -3,9 +3,9 @@ use Rattle.std.proofs.Common.{◌≡◌, ℕ, zero, suc, ◌<◌, ◌++◌, List
 use Rattle.std.specs.Prelude.{cond}
 use Rattle.std.proofs.lemmas.List.Elements.{Contains-append_left, Contains-append_right}
 use Rattle.hir_base.specs.declared.ids.ModuleDefId.{ModuleDefId}
-use Rattle.hir_scope.specs.GlobImports.{GlobNames, Place}
+use Rattle.hir_scope.specs.Globs.{GlobNames, Place}
 use Rattle.hir_scope.specs.PerNs.{is_nothing}
-use Rattle.hir_scope.specs.ScopePushes.{offered_scope, taken_offers, with_unresolved}
+use Rattle.hir_scope.specs.Scope.Push.{written_scope, taken_candidates, with_unresolved}
 use Rattle.hir_scope.specs.declared.imports.ImportOrExternCrate.{ImportOrExternCrate}
 use Rattle.hir_scope.specs.declared.per_ns.PerNs.{PerNs}
 use Rattle.hir_def_map.specs.Declaration.{listed}
@@ -47,7 +47,7 @@ module _ (def : ModuleDefId) where
   pub Lists-pushed : (globs : GlobNames) (place : Place) (items : PerNs) (import : Option ImportOrExternCrate) (m : ModuleValue) → Lists (Some m) → Lists (Some (pushed_module globs place items import m))
   Lists-pushed globs place items import m h = go (is_nothing items)
     where
-      go : (b : Bool) → Contains (cond b (with_unresolved m.scope place.1) (offered_scope place.1 (taken_offers m.scope globs place items import) m.scope)).declarations def
+      go : (b : Bool) → Contains (cond b (with_unresolved m.scope place.1) (written_scope place.1 (taken_candidates m.scope globs place items import) m.scope)).declarations def
       go true = h
       go false = h
 

@@ -26,11 +26,10 @@ use Rattle.hir_use_tree.specs.declared.imports.ImportKind.{ImportKind}
 use Rattle.hir_use_tree.specs.declared.imports.ImportKind.TheVariants as import_kinds
 use Rattle.hir_item_tree.specs.declared.side_lists.VariantItem.{VariantItem}
 use Rattle.hir_scope.specs.ModuleTree.{is_at_or_above, same_crate, same_map, same_module}
-use Rattle.hir_scope.specs.PerNs.{keep_item}
+use Rattle.hir_scope.specs.PerNs.{keep_item, Item}
 use Rattle.hir_scope.specs.Visibility.{both_in, either_written, lower_of}
 use Rattle.hir_scope.specs.declared.imports.ImportOrExternCrate.{ImportOrExternCrate}
 use Rattle.hir_scope.specs.declared.imports.ImportOrGlob.{ImportOrGlob}
-use Rattle.hir_scope.specs.declared.per_ns.Item.{Item}
 use Rattle.hir_scope.specs.declared.per_ns.PerNs.{PerNs}
 use Rattle.hir_scope.specs.declared.visibility.Visibility.{Visibility}
 use Rattle.hir_scope.specs.declared.visibility.Visibility.TheVariants as visibilities

@@ -27,11 +27,10 @@ use Rattle.hir_use_tree.specs.declared.imports.ImportAlias.{ImportAlias}
 use Rattle.hir_item_tree.specs.declared.raw_visibility.RawVisibility.{RawVisibility}
 use Rattle.hir_item_tree.specs.declared.shape.FieldsShape.{FieldsShape}
 use Rattle.hir_scope.specs.declared.imports.ImportOrExternCrate.{ImportOrExternCrate}
-use Rattle.hir_scope.specs.declared.per_ns.Item.{Item}
+use Rattle.hir_scope.specs.PerNs.{Item, keep_item, keep_of}
 use Rattle.hir_scope.specs.declared.per_ns.PerNs.{PerNs}
 use Rattle.hir_scope.specs.declared.visibility.Visibility.{Visibility}
-use Rattle.hir_scope.specs.PerNs.{keep_item, keep_of}
-use Rattle.hir_scope.specs.ScopePushes.{pushed_scope}
+use Rattle.hir_scope.specs.Scope.Push.{pushed_scope}
 use Rattle.hir_def_map.specs.declared.nameres.declaration.Declaration.TheVariants as listings
 use Rattle.hir_def_map.specs.declared.nameres.declaration.Declaration.{Declaration as Listing}
 use Rattle.hir_def_map.specs.NoneOf.{neither, none_at, none_inserted, none_more, none_of_less, not_first, not_second}

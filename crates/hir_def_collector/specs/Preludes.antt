@@ -12,7 +12,7 @@ use Rattle.hir_base.specs.declared.ids.UseId.{UseId}
 use Rattle.hir_base.specs.declared.mod_path.PathKind.TheVariants.{Abs}
 use Rattle.hir_scope.specs.Imports.{use_of}
 use Rattle.hir_scope.specs.declared.imports.ImportOrExternCrate.{ImportOrExternCrate}
-use Rattle.hir_scope.specs.declared.per_ns.Item.{Item}
+use Rattle.hir_scope.specs.PerNs.{Item}
 use Rattle.hir_def_map.specs.State.{CrateData, Local, Map, Maps, at_name, beside, with_name, with_prelude, root_of}
 use Rattle.hir_def_map.specs.Scoping.{resolution_of}
 use Rattle.hir_def_map.specs.Scoping.Asking.{Asking}

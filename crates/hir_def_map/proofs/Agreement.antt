@@ -15,10 +15,9 @@ use Rattle.hir_base.specs.declared.ids.UseId.{UseId}
 use Rattle.hir_base.specs.declared.mod_path.PathKind.{PathKind}
 use Rattle.hir_base.specs.declared.mod_path.PathKind.TheVariants as kinds
 use Rattle.hir_scope.specs.declared.imports.ImportOrExternCrate.{ImportOrExternCrate}
-use Rattle.hir_scope.specs.declared.per_ns.Item.{Item}
+use Rattle.hir_scope.specs.PerNs.{Item, keep_of, nothing, or_of}
 use Rattle.hir_scope.specs.declared.per_ns.PerNs.{PerNs}
 use Rattle.hir_scope.specs.ModuleTree.{same_block, same_crate}
-use Rattle.hir_scope.specs.PerNs.{keep_of, nothing, or_of}
 use Rattle.hir_scope.specs.Visibility.{is_visible}
 use Rattle.hir_def_map.specs.State.{CrateData, Map, Maps, Placed, entry_in, map_in, module_at, parent_in, parent_of, root_of}
 use Rattle.hir_def_map.specs.Complete.{parent_listed}

@@ -4,7 +4,7 @@ use Rattle.std.specs.Prelude.{is_some, not}
 use Rattle.hir_base.specs.ModPath.{Path}
 use Rattle.hir_base.specs.declared.ids.ModuleId.{ModuleId as AnyModule}
 use Rattle.hir_base.specs.declared.mod_path.PathKind.{PathKind}
-use Rattle.hir_scope.specs.PerNs.{first_of}
+use Rattle.hir_scope.specs.Bindings.{first_of}
 use Rattle.hir_scope.specs.ModuleTree.{same_crate}
 use Rattle.hir_def_map.specs.State.{Maps}
 use Rattle.hir_def_map.specs.Chains.{head_of, holder_in, holders_in, IsPlaced}

@@ -11,9 +11,9 @@ use Rattle.hir_base.specs.declared.ast_id.BlockId.{BlockId}
 use Rattle.hir_base.specs.declared.mod_path.PathKind.{PathKind}
 use Rattle.hir_base.specs.declared.mod_path.PathKind.TheVariants as kinds
 use Rattle.hir_scope.specs.declared.imports.ImportOrExternCrate.{ImportOrExternCrate}
-use Rattle.hir_scope.specs.declared.per_ns.Item.{Item}
+use Rattle.hir_scope.specs.PerNs.{Item, nothing, or_of}
 use Rattle.hir_scope.specs.declared.per_ns.PerNs.{PerNs}
-use Rattle.hir_scope.specs.PerNs.{first_of, nothing, or_of}
+use Rattle.hir_scope.specs.Bindings.{first_of}
 use Rattle.hir_scope.specs.ModuleTree.{same_block, same_crate}
 use Rattle.hir_def_map.specs.State.{Maps, map_in}
 use Rattle.hir_def_map.specs.Chains.{holders_in}

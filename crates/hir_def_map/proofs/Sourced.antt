@@ -24,12 +24,12 @@ use Rattle.hir_base.specs.declared.mod_path.PathKind.{PathKind}
 use Rattle.hir_base.specs.declared.mod_path.PathKind.TheVariants as kinds
 use Rattle.hir_item_tree.specs.Shape.{has_constructor}
 use Rattle.hir_scope.specs.declared.imports.ImportOrExternCrate.{ImportOrExternCrate}
-use Rattle.hir_scope.specs.declared.per_ns.Item.{Item}
+use Rattle.hir_scope.specs.PerNs.{Item, keep_item, keep_of, nothing, or_of, with_constructor}
 use Rattle.hir_scope.specs.declared.per_ns.PerNs.{PerNs}
 use Rattle.hir_scope.specs.declared.visibility.Visibility.{Visibility}
 use Rattle.hir_scope.specs.ModuleTree.{same_block, same_crate}
-use Rattle.hir_scope.specs.PerNs.{first_of, keep_item, keep_of, nothing, or_of, with_constructor}
-use Rattle.hir_scope.specs.ScopeReads.{legacy_at}
+use Rattle.hir_scope.specs.Bindings.{first_of}
+use Rattle.hir_scope.specs.Scope.Reads.{legacy_at}
 use Rattle.hir_scope.specs.Visibility.{is_visible}
 use Rattle.hir_def_map.specs.State.{Maps, ModuleValue, Placed, Variants, at_name, entry_in, entry_of, map_in, module_at, module_in, variants_at}
 use Rattle.hir_def_map.specs.Chains.{above_in, holders_in}

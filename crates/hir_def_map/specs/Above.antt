@@ -6,7 +6,7 @@ use Rattle.std.proofs.lemmas.List.Elements.{All-cons, All-nil}
 use Rattle.hir_base.specs.declared.ids.Crate.{Crate}
 use Rattle.hir_base.specs.declared.ids.MapId.{MapId}
 use Rattle.hir_base.specs.declared.ids.ModuleId.{ModuleId}
-use Rattle.hir_scope.specs.PerNs.{first_of}
+use Rattle.hir_scope.specs.Bindings.{first_of}
 use Rattle.hir_scope.specs.ModuleTree.{chain_from, up_of, IsInOneCrate}
 use Rattle.hir_def_map.specs.State.{Maps, numbered}
 use Rattle.hir_def_map.specs.Chains.{Frame, Frames, above_by, above_in, above_inside, above_under, ends_from, ends_within, frames_of, head_of, holder_in, holders_by, holders_in, holders_of_frame, leads_to_root, numbers_above, numbers_of, parent_number, step_in, step_of, step_to, steps_by, steps_from, up_by, up_in, IsPlaced}

@@ -8,7 +8,7 @@ use Rattle.hir_base.specs.declared.ids.MapId.{MapId}
 use Rattle.hir_base.specs.declared.ids.ModuleDefId.{ModuleDefId}
 use Rattle.hir_base.specs.declared.ids.ModuleId.{ModuleId}
 use Rattle.hir_scope.specs.declared.imports.ImportOrExternCrate.{ImportOrExternCrate}
-use Rattle.hir_scope.specs.declared.per_ns.Item.{Item}
+use Rattle.hir_scope.specs.PerNs.{Item}
 use Rattle.hir_scope.specs.declared.per_ns.PerNs.{PerNs}
 use Rattle.hir_def_map.specs.State.{Local, Maps, at_name, entry_in, map_in, module_in, parent_in, root_of}
 use Rattle.hir_def_map.specs.Chains.{holders_in}

@@ -19,13 +19,12 @@ use Rattle.hir_base.specs.declared.ids.UseId.{UseId}
 use Rattle.hir_base.specs.contracts.ids.MapIdPartialEq.TheImpl as map_id
 use Rattle.hir_scope.specs.ModuleTree.{same_crate}
 use Rattle.hir_scope.specs.declared.imports.ImportOrExternCrate.{ImportOrExternCrate}
-use Rattle.hir_scope.specs.declared.per_ns.Item.{Item}
+use Rattle.hir_scope.specs.PerNs.{Item, is_nothing}
 use Rattle.hir_scope.specs.declared.per_ns.PerNs.{PerNs}
-use Rattle.hir_scope.specs.GlobImports.{GlobNames, Place}
-use Rattle.hir_scope.specs.ItemScope.{ScopeValue}
-use Rattle.hir_scope.specs.Offers.{offered_items, taken, type_offer}
-use Rattle.hir_scope.specs.PerNs.{is_nothing}
-use Rattle.hir_scope.specs.ScopePushes.{offered_scope, pushed_scope, taken_offers, with_unresolved}
+use Rattle.hir_scope.specs.Globs.{GlobNames, Place}
+use Rattle.hir_scope.specs.Scope.{ScopeValue}
+use Rattle.hir_scope.specs.Bindings.{written_items, taken, type_candidate}
+use Rattle.hir_scope.specs.Scope.Push.{written_scope, pushed_scope, taken_candidates, with_unresolved}
 use Rattle.hir_def_map.specs.declared.nameres.declaration.Declaration.{Declaration}
 use Rattle.hir_def_map.specs.declared.nameres.declaration.Declaration.TheVariants as declaration
 use Rattle.hir_def_map.specs.declared.world.named.Named.{Named}

@@ -1,6 +1,6 @@
 -- What does a declaration add to the lists of a scope?
 use Rattle.std.specs.Prelude.{[], ◌∷◌, ◌++◌}
-use Rattle.hir_scope.specs.ItemScope.{ScopeValue}
+use Rattle.hir_scope.specs.Scope.{ScopeValue}
 use Rattle.hir_def_map.specs.declared.nameres.declaration.Declaration.{Declaration}
 use Rattle.hir_def_map.specs.declared.nameres.declaration.Declaration.TheVariants as declaration
 

@@ -4,7 +4,7 @@ use Rattle.std.specs.List.{flat_map}
 use Rattle.hir_base.specs.declared.ids.MapId.{MapId}
 use Rattle.hir_base.specs.declared.ids.ModuleId.{ModuleId}
 use Rattle.hir_scope.specs.Dump.{line_name, dump_of as scope_text}
-use Rattle.hir_scope.specs.ItemScope.{ScopeValue}
+use Rattle.hir_scope.specs.Scope.{ScopeValue}
 use Rattle.hir_def_map.specs.State.{Map, Maps, ModuleValue, map_in, module_at, root_of}
 use Rattle.hir_def_map.specs.Chains.{holders_in}
 

@@ -21,17 +21,15 @@ use Rattle.hir_scope.specs.contracts.imports.ImportOrGlobPartialEq.TheImpl as im
 use Rattle.hir_scope.specs.declared.imports.ImportOrExternCrate.{ImportOrExternCrate}
 use Rattle.hir_scope.specs.declared.imports.ImportOrGlob.{ImportOrGlob}
 use Rattle.hir_scope.specs.declared.imports.ImportOrDef.{ImportOrDef}
-use Rattle.hir_scope.specs.declared.per_ns.Item.{Item}
+use Rattle.hir_scope.specs.PerNs.{Item, item_of, value_import}
 use Rattle.hir_scope.specs.declared.per_ns.PerNs.{PerNs}
-use Rattle.hir_scope.specs.declared.push.Push.{Push}
+use Rattle.hir_scope.specs.Bindings.{Candidate, Push, after_push, slot_after, gives_way, takes, macro_candidate, written_places, written_items, taken, type_candidate, value_candidate}
 use Rattle.hir_scope.specs.declared.visibility.Visibility.{Visibility}
-use Rattle.hir_scope.specs.PerNs.{item_of, value_import}
-use Rattle.hir_scope.specs.GlobImports.{GlobNames, Place}
-use Rattle.hir_scope.specs.ImportRecords.{with_entry, has_key, is_glob}
-use Rattle.hir_scope.specs.ItemScope.{ScopeValue, item_at, binding_of}
-use Rattle.hir_scope.specs.Pushes.{after_push, slot_after, gives_way, takes}
-use Rattle.hir_scope.specs.Offers.{macro_offer, offered_globs, offered_items, taken, type_offer, value_offer}
-use Rattle.hir_scope.specs.ScopePushes.{offered_scope, pushed_globs, pushed_scope, taken_offers}
+use Rattle.hir_scope.specs.Globs.{GlobNames, Place}
+use Rattle.hir_scope.specs.Entries.{with_entry, has_key, item_at}
+use Rattle.hir_scope.specs.ImportRecords.{is_glob}
+use Rattle.hir_scope.specs.Scope.{ScopeValue, binding_of}
+use Rattle.hir_scope.specs.Scope.Push.{written_scope, pushed_globs, pushed_scope, taken_candidates}
 use Rattle.hir_def_map.specs.declared.nameres.origin.ModuleOrigin.{ModuleOrigin}
 use Rattle.hir_def_map.specs.State.{Map, Maps, ModuleValue, at_name, beside, holders_or, holders_under, placed_in, with_name, changed_at, entry_of, entry_at, globs_in, globs_after, module_at, new_id, new_module, no_globs, numbered, place_at, pushed, pushed_module, with_child, with_module}
 use Rattle.hir_def_map.specs.Chains.{frame_of, frames_of}
@@ -166,32 +164,32 @@ module _ {V : Type 0} where
 module _ {D I : Type 0} (same_def : D → D → Bool) (same_import : I → I → Bool) where
   -- where no glob has brought anything, what no glob offers is bound as a push binds
   item_at-offered : (es : List (List ℕ × Item D I)) (at : ModuleId) (name : List ℕ) (push : Push D I) (source : ImportOrDef) → push.is_glob ≡ false
-      → item_at (offered_items name (taken same_def same_import es [] (at, name) (Some (record { push = push; source = source }))) es) name
+      → item_at (written_items name (taken same_def same_import es [] (at, name) (Some (record { push = push; source = source }))) es) name
       ≡ slot_after same_def same_import (item_at es name) (Some push.item)
   item_at-offered es at name push source explicit = go (item_at es name) refl
     where
       step : (b : Item D I) → item_at es name ≡ Some b → (gives : Bool)
-          → item_at (offered_items name (cond (not push.is_glob && (false || gives)) (Some (record { push = push; source = source })) None) es) name
+          → item_at (written_items name (cond (not push.is_glob && (false || gives)) (Some (record { push = push; source = source })) None) es) name
           ≡ cond gives (Some push.item) (Some b)
       step b e true = rw explicit (item_at-with_entry es name push.item)
       step b e false = rw explicit e
 
       go : (o : Option (Item D I)) → item_at es name ≡ o
-          → item_at (offered_items name (cond (takes same_def same_import false o push) (Some (record { push = push; source = source })) None) es) name
+          → item_at (written_items name (cond (takes same_def same_import false o push) (Some (record { push = push; source = source })) None) es) name
           ≡ slot_after same_def same_import o (Some push.item)
       go None e = item_at-with_entry es name push.item
       go (Some b) e = step b e (gives_way same_def same_import b push.item)
 
 module _ {D I : Type 0} where
   -- other names stay
-  item_at-offered_other : (es : List (List ℕ × Item D I)) (name other : List ℕ) (o : _) → other ≢ name
-      → item_at (offered_items name o es) other ≡ item_at es other
+  item_at-offered_other : (es : List (List ℕ × Item D I)) (name other : List ℕ) (o : Option (Candidate D I)) → other ≢ name
+      → item_at (written_items name o es) other ≡ item_at es other
   item_at-offered_other es name other None ne = refl
   item_at-offered_other es name other (Some offer) ne = item_at-with_entry_other es name other offer.push.item ne
 
   -- no name comes to be among those that globs brought where no glob offers it
   offered_globs-none : (place : Place) (push : Push D I) (source : ImportOrDef) → push.is_glob ≡ false → (b : Bool)
-      → offered_globs place (cond b (Some (record { push = push; source = source })) None) [] ≡ []
+      → written_places place (cond b (Some (record { push = push; source = source })) None) [] ≡ []
   offered_globs-none place push source explicit true = rw explicit refl
   offered_globs-none place push source explicit false = refl
 
@@ -208,12 +206,12 @@ items_by import items = record {
 -- a push of nothing binds nothing, as an offer of nothing would
 binding_of-pushed : (globs : GlobNames) (place : Place) (items : PerNs) (import : Option ImportOrExternCrate) (scope : ScopeValue) (name : List ℕ)
     → binding_of (pushed_scope globs place items import scope) name
-    ≡ binding_of (offered_scope place.1 (taken_offers scope globs place items import) scope) name
+    ≡ binding_of (written_scope place.1 (taken_candidates scope globs place items import) scope) name
 binding_of-pushed globs place items import scope name = go items.types items.values items.macros
   where
     go : (t : Option (Item ModuleDefId ImportOrExternCrate)) (v : Option (Item ModuleDefId ImportOrGlob)) (m : Option (Item MacroId ImportOrExternCrate))
         → binding_of (pushed_scope globs place (record { types = t; values = v; macros = m }) import scope) name
-        ≡ binding_of (offered_scope place.1 (taken_offers scope globs place (record { types = t; values = v; macros = m }) import) scope) name
+        ≡ binding_of (written_scope place.1 (taken_candidates scope globs place (record { types = t; values = v; macros = m }) import) scope) name
     go (Some i) v m = refl
     go None (Some i) m = refl
     go None None (Some i) = refl
@@ -224,30 +222,30 @@ binding_of-pushed_other : (globs : GlobNames) (place : Place) (items : PerNs) (i
     → other ≢ place.1
     → binding_of (pushed_scope globs place items import scope) other ≡ binding_of scope other
 binding_of-pushed_other globs place items import scope other ne =
-    let offers = taken_offers scope globs place items import in
-    let types : item_at (offered_items place.1 offers.types scope.types) other ≡ item_at scope.types other =
+    let offers = taken_candidates scope globs place items import in
+    let types : item_at (written_items place.1 offers.types scope.types) other ≡ item_at scope.types other =
     item_at-offered_other scope.types place.1 other offers.types ne in
-    let values : item_at (offered_items place.1 offers.values scope.values) other ≡ item_at scope.values other =
+    let values : item_at (written_items place.1 offers.values scope.values) other ≡ item_at scope.values other =
     item_at-offered_other scope.values place.1 other offers.values ne in
-    let macros : item_at (offered_items place.1 offers.macros scope.macros) other ≡ item_at scope.macros other =
+    let macros : item_at (written_items place.1 offers.macros scope.macros) other ≡ item_at scope.macros other =
     item_at-offered_other scope.macros place.1 other offers.macros ne in
     binding_of-pushed globs place items import scope other ∙ (λ i. record { types = types i; values = values i; macros = macros i })
 
 module _ (at : ModuleId) (name : List ℕ) (import : Option ImportOrExternCrate) (scope : ScopeValue) (explicit : is_glob import ≡ false) where
   types_after : (o : Option (Item ModuleDefId ImportOrExternCrate))
-      → item_at (offered_items name (taken module_def.ghosts.eq import_or_extern_crate.ghosts.eq scope.types [] (at, name) (type_offer o import)) scope.types) name
+      → item_at (written_items name (taken module_def.ghosts.eq import_or_extern_crate.ghosts.eq scope.types [] (at, name) (type_candidate o import)) scope.types) name
       ≡ slot_after module_def.ghosts.eq import_or_extern_crate.ghosts.eq (item_at scope.types name) (option_map (λ (i : Item ModuleDefId ImportOrExternCrate). item_of i.def i.vis import) o)
   types_after None = refl
   types_after (Some i) = item_at-offered module_def.ghosts.eq import_or_extern_crate.ghosts.eq scope.types at name _ _ explicit
 
   values_after : (o : Option (Item ModuleDefId ImportOrGlob))
-      → item_at (offered_items name (taken module_def.ghosts.eq import_or_glob.ghosts.eq scope.values [] (at, name) (value_offer o import)) scope.values) name
+      → item_at (written_items name (taken module_def.ghosts.eq import_or_glob.ghosts.eq scope.values [] (at, name) (value_candidate o import)) scope.values) name
       ≡ slot_after module_def.ghosts.eq import_or_glob.ghosts.eq (item_at scope.values name) (option_map (λ (i : Item ModuleDefId ImportOrGlob). item_of i.def i.vis (value_import import)) o)
   values_after None = refl
   values_after (Some i) = item_at-offered module_def.ghosts.eq import_or_glob.ghosts.eq scope.values at name _ _ explicit
 
   macros_after : (o : Option (Item MacroId ImportOrExternCrate))
-      → item_at (offered_items name (taken makro.ghosts.eq import_or_extern_crate.ghosts.eq scope.macros [] (at, name) (macro_offer o import)) scope.macros) name
+      → item_at (written_items name (taken makro.ghosts.eq import_or_extern_crate.ghosts.eq scope.macros [] (at, name) (macro_candidate o import)) scope.macros) name
       ≡ slot_after makro.ghosts.eq import_or_extern_crate.ghosts.eq (item_at scope.macros name) (option_map (λ (i : Item MacroId ImportOrExternCrate). item_of i.def i.vis import) o)
   macros_after None = refl
   macros_after (Some i) = item_at-offered makro.ghosts.eq import_or_extern_crate.ghosts.eq scope.macros at name _ _ explicit
@@ -262,17 +260,17 @@ module _ (at : ModuleId) (name : List ℕ) (import : Option ImportOrExternCrate)
       binding_of-pushed no_globs (at, name) items import scope name ∙ (λ i. record { types = types i; values = values i; macros = macros i })
 
   none_of_types : (o : Option (Item ModuleDefId ImportOrExternCrate))
-      → offered_globs (at, name) (taken module_def.ghosts.eq import_or_extern_crate.ghosts.eq scope.types [] (at, name) (type_offer o import)) [] ≡ []
+      → written_places (at, name) (taken module_def.ghosts.eq import_or_extern_crate.ghosts.eq scope.types [] (at, name) (type_candidate o import)) [] ≡ []
   none_of_types None = refl
   none_of_types (Some i) = offered_globs-none (at, name) _ _ explicit _
 
   none_of_values : (o : Option (Item ModuleDefId ImportOrGlob))
-      → offered_globs (at, name) (taken module_def.ghosts.eq import_or_glob.ghosts.eq scope.values [] (at, name) (value_offer o import)) [] ≡ []
+      → written_places (at, name) (taken module_def.ghosts.eq import_or_glob.ghosts.eq scope.values [] (at, name) (value_candidate o import)) [] ≡ []
   none_of_values None = refl
   none_of_values (Some i) = offered_globs-none (at, name) _ _ explicit _
 
   none_of_macros : (o : Option (Item MacroId ImportOrExternCrate))
-      → offered_globs (at, name) (taken makro.ghosts.eq import_or_extern_crate.ghosts.eq scope.macros [] (at, name) (macro_offer o import)) [] ≡ []
+      → written_places (at, name) (taken makro.ghosts.eq import_or_extern_crate.ghosts.eq scope.macros [] (at, name) (macro_candidate o import)) [] ≡ []
   none_of_macros None = refl
   none_of_macros (Some i) = offered_globs-none (at, name) _ _ explicit _
 

@@ -2,7 +2,7 @@
 use Rattle.std.specs.Prelude.{◌≡◌, ℕ, List, length, Option}
 use Rattle.std.proofs.Common.{refl}
 use Rattle.hir_base.specs.declared.ids.MapId.{MapId}
-use Rattle.hir_scope.specs.ItemScope.{ScopeValue, binding_of}
+use Rattle.hir_scope.specs.Scope.{ScopeValue, binding_of}
 use Rattle.hir_def_map.specs.declared.nameres.declaration.Declaration.{Declaration}
 use Rattle.hir_def_map.specs.declared.nameres.declaration.Declaration.TheVariants as declaration
 use Rattle.hir_def_map.specs.Declaration.{listed}

@@ -14,7 +14,7 @@ use Rattle.hir_base.specs.contracts.ids.MapIdOrd.TheImpl as map_order
 use Rattle.hir_base.specs.contracts.ids.MapIdPartialEq.TheImpl as map_id
 use Rattle.hir_scope.specs.ModuleTree.{same_crate}
 use Rattle.hir_scope.specs.declared.imports.ImportOrExternCrate.{ImportOrExternCrate}
-use Rattle.hir_scope.specs.declared.per_ns.Item.{Item}
+use Rattle.hir_scope.specs.PerNs.{Item}
 use Rattle.hir_def_map.specs.declared.world.named.Named.{Named}
 use Rattle.hir_def_map.specs.declared.world.named.Named.TheVariants as named
 pub use Rattle.hir_def_map.specs.State.{crate_map}

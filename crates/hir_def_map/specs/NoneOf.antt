@@ -8,7 +8,7 @@ use Rattle.std.specs.declared.cmp.Ordering.{Ordering}
 use Rattle.std.specs.declared.cmp.Ordering.TheVariants.{Less, Equal, Greater}
 use Rattle.std.proofs.Common.{ap, refl, subst, sym, ◌∙◌}
 use mathlib.Core.Bool.{true≢false}
-use Rattle.hir_scope.specs.ImportRecords.{has_key, with_entry}
+use Rattle.hir_scope.specs.Entries.{has_key, with_entry}
 use Rattle.hir_def_map.specs.State.{changed_at}
 
 -- ---- of two

@@ -6,7 +6,7 @@ use Rattle.std.specs.Cmp.Lexicographic.{slice_cmp}
 use Rattle.std.specs.BTreeMap.{is_at}
 use Rattle.hir_base.specs.declared.ids.ModuleId.{ModuleId}
 use Rattle.hir_base.specs.contracts.ids.MapIdPartialEq.TheImpl as map_id
-use Rattle.hir_scope.specs.PerNs.{first_of}
+use Rattle.hir_scope.specs.Bindings.{first_of}
 use Rattle.hir_def_map.specs.State.{CrateData, Map, ModuleValue, module_at}
 
 -- whether a module is one of the map's

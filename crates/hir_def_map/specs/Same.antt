@@ -29,7 +29,7 @@ use Rattle.hir_base.specs.contracts.macro_kind.MacroIdPartialEq.TheImpl as makro
 use Rattle.hir_base.specs.contracts.macro_kind.MacroIdEq.TheImpl.Laws.{laws-law as makro_laws}
 use Rattle.hir_base.specs.contracts.macro_kind.ProcMacroIdPartialEq.TheImpl as proc_macro
 use Rattle.hir_base.specs.contracts.macro_kind.ProcMacroIdEq.TheImpl.Laws.{laws-law as proc_macro_laws}
-use Rattle.hir_scope.specs.SameScope.{same_scope, same_scope_equiv}
+use Rattle.hir_scope.specs.Inner.Equality.{same_scope, same_scope_equiv}
 use Rattle.hir_scope.specs.contracts.visibility.VisibilityPartialEq.TheImpl as visibility
 use Rattle.hir_scope.specs.contracts.visibility.VisibilityEq.TheImpl.Laws.{laws-law as visibility_laws}
 use Rattle.hir_def_map.specs.contracts.nameres.enum_variants.EnumVariantPartialEq.TheImpl as enum_variant

@@ -26,9 +26,9 @@ use Rattle.hir_scope.specs.declared.imports.ImportOrExternCrate.{ImportOrExternC
 use Rattle.hir_scope.specs.declared.per_ns.PerNs.{PerNs}
 use Rattle.hir_scope.specs.declared.visibility.Visibility.{Visibility}
 use Rattle.hir_scope.specs.PerNs.{nothing}
-use Rattle.hir_scope.specs.GlobImports.{GlobNames, Place}
-use Rattle.hir_scope.specs.ItemScope.{ScopeValue, binding_of, empty_scope}
-use Rattle.hir_scope.specs.ScopePushes.{pushed_scope, pushed_globs, push_changes as scope_changes}
+use Rattle.hir_scope.specs.Globs.{GlobNames, Place}
+use Rattle.hir_scope.specs.Scope.{ScopeValue, binding_of, empty_scope}
+use Rattle.hir_scope.specs.Scope.Push.{pushed_scope, pushed_globs, push_changes as scope_changes}
 use Rattle.hir_def_map.specs.declared.nameres.BlockInfo.{BlockInfo}
 use Rattle.hir_def_map.specs.declared.nameres.declaration.Declaration.TheVariants as declaration
 use Rattle.hir_def_map.specs.declared.nameres.derive_helpers.DeriveHelper.{DeriveHelper}

@@ -16,16 +16,15 @@ use Rattle.hir_base.specs.contracts.ids.MapIdPartialEq.TheImpl as map_id
 use Rattle.hir_base.specs.contracts.ids.ModuleDefIdPartialEq.TheImpl as module_def
 use Rattle.hir_scope.specs.contracts.imports.ImportOrExternCratePartialEq.TheImpl as item_import
 use Rattle.hir_scope.specs.declared.imports.ImportOrExternCrate.{ImportOrExternCrate}
-use Rattle.hir_scope.specs.declared.per_ns.Item.{Item}
+use Rattle.hir_scope.specs.PerNs.{Item, is_nothing}
 use Rattle.hir_scope.specs.declared.per_ns.PerNs.{PerNs}
 use Rattle.hir_scope.specs.declared.visibility.Visibility.{Visibility}
-use Rattle.hir_scope.specs.GlobImports.{GlobNames, Place, has_place}
+use Rattle.hir_scope.specs.Globs.{GlobNames, Place, has_place}
 use Rattle.hir_scope.specs.ImportRecords.{is_glob}
-use Rattle.hir_scope.specs.ItemScope.{ScopeValue, item_at}
-use Rattle.hir_scope.specs.Offers.{offered_items, taken, type_offer}
-use Rattle.hir_scope.specs.PerNs.{is_nothing}
-use Rattle.hir_scope.specs.Pushes.{takes}
-use Rattle.hir_scope.specs.ScopePushes.{offered_scope, pushed_scope, taken_offers, with_unresolved}
+use Rattle.hir_scope.specs.Scope.{ScopeValue}
+use Rattle.hir_scope.specs.Entries.{item_at}
+use Rattle.hir_scope.specs.Bindings.{written_items, taken, type_candidate, takes}
+use Rattle.hir_scope.specs.Scope.Push.{written_scope, pushed_scope, taken_candidates, with_unresolved}
 use Rattle.hir_def_map.specs.declared.nameres.declaration.Declaration.{Declaration}
 use Rattle.hir_def_map.specs.declared.nameres.declaration.Declaration.TheVariants as declaration
 use Rattle.hir_def_map.specs.declared.nameres.origin.ModuleOrigin.{ModuleOrigin}
@@ -96,19 +95,19 @@ module _ (maps : Maps) where
   types_pushed globs place items import scope there f = go (is_nothing items)
     where
       bound : (i : Item ModuleDefId ImportOrExternCrate) → test_of missing (named_by i.def) ≡ false → (b : Bool)
-          → list_any (test_type missing) (offered_items place.1 (cond b (type_offer (Some i) import) None) scope.types) ≡ false
+          → list_any (test_type missing) (written_items place.1 (cond b (type_candidate (Some i) import) None) scope.types) ≡ false
       bound i h true = none_with_entry (λ (x : Item ModuleDefId ImportOrExternCrate). test_of missing (named_by x.def)) (slice_cmp nat_cmp) scope.types place.1 (record { def = i.def; vis = i.vis; import = import }) f h
       bound i h false = f
 
       offered : (t : Option (Item ModuleDefId ImportOrExternCrate)) → TypeIsThere maps t
-          → list_any (test_type missing) (offered_items place.1 (taken module_def.ghosts.eq item_import.ghosts.eq scope.types globs.types place (type_offer t import)) scope.types) ≡ false
+          → list_any (test_type missing) (written_items place.1 (taken module_def.ghosts.eq item_import.ghosts.eq scope.types globs.types place (type_candidate t import)) scope.types) ≡ false
       offered None h = f
       offered (Some i) h = bound i h (takes module_def.ghosts.eq item_import.ghosts.eq (has_place globs.types place) (item_at scope.types place.1) (record {
         item = record { def = i.def; vis = i.vis; import = import };
         is_glob = is_glob import;
       }))
 
-      go : (b : Bool) → list_any (test_type missing) (cond b (with_unresolved scope place.1) (offered_scope place.1 (taken_offers scope globs place items import) scope)).types ≡ false
+      go : (b : Bool) → list_any (test_type missing) (cond b (with_unresolved scope place.1) (written_scope place.1 (taken_candidates scope globs place items import) scope)).types ≡ false
       go true = f
       go false = offered items.types there
 

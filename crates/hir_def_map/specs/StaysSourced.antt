@@ -18,16 +18,15 @@ use Rattle.hir_scope.specs.contracts.imports.ImportOrGlobPartialEq.TheImpl as gl
 use Rattle.hir_scope.specs.declared.imports.ImportOrExternCrate.{ImportOrExternCrate}
 use Rattle.hir_scope.specs.declared.imports.ImportOrExternCrate.TheVariants as import
 use Rattle.hir_scope.specs.declared.imports.ImportOrGlob.{ImportOrGlob}
-use Rattle.hir_scope.specs.declared.per_ns.Item.{Item}
+use Rattle.hir_scope.specs.PerNs.{Item, is_nothing, value_import}
 use Rattle.hir_scope.specs.declared.per_ns.PerNs.{PerNs}
 use Rattle.hir_scope.specs.declared.visibility.Visibility.{Visibility}
-use Rattle.hir_scope.specs.GlobImports.{GlobNames, Place, has_place}
+use Rattle.hir_scope.specs.Globs.{GlobNames, Place, has_place}
 use Rattle.hir_scope.specs.ImportRecords.{is_glob}
-use Rattle.hir_scope.specs.ItemScope.{ScopeValue, item_at}
-use Rattle.hir_scope.specs.Offers.{macro_offer, offered_items, taken, type_offer, value_offer}
-use Rattle.hir_scope.specs.PerNs.{is_nothing, value_import}
-use Rattle.hir_scope.specs.Pushes.{takes}
-use Rattle.hir_scope.specs.ScopePushes.{offered_scope, pushed_scope, taken_offers, with_unresolved}
+use Rattle.hir_scope.specs.Scope.{ScopeValue}
+use Rattle.hir_scope.specs.Entries.{item_at}
+use Rattle.hir_scope.specs.Bindings.{macro_candidate, written_items, taken, type_candidate, value_candidate, takes}
+use Rattle.hir_scope.specs.Scope.Push.{written_scope, pushed_scope, taken_candidates, with_unresolved}
 use Rattle.hir_def_map.specs.declared.nameres.declaration.Declaration.{Declaration}
 use Rattle.hir_def_map.specs.declared.nameres.declaration.Declaration.TheVariants as declaration
 use Rattle.hir_def_map.specs.declared.nameres.origin.ModuleOrigin.{ModuleOrigin}
@@ -53,67 +52,67 @@ module _ (t : SourceTest) where
     types_pushed : (scope : ScopeValue) → on_values (on_type t) scope.types ≡ false → on_values (on_type t) (pushed_scope globs place items by scope).types ≡ false
     types_pushed scope f = go (is_nothing items)
       where
-        bound : (i : Item ModuleDefId ImportOrExternCrate) → on_type t i ≡ false → (b : Bool) → on_values (on_type t) (offered_items place.1 (cond b (type_offer (Some i) by) None) scope.types) ≡ false
+        bound : (i : Item ModuleDefId ImportOrExternCrate) → on_type t i ≡ false → (b : Bool) → on_values (on_type t) (written_items place.1 (cond b (type_candidate (Some i) by) None) scope.types) ≡ false
         bound i g true = none_with_entry (on_type t) (slice_cmp nat_cmp) scope.types place.1 (record { def = i.def; vis = i.vis; import = by }) f
             (by_import (on_def t i.def) (on_visibility t i.vis) (on_some (on_import t) i.import) (on_some (on_import t) (by)) g brought)
         bound i g false = f
 
         offered : (o : Option (Item ModuleDefId ImportOrExternCrate)) → on_some (on_type t) o ≡ false
-            → on_values (on_type t) (offered_items place.1 (taken module_def.ghosts.eq item_import.ghosts.eq scope.types globs.types place (type_offer o by)) scope.types) ≡ false
+            → on_values (on_type t) (written_items place.1 (taken module_def.ghosts.eq item_import.ghosts.eq scope.types globs.types place (type_candidate o by)) scope.types) ≡ false
         offered None g = f
         offered (Some i) g = bound i g (takes module_def.ghosts.eq item_import.ghosts.eq (has_place globs.types place) (item_at scope.types place.1) (record {
           item = record { def = i.def; vis = i.vis; import = by };
           is_glob = is_glob by;
         }))
 
-        go : (b : Bool) → on_values (on_type t) (cond b (with_unresolved scope place.1) (offered_scope place.1 (taken_offers scope globs place items by) scope)).types ≡ false
+        go : (b : Bool) → on_values (on_type t) (cond b (with_unresolved scope place.1) (written_scope place.1 (taken_candidates scope globs place items by) scope)).types ≡ false
         go true = f
         go false = offered items.types none.types
 
     values_pushed : (scope : ScopeValue) → on_values (on_value t) scope.values ≡ false → on_values (on_value t) (pushed_scope globs place items by scope).values ≡ false
     values_pushed scope f = go (is_nothing items)
       where
-        bound : (i : Item ModuleDefId ImportOrGlob) → on_value t i ≡ false → (b : Bool) → on_values (on_value t) (offered_items place.1 (cond b (value_offer (Some i) by) None) scope.values) ≡ false
+        bound : (i : Item ModuleDefId ImportOrGlob) → on_value t i ≡ false → (b : Bool) → on_values (on_value t) (written_items place.1 (cond b (value_candidate (Some i) by) None) scope.values) ≡ false
         bound i g true = none_with_entry (on_value t) (slice_cmp nat_cmp) scope.values place.1 (record { def = i.def; vis = i.vis; import = value_import by }) f
             (by_import (on_value_def t i.def) (on_visibility t i.vis) (on_some (on_value_import t) i.import) (on_some (on_value_import t) (value_import by)) g (of_value_import by brought))
         bound i g false = f
 
         offered : (o : Option (Item ModuleDefId ImportOrGlob)) → on_some (on_value t) o ≡ false
-            → on_values (on_value t) (offered_items place.1 (taken module_def.ghosts.eq glob_import.ghosts.eq scope.values globs.values place (value_offer o by)) scope.values) ≡ false
+            → on_values (on_value t) (written_items place.1 (taken module_def.ghosts.eq glob_import.ghosts.eq scope.values globs.values place (value_candidate o by)) scope.values) ≡ false
         offered None g = f
         offered (Some i) g = bound i g (takes module_def.ghosts.eq glob_import.ghosts.eq (has_place globs.values place) (item_at scope.values place.1) (record {
           item = record { def = i.def; vis = i.vis; import = value_import by };
           is_glob = is_glob by;
         }))
 
-        go : (b : Bool) → on_values (on_value t) (cond b (with_unresolved scope place.1) (offered_scope place.1 (taken_offers scope globs place items by) scope)).values ≡ false
+        go : (b : Bool) → on_values (on_value t) (cond b (with_unresolved scope place.1) (written_scope place.1 (taken_candidates scope globs place items by) scope)).values ≡ false
         go true = f
         go false = offered items.values none.values
 
     macros_pushed : (scope : ScopeValue) → on_values (on_macro_item t) scope.macros ≡ false → on_values (on_macro_item t) (pushed_scope globs place items by scope).macros ≡ false
     macros_pushed scope f = go (is_nothing items)
       where
-        bound : (i : Item MacroId ImportOrExternCrate) → on_macro_item t i ≡ false → (b : Bool) → on_values (on_macro_item t) (offered_items place.1 (cond b (macro_offer (Some i) by) None) scope.macros) ≡ false
+        bound : (i : Item MacroId ImportOrExternCrate) → on_macro_item t i ≡ false → (b : Bool) → on_values (on_macro_item t) (written_items place.1 (cond b (macro_candidate (Some i) by) None) scope.macros) ≡ false
         bound i g true = none_with_entry (on_macro_item t) (slice_cmp nat_cmp) scope.macros place.1 (record { def = i.def; vis = i.vis; import = by }) f
             (by_import (on_macro t i.def) (on_visibility t i.vis) (on_some (on_import t) i.import) (on_some (on_import t) (by)) g brought)
         bound i g false = f
 
         offered : (o : Option (Item MacroId ImportOrExternCrate)) → on_some (on_macro_item t) o ≡ false
-            → on_values (on_macro_item t) (offered_items place.1 (taken makro.ghosts.eq item_import.ghosts.eq scope.macros globs.macros place (macro_offer o by)) scope.macros) ≡ false
+            → on_values (on_macro_item t) (written_items place.1 (taken makro.ghosts.eq item_import.ghosts.eq scope.macros globs.macros place (macro_candidate o by)) scope.macros) ≡ false
         offered None g = f
         offered (Some i) g = bound i g (takes makro.ghosts.eq item_import.ghosts.eq (has_place globs.macros place) (item_at scope.macros place.1) (record {
           item = record { def = i.def; vis = i.vis; import = by };
           is_glob = is_glob by;
         }))
 
-        go : (b : Bool) → on_values (on_macro_item t) (cond b (with_unresolved scope place.1) (offered_scope place.1 (taken_offers scope globs place items by) scope)).macros ≡ false
+        go : (b : Bool) → on_values (on_macro_item t) (cond b (with_unresolved scope place.1) (written_scope place.1 (taken_candidates scope globs place items by) scope)).macros ≡ false
         go true = f
         go false = offered items.macros none.macros
 
     legacy_pushed : (m : ModuleValue) → on_legacy_in t m ≡ false → on_legacy_in t (pushed_module globs place items by m) ≡ false
     legacy_pushed m f = go (is_nothing items)
       where
-        go : (b : Bool) → on_values (λ macros. list_any (on_macro t) macros) (cond b (with_unresolved m.scope place.1) (offered_scope place.1 (taken_offers m.scope globs place items by) m.scope)).legacy_macros ≡ false
+        go : (b : Bool) → on_values (λ macros. list_any (on_macro t) macros) (cond b (with_unresolved m.scope place.1) (written_scope place.1 (taken_candidates m.scope globs place items by) m.scope)).legacy_macros ≡ false
         go true = f
         go false = f
 

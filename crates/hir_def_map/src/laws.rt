@@ -1,7 +1,7 @@
 //! What holds of every path and every map. The functions do nothing: their contracts are the laws.
 ghost use Rattle.hir_def_map.specs.Laws.{AskersStay, DeclarationsKeepNames, DeclarationsKeepPlaces, JoinedSegments, LastSegmentsAreSeen, LaterSegmentsAreSeen, ModulesAreWalkedTo, PushesKeepPlaces, RootedStepsLeadToParents, SegmentsAreSeen, StepsLeadToParents, UnnamedBindingsDoNotMatter, WalksAreResolved};
 ghost use Rattle.std.specs.Prelude.{◌≡◌, true, List};
-ghost use Rattle.hir_scope.specs.WalkLaws.{GivesItsList};
+ghost use Rattle.hir_scope.specs.Laws.{GivesItsList};
 ghost use Rattle.hir_def_map.specs.Closed.{IsClosed, PathsLeadToWhatIsThere};
 ghost use Rattle.hir_def_map.specs.Complete.{AreWhole, BeginsOnly, NamesOnly};
 ghost use Rattle.hir_def_map.specs.Named.{is_complete};

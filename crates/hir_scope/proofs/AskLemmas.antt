@@ -10,11 +10,10 @@ use Rattle.hir_scope.specs.declared.item_in_ns.ItemInNs.{ItemInNs}
 use Rattle.hir_scope.specs.declared.item_in_ns.ItemInNs.TheVariants.{Types, Values, Macros}
 use Rattle.hir_scope.specs.declared.imports.ImportOrExternCrate.{ImportOrExternCrate}
 use Rattle.hir_scope.specs.declared.imports.ImportOrGlob.{ImportOrGlob}
-use Rattle.hir_scope.specs.declared.per_ns.Item.{Item}
+use Rattle.hir_scope.specs.PerNs.{Item}
 use Rattle.hir_scope.specs.declared.visibility.Visibility.{Visibility}
-use Rattle.hir_scope.specs.AskNames.{AsksInOrder}
-use Rattle.hir_scope.specs.ItemScope.{ScopeValue}
-use Rattle.hir_scope.specs.NamesOfItem.{names_with, names_of_item}
+use Rattle.hir_scope.specs.Scope.Reads.{AsksInOrder, names_with, names_of_item}
+use Rattle.hir_scope.specs.Scope.{ScopeValue}
 
 -- a negation, from the other side
 pub other_side : (a b : Bool) → a ≡ not b → b ≡ not a

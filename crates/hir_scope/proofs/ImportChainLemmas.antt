@@ -3,7 +3,7 @@ use Rattle.std.proofs.Common.{◌≡◌, ℕ, zero, suc, ◌-◌, ◌<◌, refl,
 use Rattle.hir_base.specs.declared.ids.ModuleId.{ModuleId}
 use Rattle.hir_scope.specs.declared.imports.ImportId.{ImportId}
 use Rattle.hir_scope.specs.declared.per_ns.Namespace.{Namespace}
-use Rattle.hir_scope.specs.ItemScope.{ScopeValue}
+use Rattle.hir_scope.specs.Scope.{ScopeValue}
 use Rattle.hir_scope.specs.ImportChains.{record_of, goes_on, chain_end}
 
 pub chain_end-none : (scope_of : ModuleId → Option ScopeValue) (namespace : Namespace) (left : ℕ) (scope : ScopeValue) (import : ImportId)

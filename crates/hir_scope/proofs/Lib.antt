@@ -1,14 +1,9 @@
 pub mod Wider
-pub mod RoomLemmas
 pub mod Rewrites
-pub mod Prevails
-pub mod SlotLemmas
-pub mod PushesSlots
-pub mod RecordLemmas
-pub mod Tells
+pub mod Pushes
+pub mod AfterPush
 pub mod FilterLemmas
 pub mod ImportChainLemmas
-pub mod MergeLemmas
 pub mod AscendingLemmas
 pub mod WalkLemmas
 pub mod AskLemmas

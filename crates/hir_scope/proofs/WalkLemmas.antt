@@ -1,7 +1,7 @@
 -- A walk that gives the first of what is left at each step gives all of it.
 use Rattle.std.proofs.Common.{◌≡◌, refl, sym, ◌∙◌, List, [], ◌∷◌}
 use Rattle.std.specs.Iterator.{AlwaysYields, YieldsFirstBy}
-use Rattle.hir_scope.specs.WalkLaws.{GivesItsList}
+use Rattle.hir_scope.specs.Laws.{GivesItsList}
 
 module _ {S A B : Type 0} (shown : A → B) (left : S → List B) where
   gives_all : (xs : List B) (s : S) → left s ≡ xs → AlwaysYields (YieldsFirstBy shown left) shown s xs

@@ -17,12 +17,11 @@ use Rattle.hir_scope.specs.declared.imports.ImportOrExternCrate.{ImportOrExternC
 use Rattle.hir_scope.specs.declared.imports.ImportOrExternCrate.TheVariants as item
 use Rattle.hir_scope.specs.declared.imports.ImportOrGlob.{ImportOrGlob}
 use Rattle.hir_scope.specs.declared.imports.ImportOrGlob.TheVariants as value
-use Rattle.hir_scope.specs.declared.per_ns.Item.{Item}
+use Rattle.hir_scope.specs.PerNs.{Item, is_nothing}
 use Rattle.hir_scope.specs.declared.per_ns.PerNs.{PerNs}
-use Rattle.hir_scope.specs.PerNs.{is_nothing}
-use Rattle.hir_scope.specs.ItemScope.{ScopeValue}
-use Rattle.hir_scope.specs.ScopeReads.{legacy_at}
-use Rattle.hir_scope.specs.Entries.{entries_of, unnamed_binding}
+use Rattle.hir_scope.specs.Scope.{ScopeValue}
+use Rattle.hir_scope.specs.Scope.Reads.{legacy_at}
+use Rattle.hir_scope.specs.Scope.Entries.{entries_of, unnamed_binding}
 
 -- what brought a type or a macro
 abbrev pub import_word : Option ImportOrExternCrate → List ℕ

@@ -13,11 +13,11 @@ use Rattle.hir_scope.specs.declared.imports.ImportOrExternCrate.TheVariants as i
 use Rattle.hir_scope.specs.declared.imports.ImportOrGlob.TheVariants as value
 use Rattle.hir_scope.specs.declared.per_ns.Namespace.{Namespace}
 use Rattle.hir_scope.specs.declared.per_ns.Namespace.TheVariants.{Types, Values, Macros}
-use Rattle.hir_scope.specs.declared.per_ns.Item.{Item}
+use Rattle.hir_scope.specs.PerNs.{Item}
 use Rattle.hir_scope.specs.declared.per_ns.PerNs.{PerNs}
 use Rattle.hir_scope.specs.declared.visibility.Visibility.TheVariants.{Public}
-use Rattle.hir_scope.specs.ImportRecords.{value_at}
-use Rattle.hir_scope.specs.ItemScope.{ScopeValue}
+use Rattle.hir_scope.specs.Entries.{value_at}
+use Rattle.hir_scope.specs.Scope.{ScopeValue}
 
 -- how many records of a chain are read at most
 abbrev pub record_limit : ℕ

@@ -1,24 +1,25 @@
--- What holds of the pushes of a name?
-use Rattle.std.specs.Prelude.{◌≡◌, Bool, List, ◌++◌, Option, fold}
-use Rattle.std.specs.declared.cmp.Ordering.{Ordering}
-use Rattle.hir_scope.specs.declared.imports.ImportOrDef.{ImportOrDef}
-use Rattle.hir_scope.specs.declared.item_scope.offers.Offer.{Offer}
-use Rattle.hir_scope.specs.declared.push.Push.{Push}
-use Rattle.hir_scope.specs.ImportRecords.{value_at}
-use Rattle.hir_scope.specs.PerNs.{first_of}
-use Rattle.hir_scope.specs.Recorded.{last_recorded}
-use Rattle.hir_scope.specs.Offers.{offered_records}
-use Rattle.hir_scope.specs.Pushes.{Slot, slot_after_push, history_of, prevailing}
+-- What does a walk give from its beginning to its end?
+use Rattle.std.specs.Prelude.{ℕ, List, Option}
+use Rattle.std.specs.Cmp.Lexicographic.{slice_cmp}
+use Rattle.std.specs.Iterator.{AlwaysYields}
+use Rattle.std.specs.List.Sorted.{IsStrictlySortedBy}
+use Rattle.std.specs.Map.{keys_of}
+use Rattle.std.specs.Ordering.{nat_cmp}
+use Rattle.hir_scope.specs.Scope.Entries.{entries_of, import_order, imports_of_scope}
+use Rattle.hir_scope.specs.Scope.{ScopeValue}
 
--- pushes that come one after another to a slot leave what prevails among what stood there and the pushes
-abbrev pub ExplicitPrevails : {D I : Type 0} → (D → D → Bool) → (I → I → Bool) → Type 0
-ExplicitPrevails {D} {I} same_def same_import = (slot : Slot D I) (pushes : List (Push D I))
-    → (fold (slot_after_push same_def same_import) slot pushes).bound ≡ prevailing same_def same_import (history_of slot ++ pushes)
+-- wherever a walk stands, it gives the items that are left in order, and then none
+pub record GivesItsList {S A B : Type 0} (steps : S → Option A → S → Type 0) (shown : A → B) (left : S → List B) : Type 0 where
+  pub gives : (s : S) → AlwaysYields steps shown s (left s)
 
--- after several offers that were taken, the record of an import is what it reached at the last of them
--- that it made, or else what it was
-abbrev pub LastRecordStays : {I : Type 0} → (D : Type 0) → (I → I → Ordering) → Type 0
-LastRecordStays {I} D cmp =
-    (records : List (I × ImportOrDef)) (offers : List (Option (Offer D I))) (import : I)
-    → value_at cmp (fold (λ rs offer. offered_records cmp offer rs) records offers) import
-    ≡ first_of (last_recorded cmp offers import) (value_at cmp records import)
+-- the names of a list by names come in order, each once
+abbrev pub BindingsAscend : {X : Type 0} → List (List ℕ × X) → Type 0
+BindingsAscend entries = IsStrictlySortedBy (slice_cmp nat_cmp) (keys_of entries)
+
+-- the names of a scope come in order, each once
+abbrev pub EntriesAscend : ScopeValue → Type 0
+EntriesAscend scope = BindingsAscend (entries_of scope)
+
+-- its imports come in order, each once
+abbrev pub ImportsAscend : ScopeValue → Type 0
+ImportsAscend scope = IsStrictlySortedBy import_order (imports_of_scope scope)

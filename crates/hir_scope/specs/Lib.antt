@@ -1,32 +1,20 @@
+-- ---- what a name stands for, and who may see it
 pub mod PerNs
-pub mod PerNsItems
-pub mod Filtered
 pub mod Imports
-pub mod ItemInNs
-pub mod GlobImports
-pub mod ItemScope
+pub mod ModuleTree
+pub mod Visibility
+-- ---- a push, and what prevails
+pub use Rattle.hir_scope_table.specs.Entries
 pub mod ImportRecords
-pub mod Room
-pub mod Offers
-pub mod ScopePushes
-pub mod Recorded
-pub mod Tells
-pub mod Updates
-pub mod MacroCalls
-pub mod Censored
-pub mod Pushes
-pub mod SameScope
-pub mod ScopeReads
-pub mod Merge
-pub mod ImportLists
-pub mod Entries
-pub mod NamesOfItem
-pub mod AskNames
-pub mod Walks
+pub mod Bindings
+pub mod Globs
+pub use Rattle.hir_scope_table.specs.Table
+-- ---- a scope
+pub mod Scope
+pub mod MacroScope
 pub mod ImportChains
 pub mod Dump
-pub mod ModuleTree
-pub mod FlatTree
-pub mod Visibility
 pub mod Laws
-pub mod WalkLaws
+-- ---- lists in order, and words of private code
+pub use Rattle.hir_scope_table.specs.Merge
+pub mod Inner

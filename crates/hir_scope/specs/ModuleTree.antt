@@ -5,7 +5,7 @@ use Rattle.hir_base.specs.declared.ids.Crate.{Crate}
 use Rattle.hir_base.specs.declared.ids.MapId.{MapId}
 use Rattle.hir_base.specs.declared.ids.ModuleId.{ModuleId}
 use Rattle.hir_base.specs.declared.ast_id.BlockId.{BlockId}
-use Rattle.hir_scope.specs.PerNs.{first_of}
+use Rattle.hir_scope.specs.Bindings.{first_of}
 
 abbrev pub same_crate : Crate → Crate → Bool
 same_crate a b = a.0 == b.0

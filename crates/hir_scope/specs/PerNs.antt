@@ -1,5 +1,7 @@
--- What a name stands for, namespace by namespace.
-use Rattle.std.specs.Prelude.{Bool, ◌&&◌, not, is_some, Option, None, Some, cond, List, ◌++◌}
+-- What does a name stand for in each namespace?
+use Rattle.hir_scope_table.specs.declared.item.Item.{Item as TableItem}
+use Rattle.hir_scope_table.specs.Bindings.{first_of}
+use Rattle.std.specs.Prelude.{Bool, ◌&&◌, not, is_some, Option, None, Some, cond, List, ◌++◌, ◌≡◌}
 use Rattle.std.specs.Option.{option_map, option_to_list}
 use Rattle.hir_base.specs.declared.ids.AdtId.TheVariants as adt
 use Rattle.hir_base.specs.declared.ids.ModuleDefId.{ModuleDefId}
@@ -9,10 +11,17 @@ use Rattle.hir_scope.specs.declared.imports.ImportOrExternCrate.{ImportOrExternC
 use Rattle.hir_scope.specs.declared.imports.ImportOrGlob.{ImportOrGlob}
 use Rattle.hir_scope.specs.declared.item_in_ns.ItemInNs.{ItemInNs}
 use Rattle.hir_scope.specs.declared.item_in_ns.ItemInNs.TheVariants.{Types, Values, Macros}
-use Rattle.hir_scope.specs.declared.per_ns.Item.{Item}
 use Rattle.hir_scope.specs.declared.visibility.Visibility.{Visibility}
 use Rattle.hir_scope.specs.declared.per_ns.PerNs.{PerNs}
 use Rattle.hir_scope.specs.Imports.{import_or_glob_of, as_item_import}
+use Rattle.hir_base.specs.declared.ids.Crate.{Crate}
+use Rattle.hir_base.specs.declared.ids.ModuleId.{ModuleId}
+use Rattle.hir_base.specs.Ids.{definition_module, macro_module}
+use Rattle.hir_scope.specs.declared.per_ns_items.PerNsItems.{PerNsItems}
+
+-- an item of a namespace: a definition, who may see it, and what brought it
+abbrev pub Item : Type 0 → Type 0 → Type 0
+Item D I = TableItem D Visibility I
 
 -- nothing in any namespace
 abbrev pub nothing : PerNs
@@ -77,11 +86,6 @@ abbrev pub def_of : {D I : Type 0} → Option (Item D I) → Option D
 def_of None = None
 def_of (Some item) = Some item.def
 
--- the first, or else the second
-abbrev pub first_of : {A : Type 0} → Option A → Option A → Option A
-first_of None b = b
-first_of (Some a) b = Some a
-
 -- in each namespace the first, or else the second
 abbrev pub or_of : PerNs → PerNs → PerNs
 or_of a b = record { types = first_of a.types b.types; values = first_of a.values b.values; macros = first_of a.macros b.macros }
@@ -110,3 +114,34 @@ items_of p =
     option_to_list (option_map (λ item. (Types item.def, item.import)) p.types)
     ++ (option_to_list (option_map (λ item. (Values item.def, option_map as_item_import item.import)) p.values)
     ++ option_to_list (option_map (λ item. (Macros item.def, item.import)) p.macros))
+
+-- the definition of a type or value
+abbrev pub def_of_item : ItemInNs → Option ModuleDefId
+def_of_item (Types id) = Some id
+def_of_item (Values id) = Some id
+def_of_item (Macros id) = None
+
+-- the module in which an item is defined
+abbrev pub module_of_item : ItemInNs → Option ModuleId
+module_of_item (Types id) = definition_module id
+module_of_item (Values id) = definition_module id
+module_of_item (Macros id) = Some (macro_module id)
+
+-- the crate in which an item is defined
+abbrev pub crate_of_item : ItemInNs → Option Crate
+crate_of_item item = option_map (λ (m : ModuleId). m.map.krate) (module_of_item item)
+
+-- an item is kept where a test passes its visibility, about which it is asked once; where there is no item, it isn't asked
+abbrev pub Passes : {F D I : Type 0} → (F → Visibility → Bool → F → Type 0) → F → Option (Item D I) → Option (Item D I) → F → Type 0
+Passes steps f None kept g = (kept ≡ None) × (g ≡ f)
+Passes steps f (Some item) kept g = (answer : Bool) × steps f item.vis answer g × (kept ≡ cond answer (Some item) None)
+
+-- types, values and macros are kept so, one after another
+abbrev pub PassInOrder : {F : Type 0} → (F → Visibility → Bool → F → Type 0) → F → PerNs → PerNs → Type 0
+PassInOrder {F} steps f items kept =
+    (g : F) × (h : F) × (last : F) × Passes steps f items.types kept.types g
+    × Passes steps g items.values kept.values h × Passes steps h items.macros kept.macros last
+
+-- the items that are left
+abbrev pub items_left : PerNsItems → List (ItemInNs × Option ImportOrExternCrate)
+items_left walk = items_of walk.left

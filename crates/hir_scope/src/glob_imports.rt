@@ -2,28 +2,28 @@
 ghost use Rattle.std.specs.Prelude.{◌≡◌, []};
 ghost use Rattle.std.specs.Cmp.{IsTotalOrder};
 ghost use Rattle.std.specs.List.Sorted.{IsStrictlySortedBy};
-ghost use Rattle.hir_scope.specs.GlobImports.{place_cmp, has_place};
+ghost use Rattle.hir_scope.specs.Globs.{place_cmp, has_place};
 
 use hir_base::ids::ModuleId;
 use hir_base::name::Name;
+use hir_scope_table::globs::Globs;
 use std::alloc::Global;
-use std::collections::BTreeSet;
 use std::marker::Model;
 
 /// The names of modules that stand for what a glob brought, by namespace.
 #[derive(Drop)]
 pub struct PerNsGlobImports {
-    pub(crate) types: BTreeSet<(ModuleId, Name)>,
-    pub(crate) values: BTreeSet<(ModuleId, Name)>,
-    pub(crate) macros: BTreeSet<(ModuleId, Name)>,
+    pub(crate) types: Globs,
+    pub(crate) values: Globs,
+    pub(crate) macros: Globs,
 }
 
 impl Model for PerNsGlobImports {
-    ghost use Rattle.hir_scope.specs.GlobImports.{GlobNames};
+    ghost use Rattle.hir_scope.specs.Globs.{GlobNames};
 
     ghost Value = { GlobNames };
 
-    ghost view = { λ g. record { types = g.types.keys; values = g.values.keys; macros = g.macros.keys } };
+    ghost view = { λ g. record { types = g.types; values = g.values; macros = g.macros } };
 }
 
 impl PerNsGlobImports {
@@ -31,9 +31,9 @@ impl PerNsGlobImports {
         ensures value { result ≡ record { types = []; values = []; macros = [] } }
     {
         PerNsGlobImports {
-            types: BTreeSet::new(alloc),
-            values: BTreeSet::new(alloc),
-            macros: BTreeSet::new(alloc),
+            types: Globs::new(alloc),
+            values: Globs::new(alloc),
+            macros: Globs::new(alloc),
         }
     }
 
@@ -65,16 +65,8 @@ impl PerNsGlobImports {
         ensures values { IsStrictlySortedBy place_cmp self.now.values }
         ensures macros { IsStrictlySortedBy place_cmp self.now.macros }
     {
-        keys_are_ordered(&self.types);
-        keys_are_ordered(&self.values);
-        keys_are_ordered(&self.macros);
+        self.types.is_ordered();
+        self.values.is_ordered();
+        self.macros.is_ordered();
     }
-}
-
-// The keys of a set are in order, by an order that is total.
-pub(crate) fn keys_are_ordered<K: Ord>(keys: &BTreeSet<K>)
-    ensures total { IsTotalOrder K.cmp }
-    ensures ordered { IsStrictlySortedBy K.cmp keys.now.keys }
-{
-    let _ = keys.len();
 }

@@ -1,6 +1,6 @@
 //! An item of one namespace, after rust-analyzer's `ItemInNs`.
 ghost use Rattle.std.specs.Prelude.{◌≡◌};
-ghost use Rattle.hir_scope.specs.ItemInNs.{def_of_item, module_of_item, crate_of_item};
+ghost use Rattle.hir_scope.specs.PerNs.{def_of_item, module_of_item, crate_of_item};
 
 use hir_base::ids::{Crate, HasModule, ModuleDefId, ModuleId};
 use hir_base::macro_kind::MacroId;

@@ -1,6 +1,6 @@
 //! What the names of a module or a block stand for there, and what it declares, after rust-analyzer's `ItemScope`.
 ghost use Rattle.std.specs.Prelude.{◌≡◌, []};
-ghost use Rattle.hir_scope.specs.ItemScope.{empty_scope, binding_of};
+ghost use Rattle.hir_scope.specs.Scope.{empty_scope, binding_of};
 
 mod ascending;
 pub mod ask_names;
@@ -16,10 +16,8 @@ pub mod import_ids;
 pub mod macro_calls;
 pub mod names;
 pub mod names_of_item;
-mod offers;
 pub mod push;
 pub mod reads;
-mod room;
 mod same;
 pub mod tables;
 pub mod update;
@@ -27,23 +25,25 @@ pub mod walks;
 
 use crate::imports::{ImportId, ImportOrDef, ImportOrExternCrate, ImportOrGlob};
 use crate::item_scope::macro_calls::{DeriveAttributes, LegacyMacros};
-use crate::per_ns::{Item, MacrosItem, PerNs, TypesItem, ValuesItem};
+use crate::per_ns::{Item, PerNs};
+use crate::visibility::Visibility;
 use hir_base::ast_id::{AstId, MacroCallId};
 use hir_base::ids::{ConstId, ExternBlockId, ExternCrateId, ImplId, ModuleDefId, TraitId, UseId};
-use hir_base::macro_kind::BuiltinDeriveImplId;
+use hir_base::macro_kind::{BuiltinDeriveImplId, MacroId};
 use hir_base::name::Name;
+use hir_scope_table::table::Table;
 use indexmap::IndexMap;
 use std::alloc::Global;
-use std::collections::{BTreeMap, BTreeSet};
+use std::collections::BTreeSet;
 use std::marker::Model;
 
 /// The bindings of a module or a block by namespace, what it declares, and what its imports and macro calls became.
 #[derive(Drop)]
 pub struct ItemScope {
     alloc: Global,
-    types: BTreeMap<Name, TypesItem>,
-    values: BTreeMap<Name, ValuesItem>,
-    macros: BTreeMap<Name, MacrosItem>,
+    types: Table<ModuleDefId, Visibility, ImportOrExternCrate, ImportOrDef>,
+    values: Table<ModuleDefId, Visibility, ImportOrGlob, ImportOrDef>,
+    macros: Table<MacroId, Visibility, ImportOrExternCrate, ImportOrDef>,
     unresolved: BTreeSet<Name>,
     declarations: Vec<ModuleDefId>,
     impls: Vec<(ImplId, bool)>,
@@ -51,9 +51,6 @@ pub struct ItemScope {
     extern_blocks: Vec<ExternBlockId>,
     unnamed_consts: Vec<ConstId>,
     unnamed_traits: IndexMap<TraitId, Item<(), ImportId>>,
-    type_imports: BTreeMap<ImportOrExternCrate, ImportOrDef>,
-    value_imports: BTreeMap<ImportOrGlob, ImportOrDef>,
-    macro_imports: BTreeMap<ImportOrExternCrate, ImportOrDef>,
     use_decls: Vec<UseId>,
     extern_crate_decls: Vec<ExternCrateId>,
     legacy_macros: IndexMap<Name, LegacyMacros>,
@@ -63,14 +60,14 @@ pub struct ItemScope {
 }
 
 impl Model for ItemScope {
-    ghost use Rattle.hir_scope.specs.ItemScope.{ScopeValue};
+    ghost use Rattle.hir_scope.specs.Scope.{ScopeValue};
 
     ghost Value = { ScopeValue };
 
     ghost view = { λ s. record {
-      types = s.types.entries;
-      values = s.values.entries;
-      macros = s.macros.entries;
+      types = s.types.items;
+      values = s.values.items;
+      macros = s.macros.items;
       unresolved = s.unresolved.keys;
       declarations = s.declarations.items;
       impls = s.impls.items;
@@ -78,9 +75,9 @@ impl Model for ItemScope {
       extern_blocks = s.extern_blocks.items;
       unnamed_consts = s.unnamed_consts.items;
       unnamed_traits = s.unnamed_traits.entries;
-      type_imports = s.type_imports.entries;
-      value_imports = s.value_imports.entries;
-      macro_imports = s.macro_imports.entries;
+      type_imports = s.types.records;
+      value_imports = s.values.records;
+      macro_imports = s.macros.records;
       use_decls = s.use_decls.items;
       extern_crate_decls = s.extern_crate_decls.items;
       legacy_macros = s.legacy_macros.entries;
@@ -97,9 +94,9 @@ impl ItemScope {
     {
         ItemScope {
             alloc,
-            types: BTreeMap::new(alloc),
-            values: BTreeMap::new(alloc),
-            macros: BTreeMap::new(alloc),
+            types: Table::new(alloc),
+            values: Table::new(alloc),
+            macros: Table::new(alloc),
             unresolved: BTreeSet::new(alloc),
             declarations: Vec::new(alloc),
             impls: Vec::new(alloc),
@@ -107,9 +104,6 @@ impl ItemScope {
             extern_blocks: Vec::new(alloc),
             unnamed_consts: Vec::new(alloc),
             unnamed_traits: IndexMap::new(alloc),
-            type_imports: BTreeMap::new(alloc),
-            value_imports: BTreeMap::new(alloc),
-            macro_imports: BTreeMap::new(alloc),
             use_decls: Vec::new(alloc),
             extern_crate_decls: Vec::new(alloc),
             legacy_macros: IndexMap::new(alloc),
@@ -124,9 +118,9 @@ impl ItemScope {
         ensures value { result ≡ binding_of self.now name.now }
     {
         PerNs {
-            types: self.types.get(name).copied(),
-            values: self.values.get(name).copied(),
-            macros: self.macros.get(name).copied(),
+            types: self.types.get(name),
+            values: self.values.get(name),
+            macros: self.macros.get(name),
         }
     }
 }

@@ -1,20 +1,9 @@
 //! Laws of scopes, and of the ids of imports and of items by namespace. The functions do nothing: their contracts are the laws.
 ghost use Rattle.hir_base.specs.Laws.{HashesAlike, OrdersTotally};
-ghost use Rattle.hir_scope.specs.Laws.{ExplicitPrevails, LastRecordStays};
 
 use crate::imports::{GlobId, ImportId, ImportOrDef, ImportOrExternCrate, ImportOrGlob};
 use crate::item_in_ns::ItemInNs;
 use std::hash::Hash;
-
-/// A slot holds what prevails among the pushes since it was last updated or emptied, and what stood there then.
-pub fn explicit_prevails<Def: Eq, Import: Eq>()
-    ensures law { ExplicitPrevails Def.eq Import.eq }
-{}
-
-/// The record of an import is what it reached at the last push that it made and that changed its name.
-pub fn last_record_stays<Def, Import: Ord>()
-    ensures law { LastRecordStays Def Import.cmp }
-{}
 
 /// What a type's own laws say of its hash.
 fn hashes_alike<T: Eq + Hash>()

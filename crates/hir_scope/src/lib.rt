@@ -1,7 +1,6 @@
 //! Namespaces, what a name stands for in each, and who may see it.
 #![tactic(auto)]
 
-pub mod flat_tree;
 pub mod glob_imports;
 pub mod import_conversions;
 pub mod imports;
@@ -11,7 +10,6 @@ pub mod laws;
 pub mod module_tree;
 pub mod per_ns;
 pub mod per_ns_items;
-pub mod push;
 pub mod scopes;
 pub mod visibility;
 pub mod walk_laws;

@@ -1,7 +1,6 @@
 //! What a name stands for in each namespace, after rust-analyzer's `per_ns.rs`.
 ghost use Rattle.std.specs.Prelude.{◌≡◌, Bool, true, false};
-ghost use Rattle.hir_scope.specs.PerNs.{nothing, types_only, values_only, macros_only, types_and_values, value_import, with_constructor, per_ns_of, is_full, is_nothing, def_of, or_of, keep_of, seen_as, item_seen_as};
-ghost use Rattle.hir_scope.specs.Filtered.{Passes, PassInOrder};
+ghost use Rattle.hir_scope.specs.PerNs.{nothing, types_only, values_only, macros_only, types_and_values, value_import, with_constructor, per_ns_of, is_full, is_nothing, def_of, or_of, keep_of, seen_as, item_seen_as, Passes, PassInOrder};
 ghost use Rattle.hir_scope.specs.declared.visibility.Visibility.{Visibility};
 ghost use Rattle.hir_scope.specs.declared.per_ns.PerNs.{PerNs};
 
@@ -18,12 +17,7 @@ pub enum Namespace {
 }
 
 /// What a name stands for in one namespace: the definition, who may see it there, and what brought it.
-#[derive(Clone, Copy, Debug, PartialEq, Eq, Hash)]
-pub struct Item<Def, Import> {
-    pub def: Def,
-    pub vis: Visibility,
-    pub import: Option<Import>,
-}
+pub type Item<Def, Import> = hir_scope_table::item::Item<Def, Visibility, Import>;
 
 pub type TypesItem = Item<ModuleDefId, ImportOrExternCrate>;
 

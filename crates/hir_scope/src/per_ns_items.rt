@@ -1,8 +1,7 @@
 //! The items that a name stands for, one after another.
 ghost use Rattle.std.specs.Prelude.{◌≡◌};
 ghost use Rattle.std.specs.Iterator.{YieldsFirst, item_count};
-ghost use Rattle.hir_scope.specs.PerNs.{items_of};
-ghost use Rattle.hir_scope.specs.PerNsItems.{items_left};
+ghost use Rattle.hir_scope.specs.PerNs.{items_of, items_left};
 
 use crate::imports::ImportOrExternCrate;
 use crate::item_in_ns::ItemInNs;

@@ -2,7 +2,7 @@
 ghost use Rattle.std.specs.Prelude.{◌≡◌, Option};
 ghost use Rattle.std.specs.Option.{option_copied};
 ghost use Rattle.hir_base.specs.declared.ids.ModuleId.{ModuleId};
-ghost use Rattle.hir_scope.specs.ItemScope.{ScopeValue};
+ghost use Rattle.hir_scope.specs.Scope.{ScopeValue};
 
 use crate::item_scope::ItemScope;
 use hir_base::ids::ModuleId;

@@ -2,8 +2,8 @@
 ghost use Rattle.std.specs.Prelude.{List};
 ghost use Rattle.std.specs.Option.{option_copied};
 ghost use Rattle.std.specs.Map.Iter.{deref_pair};
-ghost use Rattle.hir_scope.specs.PerNsItems.{items_left};
-ghost use Rattle.hir_scope.specs.WalkLaws.{BindingsAscend, EntriesAscend, GivesItsList, ImportsAscend};
+ghost use Rattle.hir_scope.specs.PerNs.{items_left};
+ghost use Rattle.hir_scope.specs.Laws.{BindingsAscend, EntriesAscend, GivesItsList, ImportsAscend};
 
 use crate::imports::{ImportOrExternCrate, ImportOrGlob};
 use crate::item_scope::ItemScope;

@@ -4,9 +4,7 @@ pub mod Bindings
 pub mod Globs
 pub mod Table
 pub mod Laws
-
 -- ---- walks in order
 pub mod Merge
-
 -- ---- words of private code
 pub mod Inner

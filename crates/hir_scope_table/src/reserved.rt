@@ -33,11 +33,7 @@ pub(crate) fn add_entry<K: Ord + Drop, V: Drop>(
 }
 
 /// Takes out an entry that was added.
-pub(crate) fn remove_entry<K: Ord + Drop, V: Drop>(
-    map: &mut BTreeMap<K, V>,
-    key: &K,
-    added: bool,
-)
+pub(crate) fn remove_entry<K: Ord + Drop, V: Drop>(map: &mut BTreeMap<K, V>, key: &K, added: bool)
     ensures back { (earlier : List (K × V)) (value : V) → IsEntryFor K.cmp earlier (Some (key.now, value)) added map.old.entries
         → map.new.entries ≡ earlier }
     ensures kept { added ≡ false → map.new.entries ≡ map.old.entries }

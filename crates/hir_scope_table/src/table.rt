@@ -105,9 +105,12 @@ fn set_definition<Def: Copy, Vis: Copy, Import: Copy>(
     }
 }
 
-impl<Def: Copy + PartialEq, Vis: Copy, Import: Copy + Ord, Target: Copy>
-    Table<Def, Vis, Import, Target>
-{
+impl<Def: Copy + PartialEq, Vis: Copy, Import: Copy + Ord, Target: Copy> Table<
+    Def,
+    Vis,
+    Import,
+    Target,
+> {
     /// The candidate, if it changes what the name stands for.
     pub fn candidate(
         &self,
@@ -284,9 +287,12 @@ impl<Def: Copy, Vis: Copy, Import: Copy + Ord, Target: Copy> Table<Def, Vis, Imp
     }
 }
 
-impl<Def: Copy + PartialEq, Vis: Copy, Import: Copy + Ord, Target: Copy>
-    Table<Def, Vis, Import, Target>
-{
+impl<Def: Copy + PartialEq, Vis: Copy, Import: Copy + Ord, Target: Copy> Table<
+    Def,
+    Vis,
+    Import,
+    Target,
+> {
     /// Removes what a name stands for, if that is this definition.
     pub fn remove(&mut self, name: &Name, def: Def)
         ensures value { self.new ≡ record self.old { items = without_definition Def.eq self.old.items name.now def } }

@@ -1,1 +1,2 @@
+pub mod FlatTree
 pub mod SmallTree

@@ -1,5 +1,6 @@
 //! What all tests stand on: ids, imports and pushes of a small crate.
 mod dump;
+mod flat_tree;
 mod import_chains;
 mod item_scope;
 mod small_tree;

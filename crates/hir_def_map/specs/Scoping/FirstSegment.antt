@@ -11,11 +11,10 @@ use Rattle.hir_base.specs.declared.ids.UseId.{UseId}
 use Rattle.hir_base.specs.declared.macro_kind.MacroId.{MacroId}
 use Rattle.hir_scope.specs.declared.imports.ImportOrExternCrate.{ImportOrExternCrate}
 use Rattle.hir_scope.specs.declared.imports.ImportOrExternCrate.TheVariants as ways
-use Rattle.hir_scope.specs.declared.per_ns.Item.{Item}
+use Rattle.hir_scope.specs.PerNs.{Item, nothing, types_only, macros_only, or_of}
 use Rattle.hir_scope.specs.declared.per_ns.PerNs.{PerNs}
 use Rattle.hir_scope.specs.declared.visibility.Visibility.TheVariants.{Public}
-use Rattle.hir_scope.specs.PerNs.{nothing, types_only, macros_only, or_of}
-use Rattle.hir_scope.specs.ScopeReads.{legacy_at}
+use Rattle.hir_scope.specs.Scope.Reads.{legacy_at}
 use Rattle.hir_def_map.specs.State.{Local, Map, Maps, ModuleValue, at_name, crate_root, entry_in, map_in, module_in}
 use Rattle.hir_base.specs.declared.resolve_mode.BuiltinShadowMode.{BuiltinShadowMode}
 use Rattle.hir_base.specs.declared.resolve_mode.BuiltinShadowMode.TheVariants as shadow_modes

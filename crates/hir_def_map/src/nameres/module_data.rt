@@ -1,8 +1,8 @@
 //! One module of a def map.
 ghost use Rattle.std.specs.Prelude.{◌≡◌, [], None, IfOk, OnOk, OnErr, option_and_then};
-ghost use Rattle.hir_scope.specs.ItemScope.{binding_of, empty_scope};
-ghost use Rattle.hir_scope.specs.ScopeReads.{legacy_at};
-ghost use Rattle.hir_scope.specs.ScopePushes.{pushed_globs, push_changes};
+ghost use Rattle.hir_scope.specs.Scope.{binding_of, empty_scope};
+ghost use Rattle.hir_scope.specs.Scope.Reads.{legacy_at};
+ghost use Rattle.hir_scope.specs.Scope.Push.{pushed_globs, push_changes};
 ghost use Rattle.hir_def_map.specs.Declaration.{listed};
 ghost use Rattle.hir_def_map.specs.Origins.{declaration_of, source_of};
 ghost use Rattle.hir_def_map.specs.Scoping.FirstSegment.{last_macro};

@@ -1,13 +1,14 @@
 //! Asking about each name of an item, after rust-analyzer's `names_of`.
 ghost use Rattle.std.specs.Prelude.{◌≡◌, List, ℕ};
-ghost use Rattle.hir_scope.specs.NamesOfItem.{names_with, names_of_item};
-ghost use Rattle.hir_scope.specs.AskNames.{AsksInOrder};
+ghost use Rattle.hir_scope.specs.Scope.Reads.{names_with, names_of_item, AsksInOrder};
 
+use crate::imports::ImportOrDef;
 use crate::item_in_ns::ItemInNs;
 use crate::item_scope::ItemScope;
 use crate::per_ns::Item;
 use crate::visibility::Visibility;
 use hir_base::name::Name;
+use hir_scope_table::table::Table;
 use std::collections::btree_map;
 
 impl ItemScope {
@@ -22,11 +23,19 @@ impl ItemScope {
         ensures value { AsksInOrder F.step cb (names_of_item self.now item) result }
     {
         match item {
-            ItemInNs::Types(id) => ask_names(self.types.iter(), id, cb),
-            ItemInNs::Values(id) => ask_names(self.values.iter(), id, cb),
-            ItemInNs::Macros(id) => ask_names(self.macros.iter(), id, cb),
+            ItemInNs::Types(id) => ask_names(entries_of(&self.types), id, cb),
+            ItemInNs::Values(id) => ask_names(entries_of(&self.values), id, cb),
+            ItemInNs::Macros(id) => ask_names(entries_of(&self.macros), id, cb),
         }
     }
+}
+
+fn entries_of<Def, Import: Ord>(
+    table: &Table<Def, Visibility, Import, ImportOrDef>,
+) -> btree_map::Iter<'_, Name, Item<Def, Import>>
+    ensures rest { result ≡ table.now.items }
+{
+    table.items.iter()
 }
 
 fn ask_names<

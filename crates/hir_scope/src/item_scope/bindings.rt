@@ -2,7 +2,7 @@
 ghost use Rattle.std.specs.Prelude.{◌≡◌, ℕ, List};
 ghost use Rattle.std.specs.Iterator.{YieldsFirstBy, item_count};
 ghost use Rattle.std.specs.Map.Iter.{deref_pair};
-ghost use Rattle.hir_scope.specs.declared.per_ns.Item.{Item};
+ghost use Rattle.hir_scope.specs.PerNs.{Item};
 
 use crate::imports::{ImportOrExternCrate, ImportOrGlob};
 use crate::item_scope::ItemScope;
@@ -21,7 +21,7 @@ pub struct Bindings<'a, Def, Import> {
 
 impl<'a, Def, Import> Model for Bindings<'a, Def, Import> {
     ghost use Rattle.std.specs.Prelude.{ℕ, List};
-    ghost use Rattle.hir_scope.specs.declared.per_ns.Item.{Item};
+    ghost use Rattle.hir_scope.specs.PerNs.{Item};
 
     ghost Value = { List (List ℕ × Item Def Import) };
 
@@ -34,7 +34,7 @@ impl ItemScope {
         ensures value { result ≡ self.now.types }
     {
         Bindings {
-            left: self.types.iter(),
+            left: self.types.items.iter(),
         }
     }
 
@@ -43,7 +43,7 @@ impl ItemScope {
         ensures value { result ≡ self.now.values }
     {
         Bindings {
-            left: self.values.iter(),
+            left: self.values.items.iter(),
         }
     }
 
@@ -52,7 +52,7 @@ impl ItemScope {
         ensures value { result ≡ self.now.macros }
     {
         Bindings {
-            left: self.macros.iter(),
+            left: self.macros.items.iter(),
         }
     }
 }

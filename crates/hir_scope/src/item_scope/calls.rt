@@ -2,7 +2,7 @@
 ghost use Rattle.std.specs.Prelude.{◌≡◌, ◌∷◌, ◌++◌, List, MatchOption, []};
 ghost use Rattle.std.specs.Iterator.{YieldsFirst, item_count};
 ghost use Rattle.std.specs.Map.{values_of};
-ghost use Rattle.hir_scope.specs.Walks.{calls_among, calls_of_attributes, calls_of_items};
+ghost use Rattle.hir_scope.specs.Scope.Reads.{calls_among, calls_of_attributes, calls_of_items};
 
 use crate::item_scope::ItemScope;
 use crate::item_scope::macro_calls::{DeriveAttribute, DeriveAttributes};
@@ -58,7 +58,7 @@ struct DeriveCallIds<'a> {
 impl<'a> Model for DeriveCallIds<'a> {
     ghost use Rattle.std.specs.Prelude.{List, ◌++◌};
     ghost use Rattle.hir_base.specs.declared.ast_id.MacroCallId.{MacroCallId};
-    ghost use Rattle.hir_scope.specs.Walks.{calls_among, calls_of_attributes, calls_of_items};
+    ghost use Rattle.hir_scope.specs.Scope.Reads.{calls_among, calls_of_attributes, calls_of_items};
 
     ghost Value = { List MacroCallId };
 

@@ -1,6 +1,6 @@
 //! What a procedural macro's crate leaves to see, after rust-analyzer's `censor_non_proc_macros`.
 ghost use Rattle.std.specs.Prelude.{◌≡◌};
-ghost use Rattle.hir_scope.specs.Censored.{censored, censored_vis, censored_macros, censored_scope};
+ghost use Rattle.hir_scope.specs.Scope.Updates.{censored, censored_vis, censored_macros, censored_scope};
 
 use crate::imports::{ImportId, ImportOrExternCrate};
 use crate::item_scope::ItemScope;
@@ -62,9 +62,9 @@ impl ItemScope {
     pub fn censor_non_proc_macros(&mut self, krate: Crate)
         ensures value { self.new ≡ censored_scope krate self.old }
     {
-        censor(&mut self.types, krate);
-        censor(&mut self.values, krate);
-        censor_macros(&mut self.macros, krate);
+        censor(&mut self.types.items, krate);
+        censor(&mut self.values.items, krate);
+        censor_macros(&mut self.macros.items, krate);
         censor_traits(&mut self.unnamed_traits, krate);
     }
 }

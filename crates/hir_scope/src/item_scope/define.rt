@@ -1,7 +1,7 @@
 //! What a scope declares, after the `define_` methods of rust-analyzer's `ItemScope`.
 ghost use Rattle.std.specs.Prelude.{◌≡◌, ◌++◌, ◌∷◌, [], OnOk, OnErr};
-ghost use Rattle.hir_scope.specs.MacroCalls.{with_legacy_macro};
-ghost use Rattle.hir_scope.specs.Updates.{with_unnamed_trait};
+ghost use Rattle.hir_scope.specs.MacroScope.{with_legacy_macro};
+ghost use Rattle.hir_scope.specs.Scope.Updates.{with_unnamed_trait};
 
 use crate::imports::ImportId;
 use crate::item_scope::ItemScope;

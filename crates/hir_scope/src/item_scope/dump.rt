@@ -4,8 +4,8 @@ ghost use Rattle.std.specs.List.{flat_map};
 ghost use Rattle.std.specs.Map.{keys_of};
 ghost use Rattle.std.specs.Option.{option_copied};
 ghost use Rattle.std.specs.String.{string_bytes};
-ghost use Rattle.hir_scope.specs.Entries.{entries_of};
-ghost use Rattle.hir_scope.specs.ScopeReads.{legacy_at};
+ghost use Rattle.hir_scope.specs.Scope.Entries.{entries_of};
+ghost use Rattle.hir_scope.specs.Scope.Reads.{legacy_at};
 ghost use Rattle.hir_scope.specs.Dump.{import_word, value_import_word, style_marks, macro_word, type_text, value_text, macro_text, binding_text, line, entry_line, unnamed_line, in_order, legacy_text, legacy_macros_of, legacy_line, dump_of};
 
 use crate::imports::{ImportOrExternCrate, ImportOrGlob};

@@ -4,7 +4,7 @@ ghost use Rattle.std.specs.Option.{option_copied};
 ghost use Rattle.std.specs.Iterator.{YieldsFirstBy, item_count};
 ghost use Rattle.hir_base.specs.declared.name.Name.{Name};
 ghost use Rattle.hir_scope.specs.declared.per_ns.PerNs.{PerNs};
-ghost use Rattle.hir_scope.specs.Entries.{entries_of, resolutions_in, import_as_item, unnamed_binding};
+ghost use Rattle.hir_scope.specs.Scope.Entries.{entries_of, resolutions_in, import_as_item, unnamed_binding};
 
 use crate::imports::{ImportId, ImportOrExternCrate};
 use crate::item_scope::ItemScope;
@@ -24,7 +24,7 @@ pub struct Entries<'a> {
 impl<'a> Model for Entries<'a> {
     ghost use Rattle.std.specs.Prelude.{ℕ, List};
     ghost use Rattle.hir_scope.specs.declared.per_ns.PerNs.{PerNs};
-    ghost use Rattle.hir_scope.specs.Entries.{with_bindings};
+    ghost use Rattle.hir_scope.specs.Scope.Entries.{with_bindings};
 
     ghost Value = { List (List ℕ × PerNs) };
 
@@ -41,7 +41,7 @@ pub struct Resolutions<'a> {
 impl<'a> Model for Resolutions<'a> {
     ghost use Rattle.std.specs.Prelude.{ℕ, List, Option};
     ghost use Rattle.hir_scope.specs.declared.per_ns.PerNs.{PerNs};
-    ghost use Rattle.hir_scope.specs.Entries.{resolutions_in};
+    ghost use Rattle.hir_scope.specs.Scope.Entries.{resolutions_in};
 
     ghost Value = { List (Option (List ℕ) × PerNs) };
 

@@ -2,7 +2,7 @@
 ghost use Rattle.std.specs.Prelude.{◌≡◌, Option, List, None, Some, OnSome, IfSome};
 ghost use Rattle.std.specs.Iterator.{YieldsFirst, item_count};
 ghost use Rattle.hir_scope.specs.declared.item_scope.impls.ImplKind.TheVariants.{Any, OfTrait, Inherent};
-ghost use Rattle.hir_scope.specs.Walks.{is_of_kind, impls_of_kind};
+ghost use Rattle.hir_scope.specs.Scope.Reads.{is_of_kind, impls_of_kind};
 
 use crate::item_scope::ItemScope;
 use hir_base::ids::ImplId;
@@ -38,7 +38,7 @@ pub struct Impls<'a> {
 impl<'a> Model for Impls<'a> {
     ghost use Rattle.std.specs.Prelude.{List};
     ghost use Rattle.hir_base.specs.declared.ids.ImplId.{ImplId};
-    ghost use Rattle.hir_scope.specs.Walks.{impls_of_kind};
+    ghost use Rattle.hir_scope.specs.Scope.Reads.{impls_of_kind};
 
     ghost Value = { List ImplId };
 

@@ -34,15 +34,15 @@ impl ItemScope {
         match namespace {
             Namespace::Types => {
                 let key = ImportOrExternCrate::Import(import);
-                self.type_imports.get(&key).copied()
+                self.types.record(&key)
             }
             Namespace::Values => {
                 let key = ImportOrGlob::Import(import);
-                self.value_imports.get(&key).copied()
+                self.values.record(&key)
             }
             Namespace::Macros => {
                 let key = ImportOrExternCrate::Import(import);
-                self.macro_imports.get(&key).copied()
+                self.macros.record(&key)
             }
         }
     }

@@ -1,8 +1,9 @@
 //! The imports of a scope, in order.
 ghost use Rattle.std.specs.Prelude.{◌≡◌, List};
 ghost use Rattle.std.specs.Iterator.{YieldsFirst, item_count};
-ghost use Rattle.hir_scope.specs.ImportLists.{import_order, imports_among, value_imports_among, imports_of_scope};
-ghost use Rattle.hir_scope.specs.Merge.{with_head, merge, pick};
+ghost use Rattle.hir_scope.specs.Scope.Entries.{import_order, imports_among, value_imports_among, imports_of_scope};
+ghost use Rattle.hir_scope.specs.Merge.{merge};
+ghost use Rattle.hir_scope_table.specs.Inner.Picked.{with_head, pick};
 
 use crate::imports::{ImportId, ImportOrDef, ImportOrExternCrate, ImportOrGlob};
 use crate::item_scope::ItemScope;
@@ -17,7 +18,7 @@ struct PickedImport {
     second: Option<ImportId>,
 }
 
-#[tactic(auto, unfolding(crate::specs::ImportLists::import_order))]
+#[tactic(auto, unfolding(crate::specs::Scope::Entries::import_order))]
 fn pick(first: Option<ImportId>, second: Option<ImportId>) -> PickedImport
     ensures given { result.given ≡ (pick import_order first second).given }
     ensures first { result.first ≡ (pick import_order first second).first }
@@ -48,7 +49,7 @@ struct ItemImports<'a> {
 impl<'a> Model for ItemImports<'a> {
     ghost use Rattle.std.specs.Prelude.{List};
     ghost use Rattle.hir_scope.specs.declared.imports.ImportId.{ImportId};
-    ghost use Rattle.hir_scope.specs.ImportLists.{imports_among};
+    ghost use Rattle.hir_scope.specs.Scope.Entries.{imports_among};
 
     ghost Value = { List ImportId };
 
@@ -77,7 +78,7 @@ struct ValueImports<'a> {
 impl<'a> Model for ValueImports<'a> {
     ghost use Rattle.std.specs.Prelude.{List};
     ghost use Rattle.hir_scope.specs.declared.imports.ImportId.{ImportId};
-    ghost use Rattle.hir_scope.specs.ImportLists.{value_imports_among};
+    ghost use Rattle.hir_scope.specs.Scope.Entries.{value_imports_among};
 
     ghost Value = { List ImportId };
 
@@ -109,8 +110,9 @@ struct TypesAndMacros<'a> {
 impl<'a> Model for TypesAndMacros<'a> {
     ghost use Rattle.std.specs.Prelude.{List};
     ghost use Rattle.hir_scope.specs.declared.imports.ImportId.{ImportId};
-    ghost use Rattle.hir_scope.specs.ImportLists.{import_order};
-    ghost use Rattle.hir_scope.specs.Merge.{with_head, merge};
+    ghost use Rattle.hir_scope.specs.Scope.Entries.{import_order};
+    ghost use Rattle.hir_scope.specs.Merge.{merge};
+    ghost use Rattle.hir_scope_table.specs.Inner.Picked.{with_head};
 
     ghost Value = { List ImportId };
 
@@ -118,7 +120,7 @@ impl<'a> Model for TypesAndMacros<'a> {
 }
 
 impl<'a> TypesAndMacros<'a> {
-    #[tactic(auto, using(crate::proofs::MergeLemmas::picks))]
+    #[tactic(auto, using(hir_scope_table::proofs::Picks::picks))]
     fn advance(&mut self) -> Option<ImportId>
         ensures first { YieldsFirst (λ (left : List _). left) self.old result self.new }
     {
@@ -151,8 +153,9 @@ pub struct Imports<'a> {
 impl<'a> Model for Imports<'a> {
     ghost use Rattle.std.specs.Prelude.{List};
     ghost use Rattle.hir_scope.specs.declared.imports.ImportId.{ImportId};
-    ghost use Rattle.hir_scope.specs.ImportLists.{import_order};
-    ghost use Rattle.hir_scope.specs.Merge.{with_head, merge};
+    ghost use Rattle.hir_scope.specs.Scope.Entries.{import_order};
+    ghost use Rattle.hir_scope.specs.Merge.{merge};
+    ghost use Rattle.hir_scope_table.specs.Inner.Picked.{with_head};
 
     ghost Value = { List ImportId };
 
@@ -167,16 +170,16 @@ impl ItemScope {
         Imports {
             items: TypesAndMacros {
                 types: ItemImports {
-                    left: self.type_imports.keys(),
+                    left: self.types.records.keys(),
                 },
                 macros: ItemImports {
-                    left: self.macro_imports.keys(),
+                    left: self.macros.records.keys(),
                 },
                 first: None,
                 second: None,
             },
             values: ValueImports {
-                left: self.value_imports.keys(),
+                left: self.values.records.keys(),
             },
             first: None,
             second: None,
@@ -191,7 +194,7 @@ impl<'a> Iterator for Imports<'a> {
 
     ghost remaining = { item_count (λ (left : List _). left) };
 
-    #[tactic(auto, using(crate::proofs::MergeLemmas::picks))]
+    #[tactic(auto, using(hir_scope_table::proofs::Picks::picks))]
     fn next(&mut self) -> Option<ImportId> {
         if self.first.is_none() {
             self.first = self.items.advance();

@@ -2,7 +2,7 @@
 ghost use Rattle.std.specs.Prelude.{◌≡◌, ◌++◌, ◌∷◌, [], nat_eq, is_some, position, Some, IsTrue, IfOk, OnOk, OnErr};
 ghost use Rattle.std.specs.Cmp.Lexicographic.{pointwise};
 ghost use Rattle.std.specs.Map.{lookup};
-ghost use Rattle.hir_scope.specs.MacroCalls.{with_item_behind, with_call, with_derive_attribute, is_attribute, has_path, has_slot, with_path_call, with_derive_call, has_derive_slot, with_derive};
+ghost use Rattle.hir_scope.specs.MacroScope.{with_item_behind, with_call, with_derive_attribute, is_attribute, has_path, has_slot, with_path_call, with_derive_call, has_derive_slot, with_derive};
 
 use crate::item_scope::ItemScope;
 use either::Either;
@@ -77,7 +77,7 @@ pub struct DeriveAttribute {
 }
 
 impl Model for DeriveAttribute {
-    ghost use Rattle.hir_scope.specs.ItemScope.{DeriveCalls};
+    ghost use Rattle.hir_scope.specs.Scope.{DeriveCalls};
 
     ghost Value = { DeriveCalls };
 
@@ -92,7 +92,7 @@ pub struct DeriveAttributes {
 
 impl Model for DeriveAttributes {
     ghost use Rattle.std.specs.Prelude.{List};
-    ghost use Rattle.hir_scope.specs.ItemScope.{DeriveCalls};
+    ghost use Rattle.hir_scope.specs.Scope.{DeriveCalls};
 
     ghost Value = { List DeriveCalls };
 

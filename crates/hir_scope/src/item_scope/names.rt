@@ -4,8 +4,9 @@ ghost use Rattle.std.specs.Option.{option_copied};
 ghost use Rattle.std.specs.Ordering.{nat_cmp};
 ghost use Rattle.std.specs.Cmp.Lexicographic.{slice_cmp};
 ghost use Rattle.std.specs.Iterator.{YieldsFirstBy, YieldsFirstRef, item_count};
-ghost use Rattle.hir_scope.specs.Merge.{with_head, merge, pick};
-ghost use Rattle.hir_scope.specs.Entries.{scope_names};
+ghost use Rattle.hir_scope.specs.Merge.{merge};
+ghost use Rattle.hir_scope_table.specs.Inner.Picked.{with_head, pick};
+ghost use Rattle.hir_scope.specs.Scope.Entries.{scope_names};
 
 use crate::item_scope::ItemScope;
 use crate::per_ns::{MacrosItem, TypesItem, ValuesItem};
@@ -59,7 +60,8 @@ impl<'a> Model for TypesAndValues<'a> {
     ghost use Rattle.std.specs.Option.{option_copied};
     ghost use Rattle.std.specs.Ordering.{nat_cmp};
     ghost use Rattle.std.specs.Cmp.Lexicographic.{slice_cmp};
-    ghost use Rattle.hir_scope.specs.Merge.{with_head, merge};
+    ghost use Rattle.hir_scope.specs.Merge.{merge};
+    ghost use Rattle.hir_scope_table.specs.Inner.Picked.{with_head};
 
     ghost Value = { List (List ℕ) };
 
@@ -68,7 +70,7 @@ impl<'a> Model for TypesAndValues<'a> {
 }
 
 impl<'a> TypesAndValues<'a> {
-    #[tactic(auto, using(crate::proofs::MergeLemmas::picks))]
+    #[tactic(auto, using(hir_scope_table::proofs::Picks::picks))]
     fn advance(&mut self) -> Option<&'a Name>
         ensures first { YieldsFirstRef (λ (left : List _). left) self.old result self.new }
     {
@@ -103,7 +105,8 @@ impl<'a> Model for MacrosAndUnresolved<'a> {
     ghost use Rattle.std.specs.Option.{option_copied};
     ghost use Rattle.std.specs.Ordering.{nat_cmp};
     ghost use Rattle.std.specs.Cmp.Lexicographic.{slice_cmp};
-    ghost use Rattle.hir_scope.specs.Merge.{with_head, merge};
+    ghost use Rattle.hir_scope.specs.Merge.{merge};
+    ghost use Rattle.hir_scope_table.specs.Inner.Picked.{with_head};
 
     ghost Value = { List (List ℕ) };
 
@@ -112,7 +115,7 @@ impl<'a> Model for MacrosAndUnresolved<'a> {
 }
 
 impl<'a> MacrosAndUnresolved<'a> {
-    #[tactic(auto, using(crate::proofs::MergeLemmas::picks))]
+    #[tactic(auto, using(hir_scope_table::proofs::Picks::picks))]
     fn advance(&mut self) -> Option<&'a Name>
         ensures first { YieldsFirstRef (λ (left : List _). left) self.old result self.new }
     {
@@ -147,7 +150,8 @@ impl<'a> Model for ScopeNames<'a> {
     ghost use Rattle.std.specs.Option.{option_copied};
     ghost use Rattle.std.specs.Ordering.{nat_cmp};
     ghost use Rattle.std.specs.Cmp.Lexicographic.{slice_cmp};
-    ghost use Rattle.hir_scope.specs.Merge.{with_head, merge};
+    ghost use Rattle.hir_scope.specs.Merge.{merge};
+    ghost use Rattle.hir_scope_table.specs.Inner.Picked.{with_head};
 
     ghost Value = { List (List ℕ) };
 
@@ -156,7 +160,7 @@ impl<'a> Model for ScopeNames<'a> {
 }
 
 impl<'a> ScopeNames<'a> {
-    #[tactic(auto, using(crate::proofs::MergeLemmas::picks))]
+    #[tactic(auto, using(hir_scope_table::proofs::Picks::picks))]
     pub(crate) fn advance(&mut self) -> Option<&'a Name>
         ensures first { YieldsFirstRef (λ (left : List _). left) self.old result self.new }
     {
@@ -183,13 +187,13 @@ impl ItemScope {
     {
         ScopeNames {
             bound: TypesAndValues {
-                types: self.types.keys(),
-                values: self.values.keys(),
+                types: self.types.items.keys(),
+                values: self.values.items.keys(),
                 first: None,
                 second: None,
             },
             others: MacrosAndUnresolved {
-                macros: self.macros.keys(),
+                macros: self.macros.items.keys(),
                 unresolved: self.unresolved.iter(),
                 first: None,
                 second: None,

@@ -1,7 +1,7 @@
 //! The names under which an item is bound, after rust-analyzer's `name_of` and `names_of`. Both go over all names.
 ghost use Rattle.std.specs.Prelude.{◌≡◌};
 ghost use Rattle.std.specs.Option.{option_map};
-ghost use Rattle.hir_scope.specs.NamesOfItem.{names_with, names_of_item, first_in, lent_name};
+ghost use Rattle.hir_scope.specs.Scope.Reads.{names_with, names_of_item, first_in, lent_name};
 
 use crate::item_in_ns::ItemInNs;
 use crate::item_scope::ItemScope;
@@ -16,9 +16,9 @@ impl ItemScope {
         ensures value { option_map lent_name result ≡ first_in (names_of_item self.now item) }
     {
         match item {
-            ItemInNs::Types(id) => first_name_of(self.types.iter(), id),
-            ItemInNs::Values(id) => first_name_of(self.values.iter(), id),
-            ItemInNs::Macros(id) => first_name_of(self.macros.iter(), id),
+            ItemInNs::Types(id) => first_name_of(self.types.items.iter(), id),
+            ItemInNs::Values(id) => first_name_of(self.values.items.iter(), id),
+            ItemInNs::Macros(id) => first_name_of(self.macros.items.iter(), id),
         }
     }
 }

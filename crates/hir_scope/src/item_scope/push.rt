@@ -1,22 +1,28 @@
 //! Binding names in a scope, after rust-analyzer's `push_res_with_import`.
 ghost use Rattle.std.specs.Prelude.{◌≡◌, ◌≢◌, true, false, not, OnOk, OnErr, IfOk};
+ghost use Rattle.hir_scope.specs.Bindings.{type_candidate, value_candidate, macro_candidate};
 ghost use Rattle.hir_scope.specs.ImportRecords.{is_glob, reached_by, value_reached_by};
-ghost use Rattle.hir_scope.specs.Offers.{type_offer, value_offer, macro_offer, offered_globs};
-ghost use Rattle.hir_scope.specs.ScopePushes.{taken_type, taken_value, taken_macro, with_macro, with_value, offered_scope, offered_names, is_some_offer, is_unresolved, with_unresolved, pushed_scope, pushed_globs, push_changes, PushesType, PushesValue, PushesMacro};
 ghost use Rattle.hir_scope.specs.PerNs.{is_nothing};
-ghost use Rattle.hir_scope.specs.Recorded.{RecordsType, RecordsValue, RecordsMacro};
-ghost use Rattle.hir_scope.specs.Tells.{IsNewlyUnresolved, slots_of};
+ghost use Rattle.hir_scope.specs.Scope.Push.{taken_candidates, written_scope, written_globs, is_unresolved, with_unresolved, pushed_scope, pushed_globs, push_changes, PushesType, PushesValue, PushesMacro, RecordsType, RecordsValue, RecordsMacro, IsNewlyUnresolved, slots_of};
 
 use crate::glob_imports::PerNsGlobImports;
 use crate::imports::{ImportOrDef, ImportOrExternCrate, ImportOrGlob};
 use crate::item_scope::ItemScope;
-use crate::item_scope::offers::{Offer, Offers, give_back, make_room, taken, write_offer};
 use crate::per_ns::{Item, MacrosItem, PerNs, TypesItem, ValuesItem, value_import};
-use crate::push::Push;
+use crate::visibility::Visibility;
 use hir_base::ids::{ModuleDefId, ModuleId};
 use hir_base::macro_kind::MacroId;
 use hir_base::name::Name;
+use hir_scope_table::item::{Candidate, Push};
 use std::alloc::AllocError;
+
+/// What a push brings to a name, by namespace.
+#[derive(Clone, Copy)]
+pub(crate) struct Candidates {
+    types: Option<Candidate<ModuleDefId, Visibility, ImportOrExternCrate, ImportOrDef>>,
+    values: Option<Candidate<ModuleDefId, Visibility, ImportOrGlob, ImportOrDef>>,
+    macros: Option<Candidate<MacroId, Visibility, ImportOrExternCrate, ImportOrDef>>,
+}
 
 fn is_glob(import: Option<ImportOrExternCrate>) -> bool
     ensures value { result ≡ is_glob import }
@@ -47,11 +53,11 @@ fn value_reached_by(import: Option<ImportOrGlob>, def: ModuleDefId) -> ImportOrD
     }
 }
 
-fn type_offer(
+fn type_candidate(
     item: Option<TypesItem>,
     import: Option<ImportOrExternCrate>,
-) -> Option<Offer<ModuleDefId, ImportOrExternCrate>>
-    ensures value { result ≡ type_offer item import }
+) -> Option<Candidate<ModuleDefId, Visibility, ImportOrExternCrate, ImportOrDef>>
+    ensures value { result ≡ type_candidate item import }
 {
     let item = item?;
     let source = reached_by(item.import, item.def);
@@ -63,14 +69,14 @@ fn type_offer(
         },
         is_glob: is_glob(import),
     };
-    Some(Offer { push, source })
+    Some(Candidate { push, source })
 }
 
-fn value_offer(
+fn value_candidate(
     item: Option<ValuesItem>,
     import: Option<ImportOrExternCrate>,
-) -> Option<Offer<ModuleDefId, ImportOrGlob>>
-    ensures value { result ≡ value_offer item import }
+) -> Option<Candidate<ModuleDefId, Visibility, ImportOrGlob, ImportOrDef>>
+    ensures value { result ≡ value_candidate item import }
 {
     let item = item?;
     let source = value_reached_by(item.import, item.def);
@@ -82,14 +88,14 @@ fn value_offer(
         },
         is_glob: is_glob(import),
     };
-    Some(Offer { push, source })
+    Some(Candidate { push, source })
 }
 
-fn macro_offer(
+fn macro_candidate(
     item: Option<MacrosItem>,
     import: Option<ImportOrExternCrate>,
-) -> Option<Offer<MacroId, ImportOrExternCrate>>
-    ensures value { result ≡ macro_offer item import }
+) -> Option<Candidate<MacroId, Visibility, ImportOrExternCrate, ImportOrDef>>
+    ensures value { result ≡ macro_candidate item import }
 {
     let item = item?;
     let source = reached_by(item.import, ModuleDefId::MacroId(item.def));
@@ -101,7 +107,7 @@ fn macro_offer(
         },
         is_glob: is_glob(import),
     };
-    Some(Offer { push, source })
+    Some(Candidate { push, source })
 }
 
 impl ItemScope {
@@ -163,13 +169,9 @@ impl ItemScope {
         if def.is_none() {
             return self.push_unresolved(lookup.1);
         }
-        let offers = Offers {
-            types: self.taken_type(glob_imports, &lookup, def, import),
-            values: self.taken_value(glob_imports, &lookup, def, import),
-            macros: self.taken_macro(glob_imports, &lookup, def, import),
-        };
-        self.push_offers(glob_imports, &lookup, offers)?;
-        Ok(offers.types.is_some() || offers.values.is_some() || offers.macros.is_some())
+        let candidates = self.candidates(glob_imports, &lookup, def, import);
+        self.bind(glob_imports, &lookup, candidates)?;
+        Ok(candidates.types.is_some() || candidates.values.is_some() || candidates.macros.is_some())
     }
 
     /// Notes a name that was pushed with nothing, and says whether it was new.
@@ -181,176 +183,63 @@ impl ItemScope {
         Ok(self.unresolved.insert(name)?)
     }
 
-    /// What a push offers to types, if that changes what the name stands for there.
-    fn taken_type(
+    /// What a push brings to each namespace, where that changes what the name stands for there.
+    fn candidates(
         &self,
         globs: &PerNsGlobImports,
         at: &(ModuleId, Name),
         def: PerNs,
         import: Option<ImportOrExternCrate>,
-    ) -> Option<Offer<ModuleDefId, ImportOrExternCrate>>
-        ensures value { result ≡ taken_type self.now globs.now at.now def import }
+    ) -> Candidates
+        ensures value { result ≡ taken_candidates self.now globs.now at.now def import }
     {
-        taken(&self.types, &globs.types, at, type_offer(def.types, import))
-    }
-
-    /// What a push offers to values, if that changes what the name stands for there.
-    fn taken_value(
-        &self,
-        globs: &PerNsGlobImports,
-        at: &(ModuleId, Name),
-        def: PerNs,
-        import: Option<ImportOrExternCrate>,
-    ) -> Option<Offer<ModuleDefId, ImportOrGlob>>
-        ensures value { result ≡ taken_value self.now globs.now at.now def import }
-    {
-        taken(
-            &self.values,
-            &globs.values,
-            at,
-            value_offer(def.values, import),
-        )
-    }
-
-    /// What a push offers to macros, if that changes what the name stands for there.
-    fn taken_macro(
-        &self,
-        globs: &PerNsGlobImports,
-        at: &(ModuleId, Name),
-        def: PerNs,
-        import: Option<ImportOrExternCrate>,
-    ) -> Option<Offer<MacroId, ImportOrExternCrate>>
-        ensures value { result ≡ taken_macro self.now globs.now at.now def import }
-    {
-        taken(
-            &self.macros,
-            &globs.macros,
-            at,
-            macro_offer(def.macros, import),
-        )
-    }
-
-    /// Binds what is offered, or leaves everything as it is.
-    fn push_offers(
-        &mut self,
-        globs: &mut PerNsGlobImports,
-        at: &(ModuleId, Name),
-        offers: Offers,
-    ) -> Result<(), AllocError>
-        ensures ok { OnOk result (self.new ≡ offered_scope at.now.1 offers self.old) }
-        ensures globs { OnOk result (globs.new ≡ offered_names at.now offers globs.old) }
-        ensures err { OnErr result (self.new ≡ self.old) }
-        ensures err_globs { OnErr result (globs.new ≡ globs.old) }
-    {
-        let room = make_room(
-            &mut self.types,
-            &mut globs.types,
-            &mut self.type_imports,
-            at,
-            offers.types,
-        )?;
-        match self.push_values_and_macros(globs, at, offers.values, offers.macros) {
-            Ok(()) => {
-                write_offer(
-                    &mut self.types,
-                    &mut globs.types,
-                    &mut self.type_imports,
-                    at,
-                    offers.types,
-                    room,
-                );
-                Ok(())
-            }
-            Err(refused) => {
-                give_back(
-                    &mut self.types,
-                    &mut globs.types,
-                    &mut self.type_imports,
-                    at,
-                    offers.types,
-                    room,
-                );
-                Err(refused)
-            }
+        let types = type_candidate(def.types, import);
+        let values = value_candidate(def.values, import);
+        let macros = macro_candidate(def.macros, import);
+        Candidates {
+            types: self.types.candidate(&globs.types, at, types),
+            values: self.values.candidate(&globs.values, at, values),
+            macros: self.macros.candidate(&globs.macros, at, macros),
         }
     }
 
-    /// Binds what is offered in values and macros, or leaves everything as it is.
-    fn push_values_and_macros(
+    /// Binds the candidates, or leaves everything as it is.
+    fn bind(
         &mut self,
         globs: &mut PerNsGlobImports,
         at: &(ModuleId, Name),
-        value: Option<Offer<ModuleDefId, ImportOrGlob>>,
-        makro: Option<Offer<MacroId, ImportOrExternCrate>>,
+        candidates: Candidates,
     ) -> Result<(), AllocError>
-        ensures ok { OnOk result (self.new ≡ with_value at.now.1 value (with_macro at.now.1 makro self.old)) }
-        ensures globs { OnOk result (globs.new ≡ record globs.old {
-          values = offered_globs at.now value globs.old.values;
-          macros = offered_globs at.now makro globs.old.macros;
-        }) }
+        ensures ok { OnOk result (self.new ≡ written_scope at.now.1 candidates self.old) }
+        ensures globs { OnOk result (globs.new ≡ written_globs at.now candidates globs.old) }
         ensures err { OnErr result (self.new ≡ self.old) }
         ensures err_globs { OnErr result (globs.new ≡ globs.old) }
     {
-        let room = make_room(
-            &mut self.values,
-            &mut globs.values,
-            &mut self.value_imports,
-            at,
-            value,
-        )?;
-        match self.push_macro(globs, at, makro) {
-            Ok(()) => {
-                write_offer(
-                    &mut self.values,
-                    &mut globs.values,
-                    &mut self.value_imports,
-                    at,
-                    value,
-                    room,
-                );
-                Ok(())
-            }
+        let Candidates {
+            types,
+            values,
+            macros,
+        } = candidates;
+        let for_types = self.types.reserve(&mut globs.types, at, types)?;
+        let for_values = match self.values.reserve(&mut globs.values, at, values) {
+            Ok(reserved) => reserved,
             Err(refused) => {
-                give_back(
-                    &mut self.values,
-                    &mut globs.values,
-                    &mut self.value_imports,
-                    at,
-                    value,
-                    room,
-                );
-                Err(refused)
+                self.types.roll_back(&mut globs.types, at, types, for_types);
+                return Err(refused);
             }
-        }
-    }
-
-    /// Binds what is offered in macros, or leaves everything as it is.
-    fn push_macro(
-        &mut self,
-        globs: &mut PerNsGlobImports,
-        at: &(ModuleId, Name),
-        offer: Option<Offer<MacroId, ImportOrExternCrate>>,
-    ) -> Result<(), AllocError>
-        ensures ok { OnOk result (self.new ≡ with_macro at.now.1 offer self.old) }
-        ensures globs { OnOk result (globs.new ≡ record globs.old { macros = offered_globs at.now offer globs.old.macros }) }
-        ensures err { OnErr result (self.new ≡ self.old) }
-        ensures err_globs { OnErr result (globs.new ≡ globs.old) }
-    {
-        let room = make_room(
-            &mut self.macros,
-            &mut globs.macros,
-            &mut self.macro_imports,
-            at,
-            offer,
-        )?;
-        write_offer(
-            &mut self.macros,
-            &mut globs.macros,
-            &mut self.macro_imports,
-            at,
-            offer,
-            room,
-        );
+        };
+        let for_macros = match self.macros.reserve(&mut globs.macros, at, macros) {
+            Ok(reserved) => reserved,
+            Err(refused) => {
+                self.values
+                    .roll_back(&mut globs.values, at, values, for_values);
+                self.types.roll_back(&mut globs.types, at, types, for_types);
+                return Err(refused);
+            }
+        };
+        self.types.write(&mut globs.types, at, types, for_types);
+        self.values.write(&mut globs.values, at, values, for_values);
+        self.macros.write(&mut globs.macros, at, macros, for_macros);
         Ok(())
     }
 }

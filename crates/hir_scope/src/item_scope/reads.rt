@@ -1,7 +1,7 @@
 //! What a scope holds, list by list and name by name.
 ghost use Rattle.std.specs.Prelude.{◌≡◌};
 ghost use Rattle.std.specs.Option.{option_copied};
-ghost use Rattle.hir_scope.specs.ScopeReads.{type_at, macro_at, legacy_at, at_node, derive_attribute, derive_call, unnamed_vis};
+ghost use Rattle.hir_scope.specs.Scope.Reads.{type_at, macro_at, legacy_at, at_node, derive_attribute, derive_call, unnamed_vis};
 
 use crate::item_scope::ItemScope;
 use crate::item_scope::macro_calls::DeriveAttribute;

@@ -1,7 +1,7 @@
 //! When two scopes are equal: table by table, and in each entry by entry, in order.
 ghost use Rattle.std.specs.Prelude.{◌≡◌};
 ghost use Rattle.std.specs.Cmp.Lexicographic.{pointwise};
-ghost use Rattle.hir_scope.specs.SameScope.{same_entry, same_derive, same_bindings, same_declarations, same_uses, same_imports, same_macros, same_scope};
+ghost use Rattle.hir_scope.specs.Inner.Equality.{same_entry, same_derive, same_bindings, same_declarations, same_uses, same_imports, same_macros, same_scope};
 
 use crate::item_scope::ItemScope;
 use crate::item_scope::macro_calls::{DeriveAttribute, DeriveAttributes, LegacyMacros};
@@ -32,7 +32,7 @@ impl Eq for LegacyMacros {
 
 impl PartialEq for DeriveAttribute {
     ghost use Rattle.std.specs.Cmp.{partial_equiv_from_equiv};
-    ghost use Rattle.hir_scope.specs.SameScope.{same_derive_equiv};
+    ghost use Rattle.hir_scope.specs.Inner.Equality.{same_derive_equiv};
 
     ghost eq = { same_derive };
 
@@ -46,7 +46,7 @@ impl PartialEq for DeriveAttribute {
 }
 
 impl Eq for DeriveAttribute {
-    ghost use Rattle.hir_scope.specs.SameScope.{same_derive_equiv};
+    ghost use Rattle.hir_scope.specs.Inner.Equality.{same_derive_equiv};
 
     ghost laws = { same_derive_equiv };
 }
@@ -54,7 +54,7 @@ impl Eq for DeriveAttribute {
 impl PartialEq for DeriveAttributes {
     ghost use Rattle.std.specs.Cmp.{partial_equiv_from_equiv};
     ghost use Rattle.std.specs.Cmp.Lexicographic.{lists_equiv};
-    ghost use Rattle.hir_scope.specs.SameScope.{same_derive_equiv};
+    ghost use Rattle.hir_scope.specs.Inner.Equality.{same_derive_equiv};
 
     ghost eq = { pointwise same_derive };
 
@@ -67,7 +67,7 @@ impl PartialEq for DeriveAttributes {
 
 impl Eq for DeriveAttributes {
     ghost use Rattle.std.specs.Cmp.Lexicographic.{lists_equiv};
-    ghost use Rattle.hir_scope.specs.SameScope.{same_derive_equiv};
+    ghost use Rattle.hir_scope.specs.Inner.Equality.{same_derive_equiv};
 
     ghost laws = { lists_equiv same_derive_equiv };
 }
@@ -83,9 +83,9 @@ impl ItemScope {
     fn has_same_bindings(&self, other: &ItemScope) -> bool
         ensures value { result ≡ same_bindings self.now other.now }
     {
-        self.types == other.types
-            && self.values == other.values
-            && self.macros == other.macros
+        self.types.items == other.types.items
+            && self.values.items == other.values.items
+            && self.macros.items == other.macros.items
             && self.unresolved == other.unresolved
     }
 
@@ -109,9 +109,9 @@ impl ItemScope {
     fn has_same_imports(&self, other: &ItemScope) -> bool
         ensures value { result ≡ same_imports self.now other.now }
     {
-        self.type_imports == other.type_imports
-            && self.value_imports == other.value_imports
-            && self.macro_imports == other.macro_imports
+        self.types.records == other.types.records
+            && self.values.records == other.values.records
+            && self.macros.records == other.macros.records
             && same_entries(&self.unnamed_traits, &other.unnamed_traits)
     }
 
@@ -127,7 +127,7 @@ impl ItemScope {
 
 impl PartialEq for ItemScope {
     ghost use Rattle.std.specs.Cmp.{partial_equiv_from_equiv};
-    ghost use Rattle.hir_scope.specs.SameScope.{same_scope_equiv};
+    ghost use Rattle.hir_scope.specs.Inner.Equality.{same_scope_equiv};
 
     ghost eq = { same_scope };
 
@@ -144,7 +144,7 @@ impl PartialEq for ItemScope {
 }
 
 impl Eq for ItemScope {
-    ghost use Rattle.hir_scope.specs.SameScope.{same_scope_equiv};
+    ghost use Rattle.hir_scope.specs.Inner.Equality.{same_scope_equiv};
 
     ghost laws = { same_scope_equiv };
 }

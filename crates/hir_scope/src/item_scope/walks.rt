@@ -3,7 +3,7 @@ ghost use Rattle.std.specs.Prelude.{◌≡◌, ◌++◌, [], Option, List, map};
 ghost use Rattle.std.specs.Iterator.{YieldsFirst, item_count};
 ghost use Rattle.std.specs.BTreeMap.{values};
 ghost use Rattle.std.specs.Map.{values_of};
-ghost use Rattle.hir_scope.specs.Walks.{modules_among, traits_among, calls_among, calls_of_attributes, calls_of_items};
+ghost use Rattle.hir_scope.specs.Scope.Reads.{modules_among, traits_among, calls_among, calls_of_attributes, calls_of_items};
 
 use crate::imports::ImportId;
 use crate::item_scope::ItemScope;
@@ -28,7 +28,7 @@ impl<'a> Model for ModulesInScope<'a> {
     ghost use Rattle.std.specs.Prelude.{List};
     ghost use Rattle.hir_base.specs.declared.ids.ModuleId.{ModuleId};
     ghost use Rattle.hir_scope.specs.declared.visibility.Visibility.{Visibility};
-    ghost use Rattle.hir_scope.specs.Walks.{modules_among};
+    ghost use Rattle.hir_scope.specs.Scope.Reads.{modules_among};
 
     ghost Value = { List (ModuleId × Visibility) };
 
@@ -45,7 +45,7 @@ pub struct Traits<'a> {
 impl<'a> Model for Traits<'a> {
     ghost use Rattle.std.specs.Prelude.{List, ◌++◌};
     ghost use Rattle.hir_base.specs.declared.ids.TraitId.{TraitId};
-    ghost use Rattle.hir_scope.specs.Walks.{traits_among};
+    ghost use Rattle.hir_scope.specs.Scope.Reads.{traits_among};
 
     ghost Value = { List TraitId };
 
@@ -58,7 +58,7 @@ impl ItemScope {
         ensures value { result ≡ modules_among (values_of self.now.types) }
     {
         ModulesInScope {
-            left: self.types.values(),
+            left: self.types.items.values(),
         }
     }
 
@@ -67,7 +67,7 @@ impl ItemScope {
         ensures value { result ≡ traits_among (values_of self.now.types) ++ map (λ entry. entry.0) self.now.unnamed_traits }
     {
         Traits {
-            bound: self.types.values(),
+            bound: self.types.items.values(),
             unnamed: self.unnamed_traits.keys(),
         }
     }

@@ -1,10 +1,10 @@
 //! Who may see what, and which of two visibilities is the greater.
+use super::flat_tree::FlatTree;
 use super::small_tree::SmallTree;
 use super::{MAP, module};
 use hir_base::ast_id::BlockId;
 use hir_base::ids::{Crate, MapId, ModuleId};
 use hir_item_tree::raw_visibility::VisibilityExplicitness;
-use hir_scope::flat_tree::FlatTree;
 use hir_scope::visibility::Visibility;
 use std::process::Abort;
 

@@ -2,12 +2,8 @@ use Rattle.std.proofs.Common.{◌≡◌, ◌≢◌, true, false}
 use Rattle.hir_scope.specs.contracts.imports.ImportOrExternCrateOrd.TheImpl.Laws.{total-law as import_or_extern_crate_total}
 use Rattle.hir_scope.specs.contracts.imports.ImportOrGlobOrd.TheImpl.Laws.{total-law as import_or_glob_total}
 use Rattle.hir_scope.specs.PerNs.{is_nothing}
-use Rattle.hir_scope.specs.Recorded.{RecordsType, RecordsValue, RecordsMacro}
-use Rattle.hir_scope.specs.ScopePushes.{pushed_scope, pushed_globs, push_changes, PushesType, PushesValue, PushesMacro}
-use Rattle.hir_scope.specs.Tells.{slots_of, IsNewlyUnresolved}
-use Rattle.hir_scope.proofs.PushesSlots.{type_pushed, value_pushed, macro_pushed, on_ok_of}
-use Rattle.hir_scope.proofs.RecordLemmas.{type_recorded, value_recorded, macro_recorded, on_ok}
-use Rattle.hir_scope.proofs.Tells.{scope_stays, globs_stay, name_is_new, slots_move, told_of}
+use Rattle.hir_scope.specs.Scope.Push.{RecordsType, RecordsValue, RecordsMacro, pushed_scope, pushed_globs, push_changes, PushesType, PushesValue, PushesMacro, slots_of, IsNewlyUnresolved}
+use Rattle.hir_scope.proofs.Pushes.{type_pushed, value_pushed, macro_pushed, type_recorded, value_recorded, macro_recorded, scope_stays, globs_stay, name_is_new, slots_move, told_of, on_ok, on_ok_of}
 use Rattle.hir_scope.proofs.item_scope.ItemScope.push_res_with_import.Goals as goal
 
 -- the answer is whether the push changes anything

@@ -1,6 +1,5 @@
 use Rattle.std.proofs.Common.{length}
-use Rattle.hir_scope.specs.NamesOfItem.{names_with}
-use Rattle.hir_scope.specs.AskNames.{AsksInOrder}
+use Rattle.hir_scope.specs.Scope.Reads.{names_with, AsksInOrder}
 use Rattle.hir_scope.proofs.item_scope.ask_names.ask_names.Given as goal
 
 abbrev pub invariant-next : goal.invariant-next

@@ -1,5 +1,5 @@
 use Rattle.std.proofs.Common.{◌≡◌, length}
-use Rattle.hir_scope.specs.Walks.{calls_of_attributes}
+use Rattle.hir_scope.specs.Scope.Reads.{calls_of_attributes}
 use Rattle.hir_scope.proofs.item_scope.calls.first_of_attributes.Given as goal
 
 abbrev pub invariant-next : goal.invariant-next

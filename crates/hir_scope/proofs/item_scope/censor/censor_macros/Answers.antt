@@ -1,6 +1,6 @@
 use Rattle.std.proofs.Common.{rules}
 use Rattle.std.proofs.lemmas.Map.Made.{map_same_pairs}
-use Rattle.hir_scope.specs.Censored.{censored_macro}
+use Rattle.hir_scope.specs.Scope.Updates.{censored_macro}
 use Rattle.hir_scope.proofs.item_scope.censor.censor_macros.Goals as goal
 
 pub returns : goal.returns

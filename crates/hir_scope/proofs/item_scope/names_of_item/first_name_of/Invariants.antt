@@ -1,5 +1,5 @@
 use Rattle.std.proofs.Common.{◌≡◌, length}
-use Rattle.hir_scope.specs.NamesOfItem.{names_with}
+use Rattle.hir_scope.specs.Scope.Reads.{names_with}
 use Rattle.hir_scope.proofs.item_scope.names_of_item.first_name_of.Given as goal
 
 abbrev pub invariant-next : goal.invariant-next

@@ -1,5 +1,5 @@
 use Rattle.std.proofs.Common.{◌≡◌, length}
-use Rattle.hir_scope.specs.ScopeReads.{derive_attribute}
+use Rattle.hir_scope.specs.Scope.Reads.{derive_attribute}
 use Rattle.hir_scope.proofs.item_scope.reads.call_of_attribute.Given as goal
 
 abbrev pub invariant-next : goal.invariant-next

@@ -1,6 +1,6 @@
 -- Neither an import of one name nor a declaration is a glob, so globs still have brought nothing.
 use Rattle.std.proofs.Common.{◌≡◌, ◌∙◌, ap, false}
-use Rattle.hir_scope.specs.GlobImports.{GlobNames}
+use Rattle.hir_scope.specs.Globs.{GlobNames}
 use Rattle.hir_scope.specs.ImportRecords.{is_glob}
 use Rattle.hir_def_map.specs.State.{globs_after, no_globs}
 use Rattle.hir_def_map.specs.Grown.{globs_after-none}

@@ -1,7 +1,7 @@
 -- Where the children are the same, the scopes decide.
 use Rattle.std.proofs.Common.{◌≡◌, ◌∙◌, ap, sym, Bool, true, ◌&&◌}
 use Rattle.hir_base.specs.contracts.ids.ModuleIdPartialEq.TheImpl as module_id
-use Rattle.hir_scope.specs.SameScope.{same_scope}
+use Rattle.hir_scope.specs.Inner.Equality.{same_scope}
 use Rattle.hir_def_map.specs.State.{ModuleValue}
 use Rattle.hir_def_map.specs.Same.{same_by_name, same_contents}
 use Rattle.hir_def_map.proofs.nameres.module_data.ModuleData.has_same_contents.Goals as goal

@@ -1,5 +1,5 @@
 use Rattle.std.proofs.Common.{◌≡◌, length, []}
-use Rattle.hir_scope.specs.Walks.{calls_among, calls_of_attributes, calls_of_items}
+use Rattle.hir_scope.specs.Scope.Reads.{calls_among, calls_of_attributes, calls_of_items}
 use Rattle.hir_scope.proofs.item_scope.calls.DeriveCallIds.advance.Given as goal
 
 abbrev pub invariant-next : goal.invariant-next

@@ -1,5 +1,5 @@
 use Rattle.std.proofs.Common.{◌≡◌, length}
-use Rattle.hir_scope.specs.Walks.{impls_of_kind}
+use Rattle.hir_scope.specs.Scope.Reads.{impls_of_kind}
 use Rattle.hir_scope.proofs.item_scope.impls.ImplsIterator.next.Given as goal
 
 abbrev pub invariant-next : goal.invariant-next

@@ -1,5 +1,5 @@
 use Rattle.std.proofs.Common.{◌≡◌, length}
-use Rattle.hir_scope.specs.ImportLists.{value_imports_among}
+use Rattle.hir_scope.specs.Scope.Entries.{value_imports_among}
 use Rattle.hir_scope.proofs.item_scope.import_ids.ValueImports.advance.Given as goal
 
 abbrev pub invariant-next : goal.invariant-next

@@ -1,5 +1,5 @@
 use Rattle.std.proofs.Common.{◌≡◌, length}
-use Rattle.hir_scope.specs.Walks.{traits_among}
+use Rattle.hir_scope.specs.Scope.Reads.{traits_among}
 use Rattle.hir_scope.proofs.item_scope.walks.TraitsIterator.next.Given as goal
 
 abbrev pub invariant-next : goal.invariant-next

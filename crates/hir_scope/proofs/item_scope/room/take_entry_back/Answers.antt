@@ -1,9 +1,0 @@
-use Rattle.std.proofs.Common.{◌∙◌}
-use Rattle.std.proofs.lemmas.Cmp.{tied_itself}
-use Rattle.hir_scope.proofs.RoomLemmas.{room_taken_back}
-use Rattle.hir_scope.proofs.item_scope.room.take_entry_back.Goals as goal
-
--- what was added was absent, so the map is without it as it was
-pub returns-then-added-clause-back : goal.returns-then-added-clause-back
-returns-then-added-clause-back g c = λ earlier value room.
-    c.remove.ensures.entries ∙ room_taken_back g.K.Ord.cmp (tied_itself g.met.K.Ord.total) earlier c.args.key.now value c.args.added c.args.map.now.entries c.if-added.true room

@@ -1,0 +1,2 @@
+-- Words of private code, and lemmas that an `impl` names.
+pub mod Equality
