@@ -10,7 +10,7 @@ use Rattle.hir_wire.specs.declared.read_error.ReadError.{ReadError}
 use Rattle.hir_wire.specs.declared.read_error.ReadError.TheVariants as error
 use Rattle.hir_wire.specs.CommandValue.{command_view}
 use Rattle.hir_wire.specs.Commands.{command_of, data_of, reading_from}
-use Rattle.hir_wire.specs.Reading.{Reads}
+use Rattle.hir_wire.specs.Reading.{Reads, Tells}
 
 -- a line of UTF-8 that reads as a value has it
 pub data_of-some : (line : List ℕ) (d : Data) → IsUtf8 line → read line ≡ Some d → data_of line ≡ Some d
@@ -26,11 +26,15 @@ none_at line false e h = rw e refl
 pub data_of-none : (line : List ℕ) → (IsUtf8 line → read line ≡ None) → data_of line ≡ None
 data_of-none line h = none_at line (is_utf8 line) refl h
 
+line_tells : (line : List ℕ) (d : Data) (r : Result Command ReadError) → data_of line ≡ Some d → has_float d ≡ false → Tells command_view (command_of d) r
+    → MatchResult r (λ c. reading_from (data_of line) ≡ Ok (command_view c)) (λ e. e ≢ error.Memory → reading_from (data_of line) ≡ Err e)
+line_tells line d (Ok c) is plain h = rw (is, plain, h) refl
+line_tells line d (Err error.Json) is plain h = elim h [ ]
+line_tells line d (Err error.Command) is plain h = λ _. rw (is, plain, h) refl
+line_tells line d (Err (error.TooLarge limit)) is plain h = λ _. rw (is, plain, h) refl
+line_tells line d (Err error.Memory) is plain h = λ other. absurd (other refl)
+
 -- what the fields say is what the line says
 pub line_says : (line : List ℕ) (d : Data) (r : Result Command ReadError) → data_of line ≡ Some d → has_float d ≡ false → Reads command_view (command_of d) r
     → MatchResult r (λ c. reading_from (data_of line) ≡ Ok (command_view c)) (λ e. e ≢ error.Memory → reading_from (data_of line) ≡ Err e)
-line_says line d (Ok c) is plain h = rw (is, plain, h) refl
-line_says line d (Err error.Json) is plain h = elim h [ ]
-line_says line d (Err error.Command) is plain h = λ _. rw (is, plain, h) refl
-line_says line d (Err (error.TooLarge limit)) is plain h = λ _. rw (is, plain, h) refl
-line_says line d (Err error.Memory) is plain h = λ other. absurd (other refl)
+line_says line d r is plain h = line_tells line d r is plain h.told

@@ -6,12 +6,8 @@ use Rattle.hir_base.specs.declared.cfg.CfgAtom.{CfgAtom}
 use Rattle.hir_base.specs.declared.edition.Edition.{Edition}
 use Rattle.hir_base.specs.declared.ids.Crate.{Crate}
 use Rattle.hir_item_tree.specs.Attributes.{Attributes, attributes_view}
-use Rattle.hir_wire.specs.declared.command.CrateInput.{CrateInput}
-use Rattle.hir_wire.specs.declared.command.Dependency.{Dependency}
-use Rattle.hir_wire.specs.declared.command.Shadow.{Shadow}
-use Rattle.hir_wire.specs.declared.command.MacroStyle.{MacroStyle}
-use Rattle.hir_wire.specs.declared.command.Command.{Command}
-use Rattle.hir_wire.specs.declared.command.Command.TheVariants as command
+use Rattle.hir_wire.specs.Types.{Command, CrateInput, Dependency, MacroStyle, Shadow}
+use Rattle.hir_wire.specs.Types.command
 use Rattle.hir_wire.specs.Edits.{EditValue, edit_view}
 
 -- a crate, as plain values

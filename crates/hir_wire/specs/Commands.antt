@@ -1,21 +1,15 @@
 -- Which command does a line mean?
-use Rattle.std.specs.Prelude.{ℕ, List, [], Bool, true, false, Option, Some, None, option_and_then, Ok, Err, if◌then◌else◌, codes}
+use Rattle.std.specs.Prelude.{ℕ, List, [], true, false, Option, Some, None, Ok, Err, if◌then◌else◌, codes}
 use Rattle.std.specs.Str.{bytes_eq, is_utf8}
 use Rattle.serde_json.specs.Data.{Data, null, boolean, number, string, array, object, Members}
-use Rattle.serde_json.specs.Find.{as_str}
 use Rattle.serde_json.specs.Read.{read}
 use Rattle.serde_json.specs.Written.{has_float}
-use Rattle.hir_base.specs.ModPath.{Path}
-use Rattle.hir_base.specs.Place.{PlaceValue}
-use Rattle.hir_base.specs.declared.cfg.CfgAtom.{CfgAtom}
 use Rattle.hir_base.specs.declared.edition.Edition.{Edition}
 use Rattle.hir_base.specs.declared.edition.Edition.TheVariants as edition
-use Rattle.hir_item_tree.specs.Attributes.{Attributes, no_attributes}
-use Rattle.hir_wire.specs.declared.command.Dependency.{Dependency}
-use Rattle.hir_wire.specs.declared.command.MacroStyle.{MacroStyle}
-use Rattle.hir_wire.specs.declared.command.MacroStyle.TheVariants as style
-use Rattle.hir_wire.specs.declared.command.Shadow.{Shadow}
-use Rattle.hir_wire.specs.declared.command.Shadow.TheVariants as shadow
+use Rattle.hir_item_tree.specs.Attributes.{no_attributes}
+use Rattle.hir_wire.specs.Types.{Dependency, MacroStyle, Shadow}
+use Rattle.hir_wire.specs.Types.shadow
+use Rattle.hir_wire.specs.Types.style
 use Rattle.hir_wire.specs.declared.read.line.Verb.{Verb}
 use Rattle.hir_wire.specs.declared.read.line.Verb.TheVariants as verb
 use Rattle.hir_wire.specs.declared.read_error.ReadError.TheVariants.{Json, Command}
@@ -25,7 +19,7 @@ use Rattle.hir_wire.specs.Conditions.{option_of}
 use Rattle.hir_wire.specs.Edits.{set_file, remove_file}
 use Rattle.hir_wire.specs.Nodes.{source_of}
 use Rattle.hir_wire.specs.Paths.{name_of, path_of, file_of, bool_of, crate_of, place_of}
-use Rattle.hir_wire.specs.Reading.{Reading, made, paired, required, optional, formed, list_of}
+use Rattle.hir_wire.specs.Reading.{Reading, made, paired, required, optional, word_as, list_of}
 
 -- the edition that a word stands for
 abbrev pub edition_of_word : List ℕ → Option Edition
@@ -35,17 +29,11 @@ edition_of_word word =
     (if bytes_eq word (codes "2021") then Some edition.Edition2021 else
     (if bytes_eq word (codes "2024") then Some edition.Edition2024 else None)))
 
--- a value as an edition
-abbrev pub edition_of : Data → Reading Edition
-edition_of d = formed (option_and_then edition_of_word (as_str d))
-
--- the name of a dependency, and whether it stands in the extern prelude
-unfoldable pub dependency_name_in : Members → Reading (List ℕ × Bool)
-dependency_name_in ms = made (λ p. p) (paired (required name_of (codes "name") ms) (optional true bool_of (codes "prelude") ms))
-
 -- a dependency's members
-abbrev pub dependency_in : Members → Reading Dependency
-dependency_in ms = made (λ p. record { krate = p.0; name = p.1.0; prelude = p.1.1 }) (paired (required crate_of (codes "crate") ms) (dependency_name_in ms))
+unfoldable pub dependency_in : Members → Reading Dependency
+dependency_in ms =
+    made (λ p. record { krate = p.0; name = p.1.0; prelude = p.1.1 }) (paired (required crate_of (codes "crate") ms)
+    (paired (required name_of (codes "name") ms) (optional true bool_of (codes "prelude") ms)))
 
 -- a value as a dependency
 abbrev pub dependency_of : Data → Reading Dependency
@@ -56,27 +44,13 @@ dependency_of (string s) = Err Command
 dependency_of (array ds) = Err Command
 dependency_of (object ms) = dependency_in ms
 
--- the edition and the root file of a crate
-unfoldable pub crate_root_in : Members → Reading (Edition × List ℕ)
-crate_root_in ms = made (λ p. p) (paired (required edition_of (codes "edition") ms) (required file_of (codes "root") ms))
-
--- the dependencies of a crate, and whether it is one of procedural macros
-unfoldable pub crate_links_in : Members → Reading (List Dependency × Bool)
-crate_links_in ms = made (λ p. p) (paired (optional [] (list_of dependency_of) (codes "deps") ms) (optional false bool_of (codes "proc_macro") ms))
-
--- what a crate has besides its attributes and options
-unfoldable pub crate_base_in : Members → Reading ((Edition × List ℕ) × (List Dependency × Bool))
-crate_base_in ms = made (λ p. p) (paired (crate_root_in ms) (crate_links_in ms))
-
--- the attributes of a crate, and the options that are set in it
-unfoldable pub crate_options_in : Members → Reading (Attributes × List CfgAtom)
-crate_options_in ms = made (λ p. p) (paired (optional no_attributes attributes_of (codes "attrs") ms) (optional [] (list_of option_of) (codes "cfg") ms))
-
 -- a crate's members
-abbrev pub crate_input_in : Members → Reading CrateInputValue
+unfoldable pub crate_input_in : Members → Reading CrateInputValue
 crate_input_in ms =
-    made (λ p. record { edition = p.0.0.0; root = p.0.0.1; deps = p.0.1.0; proc_macro = p.0.1.1; attributes = p.1.0; options = p.1.1 })
-    (paired (crate_base_in ms) (crate_options_in ms))
+    made (λ p. record { edition = p.0.0.1; root = p.0.0.0; deps = p.0.1.0; proc_macro = p.0.1.1; attributes = p.1.0; options = p.1.1 })
+    (paired (paired (paired (required file_of (codes "root") ms) (required (word_as edition_of_word) (codes "edition") ms))
+    (paired (optional [] (list_of dependency_of) (codes "deps") ms) (optional false bool_of (codes "proc_macro") ms)))
+    (paired (optional no_attributes attributes_of (codes "attrs") ms) (optional [] (list_of option_of) (codes "cfg") ms)))
 
 -- a value as a crate
 abbrev pub crate_input_of : Data → Reading CrateInputValue
@@ -93,19 +67,11 @@ shadow_of_word word =
     if bytes_eq word (codes "module") then Some shadow.Module else
     (if bytes_eq word (codes "other") then Some shadow.Other else None)
 
--- a value as a way of shadowing
-abbrev pub shadow_of : Data → Reading Shadow
-shadow_of d = formed (option_and_then shadow_of_word (as_str d))
-
 -- the style of a macro call that a word stands for
 abbrev pub style_of_word : List ℕ → Option (Option MacroStyle)
 style_of_word word =
     if bytes_eq word (codes "bang") then Some (Some style.Bang) else
     (if bytes_eq word (codes "attr") then Some (Some style.Attr) else None)
-
--- a value as a style of a macro call
-abbrev pub style_of : Data → Reading (Option MacroStyle)
-style_of d = formed (option_and_then style_of_word (as_str d))
 
 -- the command that a word stands for
 abbrev pub verb_of_word : List ℕ → Option Verb
@@ -118,10 +84,6 @@ verb_of_word word =
     (if bytes_eq word (codes "status") then Some verb.Status else
     (if bytes_eq word (codes "tree") then Some verb.Tree else None))))))
 
--- a value as the word of a command
-abbrev pub verb_of : Data → Reading Verb
-verb_of d = formed (option_and_then verb_of_word (as_str d))
-
 -- the file and the source of an edit
 unfoldable pub set_file_in : Members → Reading CommandValue
 set_file_in ms = made (λ p. edit (set_file p.0 p.1)) (paired (required file_of (codes "file") ms) (required source_of (codes "unit") ms))
@@ -130,17 +92,12 @@ set_file_in ms = made (λ p. edit (set_file p.0 p.1)) (paired (required file_of 
 unfoldable pub tree_in : Members → Reading CommandValue
 tree_in ms = made (λ p. tree p.0 p.1) (paired (required crate_of (codes "crate") ms) (required file_of (codes "file") ms))
 
--- the place and the path of a query
-unfoldable pub asked_in : Members → Reading (PlaceValue × Path)
-asked_in ms = made (λ p. p) (paired (required place_of (codes "at") ms) (required path_of (codes "path") ms))
-
--- how a query wants builtin types and macros
-unfoldable pub modes_in : Members → Reading (Shadow × Option MacroStyle)
-modes_in ms = made (λ p. p) (paired (optional shadow.Other shadow_of (codes "shadow") ms) (optional None style_of (codes "sub") ms))
-
 -- a query
 unfoldable pub resolve_in : Members → Reading CommandValue
-resolve_in ms = made (λ p. resolve p.0.0 p.0.1 p.1.0 p.1.1) (paired (asked_in ms) (modes_in ms))
+resolve_in ms =
+    made (λ p. resolve p.0.0 p.0.1 p.1.0 p.1.1)
+    (paired (paired (required place_of (codes "at") ms) (required path_of (codes "path") ms))
+    (paired (optional shadow.Other (word_as shadow_of_word) (codes "shadow") ms) (optional None (word_as style_of_word) (codes "sub") ms)))
 
 -- the fields of a command
 abbrev pub fields_of : Verb → Members → Reading CommandValue
@@ -164,7 +121,7 @@ command_of (boolean b) = Err Command
 command_of (number n) = Err Command
 command_of (string s) = Err Command
 command_of (array ds) = Err Command
-command_of (object ms) = command_with (required verb_of (codes "do") ms) ms
+command_of (object ms) = command_with (required (word_as verb_of_word) (codes "do") ms) ms
 
 -- what was read as JSON; a number that is read as a float is refused, wherever it stands
 abbrev pub reading_from : Option Data → Reading CommandValue

@@ -6,8 +6,8 @@ use Rattle.serde_json.specs.Data.{Data, null, boolean, number, string, array, ob
 use Rattle.hir_base.specs.Cfg.{Cfg, invalid, constant, atom, all, any, unless, cfgs_of}
 use Rattle.hir_base.specs.declared.cfg.CfgAtom.{CfgAtom}
 use Rattle.hir_base.specs.declared.cfg.CfgAtom.TheVariants.{Flag, KeyValue}
-use Rattle.hir_wire.specs.declared.read.condition.CfgForm.{CfgForm}
-use Rattle.hir_wire.specs.declared.read.condition.CfgForm.TheVariants as form
+use Rattle.hir_wire.specs.declared.read.cfg.CfgForm.{CfgForm}
+use Rattle.hir_wire.specs.declared.read.cfg.CfgForm.TheVariants as form
 use Rattle.hir_wire.specs.declared.read_error.ReadError.TheVariants.{Command}
 use Rattle.hir_wire.specs.Paths.{name_meant, name_of, text_of}
 use Rattle.hir_wire.specs.Reading.{Reading, made, paired, listed, required, has_member}

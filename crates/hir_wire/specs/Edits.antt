@@ -1,8 +1,8 @@
 -- What does an edit hand in?
 use Rattle.std.specs.Prelude.{ℕ, List}
 use Rattle.hir_item_tree.specs.Source.{SourceValue, source_view}
-use Rattle.hir_wire.specs.declared.edit.Edit.{Edit}
-use Rattle.hir_wire.specs.declared.edit.Edit.TheVariants as edit
+use Rattle.hir_wire.specs.Types.{Edit}
+use Rattle.hir_wire.specs.Types.edit
 
 -- an edit, as plain values
 pub data EditValue : Type 0 where

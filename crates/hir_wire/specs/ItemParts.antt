@@ -1,5 +1,5 @@
 -- What do imports, values, aliases and macro calls have besides their heads?
-use Rattle.std.specs.Prelude.{ℕ, List, [], Option, Some, None, Ok, if◌then◌else◌, codes}
+use Rattle.std.specs.Prelude.{ℕ, List, [], Ok, if◌then◌else◌, codes}
 use Rattle.std.specs.Str.{bytes_eq}
 use Rattle.serde_json.specs.Data.{Data, Members}
 use Rattle.serde_json.specs.Find.{as_str}
@@ -8,7 +8,7 @@ use Rattle.hir_item_tree.specs.declared.shape.ExternCrateName.{ExternCrateName}
 use Rattle.hir_item_tree.specs.declared.shape.ExternCrateName.TheVariants.{SelfCrate, Name}
 use Rattle.hir_item_tree.specs.declared.source.NodeKind.{NodeKind, fold-NodeKind}
 use Rattle.hir_wire.specs.Paths.{name_meant, name_of, path_of, text_as, text_of}
-use Rattle.hir_wire.specs.Reading.{Reading, made, paired, required, optional}
+use Rattle.hir_wire.specs.Reading.{Reading, made, paired, required, optional, maybe}
 use Rattle.hir_wire.specs.UseTrees.{alias_of, tree_of}
 
 -- the plain value of what a node has besides its head
@@ -29,7 +29,7 @@ crate_name_of d = text_as crate_name_meant (as_str d)
 
 -- an extern crate: what it names, perhaps under another name
 unfoldable pub extern_crate_in : Members → Reading (NodeHead → Item)
-extern_crate_in ms = made (λ p h. plain h (extern_crate p.0 p.1)) (paired (required crate_name_of (codes "name") ms) (optional None alias_of (codes "as") ms))
+extern_crate_in ms = made (λ p h. plain h (extern_crate p.0 p.1)) (paired (required crate_name_of (codes "name") ms) (maybe alias_of (codes "as") ms))
 
 -- a function: its name and its body
 unfoldable pub function_in : Members → Reading (NodeHead → Item)
@@ -39,13 +39,9 @@ function_in ms = made (λ p h. plain h (function p.0 p.1)) (paired (required nam
 unfoldable pub static_in : Members → Reading (NodeHead → Item)
 static_in ms = made (λ p h. plain h (static_item p.0 p.1)) (paired (required name_of (codes "name") ms) (optional [] text_of (codes "body") ms))
 
--- a value as a name that could be absent
-abbrev pub some_name_of : Data → Reading (Option (List ℕ))
-some_name_of d = made Some (name_of d)
-
 -- a constant: its name, if it has one, and its body
 unfoldable pub constant_in : Members → Reading (NodeHead → Item)
-constant_in ms = made (λ p h. plain h (constant p.0 p.1)) (paired (optional None some_name_of (codes "name") ms) (optional [] text_of (codes "body") ms))
+constant_in ms = made (λ p h. plain h (constant p.0 p.1)) (paired (maybe name_of (codes "name") ms) (optional [] text_of (codes "body") ms))
 
 -- a type alias: its name
 unfoldable pub type_alias_in : Members → Reading (NodeHead → Item)

@@ -1,15 +1,14 @@
 -- What does a JSON value mean as a macro?
-use Rattle.std.specs.Prelude.{ℕ, List, [], ◌∷◌, false, ◌||◌, Option, Some, None, option_and_then, if◌then◌else◌, codes}
+use Rattle.std.specs.Prelude.{ℕ, List, [], ◌∷◌, false, ◌||◌, Option, Some, None, if◌then◌else◌, codes}
 use Rattle.std.specs.Str.{bytes_eq}
 use Rattle.serde_json.specs.Data.{Data, Members}
-use Rattle.serde_json.specs.Find.{as_str}
 use Rattle.hir_base.specs.MacroKind.{fn_like_alone, attr_alone, derive_alone}
 use Rattle.hir_base.specs.declared.macro_kind.MacroCallStyles.{MacroCallStyles}
 use Rattle.hir_base.specs.declared.macro_kind.MacroExpander.{MacroExpander}
 use Rattle.hir_base.specs.declared.macro_kind.MacroExpander.TheVariants as expander
 use Rattle.hir_item_tree.specs.Source.{NodeHead, MacroValue, macro_rules, macro_def, Item, plain}
 use Rattle.hir_wire.specs.Paths.{name_of, text_of}
-use Rattle.hir_wire.specs.Reading.{Reading, made, paired, required, optional, formed, list_of}
+use Rattle.hir_wire.specs.Reading.{Reading, made, paired, required, optional, word_as, list_of}
 
 -- the style that a word stands for
 abbrev pub style_of_word : List ℕ → Option MacroCallStyles
@@ -17,10 +16,6 @@ style_of_word word =
     if bytes_eq word (codes "bang") then Some fn_like_alone else
     (if bytes_eq word (codes "attr") then Some attr_alone else
     (if bytes_eq word (codes "derive") then Some derive_alone else None))
-
--- a value as a style
-abbrev pub style_of : Data → Reading MacroCallStyles
-style_of d = formed (option_and_then style_of_word (as_str d))
 
 -- the styles that are among these or those
 abbrev pub either_styles : MacroCallStyles → MacroCallStyles → MacroCallStyles
@@ -33,7 +28,7 @@ all_styles (s ∷ ss) = either_styles s (all_styles ss)
 
 -- a value as a set of styles
 abbrev pub styles_of : Data → Reading MacroCallStyles
-styles_of d = made all_styles (list_of style_of d)
+styles_of d = made all_styles (list_of (word_as style_of_word) d)
 
 -- the expander that a word stands for, unless that is the macro's own text
 abbrev pub builtin_of_word : List ℕ → Option (Option MacroExpander)
@@ -45,27 +40,17 @@ builtin_of_word word =
     (if bytes_eq word (codes "builtin_derive") then Some (Some expander.BuiltinDerive) else
     (if bytes_eq word (codes "unimplemented") then Some (Some expander.Unimplemented) else None)))))
 
--- a value as an expander, unless that is the macro's own text
-abbrev pub builtin_of : Data → Reading (Option MacroExpander)
-builtin_of d = formed (option_and_then builtin_of_word (as_str d))
-
 -- the expander of a macro; the styles count where it is the macro's own text
 abbrev pub expander_with : Option MacroExpander → MacroCallStyles → MacroExpander
 expander_with None styles = expander.Declarative styles
 expander_with (Some builtin) styles = builtin
 
--- what expands a macro
-unfoldable pub expander_in : Members → Reading MacroExpander
-expander_in ms =
-    made (λ p. expander_with p.0 p.1) (paired (optional None builtin_of (codes "expander") ms) (optional fn_like_alone styles_of (codes "styles") ms))
-
--- the text of a macro, and the names of its helpers
-unfoldable pub macro_text_in : Members → Reading (List ℕ × List (List ℕ))
-macro_text_in ms = made (λ p. p) (paired (optional [] text_of (codes "text") ms) (optional [] (list_of name_of) (codes "helpers") ms))
-
 -- what a macro is
 unfoldable pub definition_in : Members → Reading MacroValue
-definition_in ms = made (λ p. record { text = p.0.0; expander = p.1; helpers = p.0.1 }) (paired (macro_text_in ms) (expander_in ms))
+definition_in ms =
+    made (λ p. record { text = p.0.0; expander = expander_with p.1.0 p.1.1; helpers = p.0.1 })
+    (paired (paired (optional [] text_of (codes "text") ms) (optional [] (list_of name_of) (codes "helpers") ms))
+    (paired (optional None (word_as builtin_of_word) (codes "expander") ms) (optional fn_like_alone styles_of (codes "styles") ms)))
 
 -- a `macro_rules!` macro: its name, and what it is
 unfoldable pub macro_rules_in : Members → Reading (NodeHead → Item)

@@ -1,25 +1,22 @@
 -- What does a JSON value mean as syntax?
-use Rattle.std.specs.Prelude.{ℕ, List, [], Option, Some, None, option_and_then, Ok, Err, if◌then◌else◌, codes}
+use Rattle.std.specs.Prelude.{ℕ, List, [], Option, Some, None, Ok, Err, if◌then◌else◌, codes}
 use Rattle.std.specs.Ordering.{nat_cmp, match_ordering}
 use Rattle.std.specs.Cmp.Lexicographic.{slice_cmp}
 use Rattle.std.specs.Str.{bytes_eq}
 use Rattle.serde_json.specs.Data.{Data, null, boolean, number, string, array, object, Items, no_items, item, Members, no_members, member}
-use Rattle.serde_json.specs.Find.{as_str}
 use Rattle.hir_base.specs.declared.ast_id.AstKind.{AstKind}
 use Rattle.hir_base.specs.declared.ast_id.AstKind.TheVariants as kind
-use Rattle.hir_base.specs.declared.ast_id.SyntaxId.{SyntaxId}
-use Rattle.hir_item_tree.specs.Attributes.{Attributes, no_attributes}
+use Rattle.hir_item_tree.specs.Attributes.{no_attributes}
 use Rattle.hir_item_tree.specs.Source.{NodeHead, Item, plain, outline_module, holder, extern_block, trait_item, implementation, inline_module, items_of as forest, SourceValue, broken, unit}
-use Rattle.hir_item_tree.specs.declared.raw_visibility.RawVisibility.{RawVisibility}
 use Rattle.hir_item_tree.specs.declared.raw_visibility.RawVisibility.TheVariants as vis
 use Rattle.hir_item_tree.specs.declared.raw_visibility.VisibilityExplicitness.TheVariants.{Implicit}
 use Rattle.hir_wire.specs.declared.read_error.ReadError.TheVariants.{Command}
 use Rattle.hir_wire.specs.Attributes.{attributes_of}
 use Rattle.hir_wire.specs.ItemParts.{use_in, extern_crate_in, function_in, constant_in, static_in, type_alias_in, macro_call_in}
-use Rattle.hir_wire.specs.Types.{struct_in, union_in, enum_in}
+use Rattle.hir_wire.specs.Structs.{struct_in, union_in, enum_in}
 use Rattle.hir_wire.specs.Macros.{macro_rules_in, macro_def_in}
 use Rattle.hir_wire.specs.Paths.{name_of, text_of, bool_of, id_meant}
-use Rattle.hir_wire.specs.Reading.{Reading, made, paired, listed, required, optional, formed, has_member}
+use Rattle.hir_wire.specs.Reading.{Reading, made, paired, listed, required, optional, word_as, has_member}
 use Rattle.hir_wire.specs.Visibility.{vis_of}
 
 -- the kind of node that a word stands for
@@ -42,22 +39,12 @@ kind_of_word word =
     (if bytes_eq word (codes "MacroRules") then Some kind.MacroRules else
     (if bytes_eq word (codes "MacroDef") then Some kind.MacroDef else None)))))))))))))))
 
--- a value as a kind of node
-abbrev pub kind_of : Data → Reading AstKind
-kind_of d = formed (option_and_then kind_of_word (as_str d))
-
--- the id and the visibility of a node
-unfoldable pub front_in : Members → Reading (SyntaxId × RawVisibility)
-front_in ms = made (λ p. p) (paired (required id_meant (codes "id") ms) (optional (vis.PubSelf Implicit) vis_of (codes "vis") ms))
-
--- the attributes of a node, and what calls on it get
-unfoldable pub besides_in : Members → Reading (Attributes × List ℕ)
-besides_in ms = made (λ p. p) (paired (optional no_attributes attributes_of (codes "attrs") ms) (optional [] text_of (codes "input") ms))
-
 -- what every node has
 unfoldable pub head_in : Members → Reading NodeHead
 head_in ms =
-    made (λ p. record { id = p.0.0; attributes = p.1.0; visibility = p.0.1; input = p.1.1 }) (paired (front_in ms) (besides_in ms))
+    made (λ p. record { id = p.0.0; attributes = p.1.0; visibility = p.0.1; input = p.1.1 })
+    (paired (paired (required id_meant (codes "id") ms) (optional (vis.PubSelf Implicit) vis_of (codes "vis") ms))
+    (paired (optional no_attributes attributes_of (codes "attrs") ms) (optional [] text_of (codes "input") ms)))
 
 -- an extern block of these nodes
 unfoldable pub extern_block_in : Reading (List Item) → Reading (NodeHead → Item)
@@ -110,7 +97,7 @@ node_of_kind (Ok k) ms nodes items = made (λ p. p.1 p.0) (paired (head_in ms) (
 
 -- a node, once the nodes inside are read
 abbrev pub node_with : Members → (nodes items : Reading (List Item)) → Reading Item
-node_with ms nodes items = node_of_kind (required kind_of (codes "kind") ms) ms nodes items
+node_with ms nodes items = node_of_kind (required (word_as kind_of_word) (codes "kind") ms) ms nodes items
 
 abbrev mutual
   -- a value as a node

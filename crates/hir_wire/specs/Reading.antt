@@ -1,7 +1,7 @@
 -- What does reading a part of a line give?
-use Rattle.std.specs.Prelude.{◌≡◌, ℕ, List, [], ◌∷◌, ◌++◌, codes, Bool, Option, Some, None, is_some, Result, Ok, Err, if◌then◌else◌, nat_lt, ⊤}
+use Rattle.std.specs.Prelude.{◌≡◌, ℕ, List, [], ◌∷◌, ◌++◌, codes, Bool, Option, Some, None, is_some, option_and_then, Result, Ok, Err, if◌then◌else◌, nat_lt, ⊤}
 use Rattle.serde_json.specs.Data.{Data, Items, no_items, item, Members}
-use Rattle.serde_json.specs.Find.{get_member, as_array}
+use Rattle.serde_json.specs.Find.{get_member, as_array, as_str}
 use Rattle.hir_base.specs.Limit.{limit_text}
 use Rattle.hir_base.specs.declared.limit.Limit.TheVariants as limit
 use Rattle.hir_wire.specs.declared.read_error.ReadError.{ReadError}
@@ -51,6 +51,11 @@ abbrev pub made : {A B : Type 0} → (A → B) → Reading A → Reading B
 made f (Ok a) = Ok (f a)
 made f (Err e) = Err e
 
+-- a part that has a form or not, and no limit
+abbrev pub formed : {A : Type 0} → Option A → Reading A
+formed None = Err Command
+formed (Some a) = Ok a
+
 -- the first of a list, and those that follow it
 abbrev pub listed : {A : Type 0} → Reading A → Reading (List A) → Reading (List A)
 listed first others = made (λ p. p.0 ∷ p.1) (paired first others)
@@ -68,6 +73,10 @@ items_as read (Some ds) = read ds
 -- a value as a list, of which each item has to mean something
 abbrev pub list_of : {A : Type 0} → (Data → Reading A) → Data → Reading (List A)
 list_of read d = items_as (each_of read) (as_array d)
+
+-- the value that a word stands for, if the value is such a word
+abbrev pub word_as : {A : Type 0} → (List ℕ → Option A) → Data → Reading A
+word_as of_word d = formed (option_and_then of_word (as_str d))
 
 -- whether there is a member of this name
 unfoldable pub has_member : List ℕ → Members → Bool
@@ -91,15 +100,18 @@ required read name ms = if_there read (get_member name ms)
 unfoldable pub optional : {A : Type 0} → A → (Data → Reading A) → List ℕ → Members → Reading A
 optional absent read name ms = if_given absent read (get_member name ms)
 
--- a part that has a form or not, and no limit
-abbrev pub formed : {A : Type 0} → Option A → Reading A
-formed None = Err Command
-formed (Some a) = Ok a
+-- the field of this name, if it is there
+unfoldable pub maybe : {A : Type 0} → (Data → Reading A) → List ℕ → Members → Reading (Option A)
+maybe read name ms = if_given None (λ d. made Some (read d)) (get_member name ms)
 
--- A call read what is meant, seen by `see`, or told the error. It may want memory.
-abbrev pub Reads : {A B : Type 0} → (A → B) → Reading B → Result A ReadError → Type 0
-Reads see meaning (Ok a) = meaning ≡ Ok (see a)
-Reads see meaning (Err Json) = ⊥
-Reads see meaning (Err Command) = meaning ≡ Err Command
-Reads see meaning (Err (TooLarge l)) = meaning ≡ Err (TooLarge l)
-Reads see meaning (Err Memory) = ⊤
+-- what a call that reads tells: what is meant, seen by `see`, or the error; it may want memory
+abbrev pub Tells : {A B : Type 0} → (A → B) → Reading B → Result A ReadError → Type 0
+Tells see meaning (Ok a) = meaning ≡ Ok (see a)
+Tells see meaning (Err Json) = ⊥
+Tells see meaning (Err Command) = meaning ≡ Err Command
+Tells see meaning (Err (TooLarge l)) = meaning ≡ Err (TooLarge l)
+Tells see meaning (Err Memory) = ⊤
+
+-- a call read this meaning, seen by `see`
+pub record Reads {A B : Type 0} (see : A → B) (meaning : Reading B) (result : Result A ReadError) : Type 0 where
+  pub told : Tells see meaning result

@@ -9,23 +9,13 @@ use Rattle.hir_base.specs.Place.{PlaceValue}
 use Rattle.hir_base.specs.declared.ast_id.SyntaxId.{SyntaxId}
 use Rattle.hir_base.specs.declared.place.PlaceElement.{PlaceElement}
 use Rattle.hir_base.specs.declared.place.PlaceElement.TheVariants as element
-use Rattle.hir_wire.specs.declared.answer.SourceRoot.{SourceRoot}
-use Rattle.hir_wire.specs.declared.answer.SourceRoot.TheVariants as root
-use Rattle.hir_wire.specs.declared.answer.SourceCallKind.{SourceCallKind}
-use Rattle.hir_wire.specs.declared.answer.SourceCallKind.TheVariants as call
-use Rattle.hir_wire.specs.declared.answer.SourceCall.{SourceCall}
-use Rattle.hir_wire.specs.declared.answer.ItemSource.{ItemSource}
-use Rattle.hir_wire.specs.declared.answer.Definition.{Definition}
-use Rattle.hir_wire.specs.declared.answer.Definition.TheVariants as definition
-use Rattle.hir_wire.specs.declared.answer.ImportOrigin.{ImportOrigin}
-use Rattle.hir_wire.specs.declared.answer.ImportOrigin.TheVariants as origin
-use Rattle.hir_wire.specs.declared.answer.ImportSource.{ImportSource}
-use Rattle.hir_wire.specs.declared.answer.AnswerVisibility.{AnswerVisibility}
-use Rattle.hir_wire.specs.declared.answer.AnswerVisibility.TheVariants as visibility
-use Rattle.hir_wire.specs.declared.answer.AnswerItem.{AnswerItem}
-use Rattle.hir_wire.specs.declared.answer.Answer.{Answer}
-use Rattle.hir_wire.specs.declared.reply.Reply.{Reply}
-use Rattle.hir_wire.specs.declared.reply.Reply.TheVariants as reply
+use Rattle.hir_wire.specs.Types.{Answer, AnswerItem, AnswerVisibility, Definition, ImportOrigin, ImportSource, ItemSource, Reply, SourceCall, SourceCallKind, SourceRoot}
+use Rattle.hir_wire.specs.Types.call
+use Rattle.hir_wire.specs.Types.definition
+use Rattle.hir_wire.specs.Types.origin
+use Rattle.hir_wire.specs.Types.reply
+use Rattle.hir_wire.specs.Types.root
+use Rattle.hir_wire.specs.Types.visibility
 use Rattle.hir_wire.specs.Words.{kind_word, source_word, status_word}
 
 -- a number

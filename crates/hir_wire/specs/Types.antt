@@ -1,65 +1,35 @@
--- What do structs, unions and enums have besides their heads?
-use Rattle.std.specs.Prelude.{ℕ, List, [], Option, Some, None, option_and_then, Err, if◌then◌else◌, codes}
-use Rattle.std.specs.Str.{bytes_eq}
-use Rattle.serde_json.specs.Data.{Data, null, boolean, number, string, array, object, Members}
-use Rattle.serde_json.specs.Find.{as_str}
-use Rattle.hir_base.specs.declared.ast_id.SyntaxId.{SyntaxId}
-use Rattle.hir_item_tree.specs.Attributes.{Attributes, no_attributes}
-use Rattle.hir_item_tree.specs.Source.{NodeHead, VariantValue, structure, union_structure, enumeration, Item, plain}
-use Rattle.hir_item_tree.specs.declared.raw_visibility.RawVisibility.{RawVisibility}
-use Rattle.hir_item_tree.specs.declared.shape.FieldsShape.{FieldsShape}
-use Rattle.hir_item_tree.specs.declared.shape.FieldsShape.TheVariants as shape
-use Rattle.hir_wire.specs.declared.read_error.ReadError.TheVariants.{Command}
-use Rattle.hir_wire.specs.Attributes.{attributes_of}
-use Rattle.hir_wire.specs.Paths.{name_of, id_meant}
-use Rattle.hir_wire.specs.Reading.{Reading, made, paired, required, optional, formed, list_of}
-use Rattle.hir_wire.specs.Visibility.{vis_of}
-
--- the shape that a word stands for
-abbrev pub shape_of_word : List ℕ → Option FieldsShape
-shape_of_word word =
-    if bytes_eq word (codes "record") then Some shape.Record else
-    (if bytes_eq word (codes "tuple") then Some shape.Tuple else
-    (if bytes_eq word (codes "unit") then Some shape.Unit else None))
-
--- a value as a shape
-abbrev pub shape_of : Data → Reading FieldsShape
-shape_of d = formed (option_and_then shape_of_word (as_str d))
-
--- the shape and the fields of a struct
-unfoldable pub fields_in : Members → Reading (FieldsShape × List RawVisibility)
-fields_in ms = made (λ p. p) (paired (optional shape.Unit shape_of (codes "shape") ms) (optional [] (list_of vis_of) (codes "fields") ms))
-
--- a struct: its name, its shape and its fields
-unfoldable pub struct_in : Members → Reading (NodeHead → Item)
-struct_in ms = made (λ p h. plain h (structure p.0 p.1.0 p.1.1)) (paired (required name_of (codes "name") ms) (fields_in ms))
-
--- a union: its name and its fields
-unfoldable pub union_in : Members → Reading (NodeHead → Item)
-union_in ms = made (λ p h. plain h (union_structure p.0 p.1)) (paired (required name_of (codes "name") ms) (optional [] (list_of vis_of) (codes "fields") ms))
-
--- the id and the name of a variant
-unfoldable pub variant_front_in : Members → Reading (SyntaxId × List ℕ)
-variant_front_in ms = made (λ p. p) (paired (required id_meant (codes "id") ms) (required name_of (codes "name") ms))
-
--- the shape and the attributes of a variant
-unfoldable pub variant_rest_in : Members → Reading (FieldsShape × Attributes)
-variant_rest_in ms = made (λ p. p) (paired (optional shape.Unit shape_of (codes "shape") ms) (optional no_attributes attributes_of (codes "attrs") ms))
-
--- a variant's members
-abbrev pub variant_in : Members → Reading VariantValue
-variant_in ms =
-    made (λ p. record { id = p.0.0; attributes = p.1.1; name = p.0.1; shape = p.1.0 }) (paired (variant_front_in ms) (variant_rest_in ms))
-
--- a value as a variant
-abbrev pub variant_of : Data → Reading VariantValue
-variant_of null = Err Command
-variant_of (boolean b) = Err Command
-variant_of (number n) = Err Command
-variant_of (string s) = Err Command
-variant_of (array ds) = Err Command
-variant_of (object ms) = variant_in ms
-
--- an enum: its name and its variants
-unfoldable pub enum_in : Members → Reading (NodeHead → Item)
-enum_in ms = made (λ p h. plain h (enumeration p.0 p.1)) (paired (required name_of (codes "name") ms) (required (list_of variant_of) (codes "variants") ms))
+-- The public types, under their names, and their variants.
+pub use Rattle.hir_wire.specs.declared.answer.Answer.{Answer}
+pub use Rattle.hir_wire.specs.declared.answer.AnswerItem.{AnswerItem}
+pub use Rattle.hir_wire.specs.declared.answer.AnswerVisibility.{AnswerVisibility}
+pub use Rattle.hir_wire.specs.declared.answer.AnswerVisibility.TheVariants as visibility
+pub use Rattle.hir_wire.specs.declared.answer.Definition.{Definition}
+pub use Rattle.hir_wire.specs.declared.answer.Definition.TheVariants as definition
+pub use Rattle.hir_wire.specs.declared.answer.ImportOrigin.{ImportOrigin}
+pub use Rattle.hir_wire.specs.declared.answer.ImportOrigin.TheVariants as origin
+pub use Rattle.hir_wire.specs.declared.answer.ImportSource.{ImportSource}
+pub use Rattle.hir_wire.specs.declared.answer.ItemSource.{ItemSource}
+pub use Rattle.hir_wire.specs.declared.answer.SourceCall.{SourceCall}
+pub use Rattle.hir_wire.specs.declared.answer.SourceCallKind.{SourceCallKind}
+pub use Rattle.hir_wire.specs.declared.answer.SourceCallKind.TheVariants as call
+pub use Rattle.hir_wire.specs.declared.answer.SourceItem.{SourceItem}
+pub use Rattle.hir_wire.specs.declared.answer.SourceKind.{SourceKind}
+pub use Rattle.hir_wire.specs.declared.answer.SourceKind.TheVariants as source
+pub use Rattle.hir_wire.specs.declared.answer.SourceRoot.{SourceRoot}
+pub use Rattle.hir_wire.specs.declared.answer.SourceRoot.TheVariants as root
+pub use Rattle.hir_wire.specs.declared.command.Command.{Command}
+pub use Rattle.hir_wire.specs.declared.command.Command.TheVariants as command
+pub use Rattle.hir_wire.specs.declared.command.CrateInput.{CrateInput}
+pub use Rattle.hir_wire.specs.declared.command.Dependency.{Dependency}
+pub use Rattle.hir_wire.specs.declared.command.MacroStyle.{MacroStyle}
+pub use Rattle.hir_wire.specs.declared.command.MacroStyle.TheVariants as style
+pub use Rattle.hir_wire.specs.declared.command.Shadow.{Shadow}
+pub use Rattle.hir_wire.specs.declared.command.Shadow.TheVariants as shadow
+pub use Rattle.hir_wire.specs.declared.edit.Edit.{Edit}
+pub use Rattle.hir_wire.specs.declared.edit.Edit.TheVariants as edit
+pub use Rattle.hir_wire.specs.declared.read_error.ReadError.{ReadError}
+pub use Rattle.hir_wire.specs.declared.read_error.ReadError.TheVariants as read_error
+pub use Rattle.hir_wire.specs.declared.reply.Reply.{Reply}
+pub use Rattle.hir_wire.specs.declared.reply.Reply.TheVariants as reply
+pub use Rattle.hir_wire.specs.declared.reply.Status.{Status}
+pub use Rattle.hir_wire.specs.declared.reply.Status.TheVariants as status

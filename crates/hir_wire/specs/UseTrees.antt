@@ -11,32 +11,28 @@ use Rattle.hir_use_tree.specs.declared.imports.ImportAlias.TheVariants.{Undersco
 use Rattle.hir_item_tree.specs.UseTree.{UseTree, single, glob, prefixed, trees_of as forest}
 use Rattle.hir_wire.specs.declared.read_error.ReadError.TheVariants.{Command}
 use Rattle.hir_wire.specs.Paths.{name_meant, path_of, text_as}
-use Rattle.hir_wire.specs.Reading.{Reading, made, paired, listed, required, optional, has_member}
+use Rattle.hir_wire.specs.Reading.{Reading, made, paired, listed, required, maybe, has_member}
 
 -- the alias that a text is
 abbrev pub alias_meant : List ℕ → Reading ImportAlias
 alias_meant text = if bytes_eq text (codes "_") then Ok Underscore else made Alias (name_meant text)
 
 -- a value as an alias
-abbrev pub alias_of : Data → Reading (Option ImportAlias)
-alias_of d = made Some (text_as alias_meant (as_str d))
-
--- a value as a path that could be absent
-abbrev pub some_path_of : Data → Reading (Option Path)
-some_path_of d = made Some (path_of d)
+abbrev pub alias_of : Data → Reading ImportAlias
+alias_of d = text_as alias_meant (as_str d)
 
 -- a value as the path of a glob; null is the prefix
 abbrev pub glob_path_of : Data → Reading (Option Path)
 glob_path_of null = Ok None
 glob_path_of (boolean b) = Err Command
 glob_path_of (number n) = Err Command
-glob_path_of (string s) = some_path_of (string s)
+glob_path_of (string s) = made Some (path_of (string s))
 glob_path_of (array ds) = Err Command
 glob_path_of (object ms) = Err Command
 
 -- a tree of a path, perhaps under another name
 unfoldable pub single_in : Members → Reading UseTree
-single_in ms = made (λ p. single p.0 p.1) (paired (required path_of (codes "single") ms) (optional None alias_of (codes "as") ms))
+single_in ms = made (λ p. single p.0 p.1) (paired (required path_of (codes "single") ms) (maybe alias_of (codes "as") ms))
 
 -- a tree of all names of what stands at a path, or at the prefix
 unfoldable pub glob_in : Members → Reading UseTree
@@ -48,7 +44,7 @@ leaf_in ms = if has_member (codes "glob") ms then (if has_member (codes "single"
 
 -- these trees, perhaps behind a path
 unfoldable pub prefixed_in : Members → Reading (List UseTree) → Reading UseTree
-prefixed_in ms trees = made (λ p. prefixed p.0 (forest p.1)) (paired (optional None some_path_of (codes "path") ms) trees)
+prefixed_in ms trees = made (λ p. prefixed p.0 (forest p.1)) (paired (maybe path_of (codes "path") ms) trees)
 
 -- a tree with a list, which is neither a path nor a glob
 abbrev pub branch_in : Members → Reading (List UseTree) → Reading UseTree

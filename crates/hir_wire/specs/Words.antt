@@ -2,10 +2,9 @@
 use Rattle.std.specs.Prelude.{ℕ, List, codes}
 use Rattle.hir_base.specs.declared.ast_id.AstKind.{AstKind}
 use Rattle.hir_base.specs.declared.ast_id.AstKind.TheVariants as kind
-use Rattle.hir_wire.specs.declared.answer.SourceKind.{SourceKind}
-use Rattle.hir_wire.specs.declared.answer.SourceKind.TheVariants as source
-use Rattle.hir_wire.specs.declared.reply.Status.{Status}
-use Rattle.hir_wire.specs.declared.reply.Status.TheVariants as status
+use Rattle.hir_wire.specs.Types.{SourceKind, Status}
+use Rattle.hir_wire.specs.Types.source
+use Rattle.hir_wire.specs.Types.status
 
 -- the word of a node's kind
 abbrev pub kind_word : AstKind → List ℕ

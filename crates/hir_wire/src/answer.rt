@@ -11,7 +11,7 @@ use hir_base::ids::Crate;
 use hir_base::place::Place;
 use std::marker::Model;
 
-/// What holds a tree that was handed in.
+/// What an input tree belongs to.
 #[derive(Drop)]
 pub enum SourceRoot {
     File(FilePath),
@@ -64,7 +64,7 @@ impl SourceCalls {
     }
 }
 
-/// The tree in which an item is written: what was handed in, and the calls whose expansions lead to it.
+/// The tree in which an item is written: the input tree, and the calls whose expansions lead to it.
 #[derive(Drop)]
 pub struct ItemSource {
     pub root: SourceRoot,

@@ -1,5 +1,5 @@
 //! Commands.
-ghost use Rattle.std.specs.Prelude.{◌≡◌};
+ghost use Rattle.std.specs.Prelude.{◌≡◌, [], false};
 
 use crate::edit::Edit;
 use hir_base::cfg::CfgAtom;
@@ -10,9 +10,10 @@ use hir_base::mod_path::ModPath;
 use hir_base::name::Name;
 use hir_base::place::Place;
 use hir_item_tree::raw_attr::RawAttr;
+use std::alloc::Global;
 use std::marker::Model;
 
-/// A crate that another stands on.
+/// A dependency of a crate.
 #[derive(Drop)]
 pub struct Dependency {
     pub krate: Crate,
@@ -22,7 +23,7 @@ pub struct Dependency {
     pub prelude: bool,
 }
 
-/// The dependencies of a crate, in the order in which they are handed in.
+/// The dependencies of a crate, in the order of the input.
 #[derive(Drop)]
 pub struct Dependencies {
     inner: Vec<Dependency>,
@@ -51,7 +52,7 @@ impl Dependencies {
     }
 }
 
-/// A crate, as it is handed in.
+/// A crate of the input.
 #[derive(Drop)]
 pub struct CrateInput {
     pub edition: Edition,
@@ -63,6 +64,27 @@ pub struct CrateInput {
     pub cfg: Vec<CfgAtom>,
     pub deps: Dependencies,
     pub proc_macro: bool,
+}
+
+impl CrateInput {
+    /// A crate with this root, of no attributes, options or dependencies, that is no procedural macro.
+    pub fn new(alloc: Global, edition: Edition, root: FilePath) -> CrateInput
+        ensures edition { result.edition ≡ edition }
+        ensures root { result.root ≡ root }
+        ensures attrs { result.attrs.items ≡ [] }
+        ensures cfg { result.cfg.items ≡ [] }
+        ensures deps { result.deps ≡ [] }
+        ensures proc_macro { result.proc_macro ≡ false }
+    {
+        CrateInput {
+            edition,
+            root,
+            attrs: Vec::new(alloc),
+            cfg: Vec::new(alloc),
+            deps: Dependencies::new(Vec::new(alloc)),
+            proc_macro: false,
+        }
+    }
 }
 
 /// Whether a module of a builtin type's name comes before the builtin type.

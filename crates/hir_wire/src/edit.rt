@@ -1,13 +1,13 @@
-//! Edits: what is handed in between two queries.
+//! Edits of the input between two queries.
 
 use hir_base::file_path::FilePath;
 use hir_item_tree::source::Source;
 
-/// A change of what is handed in.
+/// A change of the input.
 #[derive(Drop)]
 pub enum Edit {
-    /// Hands in a file, in place of one that was there.
+    /// Sets a file's source, in place of an earlier one.
     SetFile { file: FilePath, source: Source },
-    /// Takes a file away, if there is one.
+    /// Removes a file, if there is one.
     RemoveFile { file: FilePath },
 }

@@ -4,6 +4,7 @@
 pub mod answer;
 pub mod command;
 pub mod edit;
+pub mod json;
 pub mod read;
 pub mod read_error;
 pub mod reply;
@@ -19,4 +20,4 @@ pub use hir_base::place::{Place, PlaceElement};
 pub use read::line::read_command;
 pub use read_error::ReadError;
 pub use reply::{Places, Reply, Status};
-pub use write::{fixed_text, reply_text};
+pub use write::reply::{fixed_text, reply_text};

@@ -1,17 +1,14 @@
 //! Reading a line.
 
+pub mod adt;
 pub mod attribute;
-pub mod condition;
+pub mod cfg;
 pub mod crates;
-pub mod field;
-pub mod head;
-pub mod item_parts;
+pub mod item;
 pub mod line;
 pub mod macros;
 pub mod node;
-pub mod parts;
+pub mod path;
 pub mod place;
-pub mod types;
 pub mod use_tree;
-pub mod value;
 pub mod visibility;

@@ -1,6 +1,6 @@
 //! Why a line is no command.
 ghost use Rattle.std.specs.Prelude.{◌≡◌, Some};
-ghost use Rattle.hir_wire.specs.Reading.{error_text, gravity, graver, paired};
+ghost use Rattle.hir_wire.specs.Reading.{error_text, gravity, graver};
 
 use hir_base::limit::Limit;
 use std::alloc::{AllocError, AllocFailed};
@@ -78,7 +78,7 @@ impl ReadError {
         }
     }
 
-    /// The error that is told where two parts of a line have these.
+    /// The error that a line with these two reports.
     #[tactic(auto, unfolding(crate::specs::Reading::graver))]
     pub fn graver(self, other: ReadError) -> ReadError
         ensures value { result ≡ graver self other }
@@ -88,20 +88,5 @@ impl ReadError {
         } else {
             self
         }
-    }
-}
-
-/// Both readings, if both succeeded. Of two errors the graver is told.
-pub fn both<A: Drop, B: Drop>(
-    first: Result<A, ReadError>,
-    second: Result<B, ReadError>,
-) -> Result<(A, B), ReadError>
-    ensures value { result ≡ paired first second }
-{
-    match (first, second) {
-        (Ok(first), Ok(second)) => Ok((first, second)),
-        (Ok(_), Err(error)) => Err(error),
-        (Err(error), Ok(_)) => Err(error),
-        (Err(error), Err(other)) => Err(error.graver(other)),
     }
 }

@@ -60,7 +60,7 @@ pub enum Reply {
     /// The line is no command, or none that can be taken here.
     Command,
     Memory,
-    /// The first limit that what was handed in passes.
+    /// The first limit that the input exceeds.
     TooLarge(Limit),
     TooMany,
     /// A dependency of this crate doesn't come before it.

@@ -1,27 +1,22 @@
 //! Attributes.
-ghost use Rattle.std.specs.Prelude.{◌≡◌, map, [], option_map, codes, string_bytes};
+ghost use Rattle.std.specs.Prelude.{◌≡◌, map, option_map, codes};
 ghost use Rattle.serde_json.specs.Data.{Data};
 ghost use Rattle.serde_json.specs.View.{view, members_view, items_view};
 ghost use Rattle.hir_item_tree.specs.Attributes.{no_attributes, cfg, input_view, attribute_view, attributes_view};
 ghost use Rattle.hir_wire.specs.Attributes.{attr_form, written_form, path_text_in, is_conditional, suits, suited, attr_form_in, derive_in, input_in, meta_in, cfg_attr_in, attribute_of, inner_in, attribute_list_of, each_attribute_of, attributes_of};
 ghost use Rattle.hir_wire.specs.Conditions.{cfg_of};
-ghost use Rattle.hir_wire.specs.Paths.{path_of, name_of, text_of};
-ghost use Rattle.hir_wire.specs.Reading.{Reads, made, required, optional, list_of, each_of};
+ghost use Rattle.hir_wire.specs.Reading.{Reads, made, required, optional};
 
-use crate::read::condition::cfg_field;
-use crate::read::field::{
-    field, has_member, name_field, path_field, read_name, read_path, text_field,
-};
-use crate::read::parts::Parts;
-use crate::read_error::{ReadError, both};
-use hir_base::mod_path::ModPath;
-use hir_base::name::Name;
+use crate::json::combinators::{both, list_or_empty, required};
+use crate::json::from_json::{field, has_member};
+use crate::json::parts::Parts;
+use crate::read_error::ReadError;
 use hir_item_tree::raw_attr::{AttrInput, Meta, RawAttr, TokenTree};
 use serde_json::{Map, Value};
 use std::alloc::Global;
 
 /// What stands behind the path of an attribute that is no condition.
-#[derive(Clone, Copy, Debug, PartialEq, Eq)]
+#[derive(Clone, Copy)]
 pub enum InputForm {
     /// Nothing.
     Word,
@@ -32,7 +27,7 @@ pub enum InputForm {
 }
 
 /// How an attribute is written.
-#[derive(Clone, Copy, Debug, PartialEq, Eq)]
+#[derive(Clone, Copy)]
 pub enum AttrForm {
     Meta(InputForm),
     Cfg,
@@ -113,7 +108,7 @@ fn read_literal(alloc: Global, members: &Map<String, Value>) -> Result<Option<At
     ensures value { Reads (λ i. option_map input_view i)
         (input_in InputForm.Literal (members_view members.now.entries)) result }
 {
-    match text_field(alloc, members, "literal") {
+    match required(alloc, members, "literal") {
         Ok(text) => Ok(Some(AttrInput::Literal(text))),
         Err(error) => Err(error),
     }
@@ -123,39 +118,9 @@ fn read_tokens(alloc: Global, members: &Map<String, Value>) -> Result<Option<Att
     ensures value { Reads (λ i. option_map input_view i)
         (input_in InputForm.Tokens (members_view members.now.entries)) result }
 {
-    match text_field(alloc, members, "tokens") {
+    match required(alloc, members, "tokens") {
         Ok(text) => Ok(Some(AttrInput::TokenTree(TokenTree::Tokens(text)))),
         Err(error) => Err(error),
-    }
-}
-
-fn read_path_items(alloc: Global, items: &[Value]) -> Result<Vec<ModPath>, ReadError>
-    ensures value { Reads (λ v. v.items) (each_of path_of (items_view items.now)) result }
-{
-    let mut parts = Parts::new(alloc);
-    for item in items {
-        parts.add(read_path(alloc, item))?;
-    }
-    parts.finish()
-}
-
-fn read_path_list(alloc: Global, value: &Value) -> Result<Vec<ModPath>, ReadError>
-    ensures value { Reads (λ v. v.items) (list_of path_of (view value.now)) result }
-{
-    match value {
-        Value::Array(items) => read_path_items(alloc, items.as_slice()),
-        _ => Err(ReadError::Command),
-    }
-}
-
-#[tactic(auto, unfolding(crate::specs::Reading::required))]
-fn paths_field(alloc: Global, members: &Map<String, Value>) -> Result<Vec<ModPath>, ReadError>
-    ensures value { Reads (λ v. v.items)
-        (required (list_of path_of) (codes "paths") (members_view members.now.entries)) result }
-{
-    match field(members, "paths") {
-        Some(value) => read_path_list(alloc, value),
-        None => Err(ReadError::Command),
     }
 }
 
@@ -163,40 +128,9 @@ fn read_paths(alloc: Global, members: &Map<String, Value>) -> Result<Option<Attr
     ensures value { Reads (λ i. option_map input_view i)
         (input_in InputForm.Paths (members_view members.now.entries)) result }
 {
-    match paths_field(alloc, members) {
+    match required(alloc, members, "paths") {
         Ok(paths) => Ok(Some(AttrInput::TokenTree(TokenTree::Paths(paths)))),
         Err(error) => Err(error),
-    }
-}
-
-fn read_name_items(alloc: Global, items: &[Value]) -> Result<Vec<Name>, ReadError>
-    ensures value { Reads (λ v. v.items) (each_of name_of (items_view items.now)) result }
-{
-    let mut parts = Parts::new(alloc);
-    for item in items {
-        parts.add(read_name(alloc, item))?;
-    }
-    parts.finish()
-}
-
-fn read_name_list(alloc: Global, value: &Value) -> Result<Vec<Name>, ReadError>
-    ensures value { Reads (λ v. v.items) (list_of name_of (view value.now)) result }
-{
-    match value {
-        Value::Array(items) => read_name_items(alloc, items.as_slice()),
-        _ => Err(ReadError::Command),
-    }
-}
-
-/// The names in the member `helpers`, of which there are none where it is absent.
-#[tactic(auto, unfolding(crate::specs::Reading::optional))]
-pub fn helpers_field(alloc: Global, members: &Map<String, Value>) -> Result<Vec<Name>, ReadError>
-    ensures value { Reads (λ v. v.items) (optional [] (list_of name_of) (codes "helpers")
-        (members_view members.now.entries)) result }
-{
-    match field(members, "helpers") {
-        Some(value) => read_name_list(alloc, value),
-        None => Ok(Vec::new(alloc)),
     }
 }
 
@@ -205,8 +139,8 @@ fn read_derive_parts(alloc: Global, members: &Map<String, Value>) -> Result<Attr
     ensures value { Reads input_view (derive_in (members_view members.now.entries)) result }
 {
     match both(
-        name_field(alloc, members, "derive"),
-        helpers_field(alloc, members),
+        required(alloc, members, "derive"),
+        list_or_empty(alloc, members, "helpers"),
     ) {
         Ok((name, helpers)) => Ok(AttrInput::TokenTree(TokenTree::Derive { name, helpers })),
         Err(error) => Err(error),
@@ -249,7 +183,7 @@ fn read_meta(
     ensures value { Reads attribute_view (meta_in form (members_view members.now.entries)) result }
 {
     match both(
-        path_field(alloc, members, "path"),
+        required(alloc, members, "path"),
         read_input(alloc, form, members),
     ) {
         Ok((path, input)) => Ok(RawAttr::Meta(Meta { path, input })),
@@ -261,7 +195,7 @@ fn read_condition(alloc: Global, members: &Map<String, Value>) -> Result<RawAttr
     ensures value { Reads attribute_view
         (made cfg (required cfg_of (codes "cfg") (members_view members.now.entries))) result }
 {
-    match cfg_field(alloc, members) {
+    match required(alloc, members, "cfg") {
         Ok(cfg) => Ok(RawAttr::Cfg(cfg)),
         Err(error) => Err(error),
     }
@@ -296,7 +230,7 @@ fn read_cfg_attr(alloc: Global, members: &Map<String, Value>) -> Result<RawAttr,
     ensures value { Reads attribute_view (cfg_attr_in (members_view members.now.entries)
         (inner_in (members_view members.now.entries))) result }
 {
-    match both(cfg_field(alloc, members), inner_field(alloc, members)) {
+    match both(required(alloc, members, "cfg"), inner_field(alloc, members)) {
         Ok((cfg, attrs)) => Ok(RawAttr::CfgAttr { cfg, attrs }),
         Err(error) => Err(error),
     }

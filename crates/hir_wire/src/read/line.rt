@@ -2,24 +2,20 @@
 ghost use Rattle.std.specs.Prelude.{◌≡◌, ◌≢◌, MatchResult, codes};
 ghost use Rattle.serde_json.specs.View.{view, members_view};
 ghost use Rattle.hir_wire.specs.CommandValue.{command_view};
-ghost use Rattle.hir_wire.specs.Reading.{Reads, required, optional};
-ghost use Rattle.hir_wire.specs.Commands.{shadow_of_word, shadow_of, style_of_word, style_of, verb_of_word, verb_of, set_file_in, asked_in, modes_in, resolve_in, tree_in, fields_of, command_with, command_of, data_of, reading_of};
+ghost use Rattle.hir_wire.specs.Reading.{Reads, required, word_as};
+ghost use Rattle.hir_wire.specs.Commands.{verb_of_word, set_file_in, resolve_in, tree_in, fields_of, command_with, command_of, data_of, reading_of};
 
 use crate::command::{Command, MacroStyle, Shadow};
 use crate::edit::Edit;
-use crate::read::crates::crates_field;
-use crate::read::field::{crate_field, field, file_field, path_field};
-use crate::read::node::source_field;
-use crate::read::place::place_field;
-use crate::read::value::holds_float;
-use crate::read_error::{ReadError, both};
-use hir_base::mod_path::ModPath;
-use hir_base::place::Place;
+use crate::json::combinators::{both, required};
+use crate::json::floats::holds_float;
+use crate::json::words::{Word, optional_word, required_word};
+use crate::read_error::ReadError;
 use serde_json::{Map, Value};
 use std::alloc::Global;
 
 /// The word in the field `do`.
-#[derive(Clone, Copy, Debug, PartialEq, Eq)]
+#[derive(Clone, Copy)]
 pub enum Verb {
     Crates,
     SetFile,
@@ -30,107 +26,50 @@ pub enum Verb {
     Tree,
 }
 
-fn verb_of_word(word: &str) -> Option<Verb>
-    ensures value { result ≡ verb_of_word word.now }
-{
-    match word {
-        "crates" => Some(Verb::Crates),
-        "set file" => Some(Verb::SetFile),
-        "remove file" => Some(Verb::RemoveFile),
-        "refresh" => Some(Verb::Refresh),
-        "resolve" => Some(Verb::Resolve),
-        "status" => Some(Verb::Status),
-        "tree" => Some(Verb::Tree),
-        _ => None,
+impl Word for Verb {
+    ghost use Rattle.hir_wire.specs.Commands.{verb_of_word};
+
+    ghost of_word = { verb_of_word };
+
+    fn from_word(word: &str) -> Option<Verb> {
+        match word {
+            "crates" => Some(Verb::Crates),
+            "set file" => Some(Verb::SetFile),
+            "remove file" => Some(Verb::RemoveFile),
+            "refresh" => Some(Verb::Refresh),
+            "resolve" => Some(Verb::Resolve),
+            "status" => Some(Verb::Status),
+            "tree" => Some(Verb::Tree),
+            _ => None,
+        }
     }
 }
 
-fn read_verb(value: &Value) -> Result<Verb, ReadError>
-    ensures value { Reads (λ v. v) (verb_of (view value.now)) result }
-{
-    let Some(word) = value.as_str() else {
-        return Err(ReadError::Command);
-    };
-    match verb_of_word(word) {
-        Some(verb) => Ok(verb),
-        None => Err(ReadError::Command),
+impl Word for Shadow {
+    ghost use Rattle.hir_wire.specs.Commands.{shadow_of_word};
+
+    ghost of_word = { shadow_of_word };
+
+    fn from_word(word: &str) -> Option<Shadow> {
+        match word {
+            "module" => Some(Shadow::Module),
+            "other" => Some(Shadow::Other),
+            _ => None,
+        }
     }
 }
 
-#[tactic(auto, unfolding(crate::specs::Reading::required))]
-fn verb_field(members: &Map<String, Value>) -> Result<Verb, ReadError>
-    ensures value { Reads (λ v. v)
-        (required verb_of (codes "do") (members_view members.now.entries)) result }
-{
-    match field(members, "do") {
-        Some(value) => read_verb(value),
-        None => Err(ReadError::Command),
-    }
-}
+impl Word for Option<MacroStyle> {
+    ghost use Rattle.hir_wire.specs.Commands.{style_of_word};
 
-fn shadow_of_word(word: &str) -> Option<Shadow>
-    ensures value { result ≡ shadow_of_word word.now }
-{
-    match word {
-        "module" => Some(Shadow::Module),
-        "other" => Some(Shadow::Other),
-        _ => None,
-    }
-}
+    ghost of_word = { style_of_word };
 
-fn read_shadow(value: &Value) -> Result<Shadow, ReadError>
-    ensures value { Reads (λ s. s) (shadow_of (view value.now)) result }
-{
-    let Some(word) = value.as_str() else {
-        return Err(ReadError::Command);
-    };
-    match shadow_of_word(word) {
-        Some(shadow) => Ok(shadow),
-        None => Err(ReadError::Command),
-    }
-}
-
-#[tactic(auto, unfolding(crate::specs::Reading::optional))]
-fn shadow_field(members: &Map<String, Value>) -> Result<Shadow, ReadError>
-    ensures value { Reads (λ s. s) (optional Shadow.Other shadow_of (codes "shadow")
-        (members_view members.now.entries)) result }
-{
-    match field(members, "shadow") {
-        Some(value) => read_shadow(value),
-        None => Ok(Shadow::Other),
-    }
-}
-
-fn style_of_word(word: &str) -> Option<Option<MacroStyle>>
-    ensures value { result ≡ style_of_word word.now }
-{
-    match word {
-        "bang" => Some(Some(MacroStyle::Bang)),
-        "attr" => Some(Some(MacroStyle::Attr)),
-        _ => None,
-    }
-}
-
-fn read_style(value: &Value) -> Result<Option<MacroStyle>, ReadError>
-    ensures value { Reads (λ s. s) (style_of (view value.now)) result }
-{
-    let Some(word) = value.as_str() else {
-        return Err(ReadError::Command);
-    };
-    match style_of_word(word) {
-        Some(style) => Ok(style),
-        None => Err(ReadError::Command),
-    }
-}
-
-#[tactic(auto, unfolding(crate::specs::Reading::optional))]
-fn style_field(members: &Map<String, Value>) -> Result<Option<MacroStyle>, ReadError>
-    ensures value { Reads (λ s. s)
-        (optional None style_of (codes "sub") (members_view members.now.entries)) result }
-{
-    match field(members, "sub") {
-        Some(value) => read_style(value),
-        None => Ok(None),
+    fn from_word(word: &str) -> Option<Option<MacroStyle>> {
+        match word {
+            "bang" => Some(Some(MacroStyle::Bang)),
+            "attr" => Some(Some(MacroStyle::Attr)),
+            _ => None,
+        }
     }
 }
 
@@ -139,8 +78,8 @@ fn read_set_file(alloc: Global, members: &Map<String, Value>) -> Result<Command,
     ensures value { Reads command_view (set_file_in (members_view members.now.entries)) result }
 {
     match both(
-        file_field(alloc, members, "file"),
-        source_field(alloc, members, "unit"),
+        required(alloc, members, "file"),
+        required(alloc, members, "unit"),
     ) {
         Ok((file, source)) => Ok(Command::Edit(Edit::SetFile { file, source })),
         Err(error) => Err(error),
@@ -151,31 +90,8 @@ fn read_remove_file(alloc: Global, members: &Map<String, Value>) -> Result<Comma
     ensures value { Reads command_view
         (fields_of Verb.RemoveFile (members_view members.now.entries)) result }
 {
-    match file_field(alloc, members, "file") {
+    match required(alloc, members, "file") {
         Ok(file) => Ok(Command::Edit(Edit::RemoveFile { file })),
-        Err(error) => Err(error),
-    }
-}
-
-#[tactic(auto, unfolding(crate::specs::Commands::asked_in))]
-fn read_asked(alloc: Global, members: &Map<String, Value>) -> Result<(Place, ModPath), ReadError>
-    ensures value { Reads (λ p. (p.0, p.1)) (asked_in (members_view members.now.entries)) result }
-{
-    match both(
-        place_field(alloc, members, "at"),
-        path_field(alloc, members, "path"),
-    ) {
-        Ok(asked) => Ok(asked),
-        Err(error) => Err(error),
-    }
-}
-
-#[tactic(auto, unfolding(crate::specs::Commands::modes_in))]
-fn read_modes(members: &Map<String, Value>) -> Result<(Shadow, Option<MacroStyle>), ReadError>
-    ensures value { Reads (λ p. (p.0, p.1)) (modes_in (members_view members.now.entries)) result }
-{
-    match both(shadow_field(members), style_field(members)) {
-        Ok(modes) => Ok(modes),
         Err(error) => Err(error),
     }
 }
@@ -184,7 +100,16 @@ fn read_modes(members: &Map<String, Value>) -> Result<(Shadow, Option<MacroStyle
 fn read_resolve(alloc: Global, members: &Map<String, Value>) -> Result<Command, ReadError>
     ensures value { Reads command_view (resolve_in (members_view members.now.entries)) result }
 {
-    match both(read_asked(alloc, members), read_modes(members)) {
+    match both(
+        both(
+            required(alloc, members, "at"),
+            required(alloc, members, "path"),
+        ),
+        both(
+            optional_word(members, "shadow", Shadow::Other),
+            optional_word(members, "sub", None),
+        ),
+    ) {
         Ok(((at, path), (shadow, sub))) => Ok(Command::Resolve {
             at,
             path,
@@ -199,7 +124,7 @@ fn read_begin(alloc: Global, members: &Map<String, Value>) -> Result<Command, Re
     ensures value { Reads command_view
         (fields_of Verb.Crates (members_view members.now.entries)) result }
 {
-    match crates_field(alloc, members) {
+    match required(alloc, members, "crates") {
         Ok(crates) => Ok(Command::Crates(crates)),
         Err(error) => Err(error),
     }
@@ -209,7 +134,7 @@ fn read_status(alloc: Global, members: &Map<String, Value>) -> Result<Command, R
     ensures value { Reads command_view
         (fields_of Verb.Status (members_view members.now.entries)) result }
 {
-    match place_field(alloc, members, "at") {
+    match required(alloc, members, "at") {
         Ok(at) => Ok(Command::Status { at }),
         Err(error) => Err(error),
     }
@@ -220,8 +145,8 @@ fn read_tree(alloc: Global, members: &Map<String, Value>) -> Result<Command, Rea
     ensures value { Reads command_view (tree_in (members_view members.now.entries)) result }
 {
     match both(
-        crate_field(members, "crate"),
-        file_field(alloc, members, "file"),
+        required(alloc, members, "crate"),
+        required(alloc, members, "file"),
     ) {
         Ok((krate, file)) => Ok(Command::Tree { krate, file }),
         Err(error) => Err(error),
@@ -249,10 +174,10 @@ fn read_verb_fields(
 
 fn read_command_members(alloc: Global, members: &Map<String, Value>) -> Result<Command, ReadError>
     ensures value { Reads command_view
-        (command_with (required verb_of (codes "do") (members_view members.now.entries))
+        (command_with (required (word_as verb_of_word) (codes "do") (members_view members.now.entries))
         (members_view members.now.entries)) result }
 {
-    match verb_field(members) {
+    match required_word(members, "do") {
         Ok(verb) => read_verb_fields(alloc, verb, members),
         Err(error) => Err(error),
     }

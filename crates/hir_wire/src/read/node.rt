@@ -1,37 +1,85 @@
 //! Sources and their nodes.
-ghost use Rattle.std.specs.Prelude.{◌≡◌, map, [], codes};
+ghost use Rattle.std.specs.Prelude.{map, [], string_bytes, codes};
 ghost use Rattle.serde_json.specs.View.{view, members_view, items_view};
 ghost use Rattle.hir_item_tree.specs.Attributes.{attributes_view};
 ghost use Rattle.hir_item_tree.specs.Source.{node_view, source_view};
 ghost use Rattle.hir_wire.specs.ItemParts.{kind_view};
-ghost use Rattle.hir_wire.specs.Nodes.{extern_block_in, trait_in, impl_in, inline_module_in, outline_module_in, module_in, parts_in, node_with, node_of, nodes_in, node_list_of, nodes_of, unit_in, source_of};
-ghost use Rattle.hir_wire.specs.Paths.{bool_of};
-ghost use Rattle.hir_wire.specs.Reading.{Reads, required, optional};
+ghost use Rattle.hir_wire.specs.Nodes.{head_in, extern_block_in, trait_in, impl_in, inline_module_in, outline_module_in, module_in, parts_in, node_with, node_of, nodes_in, node_list_of, nodes_of, unit_in};
+ghost use Rattle.hir_wire.specs.Reading.{Reads, optional};
 
+use crate::json::combinators::{both, optional, required, text_or_empty};
+use crate::json::from_json::{FromJson, field, has_member};
+use crate::json::parts::Parts;
+use crate::json::words::{Word, required_word};
+use crate::read::adt::{read_enum, read_struct, read_union};
 use crate::read::attribute::attrs_field;
-use crate::read::field::{field, has_member, name_field, read_bool};
-use crate::read::head::{kind_field, read_head};
-use crate::read::item_parts::{
+use crate::read::item::{
     read_constant, read_extern_crate, read_function, read_macro_call, read_static, read_type_alias,
     read_use,
 };
 use crate::read::macros::{read_macro_def, read_macro_rules};
-use crate::read::parts::Parts;
-use crate::read::types::{read_enum, read_struct, read_union};
-use crate::read_error::{ReadError, both};
-use hir_base::ast_id::AstKind;
+use crate::read_error::ReadError;
+use hir_base::ast_id::{AstKind, SyntaxId};
+use hir_item_tree::raw_attr::RawAttr;
+use hir_item_tree::raw_visibility::{RawVisibility, VisibilityExplicitness};
 use hir_item_tree::source::{Node, NodeKind, Source, Unit};
 use serde_json::{Map, Value};
 use std::alloc::Global;
 
-#[tactic(auto, unfolding(crate::specs::Reading::required))]
-fn of_trait_field(members: &Map<String, Value>) -> Result<bool, ReadError>
-    ensures value { Reads (λ b. b)
-        (required bool_of (codes "trait") (members_view members.now.entries)) result }
+impl Word for AstKind {
+    ghost use Rattle.hir_wire.specs.Nodes.{kind_of_word};
+
+    ghost of_word = { kind_of_word };
+
+    fn from_word(word: &str) -> Option<AstKind> {
+        match word {
+            "Use" => Some(AstKind::Use),
+            "ExternCrate" => Some(AstKind::ExternCrate),
+            "ExternBlock" => Some(AstKind::ExternBlock),
+            "Fn" => Some(AstKind::Fn),
+            "Struct" => Some(AstKind::Struct),
+            "Union" => Some(AstKind::Union),
+            "Enum" => Some(AstKind::Enum),
+            "Const" => Some(AstKind::Const),
+            "Static" => Some(AstKind::Static),
+            "Trait" => Some(AstKind::Trait),
+            "Impl" => Some(AstKind::Impl),
+            "TypeAlias" => Some(AstKind::TypeAlias),
+            "Module" => Some(AstKind::Module),
+            "MacroCall" => Some(AstKind::MacroCall),
+            "MacroRules" => Some(AstKind::MacroRules),
+            "MacroDef" => Some(AstKind::MacroDef),
+            _ => None,
+        }
+    }
+}
+
+/// What every node has: its id and visibility, its attributes and the input of calls.
+#[tactic(auto, unfolding(crate::specs::Nodes::head_in))]
+fn read_head(
+    alloc: Global,
+    members: &Map<String, Value>,
+) -> Result<((SyntaxId, RawVisibility), (Vec<RawAttr>, String)), ReadError>
+    ensures value { Reads (λ p. record {
+      id = p.0.0;
+      attributes = attributes_view p.1.0.items;
+      visibility = p.0.1;
+      input = string_bytes p.1.1;
+    }) (head_in (members_view members.now.entries)) result }
 {
-    match field(members, "trait") {
-        Some(value) => read_bool(value),
-        None => Err(ReadError::Command),
+    let private = RawVisibility::PubSelf(VisibilityExplicitness::Implicit);
+    match both(
+        both(
+            required(alloc, members, "id"),
+            optional(alloc, members, "vis", private),
+        ),
+        both(
+            attrs_field(alloc, members),
+            text_or_empty(alloc, members, "input"),
+        ),
+    ) {
+        Ok(head) => Ok(head),
+        Err(error) => Err(error),
     }
 }
 
@@ -40,7 +88,7 @@ fn read_outline_module(alloc: Global, members: &Map<String, Value>) -> Result<No
     ensures value { Reads kind_view
         (outline_module_in (members_view members.now.entries)) result }
 {
-    match name_field(alloc, members, "name") {
+    match required(alloc, members, "name") {
         Ok(name) => Ok(NodeKind::Module { name, nodes: None }),
         Err(error) => Err(error),
     }
@@ -62,7 +110,7 @@ fn read_node_members(alloc: Global, members: &Map<String, Value>) -> Result<Node
         (nodes_in (codes "nodes") (members_view members.now.entries))
         (nodes_in (codes "items") (members_view members.now.entries))) result }
 {
-    let kind = match kind_field(members) {
+    let kind = match required_word(members, "kind") {
         Ok(kind) => kind,
         Err(error) => return Err(error),
     };
@@ -128,7 +176,7 @@ fn read_trait(alloc: Global, members: &Map<String, Value>) -> Result<NodeKind, R
         (nodes_in (codes "items") (members_view members.now.entries))) result }
 {
     match both(
-        name_field(alloc, members, "name"),
+        required(alloc, members, "name"),
         nodes_field(alloc, members, "items"),
     ) {
         Ok((name, items)) => Ok(NodeKind::Trait { name, items }),
@@ -143,7 +191,7 @@ fn read_impl(alloc: Global, members: &Map<String, Value>) -> Result<NodeKind, Re
         (nodes_in (codes "items") (members_view members.now.entries))) result }
 {
     match both(
-        of_trait_field(members),
+        required(alloc, members, "trait"),
         nodes_field(alloc, members, "items"),
     ) {
         Ok((of_trait, items)) => Ok(NodeKind::Impl { of_trait, items }),
@@ -169,7 +217,7 @@ fn read_inline_module(alloc: Global, members: &Map<String, Value>) -> Result<Nod
         (nodes_in (codes "nodes") (members_view members.now.entries))) result }
 {
     match both(
-        name_field(alloc, members, "name"),
+        required(alloc, members, "name"),
         nodes_field(alloc, members, "nodes"),
     ) {
         Ok((name, nodes)) => Ok(NodeKind::Module {
@@ -237,27 +285,21 @@ fn read_unit(alloc: Global, members: &Map<String, Value>) -> Result<Source, Read
     }
 }
 
-fn read_source(alloc: Global, value: &Value) -> Result<Source, ReadError>
-    ensures value { Reads source_view (source_of (view value.now)) result }
-{
-    match value {
-        Value::Object(members) => read_unit(alloc, members),
-        Value::String(word) if word.as_str() == "broken" => Ok(Source::Broken),
-        _ => Err(ReadError::Command),
-    }
-}
+impl FromJson for Source {
+    ghost use Rattle.hir_item_tree.specs.Source.{SourceValue, source_view};
+    ghost use Rattle.hir_wire.specs.Nodes.{source_of};
 
-#[tactic(auto, unfolding(crate::specs::Reading::required))]
-pub fn source_field(
-    alloc: Global,
-    members: &Map<String, Value>,
-    name: &str,
-) -> Result<Source, ReadError>
-    ensures value { Reads source_view
-        (required source_of name.now (members_view members.now.entries)) result }
-{
-    match field(members, name) {
-        Some(value) => read_source(alloc, value),
-        None => Err(ReadError::Command),
+    ghost Seen = { SourceValue };
+
+    ghost seen = { source_view };
+
+    ghost meaning = { source_of };
+
+    fn read(alloc: Global, value: &Value) -> Result<Source, ReadError> {
+        match value {
+            Value::Object(members) => read_unit(alloc, members),
+            Value::String(word) if word.as_str() == "broken" => Ok(Source::Broken),
+            _ => Err(ReadError::Command),
+        }
     }
 }

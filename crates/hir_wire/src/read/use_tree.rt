@@ -1,13 +1,15 @@
 //! Use trees.
-ghost use Rattle.std.specs.Prelude.{◌≡◌, map, codes};
+ghost use Rattle.std.specs.Prelude.{map};
 ghost use Rattle.serde_json.specs.View.{view, members_view, items_view};
 ghost use Rattle.hir_item_tree.specs.UseTree.{use_tree_view};
-ghost use Rattle.hir_wire.specs.Reading.{Reads, required, optional};
-ghost use Rattle.hir_wire.specs.UseTrees.{alias_meant, alias_of, some_path_of, glob_path_of, single_in, glob_in, leaf_in, prefixed_in, branch_in, tree_with, tree_of, trees_in, tree_list_of, trees_of};
+ghost use Rattle.hir_wire.specs.Reading.{Reads};
+ghost use Rattle.hir_wire.specs.UseTrees.{alias_meant, single_in, glob_in, leaf_in, prefixed_in, branch_in, tree_with, tree_of, trees_in, tree_list_of, trees_of};
 
-use crate::read::field::{field, has_member, name_of_text, path_field, read_path};
-use crate::read::parts::Parts;
-use crate::read_error::{ReadError, both};
+use crate::json::combinators::{both, maybe, required};
+use crate::json::from_json::{FromJson, field, has_member};
+use crate::json::parts::Parts;
+use crate::read::path::name_of_text;
+use crate::read_error::ReadError;
 use hir_base::mod_path::ModPath;
 use hir_item_tree::shape::ImportAlias;
 use hir_item_tree::use_tree::{UseTree, UseTreeKind};
@@ -26,30 +28,21 @@ fn alias_of_text(alloc: Global, text: &str) -> Result<ImportAlias, ReadError>
     }
 }
 
-fn read_alias(alloc: Global, value: &Value) -> Result<Option<ImportAlias>, ReadError>
-    ensures value { Reads (λ a. a) (alias_of (view value.now)) result }
-{
-    let Some(text) = value.as_str() else {
-        return Err(ReadError::Command);
-    };
-    match alias_of_text(alloc, text) {
-        Ok(alias) => Ok(Some(alias)),
-        Err(error) => Err(error),
-    }
-}
+impl FromJson for ImportAlias {
+    ghost use Rattle.hir_use_tree.specs.declared.imports.ImportAlias.{ImportAlias};
+    ghost use Rattle.hir_wire.specs.UseTrees.{alias_of};
 
-/// The alias of an import or of an extern crate.
-#[tactic(auto, unfolding(crate::specs::Reading::optional))]
-pub fn alias_field(
-    alloc: Global,
-    members: &Map<String, Value>,
-) -> Result<Option<ImportAlias>, ReadError>
-    ensures value { Reads (λ a. a)
-        (optional None alias_of (codes "as") (members_view members.now.entries)) result }
-{
-    match field(members, "as") {
-        Some(value) => read_alias(alloc, value),
-        None => Ok(None),
+    ghost Seen = { ImportAlias };
+
+    ghost seen = { λ a. a };
+
+    ghost meaning = { alias_of };
+
+    fn read(alloc: Global, value: &Value) -> Result<ImportAlias, ReadError> {
+        match value.as_str() {
+            Some(text) => alias_of_text(alloc, text),
+            None => Err(ReadError::Command),
+        }
     }
 }
 
@@ -58,41 +51,40 @@ fn read_single(alloc: Global, members: &Map<String, Value>) -> Result<UseTree, R
     ensures value { Reads use_tree_view (single_in (members_view members.now.entries)) result }
 {
     match both(
-        path_field(alloc, members, "single"),
-        alias_field(alloc, members),
+        required(alloc, members, "single"),
+        maybe(alloc, members, "as"),
     ) {
         Ok((path, alias)) => Ok(UseTree::new(UseTreeKind::Single { path, alias })),
         Err(error) => Err(error),
     }
 }
 
-fn read_some_path(alloc: Global, value: &Value) -> Result<Option<ModPath>, ReadError>
-    ensures value { Reads (λ p. p) (some_path_of (view value.now)) result }
-{
-    match read_path(alloc, value) {
-        Ok(path) => Ok(Some(path)),
-        Err(error) => Err(error),
-    }
+/// The path of a glob, which is none behind a prefix.
+#[derive(Drop)]
+struct GlobPath {
+    path: Option<ModPath>,
 }
 
-fn read_glob_path(alloc: Global, value: &Value) -> Result<Option<ModPath>, ReadError>
-    ensures value { Reads (λ p. p) (glob_path_of (view value.now)) result }
-{
-    match value {
-        Value::Null => Ok(None),
-        Value::String(_) => read_some_path(alloc, value),
-        _ => Err(ReadError::Command),
-    }
-}
+impl FromJson for GlobPath {
+    ghost use Rattle.std.specs.Prelude.{Option};
+    ghost use Rattle.hir_base.specs.ModPath.{Path};
+    ghost use Rattle.hir_wire.specs.UseTrees.{glob_path_of};
 
-#[tactic(auto, unfolding(crate::specs::Reading::required))]
-fn glob_field(alloc: Global, members: &Map<String, Value>) -> Result<Option<ModPath>, ReadError>
-    ensures value { Reads (λ p. p)
-        (required glob_path_of (codes "glob") (members_view members.now.entries)) result }
-{
-    match field(members, "glob") {
-        Some(value) => read_glob_path(alloc, value),
-        None => Err(ReadError::Command),
+    ghost Seen = { Option Path };
+
+    ghost seen = { λ g. g.path };
+
+    ghost meaning = { glob_path_of };
+
+    fn read(alloc: Global, value: &Value) -> Result<GlobPath, ReadError> {
+        match value {
+            Value::Null => Ok(GlobPath { path: None }),
+            Value::String(_) => match ModPath::read(alloc, value) {
+                Ok(path) => Ok(GlobPath { path: Some(path) }),
+                Err(error) => Err(error),
+            },
+            _ => Err(ReadError::Command),
+        }
     }
 }
 
@@ -100,8 +92,8 @@ fn glob_field(alloc: Global, members: &Map<String, Value>) -> Result<Option<ModP
 fn read_glob(alloc: Global, members: &Map<String, Value>) -> Result<UseTree, ReadError>
     ensures value { Reads use_tree_view (glob_in (members_view members.now.entries)) result }
 {
-    match glob_field(alloc, members) {
-        Ok(path) => Ok(UseTree::new(UseTreeKind::Glob { path })),
+    match required(alloc, members, "glob") {
+        Ok(GlobPath { path }) => Ok(UseTree::new(UseTreeKind::Glob { path })),
         Err(error) => Err(error),
     }
 }
@@ -116,17 +108,6 @@ fn read_leaf(alloc: Global, members: &Map<String, Value>) -> Result<UseTree, Rea
         return read_glob(alloc, members);
     }
     read_single(alloc, members)
-}
-
-#[tactic(auto, unfolding(crate::specs::Reading::optional))]
-fn prefix_field(alloc: Global, members: &Map<String, Value>) -> Result<Option<ModPath>, ReadError>
-    ensures value { Reads (λ p. p)
-        (optional None some_path_of (codes "path") (members_view members.now.entries)) result }
-{
-    match field(members, "path") {
-        Some(value) => read_some_path(alloc, value),
-        None => Ok(None),
-    }
 }
 
 #[cycle(trees)]
@@ -170,7 +151,7 @@ fn read_prefixed(alloc: Global, members: &Map<String, Value>) -> Result<UseTree,
     ensures value { Reads use_tree_view (prefixed_in (members_view members.now.entries)
         (trees_in (members_view members.now.entries))) result }
 {
-    match both(prefix_field(alloc, members), list_field(alloc, members)) {
+    match both(maybe(alloc, members, "path"), list_field(alloc, members)) {
         Ok((prefix, list)) => Ok(UseTree::new(UseTreeKind::Prefixed { prefix, list })),
         Err(error) => Err(error),
     }
@@ -209,14 +190,17 @@ fn read_items(alloc: Global, items: &Vec<Value>) -> Result<Vec<UseTree>, ReadErr
     parts.finish()
 }
 
-/// The tree of a use item.
-#[tactic(auto, unfolding(crate::specs::Reading::required))]
-pub fn tree_field(alloc: Global, members: &Map<String, Value>) -> Result<UseTree, ReadError>
-    ensures value { Reads use_tree_view
-        (required tree_of (codes "tree") (members_view members.now.entries)) result }
-{
-    match field(members, "tree") {
-        Some(value) => read_tree(alloc, value),
-        None => Err(ReadError::Command),
+impl FromJson for UseTree {
+    ghost use Rattle.hir_item_tree.specs.UseTree.{UseTree as ImportTree, use_tree_view};
+    ghost use Rattle.hir_wire.specs.UseTrees.{tree_of};
+
+    ghost Seen = { ImportTree };
+
+    ghost seen = { use_tree_view };
+
+    ghost meaning = { tree_of };
+
+    fn read(alloc: Global, value: &Value) -> Result<UseTree, ReadError> {
+        read_tree(alloc, value)
     }
 }

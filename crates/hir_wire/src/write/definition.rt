@@ -93,7 +93,7 @@ fn named_call(
     }
 }
 
-/// What was handed in, then the calls that lead to the tree.
+/// The input tree's root, then the calls that lead to the tree.
 pub fn source_value(alloc: Global, source: &ItemSource) -> Result<Value, AllocError>
     ensures value { IfOk result (λ v. view v ≡ source_data source.now) }
 {

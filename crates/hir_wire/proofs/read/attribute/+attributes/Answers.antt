@@ -1,10 +1,7 @@
-use Rattle.std.proofs.Common.{◌≡◌, Some, None, Vec, map, codes, refl, sym, arith}
-use Rattle.std.specs.declared.alloc.Global.{Global}
+use Rattle.std.proofs.Common.{◌≡◌, Some, None, codes, refl, sym, arith}
 use Rattle.serde_json.specs.Find.{get_member}
 use Rattle.serde_json.specs.View.{view, members_view}
-use Rattle.hir_base.specs.Cfg.{cfg_view}
 use Rattle.hir_item_tree.specs.Attributes.{attribute_view}
-use Rattle.hir_item_tree.specs.declared.raw_attr.RawAttr.{RawAttr}
 use Rattle.hir_wire.specs.Attributes.{attribute_of, each_attribute_of, cfg_attr_in}
 use Rattle.hir_wire.proofs.FieldLemmas.{inner_in-get_member}
 use Rattle.hir_wire.proofs.ReadingLemmas.{both_refused, list_next}
@@ -19,7 +16,7 @@ inner_field-returns-in-Some t c =
 pub inner_field-returns-in-None : goal.inner_field-returns-in-None
 inner_field-returns-in-None t c =
     let none : get_member (codes "attrs") (members_view c.args.members.now.entries) ≡ None = sym c.in-None.ensures.value in
-    record { value = rw (inner_in-get_member (members_view c.args.members.now.entries), none) refl }
+    record { value = rw (inner_in-get_member (members_view c.args.members.now.entries), none) (record { told = refl }) }
 
 -- one more attribute was read
 pub read_attribute_items-loop-item-preserved : goal.read_attribute_items-loop-item-preserved
@@ -31,4 +28,4 @@ read_attribute_items-loop-item-preserved t c =
 pub read_cfg_attr-returns-in-Err : goal.read_cfg_attr-returns-in-Err
 unfolding cfg_attr_in
 read_cfg_attr-returns-in-Err t c =
-    record { value = both_refused cfg_view (λ (x : Vec RawAttr Global). map attribute_view x.items) _ attribute_view _ _ c.cfg_field.result c.inner_field.result c.in-Err.error c.cfg_field.ensures.value c.inner_field.ensures.value c.in-Err.ensures.value }
+    record { value = both_refused _ c.required.ensures.value c.inner_field.ensures.value c.in-Err.ensures.value }

@@ -1,5 +1,3 @@
-use Rattle.hir_item_tree.specs.Source.{macro_view}
-use Rattle.hir_wire.specs.ItemParts.{kind_view}
 use Rattle.hir_wire.specs.Macros.{macro_def_in}
 use Rattle.hir_wire.proofs.ReadingLemmas.{both_refused}
 use Rattle.hir_wire.proofs.read.macros.read_macro_def.Goals as goal
@@ -7,5 +5,4 @@ use Rattle.hir_wire.proofs.read.macros.read_macro_def.Goals as goal
 -- what is made of two parts fails as they do
 pub returns-in-Err : goal.returns-in-Err
 unfolding macro_def_in
-returns-in-Err c =
-    record { value = both_refused (λ x. x) macro_view _ kind_view _ _ c.name_field.result c.read_definition.result c.in-Err.error c.name_field.ensures.value c.read_definition.ensures.value c.in-Err.ensures.value }
+returns-in-Err c = record { value = both_refused _ c.required.ensures.value c.read_definition.ensures.value c.in-Err.ensures.value }

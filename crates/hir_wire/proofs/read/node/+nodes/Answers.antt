@@ -1,17 +1,10 @@
-use Rattle.std.proofs.Common.{◌≡◌, Some, None, Ok, Err, Vec, String, map, string_bytes, codes, refl, sym, ap, ◌∙◌, subst, arith}
+use Rattle.std.proofs.Common.{◌≡◌, Some, None, Ok, Err, codes, sym, ap, ◌∙◌, subst, refl, arith}
 use Rattle.serde_json.specs.Find.{get_member}
 use Rattle.serde_json.specs.View.{view, members_view}
-use Rattle.std.specs.declared.alloc.Global.{Global}
 use Rattle.hir_base.specs.declared.ast_id.AstKind.{AstKind}
-use Rattle.hir_base.specs.declared.ast_id.SyntaxId.{SyntaxId}
-use Rattle.hir_item_tree.specs.Attributes.{attributes_view}
-use Rattle.hir_item_tree.specs.Source.{NodeHead, node_view}
-use Rattle.hir_item_tree.specs.declared.raw_attr.RawAttr.{RawAttr}
-use Rattle.hir_item_tree.specs.declared.raw_visibility.RawVisibility.{RawVisibility}
-use Rattle.hir_item_tree.specs.declared.source.Node.{Node}
-use Rattle.hir_wire.specs.ItemParts.{kind_view}
-use Rattle.hir_wire.specs.Nodes.{kind_of, node_of_kind, nodes_in, node_of, nodes_of, trait_in, impl_in, inline_module_in}
-use Rattle.hir_wire.specs.Reading.{Reading, Reads, required}
+use Rattle.hir_item_tree.specs.Source.{node_view}
+use Rattle.hir_wire.specs.Nodes.{kind_of_word, node_of_kind, nodes_in, node_of, nodes_of, trait_in, impl_in, inline_module_in}
+use Rattle.hir_wire.specs.Reading.{Reading, Reads, required, word_as}
 use Rattle.hir_wire.proofs.NodeLemmas.{nodes_in-get_member, inline_module-view}
 use Rattle.hir_wire.proofs.ReadingLemmas.{both_read, both_refused, list_next}
 use Rattle.hir_wire.proofs.read.node.+nodes.Goals as goal
@@ -25,7 +18,7 @@ nodes_field-returns-in-Some t c =
 pub nodes_field-returns-in-None : goal.nodes_field-returns-in-None
 nodes_field-returns-in-None t c =
     let none : get_member c.args.name.now (members_view c.args.members.now.entries) ≡ None = sym c.in-None.ensures.value in
-    record { value = rw (nodes_in-get_member c.args.name.now (members_view c.args.members.now.entries), none) refl }
+    record { value = rw (nodes_in-get_member c.args.name.now (members_view c.args.members.now.entries), none) (record { told = refl }) }
 
 -- one more node was read
 pub read_items-loop-item-preserved : goal.read_items-loop-item-preserved
@@ -37,38 +30,30 @@ read_items-loop-item-preserved t c =
 pub read_inline_module-returns-in-Err : goal.read_inline_module-returns-in-Err
 unfolding inline_module_in
 read_inline_module-returns-in-Err t c =
-    record { value = both_refused (λ x. x) (λ (x : Vec Node Global). map node_view x.items) _ kind_view _ _ c.name_field.result c.nodes_field.result c.in-Err.error c.name_field.ensures.value c.nodes_field.ensures.value c.in-Err.ensures.value }
+    record { value = both_refused _ c.required.ensures.value c.nodes_field.ensures.value c.in-Err.ensures.value }
 
 -- what is made of two parts that were read
 pub read_inline_module-returns-in-Ok : goal.read_inline_module-returns-in-Ok
 unfolding inline_module_in
 read_inline_module-returns-in-Ok t c =
-    record { value = both_read (λ x. x) (λ (x : Vec Node Global). map node_view x.items) _ _ _ c.name_field.result c.nodes_field.result (c.in-Ok.name, c.in-Ok.nodes) c.name_field.ensures.value c.nodes_field.ensures.value c.in-Ok.ensures.value ∙ ap Ok (inline_module-view c.in-Ok.name c.in-Ok.nodes) }
+    record { value = record { told = both_read _ c.required.ensures.value c.nodes_field.ensures.value c.in-Ok.ensures.value ∙ ap Ok (inline_module-view c.in-Ok.name c.in-Ok.nodes) } }
 
 -- what is made of two parts fails as they do
 pub read_trait-returns-in-Err : goal.read_trait-returns-in-Err
 unfolding trait_in
 read_trait-returns-in-Err t c =
-    record { value = both_refused (λ x. x) (λ (x : Vec Node Global). map node_view x.items) _ kind_view _ _ c.name_field.result c.nodes_field.result c.in-Err.error c.name_field.ensures.value c.nodes_field.ensures.value c.in-Err.ensures.value }
+    record { value = both_refused _ c.required.ensures.value c.nodes_field.ensures.value c.in-Err.ensures.value }
 
 pub read_impl-returns-in-Err : goal.read_impl-returns-in-Err
 unfolding impl_in
 read_impl-returns-in-Err t c =
-    record { value = both_refused (λ x. x) (λ (x : Vec Node Global). map node_view x.items) _ kind_view _ _ c.of_trait_field.result c.nodes_field.result c.in-Err.error c.of_trait_field.ensures.value c.nodes_field.ensures.value c.in-Err.ensures.value }
-
--- the head of a node, as it was read
-abbrev Head : Type 0
-Head = (SyntaxId × RawVisibility) × (Vec RawAttr Global × String Global)
-
-abbrev head_view : Head → NodeHead
-head_view x = record { id = x.0.0; attributes = attributes_view x.1.0.items; visibility = x.0.1; input = string_bytes x.1.1 }
+    record { value = both_refused _ c.required.ensures.value c.nodes_field.ensures.value c.in-Err.ensures.value }
 
 pub read_node_members-returns-in-Err-both : goal.read_node_members-returns-in-Err-both
 read_node_members-returns-in-Err-both t c =
     let ms = members_view c.args.members.now.entries in
-    let is : required kind_of (codes "kind") (members_view c.args.members.now.entries) ≡ Ok c.in-Ok.kind = c.in-Ok.ensures.value in
+    let is : required (word_as kind_of_word) (codes "kind") (members_view c.args.members.now.entries) ≡ Ok c.in-Ok.kind = c.in-Ok.ensures.value.told in
     record {
       value = subst (λ (k : Reading AstKind). Reads node_view (node_of_kind k ms (nodes_in (codes "nodes") ms) (nodes_in (codes "items") ms)) (Err c.in-Err-both.error)) (sym is)
-          (both_refused head_view kind_view _ node_view _ _ c.read_head.result c.read_parts.result c.in-Err-both.error
-          c.read_head.ensures.value c.read_parts.ensures.value c.in-Err-both.ensures.value);
+          (both_refused _ c.read_head.ensures.value c.read_parts.ensures.value c.in-Err-both.ensures.value);
     }

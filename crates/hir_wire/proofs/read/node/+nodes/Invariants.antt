@@ -1,7 +1,7 @@
 use Rattle.std.proofs.Common.{drop}
 use Rattle.serde_json.specs.View.{items_view}
 use Rattle.hir_item_tree.specs.Source.{node_view}
-use Rattle.hir_wire.specs.Parts.{read_so_far}
+use Rattle.hir_wire.specs.Inner.Parts.{read_so_far}
 use Rattle.hir_wire.specs.Nodes.{nodes_of}
 use Rattle.hir_wire.proofs.ReadingLemmas.{Follows}
 use Rattle.hir_wire.proofs.read.node.+nodes.Given as goal

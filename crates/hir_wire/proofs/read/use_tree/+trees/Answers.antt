@@ -1,9 +1,7 @@
-use Rattle.std.proofs.Common.{◌≡◌, Some, None, Vec, map, codes, sym, refl, arith}
-use Rattle.std.specs.declared.alloc.Global.{Global}
+use Rattle.std.proofs.Common.{◌≡◌, Some, None, codes, sym, refl, arith}
 use Rattle.serde_json.specs.Find.{get_member}
 use Rattle.serde_json.specs.View.{view, members_view}
 use Rattle.hir_item_tree.specs.UseTree.{use_tree_view}
-use Rattle.hir_use_tree.specs.declared.use_tree.UseTree.{UseTree}
 use Rattle.hir_wire.specs.UseTrees.{prefixed_in, tree_of, trees_of}
 use Rattle.hir_wire.proofs.NodeLemmas.{trees_in-get_member}
 use Rattle.hir_wire.proofs.ReadingLemmas.{both_refused, list_next}
@@ -18,7 +16,7 @@ list_field-returns-in-Some t c =
 pub list_field-returns-in-None : goal.list_field-returns-in-None
 list_field-returns-in-None t c =
     let none : get_member (codes "list") (members_view c.args.members.now.entries) ≡ None = sym c.in-None.ensures.value in
-    record { value = rw (trees_in-get_member (members_view c.args.members.now.entries), none) refl }
+    record { value = rw (trees_in-get_member (members_view c.args.members.now.entries), none) (record { told = refl }) }
 
 -- one more tree was read
 pub read_items-loop-item-preserved : goal.read_items-loop-item-preserved
@@ -30,4 +28,4 @@ read_items-loop-item-preserved t c =
 pub read_prefixed-returns-in-Err : goal.read_prefixed-returns-in-Err
 unfolding prefixed_in
 read_prefixed-returns-in-Err t c =
-    record { value = both_refused (λ x. x) (λ (x : Vec UseTree Global). map use_tree_view x.items) _ use_tree_view _ _ c.prefix_field.result c.list_field.result c.in-Err.error c.prefix_field.ensures.value c.list_field.ensures.value c.in-Err.ensures.value }
+    record { value = both_refused _ c.maybe.ensures.value c.list_field.ensures.value c.in-Err.ensures.value }

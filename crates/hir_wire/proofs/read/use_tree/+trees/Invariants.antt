@@ -1,7 +1,7 @@
 use Rattle.std.proofs.Common.{drop}
 use Rattle.serde_json.specs.View.{items_view}
 use Rattle.hir_item_tree.specs.UseTree.{use_tree_view}
-use Rattle.hir_wire.specs.Parts.{read_so_far}
+use Rattle.hir_wire.specs.Inner.Parts.{read_so_far}
 use Rattle.hir_wire.specs.UseTrees.{trees_of}
 use Rattle.hir_wire.proofs.ReadingLemmas.{Follows}
 use Rattle.hir_wire.proofs.read.use_tree.+trees.Given as goal
