@@ -9,7 +9,7 @@ use Rattle.std.specs.declared.cmp.Ordering.TheVariants.{Less, Equal, Greater}
 use Rattle.std.proofs.lemmas.Map.Lookups.{exact_bytes}
 use Rattle.hir_base.specs.declared.ids.EnumId.{EnumId}
 use Rattle.hir_item_tree.specs.declared.side_lists.VariantItem.{VariantItem}
-use Rattle.hir_def_map.specs.Grown.{at_name-with_name, at_name-with_name_other}
+use Rattle.hir_def_map.proofs.Grown.{at_name-with_name, at_name-with_name_other}
 use Rattle.hir_def_map.specs.State.{Variants, at_name, with_name}
 use Rattle.hir_def_map.specs.declared.nameres.enum_variants.EnumVariant.{EnumVariant}
 use Rattle.hir_def_collector.specs.Enums.{last_named, variant_of, with_variant}

@@ -33,17 +33,18 @@ use Rattle.hir_scope.specs.declared.visibility.Visibility.{Visibility}
 use Rattle.hir_scope.specs.Scope.Push.{pushed_scope}
 use Rattle.hir_def_map.specs.declared.nameres.declaration.Declaration.TheVariants as listings
 use Rattle.hir_def_map.specs.declared.nameres.declaration.Declaration.{Declaration as Listing}
-use Rattle.hir_def_map.specs.NoneOf.{neither, none_at, none_inserted, none_more, none_of_less, not_first, not_second}
+use Rattle.hir_def_map.proofs.NoneOf.{neither, none_at, none_inserted, none_more, none_of_less, not_first, not_second}
 use Rattle.hir_def_map.specs.Beside.{same_id}
 use Rattle.hir_def_map.specs.Closed.{AreThere, IsThere, MapIsThere, ModuleIsThere, PathsLeadToWhatIsThere, TypeIsThere}
-use Rattle.hir_def_map.specs.Complete.{AreWhole, BeginsOnly, BeginsOnly-more, Extends, IsClosed-whole, NamesOnly, NamesOnly-more, complete, none_missing}
+use Rattle.hir_def_map.specs.Complete.{AreWhole, BeginsOnly, Extends, NamesOnly}
+use Rattle.hir_def_map.proofs.Complete.{BeginsOnly-more, IsClosed-whole, NamesOnly-more, complete, none_missing}
 use Rattle.hir_def_map.specs.Declaration.{listed}
-use Rattle.hir_def_map.specs.Grown.{length-changed}
+use Rattle.hir_def_map.proofs.Grown.{length-changed}
 use Rattle.hir_def_map.specs.Named.{crate_map, is_complete, is_missing, named_by, prelude_named, test_crate, test_extern, test_of}
 use Rattle.hir_def_map.specs.Reaches.{by_import}
 use Rattle.hir_def_map.specs.Scoping.{Resolution, resolution_of}
 use Rattle.hir_def_map.specs.State.{CrateData, IsBefore, Local, Map, Maps, ModuleValue, Variants, beside, new_id, new_module, no_globs, numbered, place_at, pushed, root_of, with_declared, with_enum, with_name, with_prelude, with_module, with_module_scope, with_scope}
-use Rattle.hir_def_map.specs.StaysComplete.{Extends-beside, Extends-grown, Extends-made, Extends-scope, IsClosed-beside, LocalIsThere-begins, NamesOnly-listed, NamesOnly-made, NamesOnly-prelude, NamesOnly-pushed, length-made, module_there, new_there}
+use Rattle.hir_def_map.proofs.StaysComplete.{Extends-beside, Extends-grown, Extends-made, Extends-scope, IsClosed-beside, LocalIsThere-begins, NamesOnly-listed, NamesOnly-made, NamesOnly-prelude, NamesOnly-pushed, length-made, module_there, new_there}
 use Rattle.hir_def_collector.specs.declared.collector.declaration.Declaration.{Declaration}
 use Rattle.hir_def_collector.specs.declared.collector.imports.ImportSource.{ImportSource}
 use Rattle.hir_def_collector.specs.declared.collector.imports.ImportSource.TheVariants as sources

@@ -12,10 +12,11 @@ use Rattle.hir_base.specs.contracts.ids.EnumIdOrd.TheImpl as enum_order
 use Rattle.hir_base.specs.contracts.ids.EnumIdOrd.TheImpl.Laws.{total-law as enum_total}
 use Rattle.hir_base.specs.contracts.ids.MapIdPartialEq.TheImpl as map_id
 use Rattle.hir_base.specs.declared.ids.EnumId.{EnumId}
-use Rattle.hir_def_map.specs.Complete.{Extends, NamesOnly, NamesOnly-more}
+use Rattle.hir_def_map.specs.Complete.{Extends, NamesOnly}
+use Rattle.hir_def_map.proofs.Complete.{NamesOnly-more}
 use Rattle.hir_def_map.specs.Named.{is_missing}
 use Rattle.hir_def_map.specs.State.{Map, Maps, Placed, Variants, beside, placed_in, variants_at, with_enum}
-use Rattle.hir_def_map.specs.StaysComplete.{Extends-grown}
+use Rattle.hir_def_map.proofs.StaysComplete.{Extends-grown}
 use Rattle.hir_def_map.specs.declared.world.named.Named.TheVariants as named
 
 -- ---- a list by keys, with one more value

@@ -1,17 +1,22 @@
+-- what a map is made of
+pub mod NoneOf
+pub mod Grown
+pub mod Listed
+pub mod Complete
+pub mod StaysComplete
+pub mod StaysSourced
+-- paths
 pub mod Blocks
-pub mod Branches
 pub mod Climb
-pub mod Modules
-pub mod SeenSegments
-pub mod JoinedSegments
-pub mod OpenEnds
-pub mod Steps
-pub mod Agreement
-pub mod LastSegment
-pub mod Holders
 pub mod LookUps
+pub mod Reached
+pub mod Sourced
+-- single functions
+pub mod Branches
+pub mod Modules
 pub mod Rewrites
 pub mod Parts
+-- worlds
 pub mod Gaining
 pub mod Depending
 pub mod Joined
@@ -19,5 +24,3 @@ pub mod Kept
 pub mod Falling
 pub mod Entries
 pub mod FallingSteps
-pub mod Reached
-pub mod Sourced

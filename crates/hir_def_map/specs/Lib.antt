@@ -5,6 +5,7 @@ pub mod Origins
 pub mod Reads
 pub mod ModuleIds
 pub mod Lending
+pub mod LentScopes
 pub mod ModulesMap
 pub mod Building
 pub mod Macros
@@ -14,7 +15,6 @@ pub mod Beside
 pub mod Scoping
 pub mod Reaches
 pub mod Visibilities
-pub mod Grown
 pub mod Listed
 pub mod Named
 pub mod Among
@@ -22,14 +22,9 @@ pub mod Removal
 pub mod Kept
 pub mod World
 pub mod Parts
-pub mod Laws
-pub mod PathLaws
 pub mod Closed
-pub mod NoneOf
 pub mod Complete
-pub mod StaysComplete
 pub mod Sources
-pub mod StaysSourced
 pub mod DefMaps
 pub mod AskMaps
 pub mod Inserted
@@ -40,3 +35,4 @@ pub mod LocalHash
 pub mod Agreement
 pub mod Dump
 pub mod Branches
+pub mod Types

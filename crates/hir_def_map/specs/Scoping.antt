@@ -9,7 +9,6 @@ pub mod Asking
 pub mod Query
 pub mod FirstSegment
 pub mod Segments
-pub mod Walked
 pub mod Start
 pub mod Blocks
 

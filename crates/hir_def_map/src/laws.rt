@@ -1,79 +1,8 @@
-//! What holds of every path and every map. The functions do nothing: their contracts are the laws.
-ghost use Rattle.hir_def_map.specs.Laws.{AskersStay, DeclarationsKeepNames, DeclarationsKeepPlaces, JoinedSegments, LastSegmentsAreSeen, LaterSegmentsAreSeen, ModulesAreWalkedTo, PushesKeepPlaces, RootedStepsLeadToParents, SegmentsAreSeen, StepsLeadToParents, UnnamedBindingsDoNotMatter, WalksAreResolved};
-ghost use Rattle.std.specs.Prelude.{◌≡◌, true, List};
-ghost use Rattle.hir_scope.specs.Laws.{GivesItsList};
-ghost use Rattle.hir_def_map.specs.Closed.{IsClosed, PathsLeadToWhatIsThere};
-ghost use Rattle.hir_def_map.specs.Complete.{AreWhole, BeginsOnly, NamesOnly};
-ghost use Rattle.hir_def_map.specs.Named.{is_complete};
-ghost use Rattle.hir_def_map.specs.StaysComplete.{DeclarationsNameWhatIsThere, ModulesNameWhatIsThere, PushesNameWhatIsThere};
-ghost use Rattle.hir_def_map.specs.PathLaws.{BlocksAskHolders, CratesAskThemselves, CrossedSegmentsAreSeen, EndsAreWalked, InheritedSegmentsAreSeen, InnerModulesAskPreludes, SegmentsGoOn, StartedSegmentsAreSeen, WalksAskBehind};
+//! What holds of every path over maps. The functions do nothing: their contracts are the laws.
+//!
+//! Laws that no caller needs stand in `hir_def_map_laws`.
+ghost use Rattle.hir_def_map.specs.Closed.{PathsLeadToWhatIsThere};
 ghost use Rattle.hir_def_map.specs.Sources.{PathsAnswerFromSources};
-ghost use Rattle.hir_def_map.specs.State.{Local, Map, Maps, beside};
-ghost use Rattle.hir_def_map.specs.StaysSourced.{EnumsKeepToSources, ListsKeepToSources, ModulesKeepToSources, PushesKeepToSources};
-ghost use Rattle.hir_base.specs.Laws.{HashesAlike};
-
-use crate::nameres::local_def_map::LocalDefMap;
-use crate::nameres::module_ids::ModuleIds;
-use std::hash::Hash;
-
-/// A path means the same over maps that agree on its names.
-pub fn unnamed_bindings_do_not_matter()
-    ensures alike { UnnamedBindingsDoNotMatter }
-{}
-
-/// Each segment after a module is a name of that module which the asking module may see; past a module of another
-/// crate the module where the path goes on is the one that asks.
-pub fn segments_are_seen()
-    ensures kept { SegmentsAreSeen }
-    ensures later { LaterSegmentsAreSeen }
-{}
-
-/// A path may be taken in two parts, the second from where the first leads.
-pub fn segments_join()
-    ensures joined { JoinedSegments }
-    ensures whole { WalksAreResolved }
-    ensures askers { AskersStay }
-    ensures modules { ModulesAreWalkedTo }
-    ensures onward { SegmentsGoOn }
-    ensures ends { EndsAreWalked }
-    ensures behind { WalksAskBehind }
-{}
-
-/// One more name behind a path that leads to a module names what the module has, as far as it may be seen.
-pub fn last_segments_are_seen()
-    ensures seen { LastSegmentsAreSeen }
-    ensures started { StartedSegmentsAreSeen }
-{}
-
-/// More names behind a path that leads to a module of another crate are asked by the module where the path goes on.
-pub fn paths_go_on_in_other_crates()
-    ensures crossed { CrossedSegmentsAreSeen }
-{}
-
-/// A block's root has what is asked of the module that holds it, by that module; other modules ask no holder.
-pub fn blocks_ask_their_holders()
-    ensures holders { BlocksAskHolders }
-    ensures inherited { InheritedSegmentsAreSeen }
-    ensures inner { InnerModulesAskPreludes }
-    ensures alone { CratesAskThemselves }
-{}
-
-/// One step up leads to the parent.
-pub fn steps_lead_to_parents()
-    ensures rooted { RootedStepsLeadToParents }
-    ensures in_order { StepsLeadToParents }
-{}
-
-/// A push and a declaration that is listed leave what lies above each module.
-pub fn places_stay()
-    ensures pushed { PushesKeepPlaces }
-    ensures listed { DeclarationsKeepPlaces }
-{}
-
-/// A declaration that is listed leaves the modules, what they are in and what their names stand for.
-pub fn declarations_keep_names()
-    ensures keeps { DeclarationsKeepNames }
-{}
 
 /// A path leads only to what is there, where all that is named lies among the maps.
 pub fn paths_lead_to_what_is_there()
@@ -84,37 +13,4 @@ pub fn paths_lead_to_what_is_there()
 /// visibilities there name.
 pub fn paths_answer_from_sources()
     ensures sources { PathsAnswerFromSources }
-{}
-
-/// Where each map names only what is there, all that is named lies among them; so does what a map names that is
-/// complete.
-pub fn whole_maps_are_closed()
-    ensures closed { (maps : Maps) → AreWhole maps → IsClosed maps }
-    ensures complete { (finished : Maps) (map : Map) (local : Local) → NamesOnly (beside finished map) map → BeginsOnly (beside finished map) local
-        → is_complete finished map local ≡ true }
-{}
-
-/// Pushes, lists, modules and preludes that name what is there leave a map that names only what is there.
-pub fn building_names_what_is_there()
-    ensures pushed { PushesNameWhatIsThere }
-    ensures listed { DeclarationsNameWhatIsThere }
-    ensures made { ModulesNameWhatIsThere }
-{}
-
-/// Pushes, lists, modules and enums leave a map that binds only what is written where it and they do.
-pub fn building_keeps_to_sources()
-    ensures pushed { PushesKeepToSources }
-    ensures listed { ListsKeepToSources }
-    ensures made { ModulesKeepToSources }
-    ensures enums { EnumsKeepToSources }
-{}
-
-/// Equal extern preludes are hashed alike.
-pub fn equal_local_maps_hash_alike()
-    ensures alike { HashesAlike (⟦<LocalDefMap as PartialEq>⟧.eq) (⟦<LocalDefMap as Hash>⟧.hash_input) }
-{}
-
-/// The walk over the modules that a file holds ends, and has then given its list.
-pub fn walks_give_their_list()
-    ensures modules { GivesItsList ⟦<ModuleIds<'static> as Iterator>⟧.next_gives (λ id. id) (λ (left : List _). left) }
 {}

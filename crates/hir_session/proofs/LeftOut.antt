@@ -31,13 +31,13 @@ use Rattle.hir_def_map.specs.Closed.{AreThere, IsThere, ModuleIsThere, PathsLead
 use Rattle.hir_def_map.specs.Complete.{AreWhole, NamesOnly}
 use Rattle.hir_def_map.specs.Among.{unheld}
 use Rattle.hir_def_map.specs.Named.{crate_map, is_missing, names_in_module, test_child, test_of, test_type}
-use Rattle.hir_def_map.specs.NoneOf.{none_at, none_found, not_first, not_second}
+use Rattle.hir_def_map.proofs.NoneOf.{none_at, none_found, not_first, not_second}
 use Rattle.hir_def_map.specs.Scoping.{resolution_of}
 use Rattle.hir_def_map.specs.Scoping.Asking.{Asking}
 use Rattle.hir_def_map.specs.Sources.{HoldsNowhere, HoldsNowhereIn, HoldsOfNoExtern, HoldsOfNone, PathsAnswerFromSources, SourceTest, on_adt, on_def, on_import, on_macro, on_macro_item, on_origin, on_some, on_type, on_value, on_value_def, on_value_import, on_visibility}
 use Rattle.hir_def_map.specs.State.{Map, Maps, ModuleValue, Placed, beside, child_at, child_of, module_at, module_in, root_of}
-use Rattle.hir_def_map.specs.StaysComplete.{Extends-beside, IsClosed-beside, LocalIsThere-begins, module_there}
-use Rattle.hir_def_map.specs.StaysSourced.{HoldsNowhere-beside}
+use Rattle.hir_def_map.proofs.StaysComplete.{Extends-beside, IsClosed-beside, LocalIsThere-begins, module_there}
+use Rattle.hir_def_map.proofs.StaysSourced.{HoldsNowhere-beside}
 use Rattle.hir_def_map.specs.declared.nameres.origin.ModuleOrigin.{ModuleOrigin}
 use Rattle.hir_def_map.specs.declared.nameres.origin.ModuleOrigin.TheVariants as origin
 use Rattle.hir_def_map.specs.declared.world.named.Named.TheVariants as named

@@ -15,9 +15,10 @@ use Rattle.hir_def_map.specs.declared.world.named.Named.{Named}
 use Rattle.hir_def_map.specs.declared.world.named.Named.TheVariants as named
 use Rattle.hir_def_map.specs.Among.{among, is_of_some, unheld}
 use Rattle.hir_def_map.specs.Beside.{exact_map}
-use Rattle.hir_def_map.specs.Complete.{complete, AreWhole, BeginsOnly, BeginsOnly-more, Extends, NamesOnly, NamesOnly-more}
+use Rattle.hir_def_map.proofs.Complete.{complete, BeginsOnly-more, NamesOnly-more}
+use Rattle.hir_def_map.specs.Complete.{AreWhole, BeginsOnly, Extends, NamesOnly}
 use Rattle.hir_def_map.specs.Named.{is_complete, is_missing, is_there, lies_in, map_named, named_by, names_in_module, names_map, names_own_crate, names_some, prelude_named, test_child, test_crate, test_extern, test_of, test_type}
-use Rattle.hir_def_map.specs.NoneOf.{neither, none_of_less, not_first, not_second}
+use Rattle.hir_def_map.proofs.NoneOf.{neither, none_of_less, not_first, not_second}
 use Rattle.hir_def_map.specs.State.{Local, Map, Maps, ModuleValue, Placed, beside, crate_map, map_in, module_at, placed_in, variants_at}
 use Rattle.hir_def_collector.specs.Derivation.{CollectedValue}
 use Rattle.hir_session.specs.Behind.{has_crate}

@@ -6,7 +6,7 @@ use hir_base::ids::EnumVariantId;
 use hir_base::name::Name;
 use hir_item_tree::shape::FieldsShape;
 use std::alloc::{AllocError, Global};
-use std::collections::BTreeMap;
+use std::collections::{BTreeMap, btree_map};
 use std::marker::Model;
 
 /// A variant: which it is, and the shape of its fields.
@@ -54,6 +54,13 @@ impl EnumVariants {
         ensures value { result ≡ at_name self.now name.now }
     {
         self.variants.get(name).copied()
+    }
+
+    /// The variants by name.
+    pub fn iter(&self) -> btree_map::Iter<'_, Name, EnumVariant>
+        ensures value { result ≡ self.now }
+    {
+        self.variants.iter()
     }
 }
 

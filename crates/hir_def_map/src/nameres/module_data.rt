@@ -9,6 +9,8 @@ ghost use Rattle.hir_def_map.specs.Scoping.FirstSegment.{last_macro};
 ghost use Rattle.hir_def_map.specs.Same.{same_contents, same_place};
 ghost use Rattle.hir_def_map.specs.State.{at_name, pushed_module, with_child, with_module_scope};
 
+mod scope_mut;
+
 use crate::nameres::declaration::Declaration;
 use crate::nameres::origin::{ModuleOrigin, ModuleSource};
 use hir_base::ast_id::{AstId, HirFileId, InFile};

@@ -1,4 +1,16 @@
 //! What paths mean, after rust-analyzer's `path_resolution.rs`.
+//!
+//! A path has a root (`start`) and segments. The root of a plain path is its first segment, which is looked up in turn in
+//! the macros in textual scope, in the module's scope or among the builtin types, in the extern prelude, in the
+//! `macro_use` prelude, and in the prelude module (`first_segment`): in each namespace the first answer counts. Each
+//! further segment is a name of the module or enum that the type before it is, as far as the asking module may see it
+//! (`segments`). A path that is asked in a block is asked again in the module that holds the block, and so on outwards,
+//! and what is missing is taken from there (`blocks`).
+//!
+//! The difficulty is who asks. Past a module of another crate, that module asks for the rest of the path, and the answer
+//! is a fixed point, since nothing there changes any more; past a `super` that leads out of a block, the module there
+//! asks. While a map is being built, its own names may still grow, so an answer also says whether further items could
+//! change it.
 ghost use Rattle.std.specs.Prelude.{◌≡◌, None, option_copied};
 ghost use Rattle.hir_def_map.specs.State.{beside};
 ghost use Rattle.hir_def_map.specs.World.{finished_in};

@@ -3,7 +3,7 @@ use Rattle.std.proofs.Common.{◌≡◌, ◌∙◌, ap, false}
 use Rattle.hir_scope.specs.Globs.{GlobNames}
 use Rattle.hir_scope.specs.ImportRecords.{is_glob}
 use Rattle.hir_def_map.specs.State.{globs_after, no_globs}
-use Rattle.hir_def_map.specs.Grown.{globs_after-none}
+use Rattle.hir_def_map.proofs.Grown.{globs_after-none}
 use Rattle.hir_def_collector.proofs.Bound.{no_glob}
 use Rattle.hir_def_collector.proofs.collector.run.Run.bind.Goals as goal
 

@@ -1,0 +1,244 @@
+-- A crate's map that names only what is there.
+use Rattle.std.specs.Prelude.{◌≡◌, ◌≢◌, Bool, true, false, not, ◌||◌, Option, None, Some, option_map, ℕ, List, map as list_map, slice_get, option_and_then, zero, suc, ◌<◌, ◌≤◌, [], ◌∷◌, length, ◌&&◌, is_some, cond}
+use Rattle.std.specs.BTreeMap.{is_at}
+use Rattle.std.specs.Cmp.Lexicographic.{slice_cmp}
+use Rattle.std.specs.List.{list_any, list_all, All}
+use Rattle.std.specs.Map.{lookup}
+use Rattle.std.specs.Ordering.{nat_cmp}
+use Rattle.std.proofs.Common.{ap, refl, ◌∙◌, subst, sym, arith}
+use Rattle.std.proofs.lemmas.List.{length-map}
+use Rattle.std.proofs.lemmas.Option.{slice_get-map}
+use mathlib.Core.Bool.{true≢false}
+use Rattle.hir_base.specs.declared.ast_id.BlockId.{BlockId}
+use Rattle.hir_base.specs.declared.ids.Crate.{Crate}
+use Rattle.hir_base.specs.declared.ids.MapId.{MapId}
+use Rattle.hir_base.specs.declared.ids.ModuleDefId.{ModuleDefId}
+use Rattle.hir_base.specs.declared.ids.ModuleId.{ModuleId}
+use Rattle.hir_scope.specs.ModuleTree.{same_crate}
+use Rattle.hir_scope.specs.declared.imports.ImportOrExternCrate.{ImportOrExternCrate}
+use Rattle.hir_scope.specs.PerNs.{Item}
+use Rattle.hir_def_map.specs.Beside.{same_id, exact_crate}
+use Rattle.hir_def_map.specs.Chains.{ends_from, ends_within, leads_to_root, number_in, own_frame, parent_number, frame_of, frames_of, holders_in, holders_of_frame}
+use Rattle.hir_def_map.specs.Closed.{AreThere, IsClosed, MapIsThere, ModuleIsThere, TypeIsThere}
+use Rattle.hir_def_map.specs.Complete.{NamesOnly, BeginsOnly, Extends, AreWhole}
+use Rattle.hir_def_map.specs.Named.{is_missing, is_there, named_by, names_in_module, prelude_named, test_child, test_crate, test_extern, test_of, test_type, all_below, has_its_parents, is_parent_in, each_leads_to_root, is_complete, is_holder_for, names_own_crate, names_some}
+use Rattle.hir_def_map.specs.Scoping.Start.{is_dependency}
+use Rattle.hir_def_map.specs.State.{Local, Map, Maps, ModuleValue, crate_map, parent_of, module_at, parent_at, IsBefore, IsInOrder, beside, Placed, entry_in, entry_of, map_in, module_in, parent_in, root_of}
+use Rattle.hir_def_map.specs.declared.world.named.Named.{Named}
+use Rattle.hir_def_map.proofs.NoneOf.{neither, none_of_less, not_first, not_second, none_at, none_found}
+use Rattle.hir_base.specs.contracts.ids.MapIdPartialEq.TheImpl as map_id
+use Rattle.hir_def_map.specs.declared.world.named.Named.TheVariants as named
+
+still_there : (a b : Bool) → (a ≡ true → b ≡ true) → not a ≡ false → not b ≡ false
+still_there true b f e = ap not (f refl)
+still_there false b f e = absurd (true≢false e)
+
+module _ (one other : Maps) (more : Extends one other) where
+  pub none_missing : (n : Named) → is_missing one n ≡ false → is_missing other n ≡ false
+  none_missing n e = still_there (is_there one n) (is_there other n) (more n) e
+
+  of_none : (o : Option Named) → test_of (is_missing one) o ≡ false → test_of (is_missing other) o ≡ false
+  of_none None e = refl
+  of_none (Some n) e = none_missing n e
+
+  in_module : (m : ModuleValue) → names_in_module (is_missing one) m ≡ false → names_in_module (is_missing other) m ≡ false
+  in_module m e =
+      let p = test_of (is_missing one) (option_map named.Module m.parent) in
+      let c = list_any (test_child (is_missing one)) m.children in
+      let t = list_any (test_type (is_missing one)) m.scope.types in
+      let rest : (c || t) ≡ false = not_second p (c || t) e in
+      neither (test_of (is_missing other) (option_map named.Module m.parent)) (list_any (test_child (is_missing other)) m.children || list_any (test_type (is_missing other)) m.scope.types)
+      (of_none (option_map named.Module m.parent) (not_first p (c || t) e))
+      (neither (list_any (test_child (is_missing other)) m.children) (list_any (test_type (is_missing other)) m.scope.types)
+      (none_of_less (test_child (is_missing one)) (test_child (is_missing other)) (λ x f. none_missing (named.Module x.1) f) m.children (not_first c t rest))
+      (none_of_less (test_type (is_missing one)) (test_type (is_missing other)) (λ x f. of_none (named_by x.1.def) f) m.scope.types (not_second c t rest)))
+
+  -- a map names only what is there among more maps too
+  pub NamesOnly-more : (map : Map) → NamesOnly one map → NamesOnly other map
+  NamesOnly-more map f = record {
+    of_crate = f.of_crate;
+    unheld = f.unheld;
+    root = f.root;
+    in_order = f.in_order;
+    modules = none_of_less (names_in_module (is_missing one)) (names_in_module (is_missing other)) in_module map.modules f.modules;
+    prelude = of_none (prelude_named map.prelude) f.prelude;
+    dependencies = none_of_less (test_crate (is_missing one)) (test_crate (is_missing other)) (λ c g. none_missing (named.Map (crate_map c)) g) map.crate_data.dependencies f.dependencies;
+  }
+
+  pub BeginsOnly-more : (local : Local) → BeginsOnly one local → BeginsOnly other local
+  BeginsOnly-more local f = none_of_less (test_extern (is_missing one)) (test_extern (is_missing other)) (λ e g. none_missing (named.Module e.1.0) g) local f
+
+-- the parent of a number is that of the module of the number
+pub parent_listed : (ms : List ModuleValue) (at : ℕ) → option_and_then (λ (p : Option ModuleId). p) (slice_get (list_map (λ (m : ModuleValue). m.parent) ms) at) ≡ parent_of (slice_get ms at)
+parent_listed ms at = ap (option_and_then (λ (p : Option ModuleId). p)) (slice_get-map (λ (m : ModuleValue). m.parent) ms at) ∙ go (slice_get ms at)
+  where
+    go : (o : Option ModuleValue) → option_and_then (λ (p : Option ModuleId). p) (option_map (λ (m : ModuleValue). m.parent) o) ≡ parent_of o
+    go None = refl
+    go (Some m) = refl
+
+-- where parents come before, they lead to a root
+module _ (map : Map) (in_order : IsInOrder map) where
+  before : (at : ℕ) (o : Option ModuleId) → parent_at map at ≡ o → IsBefore map.id at o
+  before at o e = go (module_at map at) refl e
+    where
+      go : (m : Option ModuleValue) → module_at map at ≡ m → parent_of m ≡ o → IsBefore map.id at o
+      go None s f = subst (IsBefore map.id at) f tt
+      go (Some m) s f = subst (IsBefore map.id at) f (in_order at m s)
+
+  abbrev up : ℕ → Option ℕ
+  up at = parent_number (own_frame map) at
+
+  descends : (at p : ℕ) → up at ≡ Some p → p < at
+  descends at p e = go (parent_at map at) (before at (parent_at map at) refl) (sym (ap (number_in map.id) (parent_listed map.modules at)) ∙ e)
+    where
+      on : (b : Bool) (q : ℕ) → q < at → cond b (Some q) None ≡ Some p → p < at
+      on true q lower f = let same : q ≡ p = cc in subst (λ (n : ℕ). n < at) same lower
+      on false q lower f = absurd cc
+
+      go : (o : Option ModuleId) → IsBefore map.id at o → number_in map.id o ≡ Some p → p < at
+      go None lies f = absurd cc
+      go (Some q) lies f = on (map_id.ghosts.eq q.map map.id) q.index lies.1 f
+
+  ends : (n at : ℕ) → at ≤ n → ends_within up n at ≡ true
+  ends zero at low = go (up at) refl
+    where
+      go : (o : Option ℕ) → up at ≡ o → not (is_some o) ≡ true
+      go None e = refl
+      go (Some p) e = let lower : p < at = descends at p e in absurd (omega arith)
+  ends (suc n) at low = go (up at) refl (λ p lower. ends n p lower)
+    where
+      go : (o : Option ℕ) → up at ≡ o → ((p : ℕ) → p ≤ n → ends_within up n p ≡ true) → ends_from (ends_within up n) o ≡ true
+      go None e below = refl
+      go (Some p) e below = let lower : p < at = descends at p e in below p (omega arith)
+
+  all_lead : (n : ℕ) → n ≤ length map.modules → all_below (leads_to_root (own_frame map)) n ≡ true
+  unfolding leads_to_root
+  all_lead zero low = refl
+  all_lead (suc n) low =
+      let count : length (list_map (λ (m : ModuleValue). m.parent) map.modules) ≡ length map.modules = length-map map.modules (λ (m : ModuleValue). m.parent) in
+      let here : leads_to_root (own_frame map) n ≡ true = ap (λ (k : ℕ). ends_within up k n) count ∙ ends (length map.modules) n (omega arith) in
+      ap (λ (b : Bool). b && all_below (leads_to_root (own_frame map)) n) here ∙ all_lead n (omega arith)
+
+  parents_inside : has_its_parents map ≡ true
+  parents_inside = go map.modules (λ k m e. in_order_parent k m e)
+    where
+      inside : (o : Option ModuleId) (at : ℕ) → IsBefore map.id at o → is_parent_in map.id o ≡ true
+      inside None at lies = refl
+      inside (Some p) at lies = ap (map_id.ghosts.eq p.map) (sym lies.0) ∙ same_id p.map
+
+      in_order_parent : (k : ℕ) (m : ModuleValue) → slice_get map.modules k ≡ Some m → is_parent_in map.id m.parent ≡ true
+      in_order_parent k m e = inside m.parent k (in_order k m e)
+
+      go : (ms : List ModuleValue) → ((k : ℕ) (m : ModuleValue) → slice_get ms k ≡ Some m → is_parent_in map.id m.parent ≡ true) → list_all (λ (m : ModuleValue). is_parent_in map.id m.parent) ms ≡ true
+      go [] f = refl
+      go (m ∷ ms) f = ap (λ (b : Bool). b && list_all (λ (x : ModuleValue). is_parent_in map.id x.parent) ms) (f zero m refl) ∙ go ms (λ k x e. f (suc k) x e)
+
+-- a crate's map that names only what is there is complete
+pub complete : (finished : Maps) (map : Map) (local : Local) → NamesOnly (beside finished map) map → BeginsOnly (beside finished map) local → is_complete finished map local ≡ true
+complete finished map local f begins =
+    let maps = beside finished map in
+    let of_block : names_own_crate (is_missing maps) map.id ≡ false = ap (λ o. is_some o && test_crate (is_missing maps) map.id.krate) f.of_crate in
+    let no_holder : test_of (is_missing maps) (option_map named.Module map.holder) ≡ false = ap (λ o. test_of (is_missing maps) (option_map named.Module o)) f.unheld in
+    let d = list_any (test_crate (is_missing maps)) map.crate_data.dependencies in
+    let e = list_any (test_extern (is_missing maps)) local in
+    let h = test_of (is_missing maps) (option_map named.Module map.holder) in
+    let p = test_of (is_missing maps) (prelude_named map.prelude) in
+    let o = names_own_crate (is_missing maps) map.id in
+    let nothing_missing : names_some (is_missing maps) map local ≡ false =
+    neither (list_any (names_in_module (is_missing maps)) map.modules) (p || (h || (e || (d || o)))) f.modules
+    (neither p (h || (e || (d || o))) f.prelude
+    (neither h (e || (d || o)) no_holder
+    (neither e (d || o) begins
+    (neither d o f.dependencies of_block)))) in
+    let held : is_holder_for finished map.id map.holder ≡ true = ap (is_holder_for finished map.id) f.unheld in
+    let leads : each_leads_to_root map ≡ true = all_lead map f.in_order (length map.modules) (omega arith) in
+    rw (leads, parents_inside map f.in_order, held, nothing_missing) refl
+
+module _ (maps : Maps) (whole : AreWhole maps) where
+  abbrev missing : Named → Bool
+  missing n = is_missing maps n
+
+  is_in : (n : Named) → is_missing maps n ≡ false → is_there maps n ≡ true
+  is_in n e = go (is_there maps n) e
+    where
+      go : (b : Bool) → not b ≡ false → b ≡ true
+      go true f = refl
+      go false f = absurd (true≢false f)
+
+  module_named : (o : Option Placed) (at : ℕ) (m : ModuleValue) → option_and_then (λ (placed : Placed). module_at placed.map at) o ≡ Some m → (placed : Placed) × (o ≡ Some placed) × (module_at placed.map at ≡ Some m)
+  module_named None at m e = absurd cc
+  module_named (Some placed) at m e = (placed, refl, e)
+
+  -- what a module among the maps names is there
+  names_of : (id : ModuleId) (m : ModuleValue) → module_in maps id ≡ Some m → names_in_module missing m ≡ false
+  names_of id m e =
+      let found = module_named (maps id.map) id.index m e in
+      none_at (names_in_module missing) found.0.map.modules (whole id.map found.0 found.1).names.modules id.index m found.2
+
+  closed_parents : (m p : ModuleId) → parent_in maps m ≡ Some p → ModuleIsThere maps p
+  closed_parents m p e = go (module_in maps m) refl e
+    where
+      go : (o : Option ModuleValue) → module_in maps m ≡ o → parent_of o ≡ Some p → ModuleIsThere maps p
+      go None s f = absurd cc
+      go (Some v) s f =
+          let named_parent : test_of missing (option_map named.Module v.parent) ≡ false = not_first (test_of missing (option_map named.Module v.parent)) (list_any (test_child missing) v.children || list_any (test_type missing) v.scope.types) (names_of m v s) in
+          is_in (named.Module p) (ap (λ (x : Option ModuleId). test_of missing (option_map named.Module x)) (sym f) ∙ named_parent)
+
+  closed_types : (m : ModuleId) (name : List ℕ) → AreThere maps (entry_in maps m name)
+  closed_types m name = go (module_in maps m) refl
+    where
+      found : (v : ModuleValue) → names_in_module missing v ≡ false → (t : Option (Item ModuleDefId ImportOrExternCrate)) → lookup (is_at (slice_cmp nat_cmp name)) v.scope.types ≡ t → TypeIsThere maps t
+      found v f None e = tt
+      found v f (Some i) e = none_found (λ (x : Item ModuleDefId ImportOrExternCrate). test_of missing (named_by x.def)) (is_at (slice_cmp nat_cmp name)) v.scope.types i
+          (not_second (list_any (test_child missing) v.children) (list_any (test_type missing) v.scope.types)
+          (not_second (test_of missing (option_map named.Module v.parent)) (list_any (test_child missing) v.children || list_any (test_type missing) v.scope.types) f)) e
+
+      go : (o : Option ModuleValue) → module_in maps m ≡ o → AreThere maps (entry_of o name)
+      go None s = tt
+      go (Some v) s = found v (names_of m v s) (lookup (is_at (slice_cmp nat_cmp name)) v.scope.types) refl
+
+  listed_there : (cs : List Crate) → list_any (test_crate missing) cs ≡ false → (c : Crate) → list_any (same_crate c) cs ≡ true → MapIsThere maps (crate_map c)
+  listed_there [] f c e = absurd (true≢false (sym e))
+  listed_there (k ∷ ks) f c e = go (same_crate c k) refl e (λ g. listed_there ks (not_second (test_crate missing k) (list_any (test_crate missing) ks) f) c g)
+    where
+      go : (b : Bool) → same_crate c k ≡ b → (b || list_any (same_crate c) ks) ≡ true → (list_any (same_crate c) ks ≡ true → MapIsThere maps (crate_map c)) → MapIsThere maps (crate_map c)
+      go true s g below = ap (λ (x : Crate). is_some (maps (crate_map x))) (exact_crate c k s) ∙ is_in (named.Map (crate_map k)) (not_first (test_crate missing k) (list_any (test_crate missing) ks) f)
+      go false s g below = below g
+
+  is_some_slice_get : (ms : List ModuleValue) → 0 < length ms → is_some (slice_get ms 0) ≡ true
+  is_some_slice_get [] l = absurd (omega arith)
+  is_some_slice_get (m ∷ ms) l = refl
+
+  pub IsClosed-whole : IsClosed maps
+  unfolding frames_of
+  IsClosed-whole = record {
+    roots = λ id e. root_there id (maps id) refl e;
+    crates = λ m e. crate_there m (maps m.map) refl e;
+    dependencies = λ id c e. depends id c (maps id) refl e;
+    parents = closed_parents;
+    holders = λ m. held m (maps m.map) refl;
+    types = closed_types;
+  }
+    where
+      root_there : (id : MapId) (o : Option Placed) → maps id ≡ o → is_some (maps id) ≡ true → ModuleIsThere maps (root_of id)
+      root_there id None s e = absurd (true≢false (sym e ∙ ap (λ (x : Option Placed). is_some x) s))
+      root_there id (Some placed) s e =
+          let first : 0 < length placed.map.modules = (whole id placed s).names.root in
+          ap (λ (x : Option Placed). is_some (option_and_then (λ (y : Placed). module_at y.map 0) x)) s ∙ is_some_slice_get placed.map.modules first
+
+      crate_there : (m : ModuleId) (o : Option Placed) → maps m.map ≡ o → ModuleIsThere maps m → MapIsThere maps (crate_map m.map.krate)
+      crate_there m None s e = absurd (true≢false (sym e ∙ ap (λ (x : Option Placed). is_some (option_and_then (λ (y : Placed). module_at y.map m.index) x)) s))
+      crate_there m (Some placed) s e =
+          let w = whole m.map placed s in
+          let no_block : m.map.block ≡ None = ap (λ (x : MapId). x.block) (sym w.own) ∙ w.names.of_crate in
+          ap (λ (x : Option BlockId). is_some (maps (record { krate = m.map.krate; block = x }))) (sym no_block) ∙ ap (λ (x : Option Placed). is_some x) s
+
+      depends : (id : MapId) (c : Crate) (o : Option Placed) → maps id ≡ o → is_dependency (map_in maps id) c ≡ true → MapIsThere maps (crate_map c)
+      depends id c None s e = absurd (true≢false (sym e ∙ ap (λ (x : Option Placed). is_dependency (option_map (λ (y : Placed). y.map) x) c) s))
+      depends id c (Some placed) s e =
+          listed_there placed.map.crate_data.dependencies (whole id placed s).names.dependencies c
+          (sym (ap (λ (x : Option Placed). is_dependency (option_map (λ (y : Placed). y.map) x) c) s) ∙ e)
+
+      held : (m : ModuleId) (o : Option Placed) → maps m.map ≡ o → All (ModuleIsThere maps) (holders_in maps m)
+      held m None s = subst (All (ModuleIsThere maps)) (sym (ap (λ (x : Option Placed). holders_of_frame (option_map frame_of x)) s)) (λ k d l. absurd (omega arith))
+      held m (Some placed) s = subst (All (ModuleIsThere maps)) (sym (ap (λ (x : Option Placed). holders_of_frame (option_map frame_of x)) s ∙ (whole m.map placed s).unheld)) (λ k d l. absurd (omega arith))

@@ -1,9 +1,0 @@
--- Each part by itself.
-use Rattle.hir_def_map.specs.Complete.{complete, IsClosed-whole}
-use Rattle.hir_def_map.proofs.laws.whole_maps_are_closed.Goals as goal
-
-pub returns-clause-closed : goal.returns-clause-closed
-returns-clause-closed c = IsClosed-whole
-
-pub returns-clause-complete : goal.returns-clause-complete
-returns-clause-complete c = complete

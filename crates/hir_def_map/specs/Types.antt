@@ -1,0 +1,23 @@
+-- The types of the crate, under their names.
+pub use Rattle.hir_def_map.specs.declared.def_maps.DefMaps.{DefMaps}
+pub use Rattle.hir_def_map.specs.declared.nameres.AddModuleError.{AddModuleError}
+pub use Rattle.hir_def_map.specs.declared.nameres.BlockInfo.{BlockInfo}
+pub use Rattle.hir_def_map.specs.declared.nameres.DefMap.{DefMap}
+pub use Rattle.hir_def_map.specs.declared.nameres.crate_data.DefMapCrateData.{DefMapCrateData}
+pub use Rattle.hir_def_map.specs.declared.nameres.declaration.Declaration.{Declaration}
+pub use Rattle.hir_def_map.specs.declared.nameres.derive_helpers.DeriveHelper.{DeriveHelper}
+pub use Rattle.hir_def_map.specs.declared.nameres.diagnostics.DefDiagnostic.{DefDiagnostic}
+pub use Rattle.hir_def_map.specs.declared.nameres.diagnostics.DefDiagnosticKind.{DefDiagnosticKind}
+pub use Rattle.hir_def_map.specs.declared.nameres.enum_variants.EnumVariant.{EnumVariant}
+pub use Rattle.hir_def_map.specs.declared.nameres.origin.ModuleOrigin.{ModuleOrigin}
+pub use Rattle.hir_def_map.specs.declared.nameres.origin.ModuleSource.{ModuleSource}
+pub use Rattle.hir_def_map.specs.declared.nameres.path_resolution.ReachedFixedPoint.{ReachedFixedPoint}
+pub use Rattle.hir_def_map.specs.declared.nameres.path_resolution.ResolveMode.{ResolveMode}
+pub use Rattle.hir_def_map.specs.declared.nameres.path_resolution.ResolvePathResult.{ResolvePathResult}
+pub use Rattle.hir_def_map.specs.declared.nameres.path_resolution.ResolvePathResultPrefixInfo.{ResolvePathResultPrefixInfo}
+pub use Rattle.hir_def_map.specs.declared.world.World.{World}
+pub use Rattle.hir_def_map.specs.declared.world.finished.Finished.{Finished}
+pub use Rattle.hir_def_map.specs.declared.world.insert.InsertError.{InsertError}
+pub use Rattle.hir_def_map.specs.declared.world.insert.Refused.{Refused}
+pub use Rattle.hir_def_map.specs.declared.world.named.Named.{Named}
+pub use Rattle.hir_def_map.specs.declared.world.part.WorldPart.{WorldPart}

@@ -1,0 +1,4 @@
+pub mod Agreement
+pub mod SeenSegments
+pub mod Steps
+pub mod Holders

@@ -1,0 +1,9 @@
+-- Each part by itself.
+use Rattle.hir_def_map.proofs.Complete.{complete, IsClosed-whole}
+use Rattle.hir_def_map_laws.proofs.whole_maps_are_closed.Goals as goal
+
+pub returns-clause-closed : goal.returns-clause-closed
+returns-clause-closed c = IsClosed-whole
+
+pub returns-clause-complete : goal.returns-clause-complete
+returns-clause-complete c = complete
