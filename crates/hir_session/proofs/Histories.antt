@@ -6,7 +6,7 @@ use Rattle.hir_wire.specs.CommandValue.{CommandValue, CrateInputValue}
 use Rattle.hir_wire.specs.declared.reply.Reply.{Reply}
 use Rattle.hir_session.specs.SessionState.{SessionState, IsSound, max_crates}
 use Rattle.hir_session.specs.NotYet.{is_crate_taken}
-use Rattle.hir_session.specs.Refusals.{first_out_of_order, is_too_deep, is_too_long, verdict_of_limits, verdict_of_order, verdict_of_new, crate_numbers}
+use Rattle.hir_session.specs.Refusals.{first_out_of_order, is_too_deep, is_too_long, verdict_of_limits, verdict_of_order, verdict_of_new}
 use Rattle.hir_session.proofs.Truth.{on_bool}
 use Rattle.hir_session.proofs.Start.{begins_sound}
 use Rattle.hir_session.specs.Machine.{MachineState, Moves, AnswersCommand, AnswersLine, Runs}
@@ -107,9 +107,7 @@ in_order inputs (Some krate) accepted = absurd (let wrong : ⊥ = cc accepted in
 accepted_both : (inputs : List CrateInputValue) → verdict_of_new inputs ≡ Ok tt → (first_out_of_order 0 inputs ≡ None) × (length inputs ≤ 10000)
 accepted_both inputs accepted = on_bool (list_any (λ c. not (is_crate_taken c)) inputs)
     (λ untaken. absurd (let wrong : ⊥ = cc (rw untaken at accepted) in wrong))
-    (λ taken. on_bool (nat_le crate_numbers (length inputs))
-    (λ huge. absurd (let wrong : ⊥ = cc (rw (taken, huge) at accepted) in wrong))
-    (λ small. in_order inputs (first_out_of_order 0 inputs) (rw (taken, small) at accepted)))
+    (λ taken. in_order inputs (first_out_of_order 0 inputs) (rw taken at accepted))
 
 accepted_few : (inputs : List CrateInputValue) → verdict_of_new inputs ≡ Ok tt → length inputs ≤ 10000
 accepted_few inputs accepted = (accepted_both inputs accepted).1

@@ -81,16 +81,11 @@ abbrev pub verdict_of_order : List CrateInputValue → Option Crate → Result (
 verdict_of_order inputs (Some krate) = Err (new_error.DependencyOrder krate)
 verdict_of_order inputs None = verdict_of_limits inputs
 
--- how many crates have a number of their own
-abbrev pub crate_numbers : ℕ
-crate_numbers = 2 ^ 32
-
--- that a session over the crates is made, or the first thing for which it is refused; more than can be numbered have no order
+-- that a session over the crates is made, or the first thing for which it is refused
 abbrev pub verdict_of_new : List CrateInputValue → Result (Unit {0}) NewSessionError
 verdict_of_new inputs =
     if list_any (λ c. not (is_crate_taken c)) inputs then Err new_error.NotYet else
-    (if nat_le crate_numbers (length inputs) then Err (new_error.TooLarge limit.Crates) else
-    verdict_of_order inputs (first_out_of_order 0 inputs))
+    verdict_of_order inputs (first_out_of_order 0 inputs)
 
 -- what an edit is refused for where its source is
 abbrev pub edit_error_of : CheckError → EditError

@@ -51,6 +51,7 @@ fn dependencies_of(
 /// Whether a dependency doesn't come before the crate.
 fn has_late_dependency(k: usize, dependencies: &[Dependency]) -> bool
     ensures value { result ≡ has_late k (dependency_crates dependencies.now) }
+    ensures fits { result ≡ true → k < 2 ^ 32 }
 {
     for dependency in dependencies {
         if k <= dependency.krate.0 as usize {
@@ -62,7 +63,6 @@ fn has_late_dependency(k: usize, dependencies: &[Dependency]) -> bool
 
 /// The first crate with a dependency that doesn't come before it.
 pub fn first_late(inputs: &Vec<CrateInput>) -> Option<u32>
-    requires few { length inputs.now.items < 2 ^ 32 }
     ensures value { result ≡ option_map (λ c. c.0) (first_out_of_order 0 (map crate_input_view inputs.now.items)) }
 {
     for k in 0..inputs.as_slice().len() {

@@ -24,6 +24,17 @@ mod source_items;
 mod sources;
 
 pub use error::{EditError, NewSessionError, QueryError, RefreshError, TreeTextError};
+pub use hir_base::edition::Edition;
+pub use hir_base::file_path::FilePath;
+pub use hir_base::ids::Crate;
+pub use hir_base::mod_path::ModPath;
+pub use hir_base::name::Name;
+pub use hir_base::place::Place;
+pub use hir_item_tree::source::{Node, NodeKind, Source, Unit};
+pub use hir_wire::answer::Answer;
+pub use hir_wire::command::{CrateInput, MacroStyle, Shadow};
+pub use hir_wire::edit::Edit;
+pub use hir_wire::reply::Status;
 pub use open_line::LINE_LIMIT;
 pub use output::Fault;
 pub use server::{MOST_READS, run};

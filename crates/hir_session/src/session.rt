@@ -10,7 +10,7 @@ ghost use Rattle.hir_session.specs.Files.{with_file, without_file, edited_at};
 ghost use Rattle.hir_session.specs.Marking.{IsJudged};
 ghost use Rattle.hir_session.specs.SessionState.{SessionState, Resolution, workspace_of, finished_of, start_of, is_marked, IsResolutionOf, IsSound};
 ghost use Rattle.hir_session.specs.Due.{resolved_at, crate_place, HasOverlongRun};
-ghost use Rattle.hir_session.specs.Refusals.{first_out_of_order, verdict_of_new, IsNewMemory, verdict_of_apply, IsEditMemory};
+ghost use Rattle.hir_session.specs.Refusals.{first_out_of_order, verdict_of_new, IsNewMemory, verdict_of_apply, verdict_of_source, IsEditMemory};
 ghost use Rattle.hir_session.specs.Changes.{with_files, Becomes, Applies, Refreshes, RefreshesPartly};
 
 mod queries;
@@ -83,9 +83,6 @@ impl Session {
         if is_any_untaken(&inputs) {
             return Err(NewSessionError::NotYet);
         }
-        if count > u32::MAX as usize {
-            return Err(NewSessionError::TooLarge(Limit::Crates));
-        }
         if let Some(k) = first_late(&inputs) {
             return Err(NewSessionError::DependencyOrder(Crate(k)));
         }
@@ -103,6 +100,7 @@ impl Session {
     }
 
     /// What is true of each session.
+    #[doc(hidden)]
     pub fn sound(&self)
         ensures sound { IsSound self.now }
     {
@@ -131,8 +129,8 @@ impl Session {
         )
     }
 
-    /// Sets a file, and marks what that touches.
-    fn set_file(&mut self, alloc: Global, file: FilePath, source: Source) -> Result<(), AllocError>
+    /// Sets a checked file, and marks what that touches.
+    fn keep_file(&mut self, alloc: Global, file: FilePath, source: Source) -> Result<(), AllocError>
         ensures ok { OnOk result (Becomes self.old (with_file self.old.files file (source_view source)) self.new) }
         ensures err { OnErr result (self.new ≡ self.old) }
     {
@@ -155,6 +153,22 @@ impl Session {
         Ok(())
     }
 
+    /// Sets a file, as the edit of that name does. A refused source is dropped.
+    pub fn set_file(
+        &mut self,
+        alloc: Global,
+        file: FilePath,
+        source: Source,
+    ) -> Result<(), EditError>
+        ensures answer { Gives IsEditMemory result (verdict_of_source (source_view source)) }
+        ensures ok { OnOk result (Becomes self.old (with_file self.old.files file (source_view source)) self.new) }
+        ensures err { OnErr result (self.new ≡ self.old) }
+    {
+        check_source(alloc, &source)?;
+        self.keep_file(alloc, file, source)?;
+        Ok(())
+    }
+
     /// Changes what is handed in, and marks what that touches. A refused edit is dropped.
     pub fn apply(&mut self, alloc: Global, edit: Edit) -> Result<(), EditError>
         ensures answer { Gives IsEditMemory result (verdict_of_apply (edit_view edit)) }
@@ -162,10 +176,7 @@ impl Session {
         ensures err { OnErr result (self.new ≡ self.old) }
     {
         match edit {
-            Edit::SetFile { file, source } => {
-                check_source(alloc, &source)?;
-                self.set_file(alloc, file, source)?;
-            }
+            Edit::SetFile { file, source } => self.set_file(alloc, file, source)?,
             Edit::RemoveFile { file } => self.remove_file(alloc, &file)?,
         }
         Ok(())

@@ -1,6 +1,8 @@
 //! What a session is asked.
-ghost use Rattle.std.specs.Prelude.{◌≡◌, ◌⊎◌, IfOk, IfErr, Ok, Err, string_bytes};
+ghost use Rattle.std.specs.Prelude.{◌≡◌, ◌⊎◌, IfOk, IfErr, Ok, Err, option_map, string_bytes};
 ghost use Rattle.hir_base.specs.Refusal.{Gives};
+ghost use Rattle.hir_item_tree.specs.Source.{source_view};
+ghost use Rattle.hir_session.specs.Files.{file_at};
 ghost use Rattle.hir_session.specs.SessionState.{read_of, kept_in, kept_of};
 ghost use Rattle.hir_session.specs.Refusals.{IsQueryMemory, IsTreeTextMemory};
 ghost use Rattle.hir_session.specs.Status.{module_in_kept, module_of, status_of};
@@ -21,7 +23,9 @@ use hir_base::place::{Place, PlaceElement};
 use hir_def_collector::laws::runs_bind_from_sources;
 use hir_def_map::def_maps::DefMaps;
 use hir_def_map::laws::{paths_answer_from_sources, paths_lead_to_what_is_there};
+use hir_def_map::nameres::DefMap;
 use hir_def_map::world::part::WorldPart;
+use hir_item_tree::source::Source;
 use hir_wire::answer::Answer;
 use hir_wire::command::{MacroStyle, Shadow};
 use hir_wire::reply::Status;
@@ -38,6 +42,23 @@ fn module_kept(kept: &Kept, k: usize, elements: &[PlaceElement]) -> Option<Modul
 }
 
 impl Session {
+    /// The map of a crate, unless the crate is stale or unknown.
+    pub fn def_map(&self, krate: Crate) -> Option<&DefMap>
+        ensures value { option_map (λ m. m.now) result ≡ option_map (λ r. r.map) (kept_of self.now krate.0) }
+    {
+        match self.kept.get(krate.0 as usize) {
+            Some(found) => Some(found.map),
+            None => None,
+        }
+    }
+
+    /// The source of a file, as it was handed in; None where the file isn't there.
+    pub fn source(&self, file: &FilePath) -> Option<&Source>
+        ensures value { option_map (λ s. source_view s.now) result ≡ file_at self.now.files file.now }
+    {
+        self.files.get(file)
+    }
+
     /// How the answers at a place stand.
     pub fn status(&self, place: &Place) -> Status
         ensures value { result ≡ status_of self.now place.now }

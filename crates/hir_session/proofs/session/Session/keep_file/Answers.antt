@@ -2,7 +2,7 @@
 use Rattle.std.proofs.Common.{◌∙◌, sym, Some}
 use Rattle.hir_item_tree.specs.Source.{source_view}
 use Rattle.hir_session.proofs.Sound.{edited_sound, edited_becomes, names_unmarked}
-use Rattle.hir_session.proofs.session.Session.set_file.Goals as goal
+use Rattle.hir_session.proofs.session.Session.keep_file.Goals as goal
 
 pub forget-requires-clause-len : goal.forget-requires-clause-len
 forget-requires-clause-len c = c.spread.ensures.spread.len ∙ sym c.self.invariant.kept_len
