@@ -4,13 +4,9 @@
 #[cfg(test)]
 mod answers;
 #[cfg(test)]
-mod lines;
-#[cfg(test)]
 mod node_parts;
 #[cfg(test)]
-mod nodes;
-#[cfg(test)]
-mod refused_lines;
+mod pages;
 #[cfg(test)]
 mod replies;
 #[cfg(test)]
