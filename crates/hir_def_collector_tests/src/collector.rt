@@ -1,4 +1,4 @@
-//! What a run collects of one source.
+//! What a run lists, leaves over and asks for. What the names of its modules stand for are sessions of `hir_session_rows`.
 use hir_base::ast_id::{EditionedFileId, FileId, HirFileId};
 use hir_base::cfg_options::CfgOptions;
 use hir_base::edition::Edition;
@@ -6,46 +6,53 @@ use hir_base::ids::{Crate, EnumId, ItemContainerId, ModuleDefId};
 use hir_base::name::Name;
 use hir_def_collector::collector::collected::Collected;
 use hir_def_collector::collector::{Start, collect_defs};
-use hir_def_collector::source_database::{CrateData, SourceDatabase};
+use hir_def_collector::source_database::{CrateData, Dependency, SourceDatabase};
 use hir_def_map::nameres::DefMap;
 use hir_def_map::world::World;
 use hir_item_tree::item_tree::{ItemTree, source_tree};
 use hir_item_tree::side_lists::VariantItem;
 use hir_item_tree::source::Source;
-use hir_scope::imports::ImportOrGlob;
 use hir_scope::per_ns::PerNs;
-use hir_wire::command::Command;
-use hir_wire::edit::Edit;
-use hir_wire::read::line::read_command;
+use hir_wire::{Command, Edit, read_command};
 use std::alloc::{AllocError, Global};
+use std::collections::BTreeSet;
 use std::process::Abort;
+use std::rc::Rc;
 use std::test::Fail;
 
-/// The same source behind each key.
+/// Crates by number, and the source of each crate's root.
 #[derive(Drop)]
-struct OneSource {
-    source: Source,
+struct Crates {
+    crates: Vec<CrateData>,
+    roots: Vec<Source>,
 }
 
-impl SourceDatabase for OneSource {
-    ghost use Rattle.std.specs.Prelude.{[], None, true, false};
+impl SourceDatabase for Crates {
+    ghost use Rattle.std.specs.Prelude.{None, option_map, slice_get, false, true, unwrap_or};
     ghost use Rattle.hir_item_tree.specs.Attributes.{no_attributes};
     ghost use Rattle.hir_item_tree.specs.ItemTree.{tree_of};
-    ghost use Rattle.hir_item_tree.specs.Source.{source_view};
+    ghost use Rattle.hir_item_tree.specs.Source.{broken, source_view};
 
     ghost workspace = { λ d. record {
-      crates = [];
-      tree = λ krate file. record { present = true; tree = tree_of (λ _. false) no_attributes (source_view d.source) };
+      crates = d.crates.items;
+      tree = λ krate file. record {
+        present = true;
+        tree = tree_of (λ _. false) no_attributes (unwrap_or (option_map source_view (slice_get d.roots.items krate.0)) broken);
+      };
       variants = λ id. None;
     } };
 
-    fn krate(&self, _krate: Crate) -> Option<&CrateData> {
-        None
+    fn krate(&self, krate: Crate) -> Option<&CrateData> {
+        self.crates.get(krate.0 as usize)
     }
 
-    fn tree(&self, alloc: Global, _krate: Crate, _file: HirFileId) -> Result<ItemTree, AllocError> {
+    fn tree(&self, alloc: Global, krate: Crate, _file: HirFileId) -> Result<ItemTree, AllocError> {
         let front = Vec::new(alloc);
-        source_tree(alloc, &self.source, &front, &CfgOptions::new(alloc))
+        let options = CfgOptions::new(alloc);
+        match self.roots.get(krate.0 as usize) {
+            Some(source) => source_tree(alloc, source, &front, &options),
+            None => source_tree(alloc, &Source::Broken, &front, &options),
+        }
     }
 
     fn present(&self, _krate: Crate, _file: HirFileId) -> bool {
@@ -61,8 +68,192 @@ impl SourceDatabase for OneSource {
     }
 }
 
+/// The source that a line hands in.
+fn source(alloc: Global, line: &str) -> Result<Source, Fail> {
+    match read_command(alloc, line.as_bytes()) {
+        Ok(Command::Edit(Edit::SetFile { file: _, source })) => Ok(source),
+        Ok(_) => Err("another command")?,
+        Err(error) => Err(error)?,
+    }
+}
+
+/// `pub struct S; struct Hidden; pub mod prelude { pub mod rust_2021 { pub struct Option; } }`
+const LOWER: &str = r#"{"do":"set file","file":"a.rs","unit":{"nodes":[
+{"kind":"Struct","id":[1,0],"name":"S","shape":"unit","vis":"pub"},
+{"kind":"Struct","id":[2,0],"name":"Hidden","shape":"unit"},
+{"kind":"Module","id":[3,0],"name":"prelude","vis":"pub","nodes":[
+    {"kind":"Module","id":[4,0],"name":"rust_2021","vis":"pub","nodes":[
+        {"kind":"Struct","id":[5,0],"name":"Option","shape":"unit","vis":"pub"}]}]}]}}"#;
+
+/// `use core::S; use core::Hidden; use Option as O; use nope::S as T;`
+const UPPER: &str = r#"{"do":"set file","file":"b.rs","unit":{"nodes":[
+{"kind":"Use","id":[1,0],"tree":{"single":"core::S"}},
+{"kind":"Use","id":[2,0],"tree":{"single":"core::Hidden"}},
+{"kind":"Use","id":[3,0],"tree":{"single":"Option","as":"O"}},
+{"kind":"Use","id":[4,0],"tree":{"single":"nope::S","as":"T"}}]}}"#;
+
+/// The same in a crate without the core library.
+const WITHOUT_CORE: &str =
+    r#"{"do":"set file","file":"b.rs","unit":{"attrs":[{"path":"no_core"}],"nodes":[
+{"kind":"Use","id":[1,0],"tree":{"single":"core::S"}},
+{"kind":"Use","id":[2,0],"tree":{"single":"core::Hidden"}},
+{"kind":"Use","id":[3,0],"tree":{"single":"Option","as":"O"}},
+{"kind":"Use","id":[4,0],"tree":{"single":"nope::S","as":"T"}}]}}"#;
+
+/// Extern crates: by name, under an alias, of the crate itself, without a name, of no crate, and in a module.
+const EXTERN: &str = r#"{"do":"set file","file":"b.rs","unit":{"nodes":[
+{"kind":"ExternCrate","id":[1,0],"name":"core","as":"low"},
+{"kind":"ExternCrate","id":[2,0],"name":"self","as":"me"},
+{"kind":"ExternCrate","id":[3,0],"name":"core","as":"_"},
+{"kind":"ExternCrate","id":[4,0],"name":"nope"},
+{"kind":"Module","id":[5,0],"name":"m","vis":"pub","nodes":[
+    {"kind":"ExternCrate","id":[6,0],"name":"core"},
+    {"kind":"Use","id":[7,0],"vis":"pub","tree":{"single":"core::S"}}]},
+{"kind":"Use","id":[8,0],"vis":"pub","tree":{"single":"low","as":"open"}},
+{"kind":"Use","id":[9,0],"vis":"pub","tree":{"single":"self::low","as":"closed"}},
+{"kind":"Use","id":[10,0],"tree":{"single":"::low::S","as":"T"}},
+{"kind":"Use","id":[11,0],"tree":{"single":"me::m::S","as":"U"}},
+{"kind":"Use","id":[12,0],"tree":{"single":"core::S","as":"V"}}]}}"#;
+
+/// `use E::A; use E::B; pub enum E { .. } mod m { enum F { .. } }`
+const ENUMS: &str = r#"{"do":"set file","file":"b.rs","unit":{"nodes":[
+{"kind":"Use","id":[1,0],"tree":{"single":"E::A"}},
+{"kind":"Use","id":[2,0],"tree":{"single":"E::B"}},
+{"kind":"Enum","id":[3,0],"name":"E","vis":"pub","variants":[]},
+{"kind":"Module","id":[4,0],"name":"m","nodes":[
+    {"kind":"Enum","id":[5,0],"name":"F","variants":[]}]}]}}"#;
+
+fn root(number: u32) -> EditionedFileId {
+    EditionedFileId {
+        file_id: FileId(number),
+        edition: Edition::Edition2021,
+    }
+}
+
+fn start(number: u32) -> Start {
+    Start {
+        krate: Crate(number),
+        root: root(number),
+    }
+}
+
+fn no_crates(alloc: Global) -> Result<Rc<BTreeSet<Crate>>, Fail> {
+    Ok(Rc::new(alloc, BTreeSet::new(alloc))?)
+}
+
+/// Crate 0 alone.
+fn the_lower(alloc: Global) -> Result<Rc<BTreeSet<Crate>>, Fail> {
+    let mut crates = BTreeSet::new(alloc);
+    crates.insert(Crate(0))?;
+    Ok(Rc::new(alloc, crates)?)
+}
+
+/// Crate 0 under the name `core`.
+fn dependencies(alloc: Global, is_prelude: bool) -> Result<Vec<Dependency>, Fail> {
+    let dependency = Dependency {
+        krate: Crate(0),
+        name: Name::new(alloc, "core")?,
+        is_prelude,
+    };
+    Ok(vec![in alloc; dependency]?)
+}
+
+fn upper_data(alloc: Global, is_prelude: bool) -> Result<CrateData, Fail> {
+    let behind = the_lower(alloc)?;
+    let dependencies = dependencies(alloc, is_prelude)?;
+    Ok(CrateData::new(root(1), dependencies, behind, false))
+}
+
+fn lower_data(alloc: Global) -> Result<CrateData, Fail> {
+    Ok(CrateData::new(root(0), Vec::new(alloc), no_crates(alloc)?, false))
+}
+
+fn data_of_both(alloc: Global, is_prelude: bool) -> Result<Vec<CrateData>, Fail> {
+    let mut crates = vec![in alloc; lower_data(alloc)?]?;
+    crates.push(upper_data(alloc, is_prelude)?)?;
+    Ok(crates)
+}
+
+fn roots_of_both(alloc: Global, upper: &str) -> Result<Vec<Source>, Fail> {
+    let mut roots = vec![in alloc; source(alloc, LOWER)?]?;
+    roots.push(source(alloc, upper)?)?;
+    Ok(roots)
+}
+
+/// Crate 0, and crate 1, which depends on it under the name `core`.
+fn two_crates(alloc: Global, upper: &str, is_prelude: bool) -> Result<Crates, Fail> {
+    let crates = data_of_both(alloc, is_prelude)?;
+    let roots = roots_of_both(alloc, upper)?;
+    Ok(Crates { crates, roots })
+}
+
+/// What the lower crate comes to by itself, in a world.
+fn world_of(alloc: Global, lower: Collected) -> Result<World, Fail> {
+    let mut world = World::new(alloc);
+    let (map, local, _, _) = lower.into_parts();
+    if world.insert(map, local).is_ok() {
+        Ok(world)
+    } else {
+        Err("a map that names nothing else")?
+    }
+}
+
+fn lower_collected(alloc: Global, db: &Crates) -> Result<Collected, Fail> {
+    Ok(collect_defs(alloc, db, &World::new(alloc), start(0))?)
+}
+
+fn lower_world(alloc: Global, db: &Crates) -> Result<World, Fail> {
+    world_of(alloc, lower_collected(alloc, db)?)
+}
+
+/// What the upper crate comes to beside the lower one.
+fn upper_collected(alloc: Global, db: &Crates) -> Result<Collected, Fail> {
+    let world = lower_world(alloc, db)?;
+    Ok(collect_defs(alloc, db, &world, start(1))?)
+}
+
+fn collected(alloc: Global, upper: &str, is_prelude: bool) -> Result<Collected, Fail> {
+    let db = two_crates(alloc, upper, is_prelude)?;
+    upper_collected(alloc, &db)
+}
+
+/// A source of the upper crate, whether the lower one is marked as its core library, how many imports are left over, and
+/// how many keys are asked.
+type Row = (&'static str, &'static str, bool, usize, usize);
+
+const ROWS: [Row; 5] = [
+    ("marked", UPPER, true, 1, 1),
+    ("unmarked", UPPER, false, 4, 1),
+    ("no core", WITHOUT_CORE, true, 4, 1),
+    ("extern crates", EXTERN, false, 2, 1),
+    ("enums without variants", ENUMS, false, 0, 3),
+];
+
+fn counts(rt: &impl Abort, found: &Collected, row: &Row) {
+    let (label, _, _, leftover, asked) = *row;
+    assert_eq!(rt; found.leftover().len(), leftover, "{label}");
+    assert_eq!(rt; found.asked().len(), asked, "{label}");
+    assert_eq!(rt; found.map().crate_data().dependencies().len(), 1, "{label}");
+}
+
+fn finds(rt: &impl Abort, alloc: Global, row: &Row) -> Result<(), Fail> {
+    let (_, upper, is_prelude, _, _) = *row;
+    let found = collected(alloc, upper, is_prelude)?;
+    counts(rt, &found, row);
+    Ok(())
+}
+
+/// The imports that are left over, and the keys that are asked: the root file, and each enum.
+#[test]
+fn leftover_and_asked(rt: HostRuntime) -> Result<(), Fail> {
+    for row in &ROWS {
+        finds(&rt, rt.alloc(), row)?;
+    }
+    Ok(())
+}
+
 /// A disabled function, an extern block, a `use` with a list, a module, `const _`, a union, a trait and an impl.
-const LINE: &str = r#"{"do":"set file","file":"lib.rs","unit":{"nodes":[
+const ITEMS: &str = r#"{"do":"set file","file":"lib.rs","unit":{"nodes":[
 {"kind":"Fn","id":[0,0],"name":"gone","vis":"pub","attrs":[{"path":"cfg","cfg":false}]},
 {"kind":"ExternBlock","id":[0,0],"vis":"pub","nodes":[
     {"kind":"Fn","id":[0,1],"name":"ext","vis":"pub"},
@@ -79,65 +270,15 @@ const LINE: &str = r#"{"do":"set file","file":"lib.rs","unit":{"nodes":[
 {"kind":"Trait","id":[0,0],"name":"T","items":[],"vis":"pub"},
 {"kind":"Impl","id":[0,0],"trait":true,"items":[],"vis":"pub"}]}}"#;
 
-/// The source that a line hands in.
-pub fn source(alloc: Global, line: &str) -> Result<Source, Fail> {
-    match read_command(alloc, line.as_bytes()) {
-        Ok(Command::Edit(Edit::SetFile { file: _, source })) => Ok(source),
-        Ok(_) => Err("another command")?,
-        Err(error) => Err(error)?,
-    }
+fn one_crate(alloc: Global) -> Result<Crates, Fail> {
+    let crates = vec![in alloc; lower_data(alloc)?]?;
+    let roots = vec![in alloc; source(alloc, ITEMS)?]?;
+    Ok(Crates { crates, roots })
 }
 
-/// The first crate, by its root.
-pub const START: Start = Start {
-    krate: Crate(0),
-    root: EditionedFileId {
-        file_id: FileId(0),
-        edition: Edition::Edition2021,
-    },
-};
-
-/// What a run collects of the source that a line hands in.
-pub fn collected_of(alloc: Global, line: &str) -> Result<Collected, Fail> {
-    let source = source(alloc, line)?;
-    Ok(collect_defs(alloc, &OneSource { source }, &World::new(alloc), START)?)
-}
-
-fn collected(alloc: Global) -> Result<Collected, Fail> {
-    collected_of(alloc, LINE)
-}
-
-/// Asserts what the names of a module stand for.
-pub fn prints(
-    rt: &impl Abort,
-    alloc: Global,
-    map: &DefMap,
-    at: u32,
-    expected: &str,
-) -> Result<(), Fail> {
-    let mut page = String::new(alloc);
-    let scope = map.scope(at).ok_or("a module")?;
-    scope.dump(&mut page)?;
-    assert_eq!(rt; page.as_str(), expected);
-    Ok(())
-}
-
-fn print_both(rt: &impl Abort, alloc: Global, map: &DefMap) -> Result<(), Fail> {
-    prints(
-        rt,
-        alloc,
-        map,
-        0,
-        "- ST : value\n- T : type\n- U : type\n- ext : value\n- g : value (import)\n- m : type\n- n : type (import)\n",
-    )?;
-    prints(rt, alloc, map, 1, "- S : type value\n- f : value\n")
-}
-
-/// Disabled items are left out, those of an extern block and of lists are bound.
-#[test]
-fn names(rt: HostRuntime) -> Result<(), Fail> {
-    let found = collected(rt.alloc())?;
-    print_both(&rt, rt.alloc(), found.map())
+fn items(alloc: Global) -> Result<Collected, Fail> {
+    let db = one_crate(alloc)?;
+    lower_collected(alloc, &db)
 }
 
 fn items_of_root(rt: &impl Abort, map: &DefMap) -> Result<(), Fail> {
@@ -152,34 +293,10 @@ fn items_of_root(rt: &impl Abort, map: &DefMap) -> Result<(), Fail> {
     Ok(())
 }
 
-fn lists_of(rt: &impl Abort, found: &Collected) -> Result<(), Fail> {
-    items_of_root(rt, found.map())?;
-    assert_eq!(rt; found.leftover().len(), 1);
-    assert_eq!(rt; found.asked().len(), 1);
-    Ok(())
-}
-
-/// Each item is listed in its module; the glob is left over.
-#[test]
-fn lists(rt: HostRuntime) -> Result<(), Fail> {
-    let found = collected(rt.alloc())?;
-    lists_of(&rt, &found)
-}
-
 /// What a name of the root stands for.
 fn entry(alloc: Global, map: &DefMap, text: &str) -> Result<PerNs, Fail> {
     let name = Name::new(alloc, text)?;
     Ok(map.entry(0, &name))
-}
-
-fn import_of_g(rt: &impl Abort, alloc: Global, map: &DefMap) -> Result<(), Fail> {
-    let imported = entry(alloc, map, "g")?.values.ok_or("a value")?;
-    let place = match imported.import {
-        Some(ImportOrGlob::Import(import)) => import.idx,
-        _ => 0,
-    };
-    assert_eq!(rt; place, 2);
-    Ok(())
 }
 
 fn container_of_ext(rt: &impl Abort, alloc: Global, map: &DefMap) -> Result<(), Fail> {
@@ -195,14 +312,17 @@ fn container_of_ext(rt: &impl Abort, alloc: Global, map: &DefMap) -> Result<(), 
     Ok(())
 }
 
-fn both_ids(rt: &impl Abort, alloc: Global, map: &DefMap) -> Result<(), Fail> {
-    import_of_g(rt, alloc, map)?;
-    container_of_ext(rt, alloc, map)
+fn lists_of(rt: &impl Abort, alloc: Global, found: &Collected) -> Result<(), Fail> {
+    items_of_root(rt, found.map())?;
+    assert_eq!(rt; found.leftover().len(), 1);
+    assert_eq!(rt; found.asked().len(), 1);
+    container_of_ext(rt, alloc, found.map())
 }
 
-/// An import has its leaf's place, a function of an extern block that block.
+/// Each item is listed in its module, and a function of an extern block has that block as its container; the glob is left
+/// over.
 #[test]
-fn ids(rt: HostRuntime) -> Result<(), Fail> {
-    let found = collected(rt.alloc())?;
-    both_ids(&rt, rt.alloc(), found.map())
+fn lists(rt: HostRuntime) -> Result<(), Fail> {
+    let found = items(rt.alloc())?;
+    lists_of(&rt, rt.alloc(), &found)
 }

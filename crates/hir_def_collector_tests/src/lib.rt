@@ -3,9 +3,3 @@
 
 #[cfg(test)]
 mod collector;
-#[cfg(test)]
-mod crates;
-#[cfg(test)]
-mod enums;
-#[cfg(test)]
-mod visibilities;
