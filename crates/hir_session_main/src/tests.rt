@@ -2,10 +2,10 @@
 //!
 //! Sessions that are given line by line stand in `hir_session_rows`.
 
+mod built;
+mod chain;
 mod faults;
-mod large;
 mod library;
-mod long_lines;
 mod streams;
 
 use hir_session::run;

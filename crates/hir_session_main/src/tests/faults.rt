@@ -99,15 +99,6 @@ fn has_ended(
     assert_eq!(rt; found, wanted, "{first} {second}");
 }
 
-#[test]
-fn empty_input_gives_no_reply(rt: HostRuntime) -> Result<(), Fail> {
-    let mut taken = Vec::new(rt.alloc());
-    let mut reader: &[u8] = b"";
-    run(rt.alloc(), &mut reader, &mut taken)?;
-    assert!(rt; taken.is_empty());
-    Ok(())
-}
-
 /// What is written of the input, read in pieces of one size and written in pieces of another.
 fn written_in_pieces(
     alloc: Global,

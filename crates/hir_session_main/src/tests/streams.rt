@@ -25,34 +25,6 @@ impl Read for Pieces<'_> {
     }
 }
 
-/// Gives a head, so many spaces, and a tail.
-#[derive(Drop)]
-pub struct Padded<'a> {
-    pub head: &'a [u8],
-    pub spaces: usize,
-    pub tail: &'a [u8],
-}
-
-impl Read for Padded<'_> {
-    fn read(&mut self, buf: &mut [u8]) -> io::Result<usize> {
-        if self.head.is_empty() && self.spaces > 0 {
-            let count = self.spaces.min(buf.len());
-            buf[..count].fill(b' ');
-            self.spaces -= count;
-            return Ok(count);
-        }
-        if self.head.is_empty() {
-            self.head = self.tail;
-            self.tail = b"";
-        }
-        let count = self.head.len().min(buf.len());
-        let (front, rest) = self.head.split_at(count);
-        buf[..count].copy_from_slice(front);
-        self.head = rest;
-        Ok(count)
-    }
-}
-
 /// Takes so many bytes, few at a call, and then nothing, or fails.
 #[derive(Drop)]
 pub struct Narrow {
