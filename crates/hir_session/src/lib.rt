@@ -24,6 +24,7 @@ mod source_items;
 mod sources;
 
 pub use error::{EditError, NewSessionError, QueryError, RefreshError, TreeTextError};
+pub use hir_base::ast_id::SyntaxId;
 pub use hir_base::edition::Edition;
 pub use hir_base::file_path::FilePath;
 pub use hir_base::ids::Crate;

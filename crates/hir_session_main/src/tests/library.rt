@@ -1,19 +1,12 @@
 //! The session as a library, and what its errors say.
 
-use hir_base::ast_id::{AstKind, SyntaxId};
-use hir_base::edition::Edition;
-use hir_base::file_path::FilePath;
-use hir_base::ids::Crate;
+use hir_base::ast_id::AstKind;
 use hir_base::limit::Limit;
-use hir_base::mod_path::ModPath;
-use hir_base::name::Name;
-use hir_base::place::Place;
-use hir_item_tree::raw_visibility::RawVisibility;
-use hir_item_tree::source::{Node, NodeKind, Source, Unit};
 use hir_session::{
-    EditError, Fault, NewSessionError, QueryError, RefreshError, Session, TreeTextError,
+    Answer, Crate, CrateInput, EditError, Edition, Fault, FilePath, ModPath, Name, NewSessionError,
+    Node, NodeKind, Place, QueryError, RefreshError, Session, Shadow, Source, SyntaxId,
+    TreeTextError, Unit,
 };
-use hir_wire::{Answer, CrateInput, Dependencies, Edit, Shadow};
 use std::alloc::Global;
 use std::fmt::Display;
 use std::process::Abort;
@@ -21,40 +14,21 @@ use std::test::Fail;
 
 /// A session over one crate, which has its root in this file.
 fn session_of(alloc: Global, root: FilePath) -> Result<Session, Fail> {
-    let krate = CrateInput {
-        edition: Edition::Edition2021,
-        root,
-        attrs: Vec::new(alloc),
-        cfg: Vec::new(alloc),
-        deps: Dependencies::new(Vec::new(alloc)),
-        proc_macro: false,
-    };
+    let krate = CrateInput::new(alloc, Edition::Edition2021, root);
     Ok(Session::new(alloc, vec![in alloc; krate]?)?)
 }
 
-/// A source with one public function.
-fn source_of(alloc: Global) -> Result<Source, Fail> {
+fn area(alloc: Global) -> Result<Node, Fail> {
     let name = Name::new(alloc, "area")?;
-    let area = Node {
-        id: SyntaxId { hash: 1, index: 0 },
-        attrs: Vec::new(alloc),
-        vis: RawVisibility::Public,
-        input: String::new(alloc),
-        kind: NodeKind::Fn {
-            name,
-            body: String::new(alloc),
-        },
-    };
-    let nodes = vec![in alloc; area]?;
-    let attrs = Vec::new(alloc);
-    Ok(Source::Unit(Unit { attrs, nodes }))
+    let id = SyntaxId { hash: 1, index: 0 };
+    let body = String::new(alloc);
+    Ok(Node::new(alloc, id, NodeKind::Fn { name, body }))
 }
 
-/// Hands the function in.
+/// Sets the file to a source with one function.
 fn set_source(alloc: Global, session: &mut Session, file: &FilePath) -> Result<(), Fail> {
-    let file = file.clone()?;
-    let source = source_of(alloc)?;
-    session.apply(alloc, Edit::SetFile { file, source })?;
+    let unit = Unit::new(alloc, vec![in alloc; area(alloc)?]?);
+    session.set_file(alloc, file.clone()?, Source::Unit(unit))?;
     Ok(())
 }
 
@@ -65,7 +39,10 @@ fn has_page(
     file: &FilePath,
 ) -> Result<(), Fail> {
     let text = session.tree_text(alloc, Crate(0), file)?;
-    assert_eq!(rt; text.as_str(), "// AstId: Fn[0001, 0]\npub fn area;\n");
+    assert_eq!(rt;
+        text.as_str(),
+        "// AstId: Fn[0001, 0]\npub(self) fn area;\n"
+    );
     Ok(())
 }
 
@@ -76,7 +53,7 @@ fn resolves_one_crate(rt: &impl Abort, alloc: Global, session: &mut Session) -> 
 }
 
 fn area_of(alloc: Global, session: &Session) -> Result<Answer, Fail> {
-    let root = Place::new(Crate(0), Vec::new(alloc));
+    let root = Place::root(alloc, Crate(0));
     let path = ModPath::parse(alloc, "crate::area")?;
     Ok(session.resolve_path(alloc, &root, &path, Shadow::Other, None)?)
 }
