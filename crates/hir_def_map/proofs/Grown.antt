@@ -23,7 +23,7 @@ use Rattle.hir_scope.specs.declared.imports.ImportOrGlob.{ImportOrGlob}
 use Rattle.hir_scope.specs.declared.imports.ImportOrDef.{ImportOrDef}
 use Rattle.hir_scope.specs.PerNs.{Item, item_of, value_import}
 use Rattle.hir_scope.specs.declared.per_ns.PerNs.{PerNs}
-use Rattle.hir_scope.specs.Bindings.{Push, after_push, slot_after, gives_way, takes, macro_candidate, written_places, written_items, taken, type_candidate, value_candidate}
+use Rattle.hir_scope.specs.Bindings.{Candidate, Push, after_push, slot_after, gives_way, takes, macro_candidate, written_places, written_items, taken, type_candidate, value_candidate}
 use Rattle.hir_scope.specs.declared.visibility.Visibility.{Visibility}
 use Rattle.hir_scope.specs.Globs.{GlobNames, Place}
 use Rattle.hir_scope.specs.Entries.{with_entry, has_key, item_at}
