@@ -4,15 +4,12 @@ use Rattle.std.specs.List.{list_any}
 use Rattle.std.specs.Cmp.{unsigned_Decides}
 use Rattle.std.proofs.lemmas.Map.Views.{Contains-from_any}
 use Rattle.hir_base.specs.declared.ids.Crate.{Crate}
-use Rattle.hir_base.specs.declared.ids.EnumId.{EnumId}
-use Rattle.hir_item_tree.specs.declared.side_lists.VariantItem.{VariantItem}
 use Rattle.hir_scope.specs.ModuleTree.{same_crate}
 use Rattle.hir_def_map.specs.Among.{among, among_agrees}
 use Rattle.hir_def_map.specs.Named.{crate_map}
 use Rattle.hir_def_map.specs.State.{Map, Maps, map_in}
 use Rattle.hir_def_collector.specs.declared.collector.Start.{Start}
 use Rattle.hir_def_collector.specs.declared.source_database.Key.{Key}
-use Rattle.hir_def_collector.specs.declared.source_database.Key.TheVariants.{Variants}
 use Rattle.hir_def_collector.specs.Workspace.{Workspace, CrateData, TreeLook, behind_in, behind_of, crate_in}
 use Rattle.hir_def_collector.specs.Keys.{Look, of_tree, of_map, of_variants, look, AgreeOn, map_key, map_keys}
 use Rattle.hir_def_collector.specs.Start.{root_file, root_key}
@@ -41,19 +38,10 @@ seen_tree (of_tree t) other = t
 seen_tree (of_variants vs) other = other
 seen_tree (of_map m) other = other
 
-abbrev seen_variants : Look → Option (List VariantItem)
-seen_variants (of_tree t) = None
-seen_variants (of_variants vs) = vs
-seen_variants (of_map m) = None
-
 abbrev seen_map : Look → Option Map → Option Map
 seen_map (of_tree t) other = other
 seen_map (of_variants vs) other = other
 seen_map (of_map m) other = m
-
--- the same variants are handed in of each enum whose key is among those
-pub same_variants : {keys : List Key} {v w : Workspace} {before finished : Maps} → AgreeOn keys v before w finished → (id : EnumId) → Contains keys (Variants id) → w.variants id ≡ v.variants id
-same_variants agrees id h = ap seen_variants (agrees.same (Variants id) h)
 
 module _ (start : Start) {keys : List Key} {v w : Workspace} {before finished : Maps} (agrees : AgreeOn keys v before w finished)
     (root_asked : Contains keys (root_key start)) (maps_asked : (krate : Crate) → Contains (behind_in v start.krate) krate → Contains keys (map_key krate)) where

@@ -14,12 +14,13 @@ use Rattle.hir_scope.specs.ImportRecords.{is_glob}
 use Rattle.hir_scope.specs.declared.imports.ImportOrExternCrate.{ImportOrExternCrate}
 use Rattle.hir_scope.specs.declared.per_ns.PerNs.{PerNs}
 use Rattle.hir_scope.specs.declared.visibility.Visibility.{Visibility}
-use Rattle.hir_def_map.specs.State.{Map, Maps, ModuleValue, changed_at, module_at, entry_at, no_globs, with_module}
-use Rattle.hir_def_map.proofs.Grown.{items_by, entry_at-pushed, entry_at-pushed_other, entry_at-pushed_elsewhere}
+use Rattle.hir_def_map.specs.State.{Map, Maps, ModuleValue, module_at, entry_at, no_globs}
+use Rattle.hir_def_map.specs.Grown.{items_by, entry_at-pushed, entry_at-pushed_other, entry_at-pushed_elsewhere, length-changed}
 use Rattle.hir_def_collector.specs.declared.collector.imports.ImportSource.{ImportSource}
 use Rattle.hir_def_collector.specs.declared.collector.imports.ImportSource.TheVariants as sources
 use Rattle.hir_def_collector.specs.declared.collector.imports.Namespaces.{Namespaces}
 use Rattle.hir_def_collector.specs.Imports.{AreAmong, namespaces_of, both_of, brought, brought_type, imported, bound_as, bound_in, pushing}
+use Rattle.hir_def_collector.proofs.Lists.{get_there}
 
 -- ---- sets of namespaces
 
@@ -130,21 +131,9 @@ kept-bound_in m at name items source k other = elim (number_same_or_not k at) [
   ]
 ]
 
-length-changed_at : (ms : List ModuleValue) (at : ℕ) (change : ModuleValue → ModuleValue) → length (changed_at ms at change) ≡ length ms
-length-changed_at [] at change = refl
-length-changed_at (x ∷ xs) zero change = refl
-length-changed_at (x ∷ xs) (suc at) change = ap suc (length-changed_at xs at change)
-
-length-one_more : (ms : List ModuleValue) (m : ModuleValue) → length (ms ++ m ∷ []) ≡ suc (length ms)
-length-one_more [] m = refl
-length-one_more (x ∷ xs) m = ap suc (length-one_more xs m)
-
 pub length-bound_in : (m : Map) (at : ℕ) (name : List ℕ) (items : PerNs) (source : Option ImportSource)
     → length (bound_in m at name items source).modules ≡ length m.modules
-length-bound_in m at name items source = length-changed_at m.modules at _
-
-pub length-with_module : (m : Map) (at : ℕ) (name : List ℕ) (new : ModuleValue) → length (with_module m at name new).modules ≡ suc (length m.modules)
-length-with_module m at name new = length-one_more (changed_at m.modules at _) _ ∙ ap suc (length-changed_at m.modules at _)
+length-bound_in m at name items source = length-changed m.modules at _
 
 -- ---- what a taking leaves bound
 
@@ -152,26 +141,21 @@ pub namespaces_of-imported : (finished : Maps) (m : Map) (own : Visibility) (alo
 namespaces_of-imported finished m own alone items =
     rw (some_offered (brought_type finished m own alone) items.types, some_offered (brought finished m own) items.values, some_offered (brought finished m own) items.macros) refl
 
-pub kept-bound_as : (m : Map) (at : ℕ) (name : Option (List ℕ)) (items : PerNs) (source : ImportSource) (k : ℕ) (other : List ℕ)
+pub kept-bound_as : (m : Map) (at : ℕ) (name : Option (List ℕ)) (items : PerNs) (source : Option ImportSource) (k : ℕ) (other : List ℕ)
     → AreAmong (namespaces_of (entry_at m k other)) (namespaces_of (entry_at (bound_as m at name items source) k other))
 kept-bound_as m at None items source k other = AreAmong-same (namespaces_of (entry_at m k other))
-kept-bound_as m at (Some name) items source k other = kept-bound_in m at name items (Some source) k other
+kept-bound_as m at (Some name) items source k other = kept-bound_in m at name items source k other
 
-pub length-bound_as : (m : Map) (at : ℕ) (name : Option (List ℕ)) (items : PerNs) (source : ImportSource)
+pub length-bound_as : (m : Map) (at : ℕ) (name : Option (List ℕ)) (items : PerNs) (source : Option ImportSource)
     → length (bound_as m at name items source).modules ≡ length m.modules
 length-bound_as m at None items source = refl
-length-bound_as m at (Some name) items source = length-bound_in m at name items (Some source)
-
-there : (ms : List ModuleValue) (at : ℕ) → at < length ms → (m : ModuleValue) × (slice_get ms at ≡ Some m)
-there [] at h = absurd (omega arith)
-there (m ∷ ms) zero h = (m, refl)
-there (m ∷ ms) (suc at) h = there ms at (omega arith)
+length-bound_as m at (Some name) items source = length-bound_in m at name items source
 
 -- what is offered is bound
 pub taken-bound_in : (m : Map) (at : ℕ) (name : List ℕ) (items : PerNs) (source : Option ImportSource) → at < length m.modules
     → AreAmong (namespaces_of items) (namespaces_of (entry_at (bound_in m at name items source) at name))
 taken-bound_in m at name items source h =
-    let v = there m.modules at h in
+    let v = get_there m.modules at h in
     let offered : PerNs = items_by (pushing source) items in
     let among : AreAmong (namespaces_of offered) (namespaces_of (entry_at (bound_in m at name items source) at name)) =
     AreAmong-by (ap namespaces_of (sym (entry_at-pushed m at name items (pushing source) v.0 (no_glob source) v.1))) (taken_after_push (entry_at m at name) offered) in

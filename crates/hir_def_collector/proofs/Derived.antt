@@ -1,9 +1,7 @@
 -- What a derivation comes to, over each workspace and beside finished maps that agree on what was asked for.
-use Rattle.std.proofs.Common.{◌≡◌, ◌∙◌, ℕ, List, [], ◌∷◌, ◌++◌, length, Option, false, inl, inr, refl, sym, ap, subst, arith, Contains}
+use Rattle.std.proofs.Common.{◌≡◌, ◌∙◌, ℕ, List, [], ◌∷◌, ◌++◌, Option, inl, inr, refl, sym, ap, subst, arith, Contains}
 use Rattle.std.proofs.lemmas.List.Elements.{Contains-append_left, Contains-append_right, Contains-append_cases}
 use Rattle.hir_base.specs.declared.ids.Crate.{Crate}
-use Rattle.hir_base.specs.declared.ids.EnumId.{EnumId}
-use Rattle.hir_item_tree.specs.declared.side_lists.VariantItem.{VariantItem}
 use Rattle.hir_def_map.specs.Among.{among}
 use Rattle.hir_def_map.specs.State.{Maps}
 use Rattle.hir_def_collector.specs.declared.collector.Start.{Start}
@@ -11,54 +9,56 @@ use Rattle.hir_def_collector.specs.declared.source_database.Dependency.{Dependen
 use Rattle.hir_def_collector.specs.declared.source_database.Key.{Key}
 use Rattle.hir_def_collector.specs.declared.source_database.Key.TheVariants as keys
 use Rattle.hir_def_collector.specs.Workspace.{Workspace, CrateData, TreeLook, behind_in, behind_of, crate_in, dependencies_in, dependencies_of}
-use Rattle.hir_def_collector.specs.Keys.{AgreeOn, map_key, map_keys}
+use Rattle.hir_def_collector.specs.Keys.{AgreeOn, look, map_key, map_keys}
 use Rattle.hir_def_collector.specs.State.{State, Core, at_rest}
-use Rattle.hir_def_collector.specs.ItemIds.{enum_id}
-use Rattle.hir_def_collector.specs.Enums.{variants_of}
-use Rattle.hir_def_collector.specs.Imports.{answer_to, kind_of}
+use Rattle.hir_def_collector.specs.Imports.{kind_of, reached_by}
 use Rattle.hir_def_collector.specs.Start.{root_key, root_tree, start_by}
-use Rattle.hir_def_collector.specs.Steps.{Step, Steps, none, more, drops_item, passes_over, declares_item, declares_enum, lists_constant, lists_impl, opens_module, enters_block, reaches_imports, reaches_crate, takes_import, after_enum}
+use Rattle.hir_def_collector.specs.Steps.{Reading, Sees, Step, Steps, none, more, keys_read, reads}
 use Rattle.hir_def_collector.specs.Causes as causes
 use Rattle.hir_def_collector.specs.Derivation.{IsSettled, BindsWhatItReaches, CollectedValue, Ends, begin_of, keys_of, leftover_among, read_by}
 use Rattle.hir_def_collector.proofs.Bound.{AreAmong-trans}
-use Rattle.hir_def_collector.proofs.Kept.{AreAmong-kept_of}
-use Rattle.hir_def_collector.proofs.Holds.{Holds, Holds-start, Holds-Steps}
-use Rattle.hir_def_collector.proofs.Stays.{data-Steps}
-use Rattle.hir_def_collector.proofs.Asks.{asked-Step, asked-Steps, asked_by, only}
-use Rattle.hir_def_collector.proofs.Asked.{mapped, mapped_from, same_crate_data, same_read, same_tree, same_variants}
+use Rattle.hir_def_collector.proofs.Kept.{AreAmong-by_kind}
+use Rattle.hir_def_collector.proofs.Changes.{asked-Step, data-Steps, id-Steps}
+use Rattle.hir_def_collector.proofs.InRange.{IsInRange}
+use Rattle.hir_def_collector.proofs.Holds.{Holds, Holds-start, Holds-Steps, in_range-start}
+use Rattle.hir_def_collector.proofs.Asks.{asked_by, only, still_asked, still_asked-Step}
+use Rattle.hir_def_collector.proofs.Asked.{mapped, mapped_from, same_crate_data, same_read, same_tree}
 
--- a step over a workspace is one over each that hands in the same variants of what was asked for
-Step-transfer : {v w : Workspace} {finished : Maps} {old new : State} → ((id : EnumId) → Contains new.asked (keys.Variants id) → w.variants id ≡ v.variants id)
+-- what is read over a workspace is read over each that has the same at those keys
+Sees-transfer : (v w : Workspace) (finished : Maps) (readings : List Reading) → ((key : Key) → Contains (keys_read readings) key → look w finished key ≡ look v finished key)
+    → Sees v finished readings → Sees w finished readings
+Sees-transfer v w finished [] same sees = tt
+Sees-transfer v w finished (r ∷ rs) same sees =
+    (same r.key (0, omega arith, refl) ∙ sees.0, Sees-transfer v w finished rs (λ key h. same key (Contains-append_right (r.key ∷ []) (keys_read rs) key h)) sees.1)
+
+-- what two workspaces have at a key they have beside the same finished maps
+same_look : (v w : Workspace) (before finished maps : Maps) (key : Key) → look w finished key ≡ look v before key → look w maps key ≡ look v maps key
+same_look v w before finished maps (keys.Tree krate file) e = e
+same_look v w before finished maps (keys.Variants id) e = e
+same_look v w before finished maps (keys.Map id) e = refl
+
+-- so a step is one over each that has the same at what was asked for
+Step-transfer : {v w : Workspace} {finished : Maps} {old new : State} → ((key : Key) → Contains new.core.asked key → look w finished key ≡ look v finished key)
     → Step v finished old new → Step w finished old new
-Step-transfer same (drops_item v rest next off is) = drops_item v rest next off is
-Step-transfer same (passes_over site head l rest next pass is) = passes_over site head l rest next pass is
-Step-transfer same (declares_item v d rest next declares is) = declares_item v d rest next declares is
-Step-transfer {v = v} {w = w} {finished = finished} {old = old} {new = new} same (declares_enum site head name rest next is) =
-    let id : EnumId = enum_id old.map site head.id in
-    let key : Key = keys.Variants id in
-    let asked : Contains new.asked key =
-    subst (λ (s : State). Contains s.asked key) (sym is) (Contains-append_right old.asked (key ∷ []) key (0, omega arith, refl)) in
-    declares_enum site head name rest next
-    (subst (λ (found : Option (List VariantItem)). new ≡ after_enum finished old site head name (variants_of id found) rest) (sym (same id asked)) is)
-Step-transfer same (lists_constant site head rest next is) = lists_constant site head rest next is
-Step-transfer same (lists_impl site head of_trait rest next is) = lists_impl site head of_trait rest next is
-Step-transfer same (opens_module site head name items rest next is) = opens_module site head name items rest next is
-Step-transfer same (enters_block site head items rest next is) = enters_block site head items rest next is
-Step-transfer same (reaches_imports site head tree rest next is) = reaches_imports site head tree rest next is
-Step-transfer same (reaches_crate site head name alias rest next is) = reaches_crate site head name alias rest next is
-Step-transfer same (takes_import i r t can is) = takes_import i r t can is
+Step-transfer {v = v} {w = w} {finished = finished} {old = old} same step = record {
+  rule = step.rule;
+  may = step.may;
+  sees = Sees-transfer v w finished (reads old step.rule) (λ key h. same key (subst (λ (ks : List Key). Contains ks key) (sym (asked-Step step)) (Contains-append_right old.core.asked (keys_read (reads old step.rule)) key h))) step.sees;
+  is = step.is;
+}
 
-Steps-transfer : {v w : Workspace} {finished : Maps} {from to : State} → Holds from → ((id : EnumId) → Contains to.asked (keys.Variants id) → w.variants id ≡ v.variants id)
+Steps-transfer : {v w : Workspace} {finished : Maps} {from to : State} → ((key : Key) → Contains to.core.asked key → look w finished key ≡ look v finished key)
     → Steps v finished from to → Steps w finished from to
-Steps-transfer h same none = none
-Steps-transfer h same (more old new before step) =
-    more old new (Steps-transfer h (λ id asked. same id (asked-Step (Holds-Steps before h) step (keys.Variants id) asked)) before) (Step-transfer same step)
+Steps-transfer same none = none
+Steps-transfer same (more old new before step) =
+    more old new (Steps-transfer (λ key asked. same key (still_asked-Step step key asked)) before) (Step-transfer same step)
 
 -- where each import is settled, each binds what it reaches
 binds_end : (finished : Maps) (s : State) (i : ℕ) → Holds s → IsSettled finished s i → BindsWhatItReaches finished s i
 binds_end finished s i h settled = record {
   binds = λ r t name at before own gives.
-      AreAmong-trans (AreAmong-kept_of (kind_of r.source) (answer_to finished s.local s.map r) t.namespaces (settled.among r t at before)) (h.bound i r t name at before own gives);
+      AreAmong-trans (AreAmong-by_kind (kind_of r.source) (reached_by finished s.core.local s.core.map r) t.namespaces (settled.among r t at before))
+      ((h.bound i t before).bound r name at own gives);
 }
 
 module _ (v : Workspace) (before : Maps) (start : Start) (c : Core) (answer : CollectedValue) (steps : Steps v (read_by v before start) (begin_of v before start) (at_rest c))
@@ -71,8 +71,8 @@ module _ (v : Workspace) (before : Maps) (start : Start) (c : Core) (answer : Co
       ap (λ (ks : List Key). ks ++ map_keys answer.map.crate_data.dependencies) (ap (λ (a : CollectedValue). a.asked) is)
       ∙ ap (λ (crates : List Crate). c.asked ++ map_keys crates) behind_is
 
-  begun_whole : Holds (begin_of v before start)
-  begun_whole = Holds-start v (read_by v before start) start
+  begun_in_range : IsInRange (begin_of v before start)
+  begun_in_range = in_range-start v (read_by v before start) start
 
   -- what the steps asked for is among the keys
   asked_among : (key : Key) → Contains c.asked key → Contains (keys_of answer) key
@@ -80,7 +80,7 @@ module _ (v : Workspace) (before : Maps) (start : Start) (c : Core) (answer : Co
 
   -- so are its root file's tree, and the map of each crate behind
   root_among : Contains (keys_of answer) (root_key start)
-  root_among = asked_among (root_key start) (asked-Steps begun_whole steps (root_key start) (0, omega arith, refl))
+  root_among = asked_among (root_key start) (still_asked steps (root_key start) (0, omega arith, refl))
 
   map_among : (krate : Crate) → Contains (behind_in v start.krate) krate → Contains (keys_of answer) (map_key krate)
   map_among krate h =
@@ -108,10 +108,10 @@ module _ (v : Workspace) (before : Maps) (start : Start) (c : Core) (answer : Co
     derived_over =
         subst (λ (maps : Maps). Steps w maps (begin_of w finished start) (at_rest c)) (sym reads_same)
         (subst (λ (s : State). Steps w (read_by v before start) s (at_rest c)) (sym begins_same)
-        (Steps-transfer begun_whole (λ id h. same_variants agrees id (asked_among (keys.Variants id) h)) steps))
+        (Steps-transfer (λ key h. same_look v w before finished (read_by v before start) key (agrees.same key (asked_among key h))) steps))
 
     caused_asked : (key : Key) → Contains c.asked key → causes.HasCause w start (at_rest c) key
-    caused_asked key h = elim (asked_by begun_whole steps key h) [
+    caused_asked key h = elim (asked_by begun_in_range steps key h) [
       | inl first ↦ causes.root_file (sym (only (root_key start) key first))
       | inr p ↦ causes.declared_enum p.home p.id p.listed p.is
     ]
@@ -136,7 +136,8 @@ module _ (v : Workspace) (before : Maps) (start : Start) (c : Core) (answer : Co
           derived = derived_over;
           visited = refl;
           settled = all;
-          binds = λ i. binds_end (read_by w finished start) (at_rest c) i (Holds-Steps steps (Holds-start v (read_by v before start) start)) (all i);
+          binds = λ i. binds_end (read_by w finished start) (at_rest c) i (Holds-Steps steps begun_in_range (Holds-start v (read_by v before start) start)) (all i);
+          own = ap (λ (a : CollectedValue). a.map.id) is ∙ id-Steps steps;
           map_is = ap (λ (a : CollectedValue). a.map) is;
           local_is = ap (λ (a : CollectedValue). a.local) is;
           leftover_is = ap (λ (a : CollectedValue). a.leftover) is;

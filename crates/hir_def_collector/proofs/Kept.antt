@@ -38,31 +38,9 @@ kept_namespaces-none kinds.TypeOnly = refl
 kept_namespaces-none kinds.Glob = refl
 
 -- where the takings reached all that is reached, they kept all that is kept
-AreAmong-by_kind : (k : ImportKind) (items : PerNs) (t : Namespaces) → AreAmong (namespaces_of items) t → AreAmong (namespaces_of (kept_by_kind k items)) (kept_namespaces k t)
+pub AreAmong-by_kind : (k : ImportKind) (items : PerNs) (t : Namespaces) → AreAmong (namespaces_of items) t → AreAmong (namespaces_of (kept_by_kind k items)) (kept_namespaces k t)
 AreAmong-by_kind k items t p =
     subst (λ (a : Namespaces). AreAmong a (kept_namespaces k t)) (sym (namespaces_of-kept k items)) (AreAmong-kept k (namespaces_of items) t p)
-
--- ---- what may be taken
-
-module _ {D I : Type 0} (keep : Visibility → Bool) where
-  kept_there : (o : Option (Item D I)) → is_some (keep_item keep o) ≡ true → is_some o ≡ true
-  kept_there None h = h
-  kept_there (Some item) h = refl
-
--- what may be taken is among what is reached
-AreAmong-open : (crossing : Bool) (items : PerNs) → AreAmong (namespaces_of (open_items crossing items)) (namespaces_of items)
-AreAmong-open true items = record {
-  types = kept_there is_public items.types;
-  values = kept_there is_public items.values;
-  macros = kept_there is_public items.macros;
-}
-AreAmong-open false items = record { types = λ h. h; values = λ h. h; macros = λ h. h }
-
--- where the takings reached all that an answer has, they kept all that is kept of it
-pub AreAmong-kept_of : (k : ImportKind) (answer : Resolution) (t : Namespaces) → AreAmong (namespaces_of answer.resolved_def) t → AreAmong (namespaces_of (kept_of k answer)) (kept_namespaces k t)
-AreAmong-kept_of k answer t p =
-    AreAmong-by_kind k (open_items answer.prefix_info.differing_crate answer.resolved_def) t
-    (AreAmong-trans (AreAmong-open answer.prefix_info.differing_crate answer.resolved_def) p)
 
 -- of an answer in the crate itself all may be taken
 pub kept_of-own : (k : ImportKind) (answer : Resolution) → answer.prefix_info.differing_crate ≡ false → kept_of k answer ≡ kept_by_kind k answer.resolved_def

@@ -1,4 +1,6 @@
 pub mod Lists
+pub mod Made
+pub mod Changes
 pub mod Bound
 pub mod Kept
 pub mod Declared
@@ -6,9 +8,10 @@ pub mod Grows
 pub mod Moves
 pub mod Settled
 pub mod Leftovers
+pub mod InRange
 pub mod Holds
+pub mod Progress
 pub mod Digits
-pub mod Stays
 pub mod Asks
 pub mod Asked
 pub mod Derived

@@ -1,6 +1,8 @@
--- What is left of a list from a place on.
-use Rattle.std.proofs.Common.{◌≡◌, ◌≢◌, ◌∙◌, ℕ, zero, suc, ◌+◌, ◌<◌, ◌≤◌, List, [], ◌∷◌, ◌++◌, length, map, drop, get_or, slice_get, slice_set, Some, None, refl, sym, ap, add-one, arith}
+-- Lists: what is left from a place on, places, and tests.
+use Rattle.std.specs.List.{list_any}
+use Rattle.std.proofs.Common.{◌≡◌, ◌≢◌, ◌∙◌, ℕ, Bool, false, zero, suc, ◌+◌, ◌<◌, ◌≤◌, List, [], ◌∷◌, ◌++◌, length, map, drop, get_or, slice_get, slice_set, Some, None, refl, sym, ap, add-one, arith}
 use Rattle.std.proofs.Math.Seq.{drop-cons}
+use Rattle.hir_def_map.specs.NoneOf.{neither, not_first, not_second}
 
 module _ {A : Type 0} where
   -- what stands at the place, and the rest
@@ -71,3 +73,11 @@ module _ {A B : Type 0} where
   get_same c [] k t h = absurd (let no : ⊥ = cc in no)
   get_same c (y ∷ ys) zero t h = cc
   get_same c (y ∷ ys) (suc k) t h = get_same c ys k t h
+
+-- ---- tests
+
+module _ {A : Type 0} (p : A → Bool) where
+  -- of the elements of two lists a test holds of none
+  pub none_joined : (xs ys : List A) → list_any p xs ≡ false → list_any p ys ≡ false → list_any p (xs ++ ys) ≡ false
+  none_joined [] ys f g = g
+  none_joined (x ∷ xs) ys f g = neither (p x) (list_any p (xs ++ ys)) (not_first (p x) (list_any p xs) f) (none_joined xs ys (not_second (p x) (list_any p xs) f) g)

@@ -3,23 +3,10 @@ use Rattle.std.proofs.Common.{◌≡◌, ◌+◌, ◌≤◌, Bool, true, false, 
 use Rattle.hir_def_map.specs.State.{Maps}
 use Rattle.hir_def_collector.specs.Workspace.{Workspace}
 use Rattle.hir_def_collector.specs.State.{State}
-use Rattle.hir_def_collector.specs.Steps.{Step, Steps, none, more, drops_item, passes_over, declares_item, declares_enum, lists_constant, lists_impl, opens_module, enters_block, reaches_imports, reaches_crate, takes_import}
+use Rattle.hir_def_collector.specs.Steps.{Step, Steps, none, more}
 use Rattle.hir_def_collector.specs.Derivation.{IsSpent}
 use Rattle.hir_def_collector.specs.Moves.{Moves}
-
--- each step is counted
-pub count-Step : {w : Workspace} {finished : Maps} {old new : State} → Step w finished old new → new.count ≡ old.count + 1
-count-Step (drops_item v rest next off is) = ap (λ (s : State). s.count) is
-count-Step (passes_over site head l rest next pass is) = ap (λ (s : State). s.count) is
-count-Step (declares_item v d rest next declares is) = ap (λ (s : State). s.count) is
-count-Step (declares_enum site head name rest next is) = ap (λ (s : State). s.count) is
-count-Step (lists_constant site head rest next is) = ap (λ (s : State). s.count) is
-count-Step (lists_impl site head of_trait rest next is) = ap (λ (s : State). s.count) is
-count-Step (opens_module site head name items rest next is) = ap (λ (s : State). s.count) is
-count-Step (enters_block site head items rest next is) = ap (λ (s : State). s.count) is
-count-Step (reaches_imports site head tree rest next is) = ap (λ (s : State). s.count) is
-count-Step (reaches_crate site head name alias rest next is) = ap (λ (s : State). s.count) is
-count-Step (takes_import i r t can is) = ap (λ (s : State). s.count) is
+use Rattle.hir_def_collector.proofs.Changes.{count-Step}
 
 -- the steps to a state, and those from there on
 pub Steps-append : {w : Workspace} {finished : Maps} {a b c : State} → Steps w finished a b → Steps w finished b c → Steps w finished a c
@@ -48,9 +35,9 @@ Moves-step {w} {finished} {s} {t} step = record {
 }
 
 -- no part goes back
-pub count-Moves : {w : Workspace} {finished : Maps} {a b : State} {P : State → Type 0} (m : Bool) → Moves w finished a b m P → a.count ≤ b.count
+pub count-Moves : {w : Workspace} {finished : Maps} {a b : State} {P : State → Type 0} (m : Bool) → Moves w finished a b m P → a.core.count ≤ b.core.count
 count-Moves true p = omega (arith, p.rises refl)
-count-Moves false p = omega (arith, ap (λ (s : State). s.count) (p.same refl))
+count-Moves false p = omega (arith, ap (λ (s : State). s.core.count) (p.same refl))
 
 -- one part after another
 pub Moves-join : {w : Workspace} {finished : Maps} {a b c : State} {P Q : State → Type 0} (m n : Bool) → Moves w finished a b m P → Moves w finished b c n Q → Moves w finished a c (m || n) (λ s. P s × Q s)
@@ -79,4 +66,4 @@ Moves-map f p = record { steps = p.steps; rises = p.rises; same = p.same; rests 
 
 -- steps that lead to where as many as are counted lead on
 pub spent_after : {w : Workspace} {finished : Maps} {a b : State} → Steps w finished a b → IsSpent w finished b → IsSpent w finished a
-spent_after steps spent = record { at = spent.at; steps = Steps-append steps spent.steps; full = spent.full }
+spent_after steps spent = record { at = spent.at; steps = Steps-append steps spent.steps; next = spent.next; step = spent.step; full = spent.full }

@@ -11,8 +11,10 @@ use Rattle.hir_def_collector.specs.declared.collector.imports.Taking.{Taking}
 use Rattle.hir_def_collector.specs.Workspace.{Workspace}
 use Rattle.hir_def_collector.specs.State.{Core, State, at_rest, with_map, with_taken, counted}
 use Rattle.hir_def_collector.specs.Imports.{goes_beyond, AreAmong, namespaces_of, answer_to, reached_by, taking_of, taking_at, taken_after, offered_by, name_of, bound_as}
-use Rattle.hir_def_collector.specs.Steps.{Step, takes_import}
-use Rattle.hir_def_collector.specs.Derivation.{IsSettled}
+use Rattle.hir_def_collector.specs.Steps.{Step, none, takes_import}
+use Rattle.hir_def_collector.specs.declared.collector.TheConstants.{STEP_LIMIT}
+use Rattle.hir_def_collector.specs.Derivation.{IsSettled, IsSpent}
+use Rattle.hir_def_collector.proofs.Made.{Goes, goes, made}
 
 one_among : (a b : Bool) → (a && not b) ≡ false → a ≡ true → b ≡ true
 one_among true true h g = refl
@@ -65,15 +67,15 @@ settled_none {finished} c i h = record {
 }
 
 -- no import was reached from the place on
-pub settled_past : {finished : Maps} (s : State) (i : ℕ) → length s.reached ≤ i → IsSettled finished s i
+pub settled_past : {finished : Maps} (s : State) (i : ℕ) → length s.core.reached ≤ i → IsSettled finished s i
 settled_past s i past = record {
-  among = λ r t at before. let gone : slice_get s.reached i ≡ None = slice_get_past s.reached i past in absurd (let no : ⊥ = cc in no);
+  among = λ r t at before. let gone : slice_get s.core.reached i ≡ None = slice_get_past s.core.reached i past in absurd (let no : ⊥ = cc in no);
 }
 
 -- where each reached import is settled, each place is
-pub settled_all : {finished : Maps} (s : State) (n : ℕ) → length s.reached ≤ n → ((k : ℕ) → k < n → IsSettled finished s k) → (i : ℕ) → IsSettled finished s i
+pub settled_all : {finished : Maps} (s : State) (n : ℕ) → length s.core.reached ≤ n → ((k : ℕ) → k < n → IsSettled finished s k) → (i : ℕ) → IsSettled finished s i
 settled_all {finished} s n long below i =
-    elim (cases_lt i n) as (λ _. IsSettled finished s i) [ inl h ↦ below i h | inr h ↦ let past : length s.reached ≤ i = omega arith in settled_past s i past ]
+    elim (cases_lt i n) as (λ _. IsSettled finished s i) [ inl h ↦ below i h | inr h ↦ let past : length s.core.reached ≤ i = omega arith in settled_past s i past ]
 
 -- what is due at a place: the import there, what was taken of it, and what is to be done
 pub record IsDue (finished : Maps) (c : Core) (i : ℕ) (taking : Taking) : Type 0 where
@@ -99,12 +101,19 @@ due_at {finished} c i taking (Some r) (Some t) e f h =
     record { r = r; t = t; at = e; before = f; gains = d.0; is = sym d.1 }
 
 same_step : {w : Workspace} {finished : Maps} (c new : Core) (i : ℕ) (taking : Taking) → IsDue finished c i taking
-    → new ≡ counted (with_taken (with_map c (bound_as c.map taking.home taking.name taking.items taking.source)) i taking.taken)
+    → new ≡ counted (with_taken (with_map c (bound_as c.map taking.home taking.name taking.items (Some taking.source))) i taking.taken)
     → Step w finished (at_rest c) (at_rest new)
-same_step c new i taking d is = takes_import i d.r d.t (record { import = d.at; before = d.before; gains = d.gains }) (rw (is, d.is) refl)
+same_step c new i taking d is = made (takes_import i d.r d.t) (record { import = d.at; before = d.before; gains = d.gains }) tt (rw (is, d.is) refl)
 
 -- the taking of an import is a step
 pub takes : {w : Workspace} {finished : Maps} (c new : Core) (i : ℕ) (taking : Taking) → taking_at finished c i ≡ Some taking
-    → new ≡ counted (with_taken (with_map c (bound_as c.map taking.home taking.name taking.items taking.source)) i taking.taken)
+    → new ≡ counted (with_taken (with_map c (bound_as c.map taking.home taking.name taking.items (Some taking.source))) i taking.taken)
     → Step w finished (at_rest c) (at_rest new)
 takes c new i taking h is = same_step c new i taking (due_at c i taking (slice_get c.reached i) (slice_get c.taken i) refl refl h) is
+
+-- where it is due, and as many steps as are counted were taken, one more may be
+pub take_spent : {w : Workspace} {finished : Maps} (c : Core) (i : ℕ) (taking : Taking) → taking_at finished c i ≡ Some taking → STEP_LIMIT ≤ c.count → IsSpent w finished (at_rest c)
+take_spent {w} {finished} c i taking h full =
+    let d : IsDue finished c i taking = due_at c i taking (slice_get c.reached i) (slice_get c.taken i) refl refl h in
+    let on : Goes w finished (at_rest c) = goes (takes_import i d.r d.t) (record { import = d.at; before = d.before; gains = d.gains }) tt in
+    record { at = at_rest c; steps = none; next = on.next; step = on.step; full = inl full }

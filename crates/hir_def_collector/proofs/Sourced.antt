@@ -1,5 +1,5 @@
 -- A run binds only what its root file writes, and what the finished maps bind.
-use Rattle.std.specs.Prelude.{◌≡◌, ◌==◌, ◌&&◌, ◌||◌, ℕ, zero, suc, ◌<◌, ◌≤◌, ◌+◌, ◌++◌, List, [], ◌∷◌, length, Bool, true, false, is_some, Option, None, Some, cond, fold, not, map as list_map, option_and_then, option_map, slice_get, unwrap_or, if◌then◌else◌}
+use Rattle.std.specs.Prelude.{◌≡◌, ◌==◌, ◌&&◌, ◌||◌, ℕ, zero, suc, ◌<◌, ◌≤◌, ◌+◌, ◌++◌, List, [], ◌∷◌, length, Bool, true, false, is_some, Option, None, Some, cond, fold, not, is_none, map as list_map, option_and_then, option_map, slice_get, unwrap_or, if◌then◌else◌}
 use Rattle.std.specs.List.{list_any}
 use Rattle.std.specs.Ordering.{nat_cmp}
 use Rattle.std.specs.Cmp.Lexicographic.{slice_cmp}
@@ -40,7 +40,7 @@ use Rattle.hir_def_map.specs.Declaration.{listed}
 use Rattle.hir_def_map.proofs.NoneOf.{neither, none_at, none_inserted, none_more, not_first, not_second}
 use Rattle.hir_def_map.specs.Reaches.{by_import}
 use Rattle.hir_def_map.specs.Scoping.{Resolution, resolution_of}
-use Rattle.hir_def_map.specs.Sources.{HoldsNowhere, HoldsNowhereIn, HoldsOfNone, HoldsOfNoExtern, PathsAnswerFromSources, SourceTest, on_def, on_extern_entry, on_import, on_macro, on_macro_item, on_some, on_type, on_value, on_value_def, on_value_import, on_values, on_variant, on_visibility}
+use Rattle.hir_def_map.specs.Sources.{HoldsNowhere, HoldsNowhereIn, HoldsOfNone, HoldsOfNoExtern, PathsAnswerFromSources, SourceTest, on_def, on_extern_entry, on_import, on_macro, on_macro_item, on_origin, on_some, on_type, on_value, on_value_def, on_value_import, on_values, on_variant, on_visibility}
 use Rattle.hir_def_map.specs.State.{CrateData, Local, Map, Maps, Placed, Variants, beside, crate_root, module_at, module_in, new_id, new_module, no_globs, placed_in, root_of, with_declared, with_enum, with_module, with_name}
 use Rattle.hir_def_map.proofs.StaysComplete.{IsClosed-beside, LocalIsThere-begins, module_there}
 use Rattle.hir_def_map.proofs.StaysSourced.{HoldsNowhere-beside, HoldsNowhereIn-enum, HoldsNowhereIn-listed, HoldsNowhereIn-made, HoldsNowhereIn-prelude, HoldsNowhereIn-pushed}
@@ -54,7 +54,7 @@ use Rattle.hir_def_collector.specs.declared.collector.imports.ReachedImport.{Rea
 use Rattle.hir_def_collector.specs.declared.collector.site.Site.{Site}
 use Rattle.hir_def_collector.specs.declared.source_database.Dependency.{Dependency}
 use Rattle.hir_def_collector.specs.Derivation.{CollectedValue, Ends, begin_of, read_by}
-use Rattle.hir_def_collector.specs.Enums.{handed_variants, variant_of, variants_of, with_variant}
+use Rattle.hir_def_collector.specs.Enums.{variant_of, variants_of, with_variant}
 use Rattle.hir_def_collector.specs.Imports.{answer_by_kind, answer_by_source, answer_in, answer_to, bound_as, bound_in, brought, brought_type, crate_import, extern_after, extern_by, imported, imports_by, is_of_extern_crate, is_one_name, is_public, kept_by_kind, kind_of, name_of, offered_by, open_items, pushing, reached_import, way_of}
 use Rattle.hir_def_collector.specs.ItemIds.{const_id, enum_id, extern_block_id, extern_crate_id, impl_id, module_id, use_id}
 use Rattle.hir_def_collector.specs.Items.{constructor_of, declaration_of, declared_by, declared_by_leaf, declared_struct, declared_type, inline_origin, lesser_in, meet_of, own_visibility, visibility_in}
@@ -62,11 +62,16 @@ use Rattle.hir_def_collector.specs.Preludes.{extern_prelude, joins, prelude_of, 
 use Rattle.hir_def_collector.specs.Sources.{IsClearOf}
 use Rattle.hir_def_collector.specs.Start.{root_file, root_map, root_site, root_tree, start_data, start_of}
 use Rattle.hir_def_collector.specs.State.{State, Visit, visits}
-use Rattle.hir_def_collector.specs.Steps.{Step, Steps, none, more, drops_item, passes_over, declares_item, declares_enum, lists_constant, lists_impl, opens_module, enters_block, reaches_imports, reaches_crate, takes_import, after_leave, inside_block, inside_module, visit}
+use Rattle.hir_def_collector.specs.Changes.{Change, lists, pushes, makes, gives_variants, begins_paths, reaches, takes, goes_on, act, on_map}
+use Rattle.hir_def_collector.specs.Steps.{Rule, drops_item, passes_over, declares_item, declares_enum, lists_constant, lists_impl, opens_module, enters_block, reaches_imports, reaches_crate, takes_import, May, acts, asking, Step, Steps, none, more, inside_block, inside_module}
 use Rattle.hir_def_collector.specs.Whole.{StandsOnWhole}
 use Rattle.hir_def_collector.specs.Workspace.{Workspace, behind_in, dependencies_in}
 use Rattle.hir_def_collector.proofs.Grows.{Grows, Grows-Step}
-use Rattle.hir_def_collector.proofs.Whole.{ImportsBelow, NamesWhatIsThere, VisitsBelow, begins, steps_keep}
+use Rattle.hir_def_collector.proofs.Lists.{none_joined}
+use Rattle.hir_def_collector.proofs.Changes.{AllFine, id-Step, perform_keeps}
+use Rattle.hir_def_collector.proofs.InRange.{IsInRange, import_at, in_range-Steps, next_home}
+use Rattle.hir_def_collector.proofs.Holds.{in_range-start}
+use Rattle.hir_def_collector.proofs.Whole.{NamesWhatIsThere, begins, steps_keep}
 
 -- ---- what is written at sites, and what brings bindings
 
@@ -78,10 +83,10 @@ on_reached t r = on_import t (way_of r.source)
 
 -- a test holds of nothing that a run has come upon
 pub record IsSourced (t : SourceTest) (s : State) : Type 0 where
-  pub map : HoldsNowhereIn t s.map
-  pub local : HoldsOfNoExtern t s.local
+  pub map : HoldsNowhereIn t s.core.map
+  pub local : HoldsOfNoExtern t s.core.local
   pub visits : list_any (on_site t) s.agenda ≡ false
-  pub reached : list_any (on_reached t) s.reached ≡ false
+  pub reached : list_any (on_reached t) s.core.reached ≡ false
 
 -- nor of a module that is there
 abbrev ShowsThere : SourceTest → Maps → Map → Type 0
@@ -105,32 +110,7 @@ stays_there finished old new same grows m e =
     go true f = some_at old.modules new.modules grows.longer m.index f
     go false f = f
 
-same_as : (old new : State) (m : Map) → new.map ≡ m → m.id ≡ old.map.id → new.map.id ≡ old.map.id
-same_as old new m is same = ap (λ (x : Map). x.id) is ∙ same
-
-bound_id : (m : Map) (home : ℕ) (o : Option (List ℕ)) (items : PerNs) (source : ImportSource) → (bound_as m home o items source).id ≡ m.id
-bound_id m home None items source = refl
-bound_id m home (Some name) items source = refl
-
-step_id : {w : Workspace} {finished : Maps} {old new : State} → Step w finished old new → new.map.id ≡ old.map.id
-step_id {old = old} {new = new} (drops_item v rest next off is) = same_as old new _ (ap (λ (s : State). s.map) is) refl
-step_id {old = old} {new = new} (passes_over site head l rest next pass is) = same_as old new _ (ap (λ (s : State). s.map) is) refl
-step_id {old = old} {new = new} (declares_item v d rest next declares is) = same_as old new _ (ap (λ (s : State). s.map) is) refl
-step_id {old = old} {new = new} (declares_enum site head name rest next is) = same_as old new _ (ap (λ (s : State). s.map) is) refl
-step_id {old = old} {new = new} (lists_constant site head rest next is) = same_as old new _ (ap (λ (s : State). s.map) is) refl
-step_id {old = old} {new = new} (lists_impl site head of_trait rest next is) = same_as old new _ (ap (λ (s : State). s.map) is) refl
-step_id {old = old} {new = new} (opens_module site head name items rest next is) = same_as old new _ (ap (λ (s : State). s.map) is) refl
-step_id {old = old} {new = new} (enters_block site head items rest next is) = same_as old new _ (ap (λ (s : State). s.map) is) refl
-step_id {old = old} {new = new} (reaches_imports site head tree rest next is) = same_as old new _ (ap (λ (s : State). s.map) is) refl
-step_id {old = old} {new = new} (reaches_crate site head name alias rest next is) = same_as old new _ (ap (λ (s : State). s.map) is) refl
-step_id {finished = finished} {old = old} {new = new} (takes_import i r t can is) =
-    same_as old new _ (ap (λ (s : State). s.map) is) (bound_id old.map r.home (name_of r) (offered_by finished old.local old.map r) r.source)
-
 -- ---- lists
-
-none_joined : {A : Type 0} (p : A → Bool) (xs ys : List A) → list_any p xs ≡ false → list_any p ys ≡ false → list_any p (xs ++ ys) ≡ false
-none_joined p [] ys f g = g
-none_joined p (x ∷ xs) ys f g = neither (p x) (list_any p (xs ++ ys)) (not_first (p x) (list_any p xs) f) (none_joined p xs ys (not_second (p x) (list_any p xs) f) g)
 
 module _ (t : SourceTest) where
   site_visits : (s : Site) → t.holder s.file None ≡ false → (is : KeptForest) → list_any (on_site t) (visits s is) ≡ false
@@ -296,40 +276,82 @@ module _ (t : SourceTest) where
       go vs [] g = g
       go vs (i ∷ is) g = go (with_variant id vs i) is (none_inserted (on_variant t) (slice_cmp nat_cmp) vs i.name (variant_of id i) g f)
 
-  -- ---- steps
+  -- ---- changes
+
+  -- the test holds of nothing that a change brings
+  abbrev BringsNone : State → Change → Type 0
+  BringsNone s (lists home d) = Unit {0}
+  BringsNone s (pushes home name items source) = HoldsOfNone t items × (on_some (on_import t) (pushing source) ≡ false)
+  BringsNone s (makes home name origin visibility) = on_origin t origin ≡ false
+  BringsNone s (gives_variants id variants) = on_values (on_variant t) variants ≡ false
+  BringsNone s (begins_paths r) = on_reached t r ≡ false
+  BringsNone s (reaches rs) = list_any (on_reached t) rs ≡ false
+  BringsNone s (takes i taken) = Unit {0}
+  BringsNone s (goes_on vs) = list_any (on_site t) vs ≡ false
+
+  on_new_map : (s : State) (m : Map) → HoldsNowhereIn t m → IsSourced t s → IsSourced t (on_map s m)
+  on_new_map s m g f = record { map = g; local = f.local; visits = f.visits; reached = f.reached }
+
+  extern_of : (local : Local) (source : ImportSource) (name : Option (List ℕ)) → HoldsOfNoExtern t local → on_import t (way_of source) ≡ false → HoldsOfNoExtern t (extern_by local source name)
+  extern_of local (sources.Use id kind) name f g = f
+  extern_of local (sources.ExternCrate id None) name f g = f
+  extern_of local (sources.ExternCrate id (Some c)) None f g = f
+  extern_of local (sources.ExternCrate id (Some c)) (Some name) f g = none_inserted (on_extern_entry t) (slice_cmp nat_cmp) local name (crate_root c, Some id) f g
+
+  extern_or : (b : Bool) (local other : Local) → HoldsOfNoExtern t local → HoldsOfNoExtern t other → HoldsOfNoExtern t (cond b local other)
+  extern_or true local other f g = f
+  extern_or false local other f g = g
+
+  sourced-act : (s : State) (c : Change) → IsSourced t s → BringsNone s c → IsSourced t (act s c)
+  sourced-act s (lists home d) f fine = on_new_map s _ (HoldsNowhereIn-listed t s.core.map home d f.map) f
+  sourced-act s (pushes home None items source) f fine = record { map = f.map; local = f.local; visits = f.visits; reached = f.reached }
+  sourced-act s (pushes home (Some name) items source) f fine = on_new_map s _ (HoldsNowhereIn-pushed t s.core.map no_globs home name items (pushing source) fine.0 fine.1 f.map) f
+  sourced-act s (makes home name origin visibility) f fine = on_new_map s _ (HoldsNowhereIn-made t s.core.map home name origin visibility (Some (module_id s.core.map home)) fine f.map) f
+  sourced-act s (gives_variants id variants) f fine = on_new_map s _ (HoldsNowhereIn-enum t s.core.map id variants fine f.map) f
+  sourced-act s (begins_paths r) f fine = record {
+    map = f.map;
+    local = extern_or ((r.home == 0) && is_none s.core.map.id.block) (extern_by s.core.local r.source (name_of r)) s.core.local (extern_of s.core.local r.source (name_of r) f.local fine) f.local;
+    visits = f.visits;
+    reached = f.reached;
+  }
+  sourced-act s (reaches rs) f fine = record { map = f.map; local = f.local; visits = f.visits; reached = none_joined (on_reached t) s.core.reached rs f.reached fine }
+  sourced-act s (takes i taken) f fine = record { map = f.map; local = f.local; visits = f.visits; reached = f.reached }
+  sourced-act s (goes_on vs) f fine = record { map = f.map; local = f.local; visits = fine; reached = f.reached }
+
+  -- ---- rules
 
   module _ (answers : PathsAnswerFromSources) (paths : PathsLeadToWhatIsThere) (finished : Maps) (whole : AreWhole finished) (nowhere : HoldsNowhere t finished) where
-    module _ (s : State) (names : NamesWhatIsThere finished s) (shown : ShowsThere t finished s.map) (f : IsSourced t s) where
+    module _ (s : State) (inside : IsInRange s) (names : NamesWhatIsThere finished s) (shown : ShowsThere t finished s.core.map) (f : IsSourced t s) where
       abbrev maps : Maps
-      maps = beside finished s.map
+      maps = beside finished s.core.map
 
       closed : IsClosed maps
-      closed = IsClosed-beside finished s.map names.apart whole names.names
+      closed = IsClosed-beside finished s.core.map names.apart whole names.names
 
       -- a visibility that is written in a module of the map
-      written : (at : ℕ) → at < length s.map.modules → (raw : RawVisibility) → on_visibility t (visibility_in finished s.local s.map (module_id s.map at) raw) ≡ false
+      written : (at : ℕ) → at < length s.core.map.modules → (raw : RawVisibility) → on_visibility t (visibility_in finished s.core.local s.core.map (module_id s.core.map at) raw) ≡ false
       unfolding visibility_in
-      written at low (raws.PubSelf e) = shown (module_id s.map at) (module_there finished s.map at low)
+      written at low (raws.PubSelf e) = shown (module_id s.core.map at) (module_there finished s.core.map at low)
       written at low raws.PubCrate = refl
       written at low raws.Public = refl
       written at low (raws.Module path e) = by_stop answer.segment_index
         where
           answer : Resolution
-          answer = resolution_of maps (by_visibility s.local) (module_id s.map at) path
+          answer = resolution_of maps (by_visibility s.core.local) (module_id s.core.map at) path
 
           there : AreThere maps answer.resolved_def
-          there = paths maps (by_visibility s.local) (module_id s.map at) path closed (LocalIsThere-begins maps s.local names.begins) (module_there finished s.map at low)
+          there = paths maps (by_visibility s.core.local) (module_id s.core.map at) path closed (LocalIsThere-begins maps s.core.local names.begins) (module_there finished s.core.map at low)
 
-          within : (b : Bool) (m : ModuleId) → t.shown m ≡ false → t.shown (cond b m (root_of s.map.id)) ≡ false
+          within : (b : Bool) (m : ModuleId) → t.shown m ≡ false → t.shown (cond b m (root_of s.core.map.id)) ≡ false
           within true m g = g
-          within false m g = shown (root_of s.map.id) (module_there finished s.map 0 names.names.root)
+          within false m g = shown (root_of s.core.map.id) (module_there finished s.core.map 0 names.names.root)
 
           present : (b : Bool) → not b ≡ false → b ≡ true
           present true g = refl
           present false g = absurd (true≢false g)
 
-          by_def : (d : ModuleDefId) → IsThere maps d → on_visibility t (unwrap_or (module_seen false s.map.id e d) visibilities.Public) ≡ false
-          by_def (definitions.ModuleId m) g = within (same_map m.map s.map.id) m (shown m (present (is_some (module_in maps m)) g))
+          by_def : (d : ModuleDefId) → IsThere maps d → on_visibility t (unwrap_or (module_seen false s.core.map.id e d) visibilities.Public) ≡ false
+          by_def (definitions.ModuleId m) g = within (same_map m.map s.core.map.id) m (shown m (present (is_some (module_in maps m)) g))
           by_def (definitions.FunctionId x) g = refl
           by_def (definitions.AdtId x) g = refl
           by_def (definitions.EnumVariantId x) g = refl
@@ -340,26 +362,23 @@ module _ (t : SourceTest) where
           by_def (definitions.BuiltinType x) g = refl
           by_def (definitions.MacroId x) g = refl
 
-          by_type : (o : Option (Item ModuleDefId ImportOrExternCrate)) → TypeIsThere maps o → on_visibility t (unwrap_or (type_seen false s.map.id e o) visibilities.Public) ≡ false
+          by_type : (o : Option (Item ModuleDefId ImportOrExternCrate)) → TypeIsThere maps o → on_visibility t (unwrap_or (type_seen false s.core.map.id e o) visibilities.Public) ≡ false
           by_type None g = refl
           by_type (Some i) g = by_def i.def g
 
-          by_stop : (o : Option ℕ) → on_visibility t (unwrap_or (path_seen false s.map.id e o answer.resolved_def) visibilities.Public) ≡ false
+          by_stop : (o : Option ℕ) → on_visibility t (unwrap_or (path_seen false s.core.map.id e o answer.resolved_def) visibilities.Public) ≡ false
           by_stop None = by_type answer.resolved_def.types there
           by_stop (Some i) = refl
 
-      all_written : (at : ℕ) → at < length s.map.modules → (rest : List RawVisibility) → list_any (on_visibility t) (list_map (visibility_in finished s.local s.map (module_id s.map at)) rest) ≡ false
+      all_written : (at : ℕ) → at < length s.core.map.modules → (rest : List RawVisibility) → list_any (on_visibility t) (list_map (visibility_in finished s.core.local s.core.map (module_id s.core.map at)) rest) ≡ false
       all_written at low [] = refl
       all_written at low (raw ∷ rest) =
-          neither (on_visibility t (visibility_in finished s.local s.map (module_id s.map at) raw)) (list_any (on_visibility t) (list_map (visibility_in finished s.local s.map (module_id s.map at)) rest))
+          neither (on_visibility t (visibility_in finished s.core.local s.core.map (module_id s.core.map at) raw)) (list_any (on_visibility t) (list_map (visibility_in finished s.core.local s.core.map (module_id s.core.map at)) rest))
           (written at low raw) (all_written at low rest)
 
       -- the next item is of a module of the map, in a file of which the test doesn't hold
-      first_below : (vs : List Visit) (v : Visit) (rest : List Visit) → VisitsBelow (length s.map.modules) vs → vs ≡ v ∷ rest → v.site.home < length s.map.modules
-      first_below vs v rest g e = (subst (VisitsBelow (length s.map.modules)) e g).0
-
-      low : (v : Visit) (rest : List Visit) → s.agenda ≡ v ∷ rest → v.site.home < length s.map.modules
-      low v rest e = first_below s.agenda v rest names.visits e
+      low : (v : Visit) (rest : List Visit) → s.agenda ≡ v ∷ rest → v.site.home < length s.core.map.modules
+      low v rest e = next_home s inside v rest e
 
       file : (v : Visit) (rest : List Visit) → s.agenda ≡ v ∷ rest → t.holder v.site.file None ≡ false
       file v rest e = (next_visits s.agenda v rest f.visits e).0
@@ -367,172 +386,99 @@ module _ (t : SourceTest) where
       left : (v : Visit) (rest : List Visit) → s.agenda ≡ v ∷ rest → list_any (on_site t) rest ≡ false
       left v rest e = (next_visits s.agenda v rest f.visits e).1
 
-      declares : (v : Visit) (d : Declaration) → v.site.home < length s.map.modules → t.holder v.site.file None ≡ false → declaration_of finished s.local s.map v ≡ Some d → HoldsOfNone t d.items
+      declares : (v : Visit) (d : Declaration) → v.site.home < length s.core.map.modules → t.holder v.site.file None ≡ false → declaration_of finished s.core.local s.core.map v ≡ Some d → HoldsOfNone t d.items
       declares v d below own e = go v.item e
         where
           is_d : (a : Declaration) → HoldsOfNone t a.items → Some a ≡ Some d → HoldsOfNone t d.items
           is_d a g h = let same : a ≡ d = cc in subst (λ (x : Declaration). HoldsOfNone t x.items) same g
 
-          vis : (h : Head) → on_visibility t (own_visibility finished s.local s.map v.site h) ≡ false
+          vis : (h : Head) → on_visibility t (own_visibility finished s.core.local s.core.map v.site h) ≡ false
           vis h = written v.site.home below h.visibility
 
-          by_leaf : (h : Head) (l : Leaf) → declared_by_leaf finished s.local s.map v.site h l ≡ Some d → HoldsOfNone t d.items
+          by_leaf : (h : Head) (l : Leaf) → declared_by_leaf finished s.core.local s.core.map v.site h l ≡ Some d → HoldsOfNone t d.items
           by_leaf h (import tree) g = absurd cc
           by_leaf h (extern_crate name alias) g = absurd cc
-          by_leaf h (function name) g = is_d _ (value_of _ (own_visibility finished s.local s.map v.site h) own (vis h)) g
+          by_leaf h (function name) g = is_d _ (value_of _ (own_visibility finished s.core.local s.core.map v.site h) own (vis h)) g
           by_leaf h (structure name shape fields) g =
-              let seen_by = list_map (visibility_in finished s.local s.map (module_id s.map v.site.home)) fields in
-              let own_vis : Visibility = own_visibility finished s.local s.map v.site h in
-              is_d _ (struct_of _ own_vis (constructor_of finished s.map own_vis shape seen_by) own own (vis h)
-              (shaped finished s.map own_vis shape seen_by (vis h) (all_written v.site.home below fields))) g
-          by_leaf h (union_structure name fields) g = is_d _ (type_of _ (own_visibility finished s.local s.map v.site h) own (vis h)) g
+              let seen_by = list_map (visibility_in finished s.core.local s.core.map (module_id s.core.map v.site.home)) fields in
+              let own_vis : Visibility = own_visibility finished s.core.local s.core.map v.site h in
+              is_d _ (struct_of _ own_vis (constructor_of finished s.core.map own_vis shape seen_by) own own (vis h)
+              (shaped finished s.core.map own_vis shape seen_by (vis h) (all_written v.site.home below fields))) g
+          by_leaf h (union_structure name fields) g = is_d _ (type_of _ (own_visibility finished s.core.local s.core.map v.site h) own (vis h)) g
           by_leaf h (enumeration name) g = absurd cc
           by_leaf h (constant None) g = absurd cc
-          by_leaf h (constant (Some name)) g = is_d _ (value_of _ (own_visibility finished s.local s.map v.site h) own (vis h)) g
-          by_leaf h (static_item name) g = is_d _ (value_of _ (own_visibility finished s.local s.map v.site h) own (vis h)) g
-          by_leaf h (trait_item name) g = is_d _ (type_of _ (own_visibility finished s.local s.map v.site h) own (vis h)) g
+          by_leaf h (constant (Some name)) g = is_d _ (value_of _ (own_visibility finished s.core.local s.core.map v.site h) own (vis h)) g
+          by_leaf h (static_item name) g = is_d _ (value_of _ (own_visibility finished s.core.local s.core.map v.site h) own (vis h)) g
+          by_leaf h (trait_item name) g = is_d _ (type_of _ (own_visibility finished s.core.local s.core.map v.site h) own (vis h)) g
           by_leaf h (implementation of_trait) g = absurd cc
-          by_leaf h (type_alias name) g = is_d _ (type_of _ (own_visibility finished s.local s.map v.site h) own (vis h)) g
+          by_leaf h (type_alias name) g = is_d _ (type_of _ (own_visibility finished s.core.local s.core.map v.site h) own (vis h)) g
           by_leaf h (outline_module name) g = absurd cc
           by_leaf h (macro_call path) g = absurd cc
           by_leaf h (macro_rules name expander helpers) g = absurd cc
           by_leaf h (macro_def name expander helpers) g = absurd cc
 
-          go : (i : KeptItem) → declared_by finished s.local s.map v.site i ≡ Some d → HoldsOfNone t d.items
+          go : (i : KeptItem) → declared_by finished s.core.local s.core.map v.site i ≡ Some d → HoldsOfNone t d.items
           go (leaf h l) g = by_leaf h l g
           go (holder h k items) g = absurd cc
 
-      bound_of : (m : Map) (home : ℕ) (name : List ℕ) (items : PerNs) → HoldsNowhereIn t m → HoldsOfNone t items → HoldsNowhereIn t (bound_in m home name items None)
-      bound_of m home name items g h = HoldsNowhereIn-pushed t m no_globs home name items None h refl g
-
-      with_type : (home : ℕ) (def : ModuleDefId) (name : List ℕ) (vis : Visibility) (m : Map) → HoldsNowhereIn t m → on_def t def ≡ false → on_visibility t vis ≡ false
-          → HoldsNowhereIn t (bound_in (with_declared m home def) home name (declared_type def vis) None)
-      with_type home def name vis m g h k = bound_of (with_declared m home def) home name (declared_type def vis) (HoldsNowhereIn-listed t m home (listings.Def def) g) (type_of def vis h k)
-
       -- what an import offers
-      reaches : (r : ReachedImport) → HoldsOfNone t (answer_in finished s.local s.map (module_id s.map r.home) r.path).resolved_def
+      answers_none : (r : ReachedImport) → HoldsOfNone t (answer_in finished s.core.local s.core.map (module_id s.core.map r.home) r.path).resolved_def
       unfolding answer_in
-      reaches r = answers t maps (by_import s.local) (module_id s.map r.home) r.path (HoldsNowhere-beside t finished s.map nowhere f.map) f.local
+      answers_none r = answers t maps (by_import s.core.local) (module_id s.core.map r.home) r.path (HoldsNowhere-beside t finished s.core.map nowhere f.map) f.local
 
-      offers : (r : ReachedImport) → r.home < length s.map.modules → HoldsOfNone t (offered_by finished s.local s.map r)
+      offers : (r : ReachedImport) → r.home < length s.core.map.modules → HoldsOfNone t (offered_by finished s.core.local s.core.map r)
       offers r below =
-          let answer : Resolution = answer_to finished s.local s.map r in
-          let own : Visibility = visibility_in finished s.local s.map (module_id s.map r.home) r.visibility in
+          let answer : Resolution = answer_to finished s.core.local s.core.map r in
+          let own : Visibility = visibility_in finished s.core.local s.core.map (module_id s.core.map r.home) r.visibility in
           let open_ : PerNs = open_items answer.prefix_info.differing_crate answer.resolved_def in
-          import_of finished s.map own (is_one_name r.path) (kept_by_kind (kind_of r.source) open_) (written r.home below r.visibility)
+          import_of finished s.core.map own (is_one_name r.path) (kept_by_kind (kind_of r.source) open_) (written r.home below r.visibility)
           (kept_of_kind (kind_of r.source) open_
           (open_of answer.prefix_info.differing_crate answer.resolved_def
-          (answer_of_source r.source (answer_in finished s.local s.map (module_id s.map r.home) r.path) (reaches r))))
+          (answer_of_source r.source (answer_in finished s.core.local s.core.map (module_id s.core.map r.home) r.path) (answers_none r))))
 
-      imports_at : (rs : List ReachedImport) (i : ℕ) (r : ReachedImport) → ImportsBelow (length s.map.modules) rs → slice_get rs i ≡ Some r → r.home < length s.map.modules
-      imports_at [] i r g e = absurd cc
-      imports_at (x ∷ xs) zero r g e = let same : x ≡ r = cc in subst (λ (y : ReachedImport). y.home < length s.map.modules) same g.0
-      imports_at (x ∷ xs) (suc i) r g e = imports_at xs i r g.1 e
+      -- what is declared alone
+      bare_type : (def : ModuleDefId) (vis : Visibility) → on_def t def ≡ false → on_visibility t vis ≡ false → HoldsOfNone t (declared_type def vis) × (on_some (on_import t) (pushing None) ≡ false)
+      bare_type def vis g h = (type_of def vis g h, refl)
 
-      takes : (r : ReachedImport) → r.home < length s.map.modules → on_reached t r ≡ false → (o : Option (List ℕ)) → HoldsNowhereIn t (bound_as s.map r.home o (offered_by finished s.local s.map r) r.source)
-      takes r below g None = f.map
-      takes r below g (Some name) = HoldsNowhereIn-pushed t s.map no_globs r.home name (offered_by finished s.local s.map r) (pushing (Some r.source)) (offers r below) g f.map
+      brings_none : (r : Rule) → May finished s r → AllFine BringsNone (asking s r) (acts finished s r)
+      brings_none (drops_item v rest) may = (left v rest may.next, tt)
+      brings_none (passes_over site head l rest) may = (left _ rest may.here.next, tt)
+      brings_none (declares_item v d rest) may =
+          (left v rest may.here.next, (tt, ((declares v d (low v rest may.here.next) (file v rest may.here.next) may.declares, refl), tt)))
+      brings_none (declares_enum site head name found rest) may =
+          let id : EnumId = enum_id s.core.map site head.id in
+          let bare = bare_type (definitions.AdtId (adts.EnumId id)) (own_visibility finished s.core.local s.core.map site head) (file _ rest may.next) (written site.home (low _ rest may.next) head.visibility) in
+          (left _ rest may.next, (of_variants id (file _ rest may.next) found, (tt, (bare, tt))))
+      brings_none (lists_constant site head rest) may = (left _ rest may.next, (tt, tt))
+      brings_none (lists_impl site head of_trait rest) may = (left _ rest may.next, (tt, tt))
+      brings_none (opens_module site head name items rest) may =
+          let within : Site = inside_module s.core.map site in
+          let none = none_joined (on_site t) (visits within items) rest (site_visits within (file _ rest may.next) items) (left _ rest may.next) in
+          let bare = bare_type (definitions.ModuleId (new_id s.core.map)) (own_visibility finished s.core.local s.core.map site head) refl (written site.home (low _ rest may.next) head.visibility) in
+          (file _ rest may.next, (none, (tt, (bare, tt))))
+      brings_none (enters_block site head items rest) may =
+          let within : Site = inside_block s.core.map site head in
+          (none_joined (on_site t) (visits within items) rest (site_visits within (file _ rest may.next) items) (left _ rest may.next), (tt, tt))
+      brings_none (reaches_imports site head tree rest) may = (left _ rest may.next, (use_imports s.core.map site head (file _ rest may.next) (imports_of tree), (tt, tt)))
+      brings_none (reaches_crate site head name alias rest) may =
+          let own : t.holder site.file None ≡ false = file _ rest may.next in
+          (left _ rest may.next, (own, (neither (t.holder site.file None) false own refl, (tt, tt))))
+      brings_none (takes_import i r taken) may =
+          let offered = offers r (import_at (length s.core.map.modules) s.core.reached i r inside.imports may.import) in
+          ((offered, none_at (on_reached t) s.core.reached f.reached i r may.import), (tt, tt))
 
-      extern_of : (source : ImportSource) (name : Option (List ℕ)) → on_import t (way_of source) ≡ false → HoldsOfNoExtern t (extern_by s.local source name)
-      extern_of (sources.Use id kind) name g = f.local
-      extern_of (sources.ExternCrate id None) name g = f.local
-      extern_of (sources.ExternCrate id (Some c)) None g = f.local
-      extern_of (sources.ExternCrate id (Some c)) (Some name) g = none_inserted (on_extern_entry t) (slice_cmp nat_cmp) s.local name (crate_root c, Some id) f.local g
-
-      externs_after : (r : ReachedImport) → on_reached t r ≡ false → HoldsOfNoExtern t (extern_after s.local r)
-      externs_after r g = go (r.home == 0)
-        where
-          go : (b : Bool) → HoldsOfNoExtern t (cond b (extern_by s.local r.source (name_of r)) s.local)
-          go true = extern_of r.source (name_of r) g
-          go false = f.local
-
-      leaves : (v : Visit) (rest : List Visit) → s.agenda ≡ v ∷ rest → IsSourced t (after_leave s rest)
-      leaves v rest e = record { map = f.map; local = f.local; visits = left v rest e; reached = f.reached }
-
-      step_keeps : (w : Workspace) (new : State) → Step w finished s new → IsSourced t new
-      step_keeps w new (drops_item v rest next disabled is) = subst (IsSourced t) (sym is) (leaves v rest next)
-      step_keeps w new (passes_over site head l rest next passed is) = subst (IsSourced t) (sym is) (leaves (visit site (leaf head l)) rest next.next)
-      step_keeps w new (declares_item v d rest next declared is) = subst (IsSourced t) (sym is) (record {
-        map = bound_of (with_declared s.map v.site.home d.def) v.site.home d.name d.items (HoldsNowhereIn-listed t s.map v.site.home (listings.Def d.def) f.map)
-            (declares v d (low v rest next.next) (file v rest next.next) declared);
-        local = f.local;
-        visits = left v rest next.next;
-        reached = f.reached;
-      })
-      step_keeps w new (declares_enum site head name rest next is) =
-          let v : Visit = visit site (leaf head (enumeration name)) in
-          let id : EnumId = enum_id s.map site head.id in
-          subst (IsSourced t) (sym is) (record {
-            map = with_type site.home (definitions.AdtId (adts.EnumId id)) name (own_visibility finished s.local s.map site head) (with_enum s.map id (handed_variants w id))
-                (HoldsNowhereIn-enum t s.map id (handed_variants w id) (of_variants id (file v rest next.next) (w.variants id)) f.map)
-                (file v rest next.next) (written site.home (low v rest next.next) head.visibility);
-            local = f.local;
-            visits = left v rest next.next;
-            reached = f.reached;
-          })
-      step_keeps w new (lists_constant site head rest next is) = subst (IsSourced t) (sym is) (record {
-        map = HoldsNowhereIn-listed t s.map site.home (listings.UnnamedConst (const_id s.map site head.id)) f.map;
-        local = f.local;
-        visits = left (visit site (leaf head (constant None))) rest next.next;
-        reached = f.reached;
-      })
-      step_keeps w new (lists_impl site head of_trait rest next is) = subst (IsSourced t) (sym is) (record {
-        map = HoldsNowhereIn-listed t s.map site.home (listings.Impl (impl_id s.map site head.id) of_trait) f.map;
-        local = f.local;
-        visits = left (visit site (leaf head (implementation of_trait))) rest next.next;
-        reached = f.reached;
-      })
-      step_keeps w new (opens_module site head name items rest next is) =
-          let v : Visit = visit site (holder head (inline_module name) items) in
-          let vis : Visibility = own_visibility finished s.local s.map site head in
-          let origin = inline_origin site.file head.id in
-          let made : Map = with_module s.map site.home name (new_module origin vis (Some (module_id s.map site.home))) in
-          subst (IsSourced t) (sym is) (record {
-            map = with_type site.home (definitions.ModuleId (new_id s.map)) name vis made
-                (HoldsNowhereIn-made t s.map site.home name origin vis (Some (module_id s.map site.home)) (file v rest next.next) f.map)
-                refl (written site.home (low v rest next.next) head.visibility);
-            local = f.local;
-            visits = none_joined (on_site t) (visits (inside_module s.map site) items) rest (site_visits (inside_module s.map site) (file v rest next.next) items) (left v rest next.next);
-            reached = f.reached;
-          })
-      step_keeps w new (enters_block site head items rest next is) =
-          let v : Visit = visit site (holder head extern_block items) in
-          subst (IsSourced t) (sym is) (record {
-            map = HoldsNowhereIn-listed t s.map site.home (listings.ExternBlock (extern_block_id s.map site head.id)) f.map;
-            local = f.local;
-            visits = none_joined (on_site t) (visits (inside_block s.map site head) items) rest (site_visits (inside_block s.map site head) (file v rest next.next) items) (left v rest next.next);
-            reached = f.reached;
-          })
-      step_keeps w new (reaches_imports site head tree rest next is) =
-          let v : Visit = visit site (leaf head (import tree)) in
-          subst (IsSourced t) (sym is) (record {
-            map = HoldsNowhereIn-listed t s.map site.home (listings.Use (use_id s.map site head.id)) f.map;
-            local = f.local;
-            visits = left v rest next.next;
-            reached = none_joined (on_reached t) s.reached (imports_by s.map site head tree) f.reached (use_imports s.map site head (file v rest next.next) (imports_of tree));
-          })
-      step_keeps w new (reaches_crate site head name alias rest next is) =
-          let v : Visit = visit site (leaf head (extern_crate name alias)) in
-          let noted : ReachedImport = crate_import s.map s.dependencies site head name alias in
-          subst (IsSourced t) (sym is) (record {
-            map = HoldsNowhereIn-listed t s.map site.home (listings.ExternCrate (extern_crate_id s.map site head.id)) f.map;
-            local = externs_after noted (file v rest next.next);
-            visits = left v rest next.next;
-            reached = none_more (on_reached t) s.reached noted f.reached (file v rest next.next);
-          })
-      step_keeps w new (takes_import i r taken can is) = subst (IsSourced t) (sym is) (record {
-        map = takes r (imports_at s.reached i r names.imports can.import) (none_at (on_reached t) s.reached f.reached i r can.import) (name_of r);
-        local = f.local;
-        visits = f.visits;
-        reached = f.reached;
-      })
+      sourced-Step : (w : Workspace) (new : State) → Step w finished s new → IsSourced t new
+      sourced-Step w new step =
+          let first : IsSourced t (asking s step.rule) = record { map = f.map; local = f.local; visits = f.visits; reached = f.reached } in
+          let done = perform_keeps (IsSourced t) BringsNone sourced-act (acts finished s step.rule) (asking s step.rule) first (brings_none step.rule step.may) in
+          subst (IsSourced t) (sym step.is) (record { map = done.map; local = done.local; visits = done.visits; reached = done.reached })
 
     -- so are all states to which steps lead, as far as the test holds of no module there
-    all_sourced : (w : Workspace) (from to : State) → NamesWhatIsThere finished from → IsSourced t from → Steps w finished from to → ShowsThere t finished to.map → IsSourced t to
-    all_sourced w from to names first none shown = first
-    all_sourced w from to names first (more old new before last) shown =
-        let earlier : ShowsThere t finished old.map = λ m e. shown m (stays_there finished old.map new.map (step_id last) (Grows-Step last) m e) in
-        step_keeps old (steps_keep paths finished whole w from old names before) earlier (all_sourced w from old names first before earlier) w new last
+    all_sourced : (w : Workspace) (from to : State) → IsInRange from → NamesWhatIsThere finished from → IsSourced t from → Steps w finished from to → ShowsThere t finished to.core.map → IsSourced t to
+    all_sourced w from to inside names first none shown = first
+    all_sourced w from to inside names first (more old new before last) shown =
+        let earlier : ShowsThere t finished old.core.map = λ m e. shown m (stays_there finished old.core.map new.core.map (id-Step last) (Grows-Step last) m e) in
+        sourced-Step old (in_range-Steps before inside) (steps_keep paths finished whole w from old inside names before) earlier (all_sourced w from old inside names first before earlier) w new last
 
   -- ---- where a run begins
 
@@ -570,6 +516,6 @@ module _ (t : SourceTest) where
       let names : NamesWhatIsThere finished from = subst (λ (x : Maps). NamesWhatIsThere finished (start_of w x start)) (sym same) (begins paths finished whole w start stands) in
       let first : IsSourced t from = first_sourced (read_by w all start) w start clear.written in
       let derived : Steps w finished from e.end = subst (λ (x : Maps). Steps w x from e.end) same e.derived in
-      let shown : ShowsThere t finished e.end.map = subst (λ (m : Map). ShowsThere t finished m) e.map_is clear.shown in
-      let end : IsSourced t e.end = all_sourced answers paths finished whole clear.read w from e.end names first derived shown in
+      let shown : ShowsThere t finished e.end.core.map = subst (λ (m : Map). ShowsThere t finished m) e.map_is clear.shown in
+      let end : IsSourced t e.end = all_sourced answers paths finished whole clear.read w from e.end (in_range-start w (read_by w all start) start) names first derived shown in
       (subst (HoldsNowhereIn t) (sym e.map_is) end.map, subst (HoldsOfNoExtern t) (sym e.local_is) end.local)

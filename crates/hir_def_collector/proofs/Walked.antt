@@ -1,5 +1,5 @@
 -- The walk, step by step.
-use Rattle.std.proofs.Common.{◌≡◌, ◌∙◌, ℕ, zero, suc, ◌+◌, ◌<◌, ◌≤◌, true, false, List, [], ◌∷◌, ◌++◌, length, drop, get_or, map, slice_get, slice_index_or, Option, Some, None, refl, sym, ap, subst, arith, append_assoc}
+use Rattle.std.proofs.Common.{◌≡◌, ◌∙◌, ℕ, zero, suc, ◌+◌, ◌<◌, ◌≤◌, true, false, List, [], ◌∷◌, ◌++◌, length, drop, get_or, map, slice_get, slice_index_or, Option, Some, None, refl, sym, ap, subst, arith, append-nil, append_assoc}
 use Rattle.std.specs.List.{All}
 use Rattle.std.specs.Option.{IfSome}
 use Rattle.std.proofs.lemmas.List.Elements.{All-head, All-tail}
@@ -22,9 +22,11 @@ use Rattle.hir_def_collector.specs.Steps.{Steps, none, drops_item, passes_over, 
 use Rattle.hir_def_collector.specs.TreeReads.{visits_at, above}
 use Rattle.hir_def_collector.specs.Derivation.{IsFull, IsSpent}
 use Rattle.hir_def_collector.specs.Moves.{Handles, Walks, WalksTooFar}
-use Rattle.hir_def_collector.proofs.Lists.{drop_at}
+use Rattle.hir_def_collector.proofs.Lists.{drop_at, get_there}
 use Rattle.hir_def_collector.proofs.Moves.{Steps-append, Steps-one, Steps-first, spent_after}
+use Rattle.hir_def_collector.proofs.Made.{Goes, made}
 use Rattle.hir_def_collector.proofs.Grows.{Grows-Step, Grows-Steps}
+use Rattle.hir_def_collector.proofs.Progress.{goes_next}
 
 -- a workspace without crates and sources
 abbrev pub no_workspace : Workspace
@@ -133,11 +135,6 @@ still_there-counted old new n is h = rw is h
 
 -- ---- one item
 
-there_at : {A : Type 0} (xs : List A) (n : ℕ) → n < length xs → (x : A) × (slice_get xs n ≡ Some x)
-there_at [] n h = absurd (omega arith)
-there_at (x ∷ xs) zero h = (x, refl)
-there_at (x ∷ xs) (suc n) h = there_at xs n (omega arith)
-
 found : {A : Type 0} (o : Option A) (x : A) (P : A → Type 0) → o ≡ Some x → IfSome o P → P x
 found o x P e h = let p : IfSome (Some x) P = subst (λ (q : Option _). IfSome q P) e h in p
 
@@ -148,7 +145,7 @@ module _ (tree : Tree) (site : Site) (n : ℕ) (h : Head) (c : Content) where
       → visits_at tree site (n ∷ []) ≡ visit site (item_of (all_items tree.items) h c) ∷ []
   visits_one there head content =
       let items = all_items tree.items in
-      let i = there_at items n there in
+      let i = get_there items n there in
       let same_head : h ≡ item_head i.0 = found (slice_get items n) i.0 (λ i. h ≡ item_head i) i.1 head in
       let same : item_of items (item_head i.0) c ≡ i.0 = found (slice_get items n) i.0 (λ i. item_of items (item_head i) c ≡ i) i.1 content in
       let whole : item_of items h c ≡ i.0 = ap (λ (g : Head). item_of items g c) same_head ∙ same in
@@ -170,15 +167,25 @@ WalksTooFar-inside {w} {finished} old mid v vs inside e handles far = record {
       (spent_after (Steps-one (handles.step rest)) (far.spent rest));
 }
 
--- as many as are counted were taken already
-pub WalksTooFar-here : {w : Workspace} {finished : Maps} (old : Core) (vs : List Visit) → IsFull old.count old.map → WalksTooFar w finished old vs
-WalksTooFar-here old vs full = record { spent = λ rest. record { at = joined old (vs ++ rest); steps = none; full = full } }
+-- as many as are counted were taken already, and the item has its rule
+pub WalksTooFar-here : {w : Workspace} {finished : Maps} (tree : Tree) (site : Site) (n : ℕ) (old : Core) → n < length (all_items tree.items) → IsFull old.count old.map
+    → WalksTooFar w finished old (visits_at tree site (n ∷ []))
+WalksTooFar-here {w} {finished} tree site n old there full =
+    let i = get_there (all_items tree.items) n there in
+    let one : visits_at tree site (n ∷ []) ≡ visit site i.0 ∷ [] = ap (λ (o : Option KeptItem). visits site (and_found o no_items)) i.1 in
+    record {
+      spent = λ rest.
+          let here : State = joined old (visit site i.0 ∷ rest) in
+          let on : Goes w finished here = goes_next w finished here site rest i.0 refl in
+          let spent : IsSpent w finished here = record { at = here; steps = none; next = on.next; step = on.step; full = full } in
+          subst (λ (us : List Visit). IsSpent w finished (joined old (us ++ rest))) (sym one) spent;
+    }
 
 -- an item of which the rules don't speak yet is passed over
 pub passed : {w : Workspace} {finished : Maps} (site : Site) (h : Head) (l : Leaf) (old new : Core) → is_enabled h.attributes ≡ true → is_passed_over l ≡ true → new ≡ counted old
     → Handles w finished old new (visit site (leaf h l)) []
 passed site h l old new enabled over is = record {
-  step = λ rest. passes_over site h l rest (record { next = refl; enabled = enabled }) over (rw is refl);
+  step = λ rest. made (passes_over site h l rest) (record { here = record { next = refl; enabled = enabled }; passed = over }) tt (rw is refl);
 }
 
 -- a disabled item is dropped
@@ -186,21 +193,17 @@ pub Walks-dropped : {w : Workspace} {finished : Maps} (tree : Tree) (site : Site
     → is_enabled h.attributes ≡ false → new ≡ counted old → Walks w finished old new (visits_at tree site (n ∷ []))
 Walks-dropped {w} {finished} tree site n h old new there head disabled is =
     let items = all_items tree.items in
-    let i = there_at items n there in
+    let i = get_there items n there in
     let same_head : h ≡ item_head i.0 = found (slice_get items n) i.0 (λ i. h ≡ item_head i) i.1 head in
     let off : is_enabled (item_head i.0).attributes ≡ false = ap (λ (g : Head). is_enabled g.attributes) (sym same_head) ∙ disabled in
     let one : visits_at tree site (n ∷ []) ≡ visit site i.0 ∷ [] = ap (λ (o : Option KeptItem). visits site (and_found o no_items)) i.1 in
     record {
       steps = λ rest.
           subst (λ (us : List Visit). Steps w finished (joined old (us ++ rest)) (joined new rest)) (sym one)
-          (Steps-one (drops_item (visit site i.0) rest refl off (rw is refl)));
+          (Steps-one (made (drops_item (visit site i.0) rest) (record { next = refl; disabled = off }) tt (rw is refl)));
     }
 
 -- ---- the start
-
-append_nil : (vs : List Visit) → vs ++ [] ≡ vs
-append_nil [] = refl
-append_nil (v ∷ vs) = ap (λ (us : List Visit). v ∷ us) (append_nil vs)
 
 disabled_visits : (site : Site) (tree : Tree) → is_enabled tree.attributes ≡ false → tree_visits site tree ≡ []
 disabled_visits site tree e = rw e refl
@@ -216,7 +219,7 @@ module _ (w : Workspace) (finished : Maps) (site : Site) (tree : Tree) (old : Co
   -- of another its items are
   module _ (ids : List ModItemId) (enabled : is_enabled tree.attributes ≡ true) (all : items_at (all_items tree.items) (numbers_of ids) ≡ tree.items) where
     present_visits : visits_at tree site (numbers_of ids) ++ [] ≡ tree_visits site tree
-    present_visits = append_nil (visits_at tree site (numbers_of ids)) ∙ ap (visits site) all ∙ sym (enabled_visits site tree enabled)
+    present_visits = append-nil (visits_at tree site (numbers_of ids)) ∙ ap (visits site) all ∙ sym (enabled_visits site tree enabled)
 
     pub walks_present : (new : Core) → Walks w finished old new (visits_at tree site (numbers_of ids)) → Steps w finished (joined old (tree_visits site tree)) (at_rest new)
     walks_present new walks = subst (λ (vs : List Visit). Steps w finished (joined old vs) (at_rest new)) present_visits (walks.steps [])

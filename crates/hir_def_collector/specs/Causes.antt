@@ -24,6 +24,6 @@ pub data HasCause (w : Workspace) (start : Start) (end : State) (key : Key) : Ty
   -- it is the root file's tree
   root_file : key ≡ root_key start → HasCause w start end key
   -- it is the variants of an enum that a module lists
-  declared_enum : (home : ℕ) (id : EnumId) → Contains (declarations_of (module_at end.map home)) (definitions.AdtId (adts.EnumId id)) → key ≡ Variants id → HasCause w start end key
+  declared_enum : (home : ℕ) (id : EnumId) → Contains (declarations_of (module_at end.core.map home)) (definitions.AdtId (adts.EnumId id)) → key ≡ Variants id → HasCause w start end key
   -- it is the map of a crate on which the run's crate stands
   dependency : (krate : Crate) → Contains (behind_in w start.krate) krate → key ≡ map_key krate → HasCause w start end key

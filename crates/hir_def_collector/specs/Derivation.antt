@@ -2,7 +2,7 @@
 use Rattle.std.specs.Prelude.{◌≡◌, ◌≤◌, ◌⊎◌, ℕ, Bool, false, List, [], ◌∷◌, ◌++◌, length, Option, None, Some, slice_get, Contains, cond}
 use Rattle.hir_scope.specs.declared.imports.ImportOrExternCrate.{ImportOrExternCrate}
 use Rattle.hir_def_map.specs.Among.{among}
-use Rattle.hir_def_map.specs.State.{Local, Map, Maps, entry_at}
+use Rattle.hir_def_map.specs.State.{Local, Map, Maps, crate_map, entry_at}
 use Rattle.hir_def_collector.specs.declared.collector.Start.{Start}
 use Rattle.hir_def_collector.specs.declared.collector.imports.ReachedImport.{ReachedImport}
 use Rattle.hir_def_collector.specs.declared.collector.imports.Taken.{Taken}
@@ -11,21 +11,21 @@ use Rattle.hir_def_collector.specs.declared.source_database.Key.{Key}
 use Rattle.hir_def_collector.specs.Workspace.{Workspace, behind_in}
 use Rattle.hir_def_collector.specs.Keys.{map_keys}
 use Rattle.hir_def_collector.specs.State.{State}
-use Rattle.hir_def_collector.specs.Imports.{reached_by, kept_by, namespaces_of, AreAmong, is_empty, name_of, way_of}
+use Rattle.hir_def_collector.specs.Imports.{reached_by, kept_by_kind, kind_of, namespaces_of, AreAmong, is_empty, name_of, way_of}
 use Rattle.hir_def_collector.specs.Start.{start_of}
-use Rattle.hir_def_collector.specs.Steps.{Steps}
+use Rattle.hir_def_collector.specs.Steps.{Step, Steps}
 use Rattle.hir_def_collector.specs.Causes.{HasCause}
 
 -- the import at the place reaches nothing that its takings didn't reach
 pub record IsSettled (finished : Maps) (s : State) (i : ℕ) : Type 0 where
-  pub among : (r : ReachedImport) (t : Taken) → slice_get s.reached i ≡ Some r → slice_get s.taken i ≡ Some t
-      → AreAmong (namespaces_of (reached_by finished s.local s.map r)) t.namespaces
+  pub among : (r : ReachedImport) (t : Taken) → slice_get s.core.reached i ≡ Some r → slice_get s.core.taken i ≡ Some t
+      → AreAmong (namespaces_of (reached_by finished s.core.local s.core.map r)) t.namespaces
 
--- under the name that the import at the place gives, its module binds each namespace that the import keeps of those that it
--- reaches, unless a taking of it was answered through another crate
+-- under the name that the import at the place gives, its module binds each namespace that its path reaches and that imports of
+-- its kind bring, unless a taking of it was answered through another crate
 pub record BindsWhatItReaches (finished : Maps) (s : State) (i : ℕ) : Type 0 where
-  pub binds : (r : ReachedImport) (t : Taken) (name : List ℕ) → slice_get s.reached i ≡ Some r → slice_get s.taken i ≡ Some t → t.crossed ≡ false
-      → name_of r ≡ Some name → AreAmong (namespaces_of (kept_by finished s.local s.map r)) (namespaces_of (entry_at s.map r.home name))
+  pub binds : (r : ReachedImport) (t : Taken) (name : List ℕ) → slice_get s.core.reached i ≡ Some r → slice_get s.core.taken i ≡ Some t → t.crossed ≡ false
+      → name_of r ≡ Some name → AreAmong (namespaces_of (kept_by_kind (kind_of r.source) (reached_by finished s.core.local s.core.map r))) (namespaces_of (entry_at s.core.map r.home name))
 
 -- the imports that were never taken
 abbrev pub leftover_among : List ReachedImport → List Taken → List ImportOrExternCrate
@@ -68,10 +68,12 @@ pub record Ends (w : Workspace) (finished : Maps) (start : Start) (answer : Coll
   pub visited : end.agenda ≡ []
   pub settled : (i : ℕ) → IsSettled (read_by w finished start) end i
   pub binds : (i : ℕ) → BindsWhatItReaches (read_by w finished start) end i
-  pub map_is : answer.map ≡ end.map
-  pub local_is : answer.local ≡ end.local
-  pub leftover_is : answer.leftover ≡ leftover_among end.reached end.taken
-  pub asked_is : answer.asked ≡ end.asked
+  -- it is the map of the start's crate
+  pub own : answer.map.id ≡ crate_map start.krate
+  pub map_is : answer.map ≡ end.core.map
+  pub local_is : answer.local ≡ end.core.local
+  pub leftover_is : answer.leftover ≡ leftover_among end.core.reached end.core.taken
+  pub asked_is : answer.asked ≡ end.core.asked
   -- the map stands on the crates on which its crate does, so each of their maps was asked for
   pub behind_is : answer.map.crate_data.dependencies ≡ behind_in w start.krate
   pub caused : (key : Key) → Contains (keys_of answer) key → HasCause w start end key
@@ -80,11 +82,13 @@ pub record Ends (w : Workspace) (finished : Maps) (start : Start) (answer : Coll
 abbrev pub IsFull : ℕ → Map → Type 0
 IsFull count m = (STEP_LIMIT ≤ count) ⊎ (STEP_LIMIT ≤ length m.modules)
 
--- steps lead on from here to as many as are counted
+-- steps lead on from here to as many as are counted, and one more may be taken there
 pub record IsSpent (w : Workspace) (finished : Maps) (from : State) : Type 0 where
   pub at : State
   pub steps : Steps w finished from at
-  pub full : IsFull at.count at.map
+  pub next : State
+  pub step : Step w finished at next
+  pub full : IsFull at.core.count at.core.map
 
 -- so they do from the start of a run
 abbrev pub IsOverlong : Workspace → Maps → Start → Type 0

@@ -8,7 +8,6 @@ use Rattle.hir_base.specs.declared.ids.EnumId.{EnumId}
 use Rattle.hir_item_tree.specs.declared.side_lists.VariantItem.{VariantItem}
 use Rattle.hir_def_map.specs.State.{Variants, at_name, with_name}
 use Rattle.hir_def_map.specs.declared.nameres.enum_variants.EnumVariant.{EnumVariant}
-use Rattle.hir_def_collector.specs.Workspace.{Workspace}
 
 -- a variant of an enum
 abbrev pub variant_of : EnumId → VariantItem → EnumVariant
@@ -35,7 +34,3 @@ LastVariantPrevails = (id : EnumId) (items : List VariantItem) (name : List ℕ)
 abbrev pub variants_of : EnumId → Option (List VariantItem) → Variants
 variants_of id None = []
 variants_of id (Some items) = variants_by_name id items
-
--- those that a workspace hands in
-abbrev pub handed_variants : Workspace → EnumId → Variants
-handed_variants w id = variants_of id (w.variants id)

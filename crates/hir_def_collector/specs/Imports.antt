@@ -1,5 +1,5 @@
 -- What a reached import brings.
-use Rattle.std.specs.Prelude.{◌≡◌, ◌==◌, ℕ, ◌-◌, length, Bool, true, false, ◌||◌, ◌&&◌, not, is_some, List, [], ◌∷◌, Option, None, Some, map, option_map, unwrap_or, slice_get, cond}
+use Rattle.std.specs.Prelude.{◌≡◌, ◌==◌, ℕ, ◌-◌, length, Bool, true, false, ◌||◌, ◌&&◌, not, is_none, is_some, List, [], ◌∷◌, Option, None, Some, map, option_map, unwrap_or, slice_get, cond}
 use Rattle.std.specs.Option.{option_and_then}
 use Rattle.std.specs.Str.{bytes_eq}
 use Rattle.hir_base.specs.ModPath.{Path}
@@ -114,9 +114,9 @@ extern_by local (sources.ExternCrate id None) name = local
 extern_by local (sources.ExternCrate id (Some krate)) None = local
 extern_by local (sources.ExternCrate id (Some krate)) (Some name) = with_name local name (crate_root krate, Some id)
 
--- an `extern crate` of the crate's root module gives a crate its name there
-abbrev pub extern_after : Local → ReachedImport → Local
-extern_after local i = cond (i.home == 0) (extern_by local i.source (name_of i)) local
+-- an `extern crate` of the crate's root module gives a crate its name there; the root of a block's map is none
+abbrev pub extern_after : Map → Local → ReachedImport → Local
+extern_after m local i = cond ((i.home == 0) && is_none m.id.block) (extern_by local i.source (name_of i)) local
 
 -- what a path means that an import of the module names
 unfoldable pub answer_in : Maps → Local → Map → ModuleId → Path → Resolution
@@ -230,10 +230,10 @@ pushing source = option_map way_of source
 abbrev pub bound_in : Map → ℕ → List ℕ → PerNs → Option ImportSource → Map
 bound_in m home name items source = pushed m no_globs home name items (pushing source)
 
--- the same under the name that an import gives, if it gives one
-abbrev pub bound_as : Map → ℕ → Option (List ℕ) → PerNs → ImportSource → Map
+-- the same under a name that there may be
+abbrev pub bound_as : Map → ℕ → Option (List ℕ) → PerNs → Option ImportSource → Map
 bound_as m home None items source = m
-bound_as m home (Some name) items source = bound_in m home name items (Some source)
+bound_as m home (Some name) items source = bound_in m home name items source
 
 -- what an import offers
 abbrev pub offered_by : Maps → Local → Map → ReachedImport → PerNs
@@ -241,7 +241,7 @@ offered_by finished local m i = imported finished m (visibility_in finished loca
 
 -- the map once the import is taken
 abbrev pub after_import : Maps → Local → Map → ReachedImport → Map
-after_import finished local m i = bound_as m i.home (name_of i) (offered_by finished local m i) i.source
+after_import finished local m i = bound_as m i.home (name_of i) (offered_by finished local m i) (Some i.source)
 
 -- what takings reached, one with this answer among them
 abbrev pub taken_after : Taken → Resolution → Taken

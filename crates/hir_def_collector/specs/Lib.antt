@@ -1,20 +1,27 @@
-pub mod BuiltinAttributes
+-- ---- what is handed in, and what a run may ask for
 pub mod Workspace
 pub mod Keys
+-- ---- where a run stands, and where it begins
 pub mod State
-pub mod Codes
+pub mod CrateTop
+pub mod Preludes
+pub mod Start
+-- ---- what items declare, and what imports bring
 pub mod ItemIds
 pub mod Items
 pub mod Enums
 pub mod Imports
-pub mod CrateTop
-pub mod Preludes
-pub mod Start
-pub mod TreeReads
+pub mod BuiltinAttributes
+-- ---- the rules
+pub mod Changes
 pub mod Steps
-pub mod Causes
+-- ---- what a run comes to
 pub mod Derivation
-pub mod CollectedCodes
-pub mod Moves
+pub mod Causes
 pub mod Whole
 pub mod Sources
+-- ---- words of private code
+pub mod Moves
+pub mod TreeReads
+pub mod Codes
+pub mod CollectedCodes

@@ -13,7 +13,7 @@ use Rattle.hir_def_collector.specs.Derivation.{IsSpent}
 -- a part of a run takes steps, at least one where it says that it moved; else none, at a state of which P holds
 pub record Moves (w : Workspace) (finished : Maps) (old new : State) (moved : Bool) (P : State → Type 0) : Type 0 where
   pub steps : Steps w finished old new
-  pub rises : moved ≡ true → old.count < new.count
+  pub rises : moved ≡ true → old.core.count < new.core.count
   pub same : moved ≡ false → new ≡ old
   pub rests : moved ≡ false → P old
 

@@ -14,16 +14,14 @@ pub record Visit : Type 0 where
   pub site : Site
   pub item : KeptItem
 
--- where a run stands
-pub record State : Type 0 where
+-- where a run stands, what it has still to visit aside
+pub record Core : Type 0 where
   -- the modules so far, and what each binds
   pub map : Map
   -- the crates that paths may begin with
   pub local : Local
   -- the crates that an `extern crate` may name: those on which the crate depends, in the order in which they were handed in
   pub dependencies : List Dependency
-  -- what is still to be visited, the next item first
-  pub agenda : List Visit
   -- the imports that were come upon, in order
   pub reached : List ReachedImport
   -- for each of them what its takings reached
@@ -33,15 +31,11 @@ pub record State : Type 0 where
   -- how many steps were taken
   pub count : ℕ
 
--- the same, the agenda aside
-pub record Core : Type 0 where
-  pub map : Map
-  pub local : Local
-  pub dependencies : List Dependency
-  pub reached : List ReachedImport
-  pub taken : List Taken
-  pub asked : List Key
-  pub count : ℕ
+-- where a run stands
+pub record State : Type 0 where
+  pub core : Core
+  -- what is still to be visited, the next item first
+  pub agenda : List Visit
 
 -- no namespace
 abbrev pub no_namespaces : Namespaces
@@ -57,16 +51,7 @@ not_taken imports = map (λ _. nothing_taken) imports
 
 -- a core and what is still to be visited
 abbrev pub joined : Core → List Visit → State
-joined c agenda = record {
-  map = c.map;
-  local = c.local;
-  dependencies = c.dependencies;
-  agenda = agenda;
-  reached = c.reached;
-  taken = c.taken;
-  asked = c.asked;
-  count = c.count;
-}
+joined c agenda = record { core = c; agenda = agenda }
 
 -- the core with another map, with other crates that paths may begin with, with more imports, with other takings at a place, with one more step
 abbrev pub with_map : Core → Map → Core
@@ -99,4 +84,4 @@ visits site (item i is) = record { site = site; item = i } ∷ visits site is
 
 -- the state with one more step counted
 abbrev pub ticked : State → State
-ticked s = record s { count = s.count + 1 }
+ticked s = record s { core = counted s.core }

@@ -1,4 +1,14 @@
 //! Runs of the import rules, after rust-analyzer's `DefCollector`.
+//!
+//! A run begins with the crate's root module, and with the items of its root file on a worklist. The first item is taken off and
+//! handled by the rule of its kind: a definition is listed and bound under its name, an inline module is made and its items
+//! come next, a `use` adds its imports to those that wait. When the worklist is empty the imports are tried in the order in
+//! which they were found, pass by pass, until a pass binds nothing more.
+//!
+//! The one difficulty: a path can come to reach more, or something else, as names get bound. So an import is bound again
+//! whenever its path reaches a namespace that it hadn't reached, which happens three times at most, and a run ends. What it
+//! comes to isn't told by this loop but by the rules in `specs/Steps`: each function below makes one step by a rule, and the
+//! whole is a derivation to which no step can be added.
 ghost use Rattle.std.specs.Prelude.{◌≡◌, ◌<◌, IfOk, OnOk, length, option_map};
 ghost use Rattle.hir_item_tree.specs.Collected.{is_enabled};
 ghost use Rattle.hir_def_map.specs.Parts.{part_of};

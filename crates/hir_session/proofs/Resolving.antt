@@ -1,22 +1,15 @@
 -- What a run gives for a crate is its resolution, where all on which the crate stands is current.
 use Rattle.std.specs.Prelude.{is_some, map}
 use Rattle.std.specs.List.{list_any}
-use Rattle.std.proofs.Common.{◌≡◌, ℕ, zero, suc, ◌<◌, Bool, true, false, List, [], ◌∷◌, length, arith, not, Option, Some, None, refl, sym, ap, ◌∙◌, subst, Contains}
+use Rattle.std.proofs.Common.{◌≡◌, ℕ, zero, suc, ◌<◌, Bool, true, false, List, [], ◌∷◌, length, arith, not, Option, Some, None, refl, sym, ap, subst, Contains}
 use Rattle.hir_base.specs.declared.ids.Crate.{Crate}
 use Rattle.hir_def_map.specs.Among.{among}
 use Rattle.hir_def_map.specs.Complete.{AreWhole, BeginsOnly, Extends, NamesOnly}
 use Rattle.hir_def_map.specs.Named.{crate_map, is_complete, is_missing, test_crate}
-use Rattle.hir_def_map.specs.State.{Map, Maps, beside}
+use Rattle.hir_def_map.specs.State.{Maps, beside}
 use Rattle.hir_def_collector.specs.Derivation.{Ends, read_by}
-use Rattle.hir_def_collector.specs.Imports.{bound_as, name_of, offered_by}
-use Rattle.hir_def_collector.specs.State.{State}
-use Rattle.hir_def_collector.specs.Steps.{Step, Steps}
-use Rattle.hir_def_collector.specs.Steps.Step.{drops_item, passes_over, declares_item, declares_enum, lists_constant, lists_impl, opens_module, enters_block, reaches_imports, reaches_crate, takes_import}
-use Rattle.hir_def_collector.specs.Steps.Steps.{none as no_step, more as one_more}
 use Rattle.hir_def_collector.specs.Whole.{RunsNameWhatIsThere, StandsOnWhole}
-use Rattle.hir_def_collector.specs.Workspace.{Workspace}
 use Rattle.hir_def_collector.specs.declared.collector.Start.{Start}
-use Rattle.hir_def_collector.specs.declared.collector.imports.ReachedImport.{ReachedImport}
 use Rattle.hir_def_collector.specs.declared.source_database.Dependency.{Dependency}
 use Rattle.hir_session.specs.Behind.{has_crate}
 use Rattle.hir_session.specs.Crates.{behind_in, crate_in}
@@ -25,33 +18,6 @@ use Rattle.hir_session.specs.StandsOn.StandsOn.{directly}
 use Rattle.hir_session.proofs.Names.{Extends-behind, IsKeptWhole, joins, whole-among}
 use Rattle.hir_session.proofs.Truth.{on_bool}
 use Rattle.hir_session.proofs.Worlds.{AgreeOn-refl, StandsOn-below, StandsOn-trans, has_listed, own_behind, own_dependencies}
-
--- ---- a run leaves the map that it began with its id
-
-id_bound : (m : Map) (home : ℕ) (name : Option (List ℕ)) (finished : Maps) (s : State) (r : ReachedImport)
-    → (bound_as m home name (offered_by finished s.local s.map r) r.source).id ≡ m.id
-id_bound m home None finished s r = refl
-id_bound m home (Some name) finished s r = refl
-
-Step-id : {w : Workspace} {finished : Maps} {old new : State} → Step w finished old new → new.map.id ≡ old.map.id
-Step-id (drops_item v rest next disabled is) = ap (λ (s : State). s.map.id) is
-Step-id (passes_over site head l rest next passed is) = ap (λ (s : State). s.map.id) is
-Step-id (declares_item v d rest next declared is) = ap (λ (s : State). s.map.id) is
-Step-id (declares_enum site head name rest next is) = ap (λ (s : State). s.map.id) is
-Step-id (lists_constant site head rest next is) = ap (λ (s : State). s.map.id) is
-Step-id (lists_impl site head of_trait rest next is) = ap (λ (s : State). s.map.id) is
-Step-id (opens_module site head name items rest next is) = ap (λ (s : State). s.map.id) is
-Step-id (enters_block site head items rest next is) = ap (λ (s : State). s.map.id) is
-Step-id (reaches_imports site head tree rest next is) = ap (λ (s : State). s.map.id) is
-Step-id (reaches_crate site head name a rest next is) = ap (λ (s : State). s.map.id) is
-Step-id {finished = finished} {old} (takes_import i r t can is) = ap (λ (s : State). s.map.id) is ∙ id_bound old.map r.home (name_of r) finished old r
-
-Steps-id : {w : Workspace} {finished : Maps} {from to : State} → Steps w finished from to → to.map.id ≡ from.map.id
-Steps-id no_step = refl
-Steps-id (one_more old new earlier last) = Step-id last ∙ Steps-id earlier
-
-Ends-id : {w : Workspace} {finished : Maps} {start : Start} {r : Resolution} → Ends w finished start r → r.map.id ≡ crate_map start.krate
-Ends-id e = ap (λ (m : Map). m.id) e.map_is ∙ Steps-id e.derived
 
 -- ---- what a session keeps
 
@@ -130,7 +96,7 @@ resolution_of s k sound first r law resolved =
     (subst (λ (maps : Maps). StandsOnWhole (workspace_of s) maps (start_of s k)) same (stands_on_whole s k sound unmarked)) ended in
     record {
       resolved = resolved;
-      own = Ends-id ended;
+      own = ended.own;
       names = subst (λ (maps : Maps). NamesOnly (beside maps r.map) r.map) (sym same) there.0;
       begins = subst (λ (maps : Maps). BeginsOnly (beside maps r.map) r.local) (sym same) there.1;
     }

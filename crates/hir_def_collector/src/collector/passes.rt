@@ -17,7 +17,7 @@ use hir_def_map::world::part::WorldPart;
 fn take(run: &mut Run, world: WorldPart<'_>, i: usize, taking: Taking) -> Result<(), CollectError>
     requires due { taking_at (part_of world) run.old i ≡ Some taking }
     ensures ok { OnOk result ((w : Workspace) → Step w (part_of world.entry) (at_rest run.old) (at_rest run.new)) }
-    ensures many { result ≡ Err CollectError.TooMany → STEP_LIMIT ≤ run.old.count }
+    ensures many { result ≡ Err CollectError.TooMany → (w : Workspace) → IsSpent w (part_of world.entry) (at_rest run.old) }
 {
     run.bind_as(taking.home, taking.name, taking.items, taking.source)?;
     run.note(i, taking.taken);
@@ -28,7 +28,7 @@ fn take(run: &mut Run, world: WorldPart<'_>, i: usize, taking: Taking) -> Result
 /// Takes the import at the place, if its path reaches a namespace that no taking of it reached; whether it did.
 fn try_import(run: &mut Run, world: WorldPart<'_>, i: usize) -> Result<bool, CollectError>
     ensures ok { IfOk result (λ moved. (w : Workspace) → Moves w (part_of world.entry) (at_rest run.old) (at_rest run.new) moved (λ s. IsSettled (part_of world.entry) s i)) }
-    ensures many { result ≡ Err CollectError.TooMany → STEP_LIMIT ≤ run.old.count }
+    ensures many { result ≡ Err CollectError.TooMany → (w : Workspace) → IsSpent w (part_of world.entry) (at_rest run.old) }
 {
     let Some(taking) = run.taking(world, i)? else {
         return Ok(false);

@@ -1,6 +1,6 @@
 //! Where a run stands, and what each change leaves.
 ghost use Rattle.std.specs.Prelude.{◌≡◌, ◌<◌, ◌≤◌, length, OnOk, IfOk};
-ghost use Rattle.std.specs.Prelude.{◌∷◌, []};
+ghost use Rattle.std.specs.Prelude.{◌∷◌, [], Some};
 ghost use Rattle.hir_def_map.specs.State.{with_enum, with_module, new_id, new_module, with_declared, with_use, with_impl, with_extern_block, with_extern_crate, with_unnamed_const};
 ghost use Rattle.hir_def_map.specs.Parts.{part_of};
 ghost use Rattle.hir_def_collector.specs.State.{with_local, with_asked, with_map, with_imports, with_taken, counted};
@@ -235,7 +235,7 @@ impl Run {
         items: PerNs,
         source: ImportSource,
     ) -> Result<(), AllocError>
-        ensures ok { OnOk result (self.new ≡ with_map self.old (bound_as self.old.map home name items source)) }
+        ensures ok { OnOk result (self.new ≡ with_map self.old (bound_as self.old.map home name items (Some source))) }
     {
         match name {
             Some(name) => self.bind(home, name, items, Some(source)),
@@ -331,9 +331,9 @@ impl Run {
 
     /// Lets paths begin with the name of an `extern crate` of the crate's root module.
     pub fn add_extern(&mut self, import: &ReachedImport) -> Result<(), AllocError>
-        ensures ok { OnOk result (self.new ≡ with_local self.old (extern_after self.old.local import.now)) }
+        ensures ok { OnOk result (self.new ≡ with_local self.old (extern_after self.old.map self.old.local import.now)) }
     {
-        if import.home != 0 {
+        if import.home != 0 || self.map.id().block.is_some() {
             return Ok(());
         }
         let ImportSource::ExternCrate {

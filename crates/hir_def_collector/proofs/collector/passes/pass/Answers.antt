@@ -1,6 +1,6 @@
-use Rattle.std.proofs.Common.{◌≤◌, length, arith, below_more, inl, rules}
+use Rattle.std.proofs.Common.{◌≤◌, length, arith, below_more, rules}
 use Rattle.hir_def_collector.specs.State.{at_rest}
-use Rattle.hir_def_collector.proofs.Moves.{Moves-none, Moves-join, Moves-map}
+use Rattle.hir_def_collector.proofs.Moves.{Moves-none, Moves-join, Moves-map, spent_after}
 use Rattle.hir_def_collector.proofs.Settled.{settled_all}
 use Rattle.hir_def_collector.proofs.collector.passes.pass.Goals as goal
 
@@ -15,4 +15,4 @@ returns-clause-ok c = λ w.
     Moves-map (λ p. settled_all (at_rest c.args.run.now) c.loop-i.i (let long : length c.args.run.now.reached ≤ c.loop-i.i = omega arith in long) p) (c.loop-i.invariant w)
 
 pub returns-in_err-moved-clause-many : goal.returns-in_err-moved-clause-many
-returns-in_err-moved-clause-many c h = λ w. record { at = at_rest c.loop-i.run; steps = (c.loop-i.invariant w).steps; full = inl (c.in_err-moved.ensures.many (search rules)) }
+returns-in_err-moved-clause-many c h = λ w. spent_after (c.loop-i.invariant w).steps (c.in_err-moved.ensures.many (search rules) w)

@@ -43,14 +43,14 @@ pub walk_all-returns-clause-ok : goal.walk_all-returns-clause-ok
 walk_all-returns-clause-ok g t c = Walks-all c.args.tree.now c.args.site (g.D.SourceDatabase.workspace c.args.db.now) (part_of c.args.world) c.args.ids.now c.args.run.now c.loop-id.run c.loop-id.id-index c.loop-id-test.false c.loop-id.invariant.walked
 
 pub walk_item-returns-in_err-tick-clause-many : goal.walk_item-returns-in_err-tick-clause-many
-walk_item-returns-in_err-tick-clause-many g t c h = WalksTooFar-here c.args.run.now _ (inl (c.in_err-tick.ensures.many (search rules)))
+walk_item-returns-in_err-tick-clause-many g t c h = WalksTooFar-here c.args.tree.now c.args.site c.args.id.0 c.args.run.now c.requires.there (inl (c.in_err-tick.ensures.many (search rules)))
 
 pub walk_item-returns-then-not-is_enabled-clause-ok : goal.walk_item-returns-then-not-is_enabled-clause-ok
 walk_item-returns-then-not-is_enabled-clause-ok g t c =
     Walks-dropped c.args.tree.now c.args.site c.args.id.0 (head_of c.head_at-head.result) c.args.run.now c.tick.new.self c.requires.there c.head_at-head.ensures.value (first_of (search rules, grind arith, cc)) c.in_ok-tick.ensures.ok
 
 pub walk_item-returns-in_err-inside-clause-many : goal.walk_item-returns-in_err-inside-clause-many
-walk_item-returns-in_err-inside-clause-many g t c h = WalksTooFar-here c.args.run.now _ (c.in_err-inside.ensures.many (search rules))
+walk_item-returns-in_err-inside-clause-many g t c h = WalksTooFar-here c.args.tree.now c.args.site c.args.id.0 c.args.run.now c.requires.there (c.in_err-inside.ensures.many (search rules))
 
 pub walk_item-walk_all-requires : goal.walk_item-walk_all-requires
 walk_item-walk_all-requires g t c =

@@ -4,13 +4,14 @@ use Rattle.hir_def_collector.specs.ItemIds.{extern_block_id}
 use Rattle.hir_def_collector.specs.State.{counted, with_map}
 use Rattle.hir_def_collector.specs.TreeReads.{head_of}
 use Rattle.hir_def_collector.specs.Steps.{enters_block}
+use Rattle.hir_def_collector.proofs.Made.{made}
 use Rattle.hir_def_collector.proofs.Grows.{longer_by_block}
 use Rattle.hir_def_collector.proofs.collector.walk.enter.Goals as goal
 
 pub returns-clause-ok : goal.returns-clause-ok
 returns-clause-ok c = λ w finished items. record {
   step = λ rest.
-      enters_block c.args.site (head_of c.args.head) items rest (record { next = refl; enabled = c.requires.enabled })
+      made (enters_block c.args.site (head_of c.args.head) items rest) (record { next = refl; enabled = c.requires.enabled }) tt
       (rw (c.in_ok-tick.ensures.ok, c.in_ok-list_extern_block.ensures.ok, c.module_id.ensures.value) refl);
 }
 

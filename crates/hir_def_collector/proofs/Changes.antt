@@ -1,0 +1,85 @@
+-- What no change alters, and what changes keep that each of them keeps.
+use Rattle.std.proofs.Common.{◌≡◌, ◌∙◌, ◌+◌, ◌++◌, ℕ, List, [], ◌∷◌, None, Some, refl, sym, ap, append-nil, append_assoc}
+use Rattle.hir_def_map.specs.State.{Maps}
+use Rattle.hir_def_collector.specs.declared.source_database.Key.{Key}
+use Rattle.hir_def_collector.specs.Workspace.{Workspace}
+use Rattle.hir_def_collector.specs.State.{State}
+use Rattle.hir_def_collector.specs.Changes.{Change, lists, pushes, makes, gives_variants, begins_paths, reaches, takes, goes_on, act, perform}
+use Rattle.hir_def_collector.specs.Steps.{Step, Steps, none, more, acts, asking, keys_read, reads, with_keys}
+
+-- ---- what no change alters
+
+pub record Keeps (old new : State) : Type 0 where
+  pub count : new.core.count ≡ old.core.count
+  pub id : new.core.map.id ≡ old.core.map.id
+  pub crate_data : new.core.map.crate_data ≡ old.core.map.crate_data
+  pub dependencies : new.core.dependencies ≡ old.core.dependencies
+  pub asked : new.core.asked ≡ old.core.asked
+
+Keeps-trans : {a b c : State} → Keeps a b → Keeps b c → Keeps a c
+Keeps-trans p q = record {
+  count = q.count ∙ p.count;
+  id = q.id ∙ p.id;
+  crate_data = q.crate_data ∙ p.crate_data;
+  dependencies = q.dependencies ∙ p.dependencies;
+  asked = q.asked ∙ p.asked;
+}
+
+pub Keeps-act : (s : State) (c : Change) → Keeps s (act s c)
+Keeps-act s (lists home d) = record { count = refl; id = refl; crate_data = refl; dependencies = refl; asked = refl }
+Keeps-act s (pushes home None items source) = record { count = refl; id = refl; crate_data = refl; dependencies = refl; asked = refl }
+Keeps-act s (pushes home (Some name) items source) = record { count = refl; id = refl; crate_data = refl; dependencies = refl; asked = refl }
+Keeps-act s (makes home name origin visibility) = record { count = refl; id = refl; crate_data = refl; dependencies = refl; asked = refl }
+Keeps-act s (gives_variants id variants) = record { count = refl; id = refl; crate_data = refl; dependencies = refl; asked = refl }
+Keeps-act s (begins_paths r) = record { count = refl; id = refl; crate_data = refl; dependencies = refl; asked = refl }
+Keeps-act s (reaches rs) = record { count = refl; id = refl; crate_data = refl; dependencies = refl; asked = refl }
+Keeps-act s (takes i t) = record { count = refl; id = refl; crate_data = refl; dependencies = refl; asked = refl }
+Keeps-act s (goes_on visits) = record { count = refl; id = refl; crate_data = refl; dependencies = refl; asked = refl }
+
+Keeps-perform : (cs : List Change) (s : State) → Keeps s (perform s cs)
+Keeps-perform [] s = record { count = refl; id = refl; crate_data = refl; dependencies = refl; asked = refl }
+Keeps-perform (c ∷ cs) s = Keeps-trans (Keeps-act s c) (Keeps-perform cs (act s c))
+
+-- ---- what each change keeps, where it is fine in the state in which it is made
+
+abbrev pub AllFine : (State → Change → Type 0) → State → List Change → Type 0
+AllFine Fine s [] = Unit {0}
+AllFine Fine s (c ∷ cs) = Fine s c × AllFine Fine (act s c) cs
+
+pub perform_keeps : (P : State → Type 0) (Fine : State → Change → Type 0) → ((s : State) (c : Change) → P s → Fine s c → P (act s c))
+    → (cs : List Change) (s : State) → P s → AllFine Fine s cs → P (perform s cs)
+perform_keeps P Fine keeps [] s p fine = p
+perform_keeps P Fine keeps (c ∷ cs) s p fine = perform_keeps P Fine keeps cs (act s c) (keeps s c p fine.0) fine.1
+
+-- ---- steps
+
+joined_keys : (asked others : List Key) → with_keys asked others ≡ asked ++ others
+joined_keys asked [] = sym (append-nil asked)
+joined_keys asked (key ∷ others) = joined_keys (asked ++ key ∷ []) others ∙ append_assoc asked (key ∷ []) others
+
+module _ {w : Workspace} {finished : Maps} {old new : State} (step : Step w finished old new) where
+  performed : Keeps (asking old step.rule) (perform (asking old step.rule) (acts finished old step.rule))
+  performed = Keeps-perform (acts finished old step.rule) (asking old step.rule)
+
+  -- each step is counted
+  pub count-Step : new.core.count ≡ old.core.count + 1
+  count-Step = ap (λ (s : State). s.core.count) step.is ∙ ap (λ (n : ℕ). n + 1) performed.count
+
+  -- a step leaves the map's id, and the crate's data
+  pub id-Step : new.core.map.id ≡ old.core.map.id
+  id-Step = ap (λ (s : State). s.core.map.id) step.is ∙ performed.id
+
+  data-Step : new.core.map.crate_data ≡ old.core.map.crate_data
+  data-Step = ap (λ (s : State). s.core.map.crate_data) step.is ∙ performed.crate_data
+
+  -- it asks for what its rule reads
+  pub asked-Step : new.core.asked ≡ old.core.asked ++ keys_read (reads old step.rule)
+  asked-Step = ap (λ (s : State). s.core.asked) step.is ∙ performed.asked ∙ joined_keys old.core.asked (keys_read (reads old step.rule))
+
+pub data-Steps : {w : Workspace} {finished : Maps} {from to : State} → Steps w finished from to → to.core.map.crate_data ≡ from.core.map.crate_data
+data-Steps none = refl
+data-Steps (more old new before step) = data-Step step ∙ data-Steps before
+
+pub id-Steps : {w : Workspace} {finished : Maps} {from to : State} → Steps w finished from to → to.core.map.id ≡ from.core.map.id
+id-Steps none = refl
+id-Steps (more old new before step) = id-Step step ∙ id-Steps before
