@@ -76,7 +76,7 @@ use Rattle.hir_def_collector.proofs.Whole.{NamesWhatIsThere, begins, steps_keep}
 -- ---- what is written at sites, and what brings bindings
 
 abbrev pub on_site : SourceTest → Visit → Bool
-on_site t v = t.holder v.site.file None
+on_site t v = t.holder v.site.tree.file v.site.tree.block
 
 abbrev pub on_reached : SourceTest → ReachedImport → Bool
 on_reached t r = on_import t (way_of r.source)
@@ -113,18 +113,18 @@ stays_there finished old new same grows m e =
 -- ---- lists
 
 module _ (t : SourceTest) where
-  site_visits : (s : Site) → t.holder s.file None ≡ false → (is : KeptForest) → list_any (on_site t) (visits s is) ≡ false
+  site_visits : (s : Site) → t.holder s.tree.file s.tree.block ≡ false → (is : KeptForest) → list_any (on_site t) (visits s is) ≡ false
   site_visits s f no_items = refl
-  site_visits s f (item i is) = neither (t.holder s.file None) (list_any (on_site t) (visits s is)) f (site_visits s f is)
+  site_visits s f (item i is) = neither (t.holder s.tree.file s.tree.block) (list_any (on_site t) (visits s is)) f (site_visits s f is)
 
-  next_visits : (vs : List Visit) (v : Visit) (rest : List Visit) → list_any (on_site t) vs ≡ false → vs ≡ v ∷ rest → (t.holder v.site.file None ≡ false) × (list_any (on_site t) rest ≡ false)
+  next_visits : (vs : List Visit) (v : Visit) (rest : List Visit) → list_any (on_site t) vs ≡ false → vs ≡ v ∷ rest → (t.holder v.site.tree.file v.site.tree.block ≡ false) × (list_any (on_site t) rest ≡ false)
   next_visits vs v rest f e =
       let both : list_any (on_site t) (v ∷ rest) ≡ false = subst (λ (xs : List Visit). list_any (on_site t) xs ≡ false) e f in
       (not_first (on_site t v) (list_any (on_site t) rest) both, not_second (on_site t v) (list_any (on_site t) rest) both)
 
-  use_imports : (m : Map) (s : Site) (head : Head) → t.holder s.file None ≡ false → (is : List Import) → list_any (on_reached t) (list_map (reached_import s.home (use_id m s head.id) head.visibility) is) ≡ false
+  use_imports : (m : Map) (s : Site) (head : Head) → t.holder s.tree.file s.tree.block ≡ false → (is : List Import) → list_any (on_reached t) (list_map (reached_import s.home (use_id m s head.id) head.visibility) is) ≡ false
   use_imports m s head f [] = refl
-  use_imports m s head f (i ∷ is) = neither (t.holder s.file None) (list_any (on_reached t) (list_map (reached_import s.home (use_id m s head.id) head.visibility) is)) f (use_imports m s head f is)
+  use_imports m s head f (i ∷ is) = neither (t.holder s.tree.file s.tree.block) (list_any (on_reached t) (list_map (reached_import s.home (use_id m s head.id) head.visibility) is)) f (use_imports m s head f is)
 
   -- ---- bindings
 
@@ -380,13 +380,13 @@ module _ (t : SourceTest) where
       low : (v : Visit) (rest : List Visit) → s.agenda ≡ v ∷ rest → v.site.home < length s.core.map.modules
       low v rest e = next_home s inside v rest e
 
-      file : (v : Visit) (rest : List Visit) → s.agenda ≡ v ∷ rest → t.holder v.site.file None ≡ false
+      file : (v : Visit) (rest : List Visit) → s.agenda ≡ v ∷ rest → t.holder v.site.tree.file v.site.tree.block ≡ false
       file v rest e = (next_visits s.agenda v rest f.visits e).0
 
       left : (v : Visit) (rest : List Visit) → s.agenda ≡ v ∷ rest → list_any (on_site t) rest ≡ false
       left v rest e = (next_visits s.agenda v rest f.visits e).1
 
-      declares : (v : Visit) (d : Declaration) → v.site.home < length s.core.map.modules → t.holder v.site.file None ≡ false → declaration_of finished s.core.local s.core.map v ≡ Some d → HoldsOfNone t d.items
+      declares : (v : Visit) (d : Declaration) → v.site.home < length s.core.map.modules → t.holder v.site.tree.file v.site.tree.block ≡ false → declaration_of finished s.core.local s.core.map v ≡ Some d → HoldsOfNone t d.items
       declares v d below own e = go v.item e
         where
           is_d : (a : Declaration) → HoldsOfNone t a.items → Some a ≡ Some d → HoldsOfNone t d.items
@@ -461,8 +461,8 @@ module _ (t : SourceTest) where
           (none_joined (on_site t) (visits within items) rest (site_visits within (file _ rest may.next) items) (left _ rest may.next), (tt, tt))
       brings_none (reaches_imports site head tree rest) may = (left _ rest may.next, (use_imports s.core.map site head (file _ rest may.next) (imports_of tree), (tt, tt)))
       brings_none (reaches_crate site head name alias rest) may =
-          let own : t.holder site.file None ≡ false = file _ rest may.next in
-          (left _ rest may.next, (own, (neither (t.holder site.file None) false own refl, (tt, tt))))
+          let own : t.holder site.tree.file site.tree.block ≡ false = file _ rest may.next in
+          (left _ rest may.next, (own, (neither (t.holder site.tree.file site.tree.block) false own refl, (tt, tt))))
       brings_none (takes_import i r taken) may =
           let offered = offers r (import_at (length s.core.map.modules) s.core.reached i r inside.imports may.import) in
           ((offered, none_at (on_reached t) s.core.reached f.reached i r may.import), (tt, tt))

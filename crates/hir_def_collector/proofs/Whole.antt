@@ -280,10 +280,10 @@ module _ (paths : PathsLeadToWhatIsThere) (finished : Maps) (whole : AreWhole fi
 
     -- a module that was made, and is listed
     module_made_there : (site : Site) (head : Head) (name : List ℕ) → site.home < count
-        → AreThere (beside finished (with_declared (with_module here site.home name (new_module (inline_origin site.file head.id) (own_visibility finished s.core.local here site head) (Some (module_id here site.home)))) site.home (definitions.ModuleId (new_id here))))
+        → AreThere (beside finished (with_declared (with_module here site.home name (new_module (inline_origin site.tree head.id) (own_visibility finished s.core.local here site head) (Some (module_id here site.home)))) site.home (definitions.ModuleId (new_id here))))
         (declared_module here (own_visibility finished s.core.local here site head))
     module_made_there site head name low =
-        let origin = inline_origin site.file head.id in
+        let origin = inline_origin site.tree head.id in
         let vis : Visibility = own_visibility finished s.core.local here site head in
         let one : Map = with_module here site.home name (new_module origin vis (Some (module_id here site.home))) in
         let listing : Listing = listings.Def (definitions.ModuleId (new_id here)) in

@@ -1,4 +1,4 @@
--- Which definition is an item of a file?
+-- Which definition is an item of a source?
 use Rattle.std.specs.Prelude.{ℕ, Option, None, Some}
 use Rattle.hir_base.specs.declared.ast_id.SyntaxId.{SyntaxId}
 use Rattle.hir_base.specs.declared.ids.ConstId.{ConstId}
@@ -34,38 +34,38 @@ container_of m s = container_by (module_id m s.home) s.extern_block
 
 -- the function, constant, static or type alias of a site that a node writes
 abbrev pub function_id : Map → Site → SyntaxId → FunctionId
-function_id m s id = record { loc = record { container = container_of m s; file_id = s.file; block = None; id = id } }
+function_id m s id = record { loc = record { container = container_of m s; file_id = s.tree.file; block = s.tree.block; id = id } }
 
 abbrev pub const_id : Map → Site → SyntaxId → ConstId
-const_id m s id = record { loc = record { container = container_of m s; file_id = s.file; block = None; id = id } }
+const_id m s id = record { loc = record { container = container_of m s; file_id = s.tree.file; block = s.tree.block; id = id } }
 
 abbrev pub static_id : Map → Site → SyntaxId → StaticId
-static_id m s id = record { loc = record { container = container_of m s; file_id = s.file; block = None; id = id } }
+static_id m s id = record { loc = record { container = container_of m s; file_id = s.tree.file; block = s.tree.block; id = id } }
 
 abbrev pub type_alias_id : Map → Site → SyntaxId → TypeAliasId
-type_alias_id m s id = record { loc = record { container = container_of m s; file_id = s.file; block = None; id = id } }
+type_alias_id m s id = record { loc = record { container = container_of m s; file_id = s.tree.file; block = s.tree.block; id = id } }
 
 -- the struct, union, enum, trait, impl, extern block, `use` item or `extern crate` of a site's module that a node writes
 abbrev pub struct_id : Map → Site → SyntaxId → StructId
-struct_id m s id = record { loc = record { container = module_id m s.home; file_id = s.file; block = None; id = id } }
+struct_id m s id = record { loc = record { container = module_id m s.home; file_id = s.tree.file; block = s.tree.block; id = id } }
 
 abbrev pub union_id : Map → Site → SyntaxId → UnionId
-union_id m s id = record { loc = record { container = module_id m s.home; file_id = s.file; block = None; id = id } }
+union_id m s id = record { loc = record { container = module_id m s.home; file_id = s.tree.file; block = s.tree.block; id = id } }
 
 abbrev pub enum_id : Map → Site → SyntaxId → EnumId
-enum_id m s id = record { loc = record { container = module_id m s.home; file_id = s.file; block = None; id = id } }
+enum_id m s id = record { loc = record { container = module_id m s.home; file_id = s.tree.file; block = s.tree.block; id = id } }
 
 abbrev pub trait_id : Map → Site → SyntaxId → TraitId
-trait_id m s id = record { loc = record { container = module_id m s.home; file_id = s.file; block = None; id = id } }
+trait_id m s id = record { loc = record { container = module_id m s.home; file_id = s.tree.file; block = s.tree.block; id = id } }
 
 abbrev pub impl_id : Map → Site → SyntaxId → ImplId
-impl_id m s id = record { loc = record { container = module_id m s.home; file_id = s.file; block = None; id = id } }
+impl_id m s id = record { loc = record { container = module_id m s.home; file_id = s.tree.file; block = s.tree.block; id = id } }
 
 abbrev pub extern_block_id : Map → Site → SyntaxId → ExternBlockId
-extern_block_id m s id = record { loc = record { container = module_id m s.home; file_id = s.file; block = None; id = id } }
+extern_block_id m s id = record { loc = record { container = module_id m s.home; file_id = s.tree.file; block = s.tree.block; id = id } }
 
 abbrev pub use_id : Map → Site → SyntaxId → UseId
-use_id m s id = record { loc = record { container = module_id m s.home; file_id = s.file; block = None; id = id } }
+use_id m s id = record { loc = record { container = module_id m s.home; file_id = s.tree.file; block = s.tree.block; id = id } }
 
 abbrev pub extern_crate_id : Map → Site → SyntaxId → ExternCrateId
-extern_crate_id m s id = record { loc = record { container = module_id m s.home; file_id = s.file; block = None; id = id } }
+extern_crate_id m s id = record { loc = record { container = module_id m s.home; file_id = s.tree.file; block = s.tree.block; id = id } }

@@ -2,7 +2,6 @@
 use Rattle.std.specs.Prelude.{ℕ, Bool, true, false, List, [], ◌∷◌, Option, None, Some, map, unwrap_or}
 use Rattle.std.specs.Option.{option_and_then}
 use Rattle.hir_base.specs.declared.ast_id.AstKind.TheVariants as kinds
-use Rattle.hir_base.specs.declared.ast_id.HirFileId.{HirFileId}
 use Rattle.hir_base.specs.declared.ast_id.SyntaxId.{SyntaxId}
 use Rattle.hir_base.specs.declared.ids.AdtId.TheVariants as adts
 use Rattle.hir_base.specs.declared.ids.ModuleDefId.{ModuleDefId}
@@ -11,6 +10,7 @@ use Rattle.hir_base.specs.declared.ids.ModuleId.{ModuleId}
 use Rattle.hir_item_tree.specs.KeptForest.{Head, Leaf, import, extern_crate, function, structure, union_structure, enumeration, constant, static_item, trait_item, implementation, type_alias, outline_module, macro_call, macro_rules, macro_def, KeptItem, leaf, holder}
 use Rattle.hir_item_tree.specs.declared.raw_visibility.RawVisibility.{RawVisibility}
 use Rattle.hir_item_tree.specs.declared.shape.FieldsShape.{FieldsShape}
+use Rattle.hir_item_tree.specs.declared.tree_id.TreeId.{TreeId}
 use Rattle.hir_item_tree.specs.declared.shape.FieldsShape.TheVariants.{Record, Tuple, Unit as UnitShape}
 use Rattle.hir_scope.specs.Visibility.{lesser_of}
 use Rattle.hir_scope.specs.declared.per_ns.PerNs.{PerNs}
@@ -127,8 +127,8 @@ abbrev pub declaration_of : Maps → Local → Map → Visit → Option Declarat
 declaration_of finished local m v = declared_by finished local m v.site v.item
 
 -- the origin of a module that is written where it is declared
-abbrev pub inline_origin : HirFileId → SyntaxId → ModuleOrigin
-inline_origin file id = origins.Inline (record { file = file; block = None }) (record { file_id = file; block = None; kind = kinds.Module; id = id })
+abbrev pub inline_origin : TreeId → SyntaxId → ModuleOrigin
+inline_origin tree id = origins.Inline tree (record { file_id = tree.file; block = tree.block; kind = kinds.Module; id = id })
 
 -- ---- what the rules don't speak of yet
 

@@ -24,7 +24,7 @@ root_file start = File start.root
 
 -- where the root file's items are written
 abbrev pub root_site : Start → Site
-root_site start = record { home = 0; file = root_file start; extern_block = None }
+root_site start = record { home = 0; tree = record { file = root_file start; block = None }; extern_block = None }
 
 -- the key of the root file's tree
 abbrev pub root_key : Start → Key

@@ -48,11 +48,11 @@ module_declaration m name vis = record { name = name; def = definitions.ModuleId
 
 -- where the items of the next module of a map are written
 abbrev pub inside_module : Map → Site → Site
-inside_module m s = record { home = length m.modules; file = s.file; extern_block = None }
+inside_module m s = record { home = length m.modules; tree = s.tree; extern_block = None }
 
 -- where the items of an extern block are written
 abbrev pub inside_block : Map → Site → Head → Site
-inside_block m s head = record { home = s.home; file = s.file; extern_block = Some (extern_block_id m s head.id) }
+inside_block m s head = record { home = s.home; tree = s.tree; extern_block = Some (extern_block_id m s head.id) }
 
 -- an item that is written at a site
 abbrev pub visit : Site → KeptItem → Visit
@@ -160,7 +160,7 @@ acts finished s (lists_constant site head rest) = goes_on rest ∷ lists site.ho
 acts finished s (lists_impl site head of_trait rest) = goes_on rest ∷ lists site.home (listings.Impl (impl_id s.core.map site head.id) of_trait) ∷ []
 acts finished s (opens_module site head name items rest) =
     let vis : Visibility = own_visibility finished s.core.local s.core.map site head in
-    makes site.home name (inline_origin site.file head.id) vis ∷ goes_on (visits (inside_module s.core.map site) items ++ rest)
+    makes site.home name (inline_origin site.tree head.id) vis ∷ goes_on (visits (inside_module s.core.map site) items ++ rest)
     ∷ declaring site.home (module_declaration s.core.map name vis)
 acts finished s (enters_block site head items rest) =
     goes_on (visits (inside_block s.core.map site head) items ++ rest) ∷ lists site.home (listings.ExternBlock (extern_block_id s.core.map site head.id)) ∷ []

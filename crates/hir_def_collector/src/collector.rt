@@ -45,6 +45,7 @@ use hir_def_map::nameres::AddModuleError;
 use hir_def_map::world::World;
 use hir_def_map::world::part::WorldPart;
 use hir_item_tree::item_tree::ItemTree;
+use hir_item_tree::tree_id::TreeId;
 use passes::settle;
 use preludes::extern_prelude;
 use run::Run;
@@ -202,7 +203,10 @@ fn walk_root<D: SourceDatabase>(
     }
     let site = Site {
         home: 0,
-        file: HirFileId::File(start.root),
+        tree: TreeId {
+            file: HirFileId::File(start.root),
+            block: None,
+        },
         extern_block: None,
     };
     walk_all(run, db, world, tree, site, tree.top_level_items())?;

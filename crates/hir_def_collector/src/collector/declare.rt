@@ -101,8 +101,8 @@ pub fn declare_function(
     let def = ModuleDefId::FunctionId(FunctionId {
         loc: ItemLoc {
             container: run.container(site),
-            file_id: site.file,
-            block: None,
+            file_id: site.tree.file,
+            block: site.tree.block,
             id: head.id,
         },
     });
@@ -125,8 +125,8 @@ pub fn declare_const(
     let def = ModuleDefId::ConstId(ConstId {
         loc: ItemLoc {
             container: run.container(site),
-            file_id: site.file,
-            block: None,
+            file_id: site.tree.file,
+            block: site.tree.block,
             id: head.id,
         },
     });
@@ -149,8 +149,8 @@ pub fn declare_static(
     let def = ModuleDefId::StaticId(StaticId {
         loc: ItemLoc {
             container: run.container(site),
-            file_id: site.file,
-            block: None,
+            file_id: site.tree.file,
+            block: site.tree.block,
             id: head.id,
         },
     });
@@ -173,8 +173,8 @@ pub fn declare_type_alias(
     let def = ModuleDefId::TypeAliasId(TypeAliasId {
         loc: ItemLoc {
             container: run.container(site),
-            file_id: site.file,
-            block: None,
+            file_id: site.tree.file,
+            block: site.tree.block,
             id: head.id,
         },
     });
@@ -197,8 +197,8 @@ pub fn declare_trait(
     let def = ModuleDefId::TraitId(TraitId {
         loc: ItemLoc {
             container: run.module_id(site.home),
-            file_id: site.file,
-            block: None,
+            file_id: site.tree.file,
+            block: site.tree.block,
             id: head.id,
         },
     });
@@ -221,8 +221,8 @@ pub fn declare_union(
     let def = ModuleDefId::AdtId(AdtId::UnionId(UnionId {
         loc: ItemLoc {
             container: run.module_id(site.home),
-            file_id: site.file,
-            block: None,
+            file_id: site.tree.file,
+            block: site.tree.block,
             id: head.id,
         },
     }));
@@ -310,8 +310,8 @@ pub fn declare_struct(
     let def = ModuleDefId::AdtId(AdtId::StructId(StructId {
         loc: ItemLoc {
             container: at,
-            file_id: site.file,
-            block: None,
+            file_id: site.tree.file,
+            block: site.tree.block,
             id: head.id,
         },
     }));

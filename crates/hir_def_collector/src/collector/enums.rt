@@ -78,8 +78,8 @@ pub fn declare_enum<D: SourceDatabase>(
     let id = EnumId {
         loc: ItemLoc {
             container: run.module_id(site.home),
-            file_id: site.file,
-            block: None,
+            file_id: site.tree.file,
+            block: site.tree.block,
             id: head.id,
         },
     };

@@ -99,8 +99,8 @@ pub fn reach_use(
     let use_ = UseId {
         loc: ItemLoc {
             container: run.module_id(site.home),
-            file_id: site.file,
-            block: None,
+            file_id: site.tree.file,
+            block: site.tree.block,
             id: head.id,
         },
     };
@@ -178,8 +178,8 @@ pub fn reach_extern_crate(
     let id = ExternCrateId {
         loc: ItemLoc {
             container: run.module_id(site.home),
-            file_id: site.file,
-            block: None,
+            file_id: site.tree.file,
+            block: site.tree.block,
             id: head.id,
         },
     };

@@ -4,20 +4,22 @@ ghost use Rattle.hir_item_tree.specs.KeptForest.{all_items};
 ghost use Rattle.hir_item_tree.specs.Kinds.{item_head};
 ghost use Rattle.hir_def_collector.specs.TreeReads.{head_of};
 
-use hir_base::ast_id::{HirFileId, SyntaxId};
+use hir_base::ast_id::SyntaxId;
 use hir_base::ids::ExternBlockId;
 use hir_item_tree::attrs::AttrsOrCfg;
 use hir_item_tree::item_tree::ItemTree;
 use hir_item_tree::kinds::RawVisibilityId;
 use hir_item_tree::raw_visibility::RawVisibility;
 use hir_item_tree::rows::ModItemId;
+use hir_item_tree::tree_id::TreeId;
 
 /// Where an item is written.
 #[derive(Clone, Copy)]
 pub struct Site {
     /// The number of the module that declares it.
     pub home: u32,
-    pub file: HirFileId,
+    /// The source that it is written in.
+    pub tree: TreeId,
     /// The extern block that holds it, if one does.
     pub extern_block: Option<ExternBlockId>,
 }

@@ -33,7 +33,6 @@ use hir_def_map::world::part::WorldPart;
 use hir_item_tree::item_tree::ItemTree;
 use hir_item_tree::kinds::{Mod, ModItemKind, ModKind};
 use hir_item_tree::rows::ModItemId;
-use hir_item_tree::tree_id::TreeId;
 use hir_scope::per_ns::PerNs;
 
 /// Items of a tree that are visited next, and where they are written.
@@ -52,8 +51,8 @@ fn list_const(run: &mut Run, site: Site, head: ItemHead<'_>) -> Result<(), Colle
     let id = ConstId {
         loc: ItemLoc {
             container: run.container(site),
-            file_id: site.file,
-            block: None,
+            file_id: site.tree.file,
+            block: site.tree.block,
             id: head.id,
         },
     };
@@ -95,8 +94,8 @@ fn list_impl(
     let id = ImplId {
         loc: ItemLoc {
             container: run.module_id(site.home),
-            file_id: site.file,
-            block: None,
+            file_id: site.tree.file,
+            block: site.tree.block,
             id: head.id,
         },
     };
@@ -121,10 +120,10 @@ fn open(
     ensures many { result ≡ Err CollectError.TooMany → IsFull run.old.count run.old.map }
 {
     let origin = ModuleOrigin::Inline {
-        definition_tree_id: TreeId::new(site.file, None),
+        definition_tree_id: site.tree,
         definition: AstId {
-            file_id: site.file,
-            block: None,
+            file_id: site.tree.file,
+            block: site.tree.block,
             kind: AstKind::Module,
             id: head.id,
         },
@@ -140,7 +139,7 @@ fn open(
     declare(run, site.home, declaration)?;
     Ok(Site {
         home: made.index,
-        file: site.file,
+        tree: site.tree,
         extern_block: None,
     })
 }
@@ -157,8 +156,8 @@ fn enter(run: &mut Run, site: Site, head: ItemHead<'_>) -> Result<Site, CollectE
     let id = ExternBlockId {
         loc: ItemLoc {
             container: run.module_id(site.home),
-            file_id: site.file,
-            block: None,
+            file_id: site.tree.file,
+            block: site.tree.block,
             id: head.id,
         },
     };
@@ -166,7 +165,7 @@ fn enter(run: &mut Run, site: Site, head: ItemHead<'_>) -> Result<Site, CollectE
     run.tick()?;
     Ok(Site {
         home: site.home,
-        file: site.file,
+        tree: site.tree,
         extern_block: Some(id),
     })
 }

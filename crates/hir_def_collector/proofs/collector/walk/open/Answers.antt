@@ -18,7 +18,7 @@ returns-clause-ok c = λ w items.
     let m : Map = c.args.run.now.map in
     let at : ℕ = c.args.site.home in
     let vis : Visibility = own_visibility (part_of c.args.world) c.args.run.now.local m c.args.site (head_of c.args.head) in
-    let opened : c.declare.new.run ≡ counted (with_map c.args.run.now (with_declaration (with_module m at c.args.name.now (new_module (inline_origin c.args.site.file c.args.head.id) vis (Some (module_id m at)))) at (module_declaration m c.args.name.now vis))) =
+    let opened : c.declare.new.run ≡ counted (with_map c.args.run.now (with_declaration (with_module m at c.args.name.now (new_module (inline_origin c.args.site.tree c.args.head.id) vis (Some (module_id m at)))) at (module_declaration m c.args.name.now vis))) =
     search rules in
     record {
       step = λ rest.
@@ -31,7 +31,7 @@ returns-clause-in_range c =
     let m : Map = c.args.run.now.map in
     let at : ℕ = c.args.site.home in
     let vis : Visibility = own_visibility (part_of c.args.world) c.args.run.now.local m c.args.site (head_of c.args.head) in
-    let opened : c.declare.new.run ≡ counted (with_map c.args.run.now (with_declaration (with_module m at c.args.name.now (new_module (inline_origin c.args.site.file c.args.head.id) vis (Some (module_id m at)))) at (module_declaration m c.args.name.now vis))) =
+    let opened : c.declare.new.run ≡ counted (with_map c.args.run.now (with_declaration (with_module m at c.args.name.now (new_module (inline_origin c.args.site.tree c.args.head.id) vis (Some (module_id m at)))) at (module_declaration m c.args.name.now vis))) =
     search rules in
     let number : c.in_ok-made.made.index ≡ length m.modules = ap (λ (x : ModuleId). x.index) c.in_ok-made.ensures.made in
     subst (λ (n : ℕ). n < length c.declare.new.run.map.modules) (sym number)
