@@ -1,5 +1,5 @@
 -- What a run reads of finished maps is the same where what it asked for is.
-use Rattle.std.proofs.Common.{◌≡◌, ◌∙◌, ℕ, suc, zero, ◌<◌, ◌++◌, List, [], ◌∷◌, length, map, slice_get, Option, None, true, ◌⊎◌, inl, inr, refl, sym, ap, subst, arith, Contains}
+use Rattle.std.proofs.Common.{◌≡◌, ◌∙◌, suc, zero, List, [], ◌∷◌, map, slice_get, Option, None, true, refl, ap, arith, Contains}
 use Rattle.std.specs.List.{list_any}
 use Rattle.std.specs.Cmp.{unsigned_Decides}
 use Rattle.std.proofs.lemmas.Map.Views.{Contains-from_any}
@@ -11,7 +11,7 @@ use Rattle.hir_def_map.specs.State.{Map, Maps, map_in}
 use Rattle.hir_def_collector.specs.declared.collector.Start.{Start}
 use Rattle.hir_def_collector.specs.declared.source_database.Key.{Key}
 use Rattle.hir_def_collector.specs.Workspace.{Workspace, CrateData, TreeLook, behind_in, behind_of, crate_in}
-use Rattle.hir_def_collector.specs.Keys.{Look, of_tree, of_map, of_variants, look, AgreeOn, map_key, map_keys}
+use Rattle.hir_def_collector.specs.Keys.{Look, of_tree, of_map, of_variants, AgreeOn, map_key}
 use Rattle.hir_def_collector.specs.Start.{root_file, root_key}
 use Rattle.hir_def_collector.specs.Derivation.{read_by}
 

@@ -1,5 +1,5 @@
 -- The namespaces that an import keeps of those that its takings reached are bound under its name.
-use Rattle.std.proofs.Common.{◌≡◌, ◌∙◌, ℕ, ◌<◌, Bool, true, false, List, [], ◌∷◌, ◌++◌, length, slice_get, slice_set, Some, inl, inr, refl, sym, ap, subst, arith}
+use Rattle.std.proofs.Common.{◌≡◌, ◌∙◌, ℕ, ◌<◌, Bool, true, false, List, length, slice_get, slice_set, Some, inl, inr, refl, sym, ap, subst, arith}
 use Rattle.std.proofs.lemmas.Bool.{cases_lt}
 use Rattle.hir_item_tree.specs.Collected.{is_enabled}
 use Rattle.hir_item_tree.specs.ItemTree.{Tree}

@@ -1,5 +1,5 @@
 -- What is to be visited, and each import, is of a module that is there.
-use Rattle.std.proofs.Common.{◌≡◌, ℕ, zero, suc, ◌+◌, ◌<◌, ◌≤◌, List, [], ◌∷◌, ◌++◌, length, map as list_map, slice_get, Option, Some, refl, sym, ap, subst, arith}
+use Rattle.std.proofs.Common.{◌≡◌, ℕ, zero, suc, ◌+◌, ◌<◌, ◌≤◌, List, [], ◌∷◌, ◌++◌, length, map as list_map, slice_get, Some, sym, subst, arith}
 use Rattle.hir_base.specs.declared.ids.UseId.{UseId}
 use Rattle.hir_item_tree.specs.KeptForest.{KeptForest, no_items, item}
 use Rattle.hir_item_tree.specs.Imports.{imports_of}
@@ -7,7 +7,6 @@ use Rattle.hir_use_tree.specs.declared.imports.Import.{Import}
 use Rattle.hir_item_tree.specs.declared.raw_visibility.RawVisibility.{RawVisibility}
 use Rattle.hir_def_map.specs.State.{Map, Maps, new_module, with_module}
 use Rattle.hir_def_map.specs.StaysComplete.{length-made}
-use Rattle.hir_scope.specs.declared.visibility.Visibility.{Visibility}
 use Rattle.hir_def_collector.specs.declared.collector.imports.ReachedImport.{ReachedImport}
 use Rattle.hir_def_collector.specs.declared.collector.site.Site.{Site}
 use Rattle.hir_def_collector.specs.Workspace.{Workspace}

@@ -1,15 +1,12 @@
 -- The namespaces that an import keeps of those that it reaches.
-use Rattle.std.proofs.Common.{◌≡◌, Bool, true, false, Option, None, Some, is_some, refl, sym, ap, subst}
+use Rattle.std.proofs.Common.{◌≡◌, Bool, false, refl, sym, ap, subst}
 use Rattle.hir_use_tree.specs.declared.imports.ImportKind.{ImportKind}
 use Rattle.hir_use_tree.specs.declared.imports.ImportKind.TheVariants as kinds
-use Rattle.hir_scope.specs.PerNs.{keep_item, Item}
 use Rattle.hir_scope.specs.declared.per_ns.PerNs.{PerNs}
-use Rattle.hir_scope.specs.declared.visibility.Visibility.{Visibility}
 use Rattle.hir_def_map.specs.Scoping.{Resolution}
 use Rattle.hir_def_collector.specs.declared.collector.imports.Namespaces.{Namespaces}
-use Rattle.hir_def_collector.specs.Imports.{AreAmong, namespaces_of, both_of, is_public, kept_by_kind, kept_of, open_items}
+use Rattle.hir_def_collector.specs.Imports.{AreAmong, namespaces_of, both_of, kept_by_kind, kept_of, open_items}
 use Rattle.hir_def_collector.specs.State.{no_namespaces}
-use Rattle.hir_def_collector.proofs.Bound.{AreAmong-trans}
 
 -- those that an import of this kind keeps
 abbrev pub kept_namespaces : ImportKind → Namespaces → Namespaces

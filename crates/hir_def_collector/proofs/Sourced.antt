@@ -1,5 +1,5 @@
 -- A run binds only what its root file writes, and what the finished maps bind.
-use Rattle.std.specs.Prelude.{◌≡◌, ◌==◌, ◌&&◌, ◌||◌, ℕ, zero, suc, ◌<◌, ◌≤◌, ◌+◌, ◌++◌, List, [], ◌∷◌, length, Bool, true, false, is_some, Option, None, Some, cond, fold, not, is_none, map as list_map, option_and_then, option_map, slice_get, unwrap_or, if◌then◌else◌}
+use Rattle.std.specs.Prelude.{◌≡◌, ◌==◌, ◌&&◌, ◌||◌, ℕ, zero, suc, ◌<◌, ◌≤◌, List, [], ◌∷◌, length, Bool, true, false, is_some, Option, None, Some, cond, fold, not, is_none, map as list_map, option_and_then, option_map, slice_get, unwrap_or, if◌then◌else◌}
 use Rattle.std.specs.List.{list_any}
 use Rattle.std.specs.Ordering.{nat_cmp}
 use Rattle.std.specs.Cmp.Lexicographic.{slice_cmp}
@@ -15,7 +15,7 @@ use Rattle.hir_base.specs.declared.ids.ModuleId.{ModuleId}
 use Rattle.hir_base.specs.declared.macro_kind.MacroId.{MacroId}
 use Rattle.hir_item_tree.specs.Collected.{is_enabled}
 use Rattle.hir_item_tree.specs.Imports.{imports_of}
-use Rattle.hir_item_tree.specs.KeptForest.{Head, Leaf, KeptItem, KeptForest, extern_block, inline_module, leaf, holder, item, no_items, import, extern_crate, function, structure, union_structure, enumeration, constant, static_item, trait_item, implementation, type_alias, outline_module, macro_call, macro_rules, macro_def}
+use Rattle.hir_item_tree.specs.KeptForest.{Head, Leaf, KeptItem, KeptForest, leaf, holder, item, no_items, import, extern_crate, function, structure, union_structure, enumeration, constant, static_item, trait_item, implementation, type_alias, outline_module, macro_call, macro_rules, macro_def}
 use Rattle.hir_use_tree.specs.declared.imports.Import.{Import}
 use Rattle.hir_item_tree.specs.declared.raw_visibility.RawVisibility.{RawVisibility}
 use Rattle.hir_item_tree.specs.declared.raw_visibility.RawVisibility.TheVariants as raws
@@ -36,16 +36,14 @@ use Rattle.hir_scope.specs.declared.visibility.Visibility.TheVariants as visibil
 use Rattle.hir_def_map.specs.Chains.{above_in}
 use Rattle.hir_def_map.specs.Closed.{AreThere, IsClosed, IsThere, ModuleIsThere, PathsLeadToWhatIsThere, TypeIsThere}
 use Rattle.hir_def_map.specs.Complete.{AreWhole}
-use Rattle.hir_def_map.specs.Declaration.{listed}
-use Rattle.hir_def_map.proofs.NoneOf.{neither, none_at, none_inserted, none_more, not_first, not_second}
+use Rattle.hir_def_map.specs.NoneOf.{neither, none_at, none_inserted, not_first, not_second}
 use Rattle.hir_def_map.specs.Reaches.{by_import}
 use Rattle.hir_def_map.specs.Scoping.{Resolution, resolution_of}
 use Rattle.hir_def_map.specs.Sources.{HoldsNowhere, HoldsNowhereIn, HoldsOfNone, HoldsOfNoExtern, PathsAnswerFromSources, SourceTest, on_def, on_extern_entry, on_import, on_macro, on_macro_item, on_origin, on_some, on_type, on_value, on_value_def, on_value_import, on_values, on_variant, on_visibility}
-use Rattle.hir_def_map.specs.State.{CrateData, Local, Map, Maps, Placed, Variants, beside, crate_root, module_at, module_in, new_id, new_module, no_globs, placed_in, root_of, with_declared, with_enum, with_module, with_name}
-use Rattle.hir_def_map.proofs.StaysComplete.{IsClosed-beside, LocalIsThere-begins, module_there}
-use Rattle.hir_def_map.proofs.StaysSourced.{HoldsNowhere-beside, HoldsNowhereIn-enum, HoldsNowhereIn-listed, HoldsNowhereIn-made, HoldsNowhereIn-prelude, HoldsNowhereIn-pushed}
+use Rattle.hir_def_map.specs.State.{CrateData, Local, Map, Maps, Placed, Variants, beside, crate_root, module_at, module_in, new_id, no_globs, placed_in, root_of, with_name}
+use Rattle.hir_def_map.specs.StaysComplete.{IsClosed-beside, LocalIsThere-begins, module_there}
+use Rattle.hir_def_map.specs.StaysSourced.{HoldsNowhere-beside, HoldsNowhereIn-enum, HoldsNowhereIn-listed, HoldsNowhereIn-made, HoldsNowhereIn-prelude, HoldsNowhereIn-pushed}
 use Rattle.hir_def_map.specs.Visibilities.{by_visibility, module_seen, path_seen, type_seen}
-use Rattle.hir_def_map.specs.declared.nameres.declaration.Declaration.TheVariants as listings
 use Rattle.hir_def_collector.specs.declared.collector.Start.{Start}
 use Rattle.hir_def_collector.specs.declared.collector.declaration.Declaration.{Declaration}
 use Rattle.hir_def_collector.specs.declared.collector.imports.ImportSource.{ImportSource}
@@ -55,9 +53,9 @@ use Rattle.hir_def_collector.specs.declared.collector.site.Site.{Site}
 use Rattle.hir_def_collector.specs.declared.source_database.Dependency.{Dependency}
 use Rattle.hir_def_collector.specs.Derivation.{CollectedValue, Ends, begin_of, read_by}
 use Rattle.hir_def_collector.specs.Enums.{variant_of, variants_of, with_variant}
-use Rattle.hir_def_collector.specs.Imports.{answer_by_kind, answer_by_source, answer_in, answer_to, bound_as, bound_in, brought, brought_type, crate_import, extern_after, extern_by, imported, imports_by, is_of_extern_crate, is_one_name, is_public, kept_by_kind, kind_of, name_of, offered_by, open_items, pushing, reached_import, way_of}
-use Rattle.hir_def_collector.specs.ItemIds.{const_id, enum_id, extern_block_id, extern_crate_id, impl_id, module_id, use_id}
-use Rattle.hir_def_collector.specs.Items.{constructor_of, declaration_of, declared_by, declared_by_leaf, declared_struct, declared_type, inline_origin, lesser_in, meet_of, own_visibility, visibility_in}
+use Rattle.hir_def_collector.specs.Imports.{answer_by_kind, answer_by_source, answer_in, answer_to, brought, brought_type, extern_by, imported, is_of_extern_crate, is_one_name, is_public, kept_by_kind, kind_of, name_of, offered_by, open_items, pushing, reached_import, way_of}
+use Rattle.hir_def_collector.specs.ItemIds.{enum_id, module_id, use_id}
+use Rattle.hir_def_collector.specs.Items.{constructor_of, declaration_of, declared_by, declared_by_leaf, declared_struct, declared_type, lesser_in, meet_of, own_visibility, visibility_in}
 use Rattle.hir_def_collector.specs.Preludes.{extern_prelude, joins, prelude_of, with_dependency}
 use Rattle.hir_def_collector.specs.Sources.{IsClearOf}
 use Rattle.hir_def_collector.specs.Start.{root_file, root_map, root_site, root_tree, start_data, start_of}

@@ -12,7 +12,7 @@ use Rattle.hir_base.specs.declared.ids.Crate.{Crate}
 use Rattle.hir_base.specs.declared.mod_path.PathKind.{PathKind}
 use Rattle.hir_base.specs.declared.mod_path.PathKind.TheVariants as roots
 use Rattle.hir_item_tree.specs.AttrQuery.{is_ident}
-use Rattle.hir_item_tree.specs.Attributes.{Tokens, paths, tokens, derive, Input, literal, parentheses, MetaValue}
+use Rattle.hir_item_tree.specs.Attributes.{paths, tokens, derive, Input, literal, parentheses}
 use Rattle.hir_item_tree.specs.Collected.{Numbered}
 use Rattle.hir_def_map.specs.State.{CrateData}
 

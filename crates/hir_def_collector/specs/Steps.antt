@@ -22,7 +22,7 @@ use Rattle.hir_def_collector.specs.declared.source_database.Key.TheVariants as k
 use Rattle.hir_def_collector.specs.Workspace.{Workspace}
 use Rattle.hir_def_collector.specs.Keys.{Look, of_variants, look}
 use Rattle.hir_def_collector.specs.State.{Visit, State, visits, ticked}
-use Rattle.hir_def_collector.specs.ItemIds.{module_id, const_id, enum_id, impl_id, extern_block_id, extern_crate_id, use_id}
+use Rattle.hir_def_collector.specs.ItemIds.{const_id, enum_id, impl_id, extern_block_id, extern_crate_id, use_id}
 use Rattle.hir_def_collector.specs.Items.{declaration_of, declared_module, inline_origin, is_passed_over, own_visibility, type_declaration}
 use Rattle.hir_def_collector.specs.Enums.{variants_of}
 use Rattle.hir_def_collector.specs.Imports.{answer_to, bound_in, crate_import, imports_by, name_of, offered_by, reached_by, namespaces_of, taken_after, goes_beyond}

@@ -1,5 +1,5 @@
 -- When does a run leave a map that names only what is there?
-use Rattle.std.specs.Prelude.{◌≡◌, Bool, false, true, None}
+use Rattle.std.specs.Prelude.{◌≡◌, false, None}
 use Rattle.std.specs.List.{list_any}
 use Rattle.hir_def_map.specs.Complete.{AreWhole, BeginsOnly, NamesOnly}
 use Rattle.hir_def_map.specs.Named.{crate_map, is_missing, test_crate}
