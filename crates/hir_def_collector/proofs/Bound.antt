@@ -15,7 +15,7 @@ use Rattle.hir_scope.specs.declared.imports.ImportOrExternCrate.{ImportOrExternC
 use Rattle.hir_scope.specs.declared.per_ns.PerNs.{PerNs}
 use Rattle.hir_scope.specs.declared.visibility.Visibility.{Visibility}
 use Rattle.hir_def_map.specs.State.{Map, Maps, ModuleValue, module_at, entry_at, no_globs}
-use Rattle.hir_def_map.specs.Grown.{items_by, entry_at-pushed, entry_at-pushed_other, entry_at-pushed_elsewhere, length-changed}
+use Rattle.hir_def_map.proofs.Grown.{items_by, entry_at-pushed, entry_at-pushed_other, entry_at-pushed_elsewhere, length-changed}
 use Rattle.hir_def_collector.specs.declared.collector.imports.ImportSource.{ImportSource}
 use Rattle.hir_def_collector.specs.declared.collector.imports.ImportSource.TheVariants as sources
 use Rattle.hir_def_collector.specs.declared.collector.imports.Namespaces.{Namespaces}

@@ -8,9 +8,10 @@ use Rattle.hir_scope.specs.declared.per_ns.PerNs.{PerNs}
 use Rattle.hir_scope.specs.declared.visibility.Visibility.{Visibility}
 use Rattle.hir_def_map.specs.State.{Map, Maps, Variants, changed_at, entry_at, module_at, new_id, new_module, no_globs, place_at, pushed_module, with_child, with_declared, with_enum, with_extern_block, with_module, with_module_scope, with_scope}
 use Rattle.hir_def_map.specs.Declaration.{listed}
-use Rattle.hir_def_map.specs.Grown.{entry_at-with_module}
-use Rattle.hir_def_map.specs.Listed.{KeepsNames, KeepsNames-listed}
-use Rattle.hir_def_map.specs.StaysComplete.{length-made}
+use Rattle.hir_def_map.proofs.Grown.{entry_at-with_module}
+use Rattle.hir_def_map.specs.Listed.{KeepsNames}
+use Rattle.hir_def_map.proofs.Listed.{KeepsNames-listed}
+use Rattle.hir_def_map.proofs.StaysComplete.{length-made}
 use Rattle.hir_def_map.specs.declared.nameres.declaration.Declaration.{Declaration as Listing}
 use Rattle.hir_def_map.specs.declared.nameres.declaration.Declaration.TheVariants as declaration
 use Rattle.hir_def_map.specs.declared.nameres.origin.ModuleOrigin.{ModuleOrigin}

@@ -4,7 +4,7 @@ use Rattle.std.proofs.lemmas.Bool.{cases_lt}
 use Rattle.hir_item_tree.specs.Collected.{is_enabled}
 use Rattle.hir_item_tree.specs.ItemTree.{Tree}
 use Rattle.hir_item_tree.specs.KeptForest.{KeptForest, no_items, item}
-use Rattle.hir_def_map.specs.NoneOf.{not_first, not_second}
+use Rattle.hir_def_map.proofs.NoneOf.{not_first, not_second}
 use Rattle.hir_def_map.specs.State.{Local, Map, Maps, entry_at}
 use Rattle.hir_scope.specs.declared.per_ns.PerNs.{PerNs}
 use Rattle.hir_def_map.specs.Scoping.{Resolution}

@@ -6,7 +6,7 @@ use Rattle.hir_item_tree.specs.Imports.{imports_of}
 use Rattle.hir_use_tree.specs.declared.imports.Import.{Import}
 use Rattle.hir_item_tree.specs.declared.raw_visibility.RawVisibility.{RawVisibility}
 use Rattle.hir_def_map.specs.State.{Map, Maps, new_module, with_module}
-use Rattle.hir_def_map.specs.StaysComplete.{length-made}
+use Rattle.hir_def_map.proofs.StaysComplete.{length-made}
 use Rattle.hir_def_collector.specs.declared.collector.imports.ReachedImport.{ReachedImport}
 use Rattle.hir_def_collector.specs.declared.collector.site.Site.{Site}
 use Rattle.hir_def_collector.specs.Workspace.{Workspace}

@@ -36,13 +36,13 @@ use Rattle.hir_scope.specs.declared.visibility.Visibility.TheVariants as visibil
 use Rattle.hir_def_map.specs.Chains.{above_in}
 use Rattle.hir_def_map.specs.Closed.{AreThere, IsClosed, IsThere, ModuleIsThere, PathsLeadToWhatIsThere, TypeIsThere}
 use Rattle.hir_def_map.specs.Complete.{AreWhole}
-use Rattle.hir_def_map.specs.NoneOf.{neither, none_at, none_inserted, not_first, not_second}
+use Rattle.hir_def_map.proofs.NoneOf.{neither, none_at, none_inserted, not_first, not_second}
 use Rattle.hir_def_map.specs.Reaches.{by_import}
 use Rattle.hir_def_map.specs.Scoping.{Resolution, resolution_of}
 use Rattle.hir_def_map.specs.Sources.{HoldsNowhere, HoldsNowhereIn, HoldsOfNone, HoldsOfNoExtern, PathsAnswerFromSources, SourceTest, on_def, on_extern_entry, on_import, on_macro, on_macro_item, on_origin, on_some, on_type, on_value, on_value_def, on_value_import, on_values, on_variant, on_visibility}
 use Rattle.hir_def_map.specs.State.{CrateData, Local, Map, Maps, Placed, Variants, beside, crate_root, module_at, module_in, new_id, no_globs, placed_in, root_of, with_name}
-use Rattle.hir_def_map.specs.StaysComplete.{IsClosed-beside, LocalIsThere-begins, module_there}
-use Rattle.hir_def_map.specs.StaysSourced.{HoldsNowhere-beside, HoldsNowhereIn-enum, HoldsNowhereIn-listed, HoldsNowhereIn-made, HoldsNowhereIn-prelude, HoldsNowhereIn-pushed}
+use Rattle.hir_def_map.proofs.StaysComplete.{IsClosed-beside, LocalIsThere-begins, module_there}
+use Rattle.hir_def_map.proofs.StaysSourced.{HoldsNowhere-beside, HoldsNowhereIn-enum, HoldsNowhereIn-listed, HoldsNowhereIn-made, HoldsNowhereIn-prelude, HoldsNowhereIn-pushed}
 use Rattle.hir_def_map.specs.Visibilities.{by_visibility, module_seen, path_seen, type_seen}
 use Rattle.hir_def_collector.specs.declared.collector.Start.{Start}
 use Rattle.hir_def_collector.specs.declared.collector.declaration.Declaration.{Declaration}

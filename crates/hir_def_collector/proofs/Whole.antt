@@ -34,17 +34,18 @@ use Rattle.hir_def_map.specs.declared.nameres.declaration.Declaration.{Declarati
 use Rattle.hir_def_map.specs.declared.nameres.origin.ModuleOrigin.TheVariants as origins
 use Rattle.hir_def_map.specs.declared.world.named.Named.{Named}
 use Rattle.hir_def_map.specs.declared.world.named.Named.TheVariants as named
-use Rattle.hir_def_map.specs.NoneOf.{neither, none_at, none_inserted, none_of_less, not_first, not_second}
+use Rattle.hir_def_map.proofs.NoneOf.{neither, none_at, none_inserted, none_of_less, not_first, not_second}
 use Rattle.hir_def_map.specs.Beside.{same_id}
 use Rattle.hir_def_map.specs.Closed.{AreThere, IsThere, PathsLeadToWhatIsThere, TypeIsThere}
-use Rattle.hir_def_map.specs.Complete.{AreWhole, BeginsOnly, BeginsOnly-more, Extends, IsClosed-whole, NamesOnly, none_missing}
+use Rattle.hir_def_map.specs.Complete.{AreWhole, BeginsOnly, Extends, NamesOnly}
+use Rattle.hir_def_map.proofs.Complete.{BeginsOnly-more, IsClosed-whole, none_missing}
 use Rattle.hir_def_map.specs.Declaration.{listed}
 use Rattle.hir_def_map.specs.Named.{crate_map, is_missing, named_by, prelude_named, test_crate, test_of}
 use Rattle.hir_def_map.specs.Reaches.{by_import}
 use Rattle.hir_def_map.specs.Scoping.{Resolution, resolution_of}
 use Rattle.hir_def_map.specs.Scoping.Start.{crate_root}
 use Rattle.hir_def_map.specs.State.{CrateData, IsBefore, Local, Map, Maps, ModuleValue, Variants, beside, new_id, new_module, no_globs, place_at, root_of, with_declared, with_enum, with_name, with_prelude, with_module, with_scope}
-use Rattle.hir_def_map.specs.StaysComplete.{Extends-beside, Extends-grown, Extends-made, Extends-scope, IsClosed-beside, LocalIsThere-begins, NamesOnly-listed, NamesOnly-made, NamesOnly-prelude, NamesOnly-pushed, module_there, new_there}
+use Rattle.hir_def_map.proofs.StaysComplete.{Extends-beside, Extends-grown, Extends-made, Extends-scope, IsClosed-beside, LocalIsThere-begins, NamesOnly-listed, NamesOnly-made, NamesOnly-prelude, NamesOnly-pushed, module_there, new_there}
 use Rattle.hir_def_collector.specs.declared.collector.Start.{Start}
 use Rattle.hir_def_collector.specs.declared.collector.declaration.Declaration.{Declaration}
 use Rattle.hir_def_collector.specs.declared.collector.imports.ImportSource.{ImportSource}
