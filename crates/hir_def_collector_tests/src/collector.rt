@@ -123,6 +123,21 @@ const ENUMS: &str = r#"{"do":"set file","file":"b.rs","unit":{"nodes":[
 {"kind":"Module","id":[4,0],"name":"m","nodes":[
     {"kind":"Enum","id":[5,0],"name":"F","variants":[]}]}]}}"#;
 
+/// `pub mod thing { trait y {} } pub fn thing() {}`
+const TWO_THINGS: &str = r#"{"do":"set file","file":"a.rs","unit":{"nodes":[
+{"kind":"Module","id":[1,0],"name":"thing","vis":"pub","nodes":[
+    {"kind":"Trait","id":[2,0],"name":"y","items":[]}]},
+{"kind":"Fn","id":[3,0],"name":"thing","vis":"pub"}]}}"#;
+
+/// `use u8 as x; use x::y; use core::thing as u8;`
+///
+/// By its second import `y` is the builtin type. Then `x` becomes the other crate's module, in which `y` is a private trait: of a
+/// namespace that was reached already, so nothing is bound again.
+const THROUGH_A_BUILTIN: &str = r#"{"do":"set file","file":"b.rs","unit":{"nodes":[
+{"kind":"Use","id":[1,0],"tree":{"single":"u8","as":"x"}},
+{"kind":"Use","id":[2,0],"tree":{"single":"x::y"}},
+{"kind":"Use","id":[3,0],"tree":{"single":"core::thing","as":"u8"}}]}}"#;
+
 fn root(number: u32) -> EditionedFileId {
     EditionedFileId {
         file_id: FileId(number),
@@ -174,16 +189,16 @@ fn data_of_both(alloc: Global, is_prelude: bool) -> Result<Vec<CrateData>, Fail>
     Ok(crates)
 }
 
-fn roots_of_both(alloc: Global, upper: &str) -> Result<Vec<Source>, Fail> {
-    let mut roots = vec![in alloc; source(alloc, LOWER)?]?;
+fn roots_of_both(alloc: Global, lower: &str, upper: &str) -> Result<Vec<Source>, Fail> {
+    let mut roots = vec![in alloc; source(alloc, lower)?]?;
     roots.push(source(alloc, upper)?)?;
     Ok(roots)
 }
 
 /// Crate 0, and crate 1, which depends on it under the name `core`.
-fn two_crates(alloc: Global, upper: &str, is_prelude: bool) -> Result<Crates, Fail> {
+fn two_crates(alloc: Global, lower: &str, upper: &str, is_prelude: bool) -> Result<Crates, Fail> {
     let crates = data_of_both(alloc, is_prelude)?;
-    let roots = roots_of_both(alloc, upper)?;
+    let roots = roots_of_both(alloc, lower, upper)?;
     Ok(Crates { crates, roots })
 }
 
@@ -212,33 +227,41 @@ fn upper_collected(alloc: Global, db: &Crates) -> Result<Collected, Fail> {
     Ok(collect_defs(alloc, db, &world, start(1))?)
 }
 
-fn collected(alloc: Global, upper: &str, is_prelude: bool) -> Result<Collected, Fail> {
-    let db = two_crates(alloc, upper, is_prelude)?;
+fn collected(alloc: Global, lower: &str, upper: &str, is_prelude: bool) -> Result<Collected, Fail> {
+    let db = two_crates(alloc, lower, upper, is_prelude)?;
     upper_collected(alloc, &db)
 }
 
-/// A source of the upper crate, whether the lower one is marked as its core library, how many imports are left over, and
+/// The sources of the lower and the upper crate, whether the lower one is marked as its core library, how many imports are left over, and
 /// how many keys are asked.
-type Row = (&'static str, &'static str, bool, usize, usize);
+type Row = (&'static str, &'static str, &'static str, bool, usize, usize);
 
-const ROWS: [Row; 5] = [
-    ("marked", UPPER, true, 1, 1),
-    ("unmarked", UPPER, false, 4, 1),
-    ("no core", WITHOUT_CORE, true, 4, 1),
-    ("extern crates", EXTERN, false, 2, 1),
-    ("enums without variants", ENUMS, false, 0, 3),
+const ROWS: [Row; 6] = [
+    ("marked", LOWER, UPPER, true, 1, 1),
+    ("unmarked", LOWER, UPPER, false, 4, 1),
+    ("no core", LOWER, WITHOUT_CORE, true, 4, 1),
+    ("extern crates", LOWER, EXTERN, false, 2, 1),
+    ("enums without variants", LOWER, ENUMS, false, 0, 3),
+    (
+        "through a builtin type",
+        TWO_THINGS,
+        THROUGH_A_BUILTIN,
+        true,
+        0,
+        1,
+    ),
 ];
 
 fn counts(rt: &impl Abort, found: &Collected, row: &Row) {
-    let (label, _, _, leftover, asked) = *row;
+    let (label, _, _, _, leftover, asked) = *row;
     assert_eq!(rt; found.leftover().len(), leftover, "{label}");
     assert_eq!(rt; found.asked().len(), asked, "{label}");
     assert_eq!(rt; found.map().crate_data().dependencies().len(), 1, "{label}");
 }
 
 fn finds(rt: &impl Abort, alloc: Global, row: &Row) -> Result<(), Fail> {
-    let (_, upper, is_prelude, _, _) = *row;
-    let found = collected(alloc, upper, is_prelude)?;
+    let (_, lower, upper, is_prelude, _, _) = *row;
+    let found = collected(alloc, lower, upper, is_prelude)?;
     counts(rt, &found, row);
     Ok(())
 }
@@ -325,4 +348,20 @@ fn lists_of(rt: &impl Abort, alloc: Global, found: &Collected) -> Result<(), Fai
 fn lists(rt: HostRuntime) -> Result<(), Fail> {
     let found = items(rt.alloc())?;
     lists_of(&rt, rt.alloc(), &found)
+}
+
+/// A name that was imported through a builtin type stays what it was as that type's name comes to mean another crate's module.
+#[test]
+fn imported_through_a_builtin(rt: HostRuntime) -> Result<(), Fail> {
+    let found = collected(rt.alloc(), TWO_THINGS, THROUGH_A_BUILTIN, true)?;
+    is_builtin(&rt, rt.alloc(), found.map())
+}
+
+fn is_builtin(rt: &impl Abort, alloc: Global, map: &DefMap) -> Result<(), Fail> {
+    let of_builtin = matches!(
+        entry(alloc, map, "y")?.types.ok_or("a type")?.def,
+        ModuleDefId::BuiltinType(_)
+    );
+    assert!(rt; of_builtin);
+    Ok(())
 }
