@@ -16,7 +16,7 @@ ghost use Rattle.hir_def_map.specs.State.{Maps};
 ghost use Rattle.hir_def_map.specs.World.{finished_in};
 ghost use Rattle.hir_def_collector.specs.Workspace.{Workspace, behind_of, dependencies_of};
 ghost use Rattle.hir_def_collector.specs.Keys.{AgreeOn};
-ghost use Rattle.hir_def_collector.specs.Start.{root_site, root_tree, start_by, tree_visits};
+ghost use Rattle.hir_def_collector.specs.Start.{core_of, root_site, root_tree, start_by, tree_visits};
 ghost use Rattle.hir_def_collector.specs.State.{at_rest, joined};
 ghost use Rattle.hir_def_collector.specs.Steps.{Steps};
 ghost use Rattle.hir_def_collector.specs.Derivation.{CollectedValue, Ends, IsOverlong, IsSpent, keys_of};
@@ -153,6 +153,28 @@ fn cloned(alloc: Global, dependencies: &[Dependency]) -> Result<Vec<Dependency>,
     Ok(copies)
 }
 
+/// The root module with what all modules find, over the tree of its file.
+fn fresh(
+    alloc: Global,
+    world: WorldPart<'_>,
+    tree: &ItemTree,
+    dependencies: &[Dependency],
+    behind: &Rc<BTreeSet<Crate>>,
+    start: Start,
+) -> Result<Run, AllocError>
+    ensures value { IfOk result (λ run. run ≡ core_of (part_of world.entry) tree.now dependencies.now behind.now.value.keys start) }
+{
+    let data = top_data(
+        alloc,
+        start.root.edition,
+        tree.top_level_attrs(),
+        behind.clone()?,
+    )?;
+    let local = extern_prelude(alloc, &data, dependencies)?;
+    let copies = cloned(alloc, dependencies)?;
+    Run::start(alloc, world, data, local, copies, start)
+}
+
 /// The root module with what all modules find, and with all items of its file handled.
 fn begin<D: SourceDatabase>(
     alloc: Global,
@@ -166,15 +188,7 @@ fn begin<D: SourceDatabase>(
     ensures many { result ≡ Err CollectError.TooMany → IsSpent (D.workspace db.now) (part_of world.entry) (start_by (part_of world.entry) (root_tree (D.workspace db.now) start) dependencies.now behind.now.value.keys start) }
 {
     let tree = db.tree(alloc, start.krate, HirFileId::File(start.root))?;
-    let data = top_data(
-        alloc,
-        start.root.edition,
-        tree.top_level_attrs(),
-        behind.clone()?,
-    )?;
-    let local = extern_prelude(alloc, &data, dependencies)?;
-    let dependencies = cloned(alloc, dependencies)?;
-    let mut run = Run::start(alloc, world, data, local, dependencies, start)?;
+    let mut run = fresh(alloc, world, &tree, dependencies, behind, start)?;
     walk_root(&mut run, db, world, &tree, start)?;
     Ok(run)
 }
