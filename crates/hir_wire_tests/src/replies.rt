@@ -5,6 +5,8 @@ use hir_base::ast_id::{AstKind, SyntaxId};
 use hir_base::ids::Crate;
 use hir_base::limit::Limit;
 use hir_wire::{Answer, AnswerItem, AnswerVisibility, Definition, Reply, fixed_text, reply_text};
+use std::alloc::Global;
+use std::process::Abort;
 use std::test::Fail;
 
 const MOST: SyntaxId = SyntaxId {
@@ -12,64 +14,102 @@ const MOST: SyntaxId = SyntaxId {
     index: 2047,
 };
 
-/// Replies, whether each is always the same, and its text.
-const REPLIES: &[(Reply, bool, &str)] = &[
-    (Reply::Memory, true, "{\"error\":\"memory\"}"),
-    (Reply::TooMany, true, "{\"error\":\"too many\"}"),
-    (Reply::NotATrait, true, "{\"error\":\"not a trait\"}"),
-    (Reply::NoSuchImpl, true, "{\"error\":\"no such impl\"}"),
-    (
-        Reply::TooLarge(Limit::Blocks),
-        true,
-        "{\"error\":\"too large\",\"what\":\"blocks\"}",
-    ),
-    (
-        Reply::Answer(Answer {
-            types: Some(AnswerItem {
-                def: Definition::CrateRoot(Crate(7)),
-                import: None,
-                vis: AnswerVisibility::Crate(Crate(4294967295)),
-            }),
-            values: None,
-            macros: None,
-            stop: Some(2),
-        }),
-        false,
-        "{\"ok\":{\"macros\":null,\"stop\":2,\"types\":{\"def\":{\"crate\":7,\"kind\":\"CrateRoot\"},\"import\":null,\"vis\":{\"crate\":4294967295}},\"values\":null}}",
-    ),
-    (
-        Reply::DuplicateId {
-            kind: AstKind::MacroCall,
-            id: MOST,
-        },
-        false,
-        "{\"error\":\"duplicate id\",\"id\":[65535,2047],\"kind\":\"MacroCall\"}",
-    ),
-    (
-        Reply::DuplicateId {
-            kind: AstKind::MacroRules,
-            id: MOST,
-        },
-        false,
-        "{\"error\":\"duplicate id\",\"id\":[65535,2047],\"kind\":\"MacroRules\"}",
-    ),
-    (
-        Reply::DuplicateId {
-            kind: AstKind::MacroDef,
-            id: MOST,
-        },
-        false,
-        "{\"error\":\"duplicate id\",\"id\":[65535,2047],\"kind\":\"MacroDef\"}",
-    ),
-];
+/// Whether a reply is always the same, and its text.
+fn says(
+    rt: &impl Abort,
+    alloc: Global,
+    reply: Reply,
+    is_fixed: bool,
+    expected: &str,
+) -> Result<(), Fail> {
+    let text = reply_text(alloc, &reply)?;
+    is_text(rt, text.as_str(), expected, expected);
+    assert_eq!(rt; fixed_text(&reply).is_some(), is_fixed, "{expected}");
+    Ok(())
+}
 
 #[test]
-fn replies(rt: HostRuntime) -> Result<(), Fail> {
-    for (reply, is_fixed, expected) in REPLIES {
-        let expected = *expected;
-        let text = reply_text(rt.alloc(), reply)?;
-        is_text(&rt, text.as_str(), expected, expected);
-        assert_eq!(rt; fixed_text(reply).is_some(), *is_fixed, "{expected}");
+fn refusals(rt: HostRuntime) -> Result<(), Fail> {
+    says(
+        &rt,
+        rt.alloc(),
+        Reply::Memory,
+        true,
+        "{\"error\":\"memory\"}",
+    )?;
+    says(
+        &rt,
+        rt.alloc(),
+        Reply::TooMany,
+        true,
+        "{\"error\":\"too many\"}",
+    )?;
+    says(
+        &rt,
+        rt.alloc(),
+        Reply::NotATrait,
+        true,
+        "{\"error\":\"not a trait\"}",
+    )?;
+    says(
+        &rt,
+        rt.alloc(),
+        Reply::NoSuchImpl,
+        true,
+        "{\"error\":\"no such impl\"}",
+    )?;
+    let blocks = Reply::TooLarge(Limit::Blocks);
+    says(
+        &rt,
+        rt.alloc(),
+        blocks,
+        true,
+        "{\"error\":\"too large\",\"what\":\"blocks\"}",
+    )
+}
+
+#[test]
+fn repeated_ids(rt: HostRuntime) -> Result<(), Fail> {
+    let rows = [
+        (
+            AstKind::MacroCall,
+            "{\"error\":\"duplicate id\",\"id\":[65535,2047],\"kind\":\"MacroCall\"}",
+        ),
+        (
+            AstKind::MacroRules,
+            "{\"error\":\"duplicate id\",\"id\":[65535,2047],\"kind\":\"MacroRules\"}",
+        ),
+        (
+            AstKind::MacroDef,
+            "{\"error\":\"duplicate id\",\"id\":[65535,2047],\"kind\":\"MacroDef\"}",
+        ),
+    ];
+    for (kind, expected) in rows {
+        says(
+            &rt,
+            rt.alloc(),
+            Reply::DuplicateId { kind, id: MOST },
+            false,
+            expected,
+        )?;
     }
     Ok(())
+}
+
+#[test]
+fn crate_by_its_greatest_number(rt: HostRuntime) -> Result<(), Fail> {
+    let root = AnswerItem {
+        def: Definition::CrateRoot(Crate(7)),
+        import: None,
+        vis: AnswerVisibility::Crate(Crate(4294967295)),
+    };
+    let answer = Answer {
+        types: Some(root),
+        values: None,
+        macros: None,
+        stop: Some(2),
+    };
+    let expected =
+        "{\"ok\":{\"macros\":null,\"stop\":2,\"types\":{\"def\":{\"crate\":7,\"kind\":\"CrateRoot\"},\"import\":null,\"vis\":{\"crate\":4294967295}},\"values\":null}}";
+    says(&rt, rt.alloc(), Reply::Answer(answer), false, expected)
 }
