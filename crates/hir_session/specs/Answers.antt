@@ -23,7 +23,7 @@ use Rattle.hir_wire.specs.declared.reply.Status.TheVariants as status
 use Rattle.hir_session.specs.declared.error.QueryError.{QueryError}
 use Rattle.hir_session.specs.declared.error.QueryError.TheVariants as error
 use Rattle.hir_session.specs.SessionState.{SessionState, Resolution, kept_of, read_of}
-use Rattle.hir_session.specs.Status.{status_of, module_of}
+use Rattle.hir_session.specs.Status.{status_of, map_of, module_of}
 use Rattle.hir_session.specs.SourceItems.{answered_type, answered_value, answered_macro}
 
 -- the shadow mode that a query asks for
@@ -69,4 +69,4 @@ answer_by status.Unknown answer = Err error.UnknownPlace
 -- the answer to a query
 abbrev pub answer_of : SessionState → PlaceValue → Path → Shadow → Option MacroStyle → Result Answer QueryError
 answer_of s place path shadow style =
-    answer_by (status_of s place) (answer_from s.paths (read_of s place.krate.0) (kept_of s place.krate.0) (module_of s place) path shadow style)
+    answer_by (status_of s place) (answer_from s.paths (read_of s (map_of place)) (kept_of s (map_of place)) (module_of s place) path shadow style)

@@ -9,7 +9,7 @@ use Rattle.hir_wire.specs.declared.answer.Answer.{Answer}
 use Rattle.hir_wire.specs.declared.command.Shadow.{Shadow}
 use Rattle.hir_wire.specs.declared.command.MacroStyle.{MacroStyle}
 use Rattle.hir_session.specs.SessionState.{SessionState, Resolution, workspace_of, finished_of, read_of, start_of, kept_of, IsResolved}
-use Rattle.hir_session.specs.Status.{module_below}
+use Rattle.hir_session.specs.Status.{map_of, module_below}
 use Rattle.hir_session.specs.Answers.{answer_in, asking_of}
 use Rattle.hir_session.specs.LeavesOut.{LeavesNothingOut}
 
@@ -17,11 +17,11 @@ use Rattle.hir_session.specs.LeavesOut.{LeavesNothingOut}
 -- finished maps of the crates on which its crate stands
 pub record AnswersStand (s : SessionState) (place : PlaceValue) (path : Path) (shadow : Shadow) (style : Option MacroStyle) (answer : Answer) : Type 0 where
   pub found : Resolution
-  pub kept : kept_of s place.krate.0 ≡ Some found
+  pub kept : kept_of s (map_of place) ≡ Some found
   -- over the present workspace and finished maps, and over all that agree with them on what the run asked for
-  pub present : IsResolved (workspace_of s) (finished_of s) (start_of s place.krate.0) found
+  pub present : IsResolved (workspace_of s) (finished_of s) (start_of s (map_of place)) found
   pub asked_from : ModuleId
   pub named : module_below found.map (root_of found.map.id) place.elements ≡ Some asked_from
   -- and it has a source item wherever scoping gives something
-  pub whole : LeavesNothingOut (resolution_of (beside (read_of s place.krate.0) found.map) (asking_of found.local shadow style) asked_from path).resolved_def answer
-  pub is : answer ≡ answer_in s.paths (beside (read_of s place.krate.0) found.map) found.local asked_from path shadow style
+  pub whole : LeavesNothingOut (resolution_of (beside (read_of s (map_of place)) found.map) (asking_of found.local shadow style) asked_from path).resolved_def answer
+  pub is : answer ≡ answer_in s.paths (beside (read_of s (map_of place)) found.map) found.local asked_from path shadow style

@@ -1,14 +1,15 @@
 -- How does a session begin?
-use Rattle.std.specs.Prelude.{◌≡◌, ◌↔◌, ℕ, ◌+◌, true, List, [], ◌∷◌, length, map, replicate, None}
+use Rattle.std.specs.Prelude.{◌≡◌, ◌↔◌, ℕ, ◌+◌, true, List, [], ◌∷◌, map, None}
 use Rattle.hir_base.specs.CfgOptions.{SetAlike}
 use Rattle.hir_wire.specs.CommandValue.{CrateInputValue}
 use Rattle.hir_wire.specs.declared.command.Dependency.{Dependency as HandedIn}
 use Rattle.hir_def_collector.specs.declared.source_database.Dependency.{Dependency}
 use Rattle.hir_base.specs.declared.ids.Crate.{Crate}
+use Rattle.hir_base.specs.declared.ids.MapId.{MapId}
 use Rattle.hir_session.specs.Crates.{CrateValue, behind_in, dependencies_in}
 use Rattle.hir_session.specs.StandsOn.{StandsOn}
 use Rattle.hir_session.specs.Behind.{has_crate}
-use Rattle.hir_session.specs.SessionState.{SessionState}
+use Rattle.hir_session.specs.SessionState.{SessionState, kept_of}
 use Rattle.hir_session.specs.Refusals.{dependency_crates}
 
 -- a dependency as a run sees it
@@ -39,5 +40,4 @@ pub record Begins (inputs : List CrateInputValue) (s : SessionState) : Type 0 wh
   pub behind : (k : ℕ) (c : Crate) → (has_crate (behind_in s.crates k) c ≡ true) ↔ StandsOn (dependencies_in s.crates) k c.0
   pub paths : s.paths ≡ map (λ c. c.root) inputs
   pub files : s.files ≡ []
-  pub kept : s.kept ≡ replicate (length inputs) None
-  pub marked : s.marked ≡ replicate (length inputs) true
+  pub kept : (id : MapId) → kept_of s id ≡ None

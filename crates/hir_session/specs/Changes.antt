@@ -1,6 +1,7 @@
 -- What do the calls of a session change?
-use Rattle.std.specs.Prelude.{◌≡◌, ℕ, true, false, List, ◌++◌}
+use Rattle.std.specs.Prelude.{◌≡◌, true, false, List, ◌++◌}
 use Rattle.hir_base.specs.Place.{PlaceValue}
+use Rattle.hir_base.specs.declared.ids.MapId.{MapId}
 use Rattle.hir_wire.specs.Edits.{EditValue, set_file, remove_file}
 use Rattle.hir_session.specs.Files.{Files, with_file, without_file}
 use Rattle.hir_session.specs.SessionState.{SessionState, workspace_of, kept_of, is_marked, IsSound}
@@ -16,14 +17,14 @@ edited_files s (remove_file path) = without_file s.files path
 abbrev pub with_files : SessionState → Files → SessionState
 with_files s files = record s { files = files }
 
--- the files became these, and exactly what that touches is marked, and nothing is kept of it
+-- the files became these, and exactly what that touches is marked
 pub record Becomes (old : SessionState) (files : Files) (new : SessionState) : Type 0 where
   pub crates : new.crates ≡ old.crates
   pub paths : new.paths ≡ old.paths
   pub files_are : new.files ≡ files
-  pub only : (k : ℕ) → is_marked new k ≡ true → marks_after old (workspace_of (with_files old files)) k
-  pub all : (k : ℕ) → marks_after old (workspace_of (with_files old files)) k → is_marked new k ≡ true
-  pub kept : (k : ℕ) → is_marked new k ≡ false → kept_of new k ≡ kept_of old k
+  pub only : (id : MapId) → is_marked new id ≡ true → marks_after old (workspace_of (with_files old files)) id
+  pub all : (id : MapId) → marks_after old (workspace_of (with_files old files)) id → is_marked new id ≡ true
+  pub kept : (id : MapId) → is_marked new id ≡ false → kept_of new id ≡ kept_of old id
   -- what isn't marked is what the import rules could have given just now
   pub sound : IsSound new
 
@@ -37,7 +38,7 @@ pub record Resolves (old : SessionState) (done : List PlaceValue) (new : Session
   pub paths : new.paths ≡ old.paths
   pub files : new.files ≡ old.files
   pub due : due_places old ≡ done ++ due_places new
-  pub others : (k : ℕ) → is_marked old k ≡ false → (is_marked new k ≡ false) × (kept_of new k ≡ kept_of old k)
+  pub others : (id : MapId) → is_marked old id ≡ false → kept_of new id ≡ kept_of old id
   -- what isn't marked is what the import rules could have given just now
   pub sound : IsSound new
 

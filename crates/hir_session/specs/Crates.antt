@@ -1,9 +1,11 @@
 -- What is a crate of a session?
-use Rattle.std.specs.Prelude.{ℕ, false, List, [], slice_index_or}
+use Rattle.std.specs.Prelude.{ℕ, false, List, [], map, slice_index_or}
 use Rattle.hir_item_tree.specs.Attributes.{Attributes, no_attributes}
 use Rattle.hir_base.specs.declared.cfg.CfgAtom.{CfgAtom}
 use Rattle.hir_base.specs.declared.edition.Edition.TheVariants.{Edition2024}
 use Rattle.hir_base.specs.declared.ids.Crate.{Crate}
+use Rattle.hir_base.specs.declared.ids.MapId.{MapId}
+use Rattle.hir_def_map.specs.State.{crate_map}
 use Rattle.hir_def_collector.specs.Workspace.{CrateData}
 use Rattle.hir_def_collector.specs.declared.collector.Start.{Start}
 
@@ -33,6 +35,14 @@ crate_in crates k = slice_index_or crates k no_crate
 -- what it depends on
 abbrev pub dependencies_in : List CrateValue → ℕ → List Crate
 dependencies_in crates k = (crate_in crates k).dependencies
+
+-- the id of the map of the crate of this number
+abbrev pub id_of : ℕ → MapId
+id_of k = crate_map (record { 0 = k })
+
+-- the maps that the map of a crate follows: those of the crates on which it depends
+abbrev pub follows_in : List CrateValue → MapId → List MapId
+follows_in crates id = map crate_map (dependencies_in crates id.krate.0)
 
 -- on what it stands, directly or through others
 abbrev pub behind_in : List CrateValue → ℕ → List Crate

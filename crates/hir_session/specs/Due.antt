@@ -1,49 +1,53 @@
 -- What is due, and what stands behind an answer?
-use Rattle.std.specs.Prelude.{◌≡◌, ℕ, ◌+◌, Bool, true, false, List, [], ◌∷◌, Some, slice_set, map, Contains}
+use Rattle.std.specs.Prelude.{◌≡◌, ◌≢◌, ℕ, ◌+◌, List, [], ◌∷◌, Some, filter, map, Contains}
 use Rattle.hir_base.specs.Place.{PlaceValue}
-use Rattle.hir_base.specs.declared.ids.Crate.{Crate}
+use Rattle.hir_base.specs.declared.ids.MapId.{MapId}
 use Rattle.hir_def_collector.specs.Derivation.{IsOverlong}
 use Rattle.hir_def_collector.specs.declared.source_database.Key.{Key}
-use Rattle.hir_session.specs.SessionState.{SessionState, Resolution, workspace_of, start_of, dependencies_of, kept_of, finished_of}
+use Rattle.hir_session.specs.Crates.{CrateValue, id_of}
+use Rattle.hir_session.specs.SessionState.{SessionState, Resolution, workspace_of, start_of, follows, kept_of, is_marked, finished_of}
 
--- the marked crates of a list, the first of which has this number
-abbrev pub due_from : ℕ → List Bool → List ℕ
-due_from k [] = []
-due_from k (true ∷ more) = k ∷ due_from (k + 1) more
-due_from k (false ∷ more) = due_from (k + 1) more
+-- the places of these crates, of which the first has this number
+abbrev pub places_from : ℕ → List CrateValue → List MapId
+places_from k [] = []
+places_from k (c ∷ more) = id_of k ∷ places_from (k + 1) more
 
--- the numbers of the crates that are to be resolved, in order
-abbrev pub due_crates : SessionState → List ℕ
-due_crates s = due_from 0 s.marked
+-- the places that are to be resolved, in order: the marked ones
+abbrev pub due : SessionState → List MapId
+due s = filter (is_marked s) (places_from 0 s.crates)
 
--- the place of a crate's root
-abbrev pub crate_place : ℕ → PlaceValue
-crate_place k = record { krate = record { 0 = k }; elements = [] }
+-- the place of the root of a map
+abbrev pub root_place : MapId → PlaceValue
+root_place id = record { krate = id.krate; elements = [] }
 
--- the places that are to be resolved, in order
+-- those places as they are listed
 abbrev pub due_places : SessionState → List PlaceValue
-due_places s = map crate_place (due_crates s)
+due_places s = map root_place (due s)
 
--- the session with a crate resolved
-abbrev pub resolved_at : SessionState → ℕ → Resolution → SessionState
-resolved_at s k r = record s { kept = slice_set s.kept k (Some r); marked = slice_set s.marked k false }
+-- a place was resolved so, and nothing else changed
+pub record Resolved (old : SessionState) (id : MapId) (r : Resolution) (new : SessionState) : Type 0 where
+  pub crates : new.crates ≡ old.crates
+  pub paths : new.paths ≡ old.paths
+  pub files : new.files ≡ old.files
+  pub here : kept_of new id ≡ Some r
+  pub others : (j : MapId) → j ≢ id → kept_of new j ≡ kept_of old j
 
--- the run for the first crate that is due goes on for too long
+-- the run for the first place that is due goes on for too long
 pub record HasOverlongRun (s : SessionState) : Type 0 where
-  pub krate : ℕ
-  pub others : List ℕ
-  pub due : due_crates s ≡ krate ∷ others
-  pub overlong : IsOverlong (workspace_of s) (finished_of s) (start_of s krate)
+  pub place : MapId
+  pub others : List MapId
+  pub first : due s ≡ place ∷ others
+  pub overlong : IsOverlong (workspace_of s) (finished_of s) (start_of s place)
 
--- what stands behind a crate: the crate, what it depends on, and so on
-pub data IsBehind (s : SessionState) (k : ℕ) : ℕ → Type 0 where
-  itself : IsBehind s k k
-  next : (j : ℕ) (d : Crate) → IsBehind s k j → Contains (dependencies_of s j) d → IsBehind s k d.0
+-- what stands behind a place: the place, what it depends on, and so on
+pub data IsBehind (s : SessionState) (id : MapId) : MapId → Type 0 where
+  itself : IsBehind s id id
+  next : (j d : MapId) → IsBehind s id j → Contains (follows s j) d → IsBehind s id d
 
--- a run behind the crate asked for the key
-pub record IsAskedBehind (s : SessionState) (k : ℕ) (key : Key) : Type 0 where
-  pub place : ℕ
+-- a run behind the place asked for the key
+pub record IsAskedBehind (s : SessionState) (id : MapId) (key : Key) : Type 0 where
+  pub place : MapId
   pub found : Resolution
-  pub behind : IsBehind s k place
+  pub behind : IsBehind s id place
   pub is : kept_of s place ≡ Some found
   pub asked : Contains found.asked key

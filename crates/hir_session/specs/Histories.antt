@@ -12,6 +12,7 @@ use Rattle.hir_session.specs.SessionState.{SessionState, workspace_of, is_marked
 use Rattle.hir_session.specs.Marks.{IsAltered}
 use Rattle.hir_session.specs.Due.{IsAskedBehind}
 use Rattle.hir_session.specs.Changes.{Applies, Resolves}
+use Rattle.hir_session.specs.Status.{map_of}
 use Rattle.hir_session.specs.Answers.{answer_of}
 use Rattle.hir_session.specs.Beginning.{Begins}
 use Rattle.hir_session.specs.Refusals.{verdict_of_new}
@@ -33,9 +34,9 @@ WasAltered key (refresh mid to done earlier is) = WasAltered key earlier
 -- two answers to a query differ only where an edit between them altered a key that was asked for behind the first
 abbrev pub DifferOnlyWhereAltered : Type 0
 DifferOnlyWhereAltered = (from to : SessionState) (place : PlaceValue) (path : Path) (shadow : Shadow) (style : Option MacroStyle)
-    → IsSound from → is_marked from place.krate.0 ≡ false → (h : History from to)
+    → IsSound from → is_marked from (map_of place) ≡ false → (h : History from to)
     → (answer_of to place path shadow style ≡ answer_of from place path shadow style)
-    ⊎ ((key : Key) × IsAskedBehind from place.krate.0 key × WasAltered key h)
+    ⊎ ((key : Key) × IsAskedBehind from (map_of place) key × WasAltered key h)
 
 -- what answers lines makes such a history of its session, whatever the lines are
 abbrev pub RunsMakeHistories : Type 0

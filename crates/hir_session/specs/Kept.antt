@@ -1,59 +1,79 @@
--- Where do the maps of kept resolutions stand?
-use Rattle.std.specs.Prelude.{◌≡◌, ℕ, zero, suc, ◌≤◌, ◌^◌, Bool, true, false, is_none, is_some, List, [], ◌∷◌, Option, None, Some, cond, option_map, slice_index_or}
-use Rattle.std.specs.BTreeMap.{BTreeMap}
+-- What is kept of the places that were resolved?
+use Rattle.std.specs.Prelude.{◌≡◌, ◌⊎◌, Bool, true, false, is_some, List, [], map, Option, None, Some, option_map, Contains}
+use Rattle.std.specs.BTreeMap.{BTreeMap, get, is_at}
+use Rattle.std.specs.Map.{lookup}
 use Rattle.hir_base.specs.declared.ids.MapId.{MapId}
+use Rattle.hir_base.specs.contracts.ids.MapIdOrd.TheImpl as map_order
+use Rattle.hir_scope.specs.declared.imports.ImportOrExternCrate.{ImportOrExternCrate}
 use Rattle.hir_def_map.specs.declared.world.finished.Finished.{Finished}
 use Rattle.hir_def_map.specs.Among.{unheld}
 use Rattle.hir_def_map.specs.Named.{names_map}
-use Rattle.hir_def_map.specs.State.{Local, Map, Maps, Placed, crate_map, map_in}
-use Rattle.hir_def_map.specs.World.{finished_in, local_in}
+use Rattle.hir_def_map.specs.Removal.{Depends}
+use Rattle.hir_def_map.specs.State.{Local, Map, Maps}
 use Rattle.hir_def_collector.specs.Derivation.{CollectedValue}
+use Rattle.hir_def_collector.specs.declared.source_database.Key.{Key}
 use Rattle.hir_session.specs.declared.kept.KeptResolution.{KeptResolution}
 use Rattle.hir_session.specs.declared.kept.KeptRun.{KeptRun}
 
--- the finished maps of which a list of kept resolutions tells: each crate's own, under the crate's id
-abbrev pub finished_by : List (Option CollectedValue) → Maps
-finished_by kept id = cond (is_none id.block) (option_map (λ (r : CollectedValue). unheld r.map) (slice_index_or kept id.krate.0 None)) None
+-- what is kept of each place that was resolved, by the id of its map
+abbrev pub Resolutions : Type 0
+Resolutions = List (MapId × CollectedValue)
 
--- what is kept of an unmarked crate names other maps only of unmarked ones
-abbrev pub NameUnmarked : List (Option CollectedValue) → List Bool → Type 0
-NameUnmarked kept marked = (j : ℕ) (r : CollectedValue) → slice_index_or kept j None ≡ Some r → slice_index_or marked j true ≡ false
-    → (id : MapId) → names_map r.map r.local id ≡ true → slice_index_or marked id.krate.0 true ≡ false
+-- what is kept of a place
+abbrev pub kept_in : Resolutions → MapId → Option CollectedValue
+kept_in kept id = lookup (is_at (map_order.ghosts.cmp id)) kept
+
+-- the finished maps of which they tell; nothing holds a crate's map
+abbrev pub finished_by : Resolutions → Maps
+finished_by kept id = option_map (λ (r : CollectedValue). unheld r.map) (kept_in kept id)
+
+-- ---- how some of them go; no public clause speaks of this
+
+abbrev pub names_of : Option CollectedValue → MapId → Bool
+names_of None id = false
+names_of (Some r) id = names_map r.map r.local id
+
+-- whether what is kept of a place names the map of another
+abbrev pub names_in : Resolutions → MapId → MapId → Bool
+names_in kept id other = names_of (kept_in kept id) other
+
+-- nothing is kept of these places, nor of those that name one that is gone; of each that depends on none of them what was
+pub record AreForgotten (old : Resolutions) (ids : List MapId) (new : Resolutions) : Type 0 where
+  pub gone : (id : MapId) → Contains ids id → kept_in new id ≡ None
+  pub named : (id other : MapId) → names_in old id other ≡ true → is_some (kept_in old other) ≡ true → kept_in new other ≡ None → kept_in new id ≡ None
+  pub fewer : (id : MapId) → (kept_in new id ≡ kept_in old id) ⊎ (kept_in new id ≡ None)
+  pub stay : (id : MapId) → ((on : MapId) → Contains ids on → ¬ Depends (names_in old) on id) → kept_in new id ≡ kept_in old id
 
 -- ---- maps in a world, and beside them what else is kept of each run
 
--- what is kept of a crate that was resolved
+-- what is kept of a place that was resolved
 abbrev pub resolution_of : KeptResolution → CollectedValue
 resolution_of found = record { map = found.map.now; local = found.local.now; leftover = found.leftover.now; asked = found.asked.now }
 
--- a resolution is there where all its parts are
+abbrev pub leftover_of : Option KeptRun → List ImportOrExternCrate
+leftover_of None = []
+leftover_of (Some run) = run.leftover.items
+
+abbrev pub asked_of : Option KeptRun → List Key
+asked_of None = []
+asked_of (Some run) = run.asked.items
+
+-- a map and what its paths may begin with, with what is kept of the run
 abbrev pub resolution_from : Option Map → Option Local → Option KeptRun → Option CollectedValue
 resolution_from None local run = None
 resolution_from (Some map) None run = None
-resolution_from (Some map) (Some local) None = None
-resolution_from (Some map) (Some local) (Some run) = Some (record { map = map; local = local; leftover = run.leftover.items; asked = run.asked.items })
+resolution_from (Some map) (Some local) run = Some (record { map = map; local = local; leftover = leftover_of run; asked = asked_of run })
 
--- the resolutions of crates by number
-abbrev pub resolutions_from : (ℕ → Option Map) → (ℕ → Option Local) → List (Option KeptRun) → List (Option CollectedValue)
-resolutions_from maps locals [] = []
-resolutions_from maps locals (run ∷ runs) =
-    resolution_from (maps zero) (locals zero) run ∷ resolutions_from (λ (k : ℕ). maps (suc k)) (λ (k : ℕ). locals (suc k)) runs
+abbrev pub resolution_at : Finished → Option KeptRun → CollectedValue
+resolution_at finished run = record { map = finished.map; local = finished.local; leftover = leftover_of run; asked = asked_of run }
 
--- the id of the map of the crate of a number
-abbrev pub id_of : ℕ → MapId
-id_of k = crate_map (record { 0 = k })
+abbrev pub entry_with : BTreeMap MapId KeptRun → (MapId × Finished) → MapId × CollectedValue
+entry_with runs entry = (entry.0, resolution_at entry.1 (get map_order.ghosts.cmp runs entry.0))
 
 -- those of which the maps stand in a world
-unfoldable pub resolutions_in : BTreeMap MapId Finished → List (Option KeptRun) → List (Option CollectedValue)
-resolutions_in maps runs = resolutions_from (λ (k : ℕ). map_in (finished_in maps) (id_of k)) (λ (k : ℕ). local_in maps (id_of k)) runs
+unfoldable pub resolutions_in : BTreeMap MapId Finished → BTreeMap MapId KeptRun → Resolutions
+resolutions_in maps runs = map (entry_with runs) maps.entries
 
--- a map is a crate's, and what else is kept of its run is there
-pub record IsOfRun (runs : List (Option KeptRun)) (id : MapId) (placed : Placed) : Type 0 where
-  pub of_crate : id.block ≡ None
-  pub unheld : placed.holders ≡ []
-  pub run : is_some (slice_index_or runs id.krate.0 None) ≡ true
-
--- each map is that of a run, and numbers fit
-pub record AreOfRuns (maps : BTreeMap MapId Finished) (runs : List (Option KeptRun)) : Type 0 where
-  pub each : (id : MapId) (placed : Placed) → finished_in maps id ≡ Some placed → IsOfRun runs id placed
-  pub numbers : (k : ℕ) → 2 ^ 32 ≤ k → slice_index_or runs k None ≡ None
+-- nothing holds one of the maps
+pub record AreUnheld (maps : BTreeMap MapId Finished) : Type 0 where
+  pub each : (id : MapId) (finished : Finished) → get map_order.ghosts.cmp maps id ≡ Some finished → finished.holders.items ≡ []

@@ -1,9 +1,8 @@
 -- How are kept resolutions stored?
-use Rattle.std.specs.Prelude.{List, Option}
-use Rattle.std.specs.Coded.{Coded, coded_list, coded_option}
-use Rattle.hir_def_collector.specs.CollectedCodes.{coded_collected}
-use Rattle.hir_def_collector.specs.Derivation.{CollectedValue}
+use Rattle.std.specs.Coded.{Coded, codes}
+use Rattle.hir_def_map.specs.Codes.{coded_map}
+use Rattle.hir_session.specs.Kept.{Resolutions}
 
--- they are stored as a list of those that are there and those that aren't
-pub coded_kept : Coded (List (Option CollectedValue))
-coded_kept = coded_list (coded_option coded_collected)
+-- they are stored as the list of their ids and parts
+pub coded_kept : Coded Resolutions
+coded_kept = hlevel (codes, coded_map)

@@ -3,6 +3,7 @@ use Rattle.std.specs.Prelude.{◌≡◌, ℕ, true, List, Option, Some, None, Co
 use Rattle.hir_base.specs.ModPath.{Path}
 use Rattle.hir_base.specs.Place.{PlaceValue}
 use Rattle.hir_base.specs.declared.ids.Crate.{Crate}
+use Rattle.hir_base.specs.declared.ids.MapId.{MapId}
 use Rattle.hir_base.specs.declared.ast_id.HirFileId.{HirFileId}
 use Rattle.hir_item_tree.specs.BodyTexts.{source_without_bodies}
 use Rattle.hir_item_tree.specs.Source.{SourceValue}
@@ -25,7 +26,7 @@ AnswersAlike old new = (place : PlaceValue) (path : Path) (shadow : Shadow) (sty
 abbrev pub BodyEditsMarkNothing : Type 0
 BodyEditsMarkNothing = (old new : SessionState) (path : List ℕ) (was source : SourceValue) → IsSound old
     → file_at old.files path ≡ Some was → source_without_bodies was ≡ source_without_bodies source → Applies old (set_file path source) new
-    → (k : ℕ) → is_marked new k ≡ is_marked old k
+    → (id : MapId) → is_marked new id ≡ is_marked old id
 
 -- and no answer
 abbrev pub BodyEditsLeaveAnswers : Type 0
@@ -33,24 +34,24 @@ BodyEditsLeaveAnswers = (old new : SessionState) (path : List ℕ) (was source :
     → file_at old.files path ≡ Some was → source_without_bodies was ≡ source_without_bodies source → Applies old (set_file path source) new
     → AnswersAlike old new
 
--- a file that was absent is set, to an empty source too: each crate whose run asked for it is marked
+-- a file that was absent is set, to an empty source too: each place whose run asked for it is marked
 abbrev pub SetAbsentFileMarks : Type 0
-SetAbsentFileMarks = (old new : SessionState) (path : List ℕ) (source : SourceValue) (k : ℕ) (found : Resolution) (krate : Crate) (file : HirFileId)
+SetAbsentFileMarks = (old new : SessionState) (path : List ℕ) (source : SourceValue) (id : MapId) (found : Resolution) (krate : Crate) (file : HirFileId)
     → file_at old.files path ≡ None → Applies old (set_file path source) new
-    → kept_of old k ≡ Some found → Contains found.asked (Tree krate file) → path_in old.paths file ≡ Some path
-    → is_marked new k ≡ true
+    → kept_of old id ≡ Some found → Contains found.asked (Tree krate file) → path_in old.paths file ≡ Some path
+    → is_marked new id ≡ true
 
--- a file that was there is removed, an empty one too: each crate whose run asked for it is marked
+-- a file that was there is removed, an empty one too: each place whose run asked for it is marked
 abbrev pub RemovePresentFileMarks : Type 0
-RemovePresentFileMarks = (old new : SessionState) (path : List ℕ) (was : SourceValue) (k : ℕ) (found : Resolution) (krate : Crate) (file : HirFileId)
+RemovePresentFileMarks = (old new : SessionState) (path : List ℕ) (was : SourceValue) (id : MapId) (found : Resolution) (krate : Crate) (file : HirFileId)
     → file_at old.files path ≡ Some was → Applies old (remove_file path) new
-    → kept_of old k ≡ Some found → Contains found.asked (Tree krate file) → path_in old.paths file ≡ Some path
-    → is_marked new k ≡ true
+    → kept_of old id ≡ Some found → Contains found.asked (Tree krate file) → path_in old.paths file ≡ Some path
+    → is_marked new id ≡ true
 
 -- a file that isn't there is removed: no mark changes
 abbrev pub RemoveAbsentFileMarksNothing : Type 0
 RemoveAbsentFileMarksNothing = (old new : SessionState) (path : List ℕ) → IsSound old
-    → file_at old.files path ≡ None → Applies old (remove_file path) new → (k : ℕ) → is_marked new k ≡ is_marked old k
+    → file_at old.files path ≡ None → Applies old (remove_file path) new → (id : MapId) → is_marked new id ≡ is_marked old id
 
 -- and no answer
 abbrev pub RemoveAbsentFileLeavesAnswers : Type 0

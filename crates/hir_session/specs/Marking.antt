@@ -1,7 +1,8 @@
--- How does the code find what to mark? No public clause speaks of this.
-use Rattle.std.specs.Prelude.{◌≡◌, ℕ, Bool, true, false, ◌&&◌, ◌||◌, is_none, List, length, Option, Some, None, Contains, nat_eq, slice_index_or}
+-- How does the code find what an edit touches? No public clause speaks of this.
+use Rattle.std.specs.Prelude.{◌≡◌, ◌⊎◌, ℕ, ◌<◌, Bool, true, false, ◌&&◌, is_none, List, [], ◌∷◌, ◌++◌, Option, Some, None, Contains, nat_eq}
 use Rattle.std.specs.Cmp.Lexicographic.{pointwise}
 use Rattle.hir_base.specs.declared.ids.Crate.{Crate}
+use Rattle.hir_base.specs.declared.ids.MapId.{MapId}
 use Rattle.hir_def_map.specs.State.{no_maps}
 use Rattle.hir_def_collector.specs.Workspace.{Workspace}
 use Rattle.hir_def_collector.specs.Keys.{AgreeOn, look}
@@ -11,9 +12,9 @@ use Rattle.hir_item_tree.specs.SideLists.{entries_view}
 use Rattle.hir_item_tree.specs.Source.{SourceValue}
 use Rattle.hir_session.specs.declared.judge.enums.Sides.{Sides}
 use Rattle.hir_session.specs.Files.{path_in, sides_under}
-use Rattle.hir_session.specs.Crates.{CrateValue, dependencies_in}
-use Rattle.hir_session.specs.SessionState.{Resolution, kept_in, mark_in}
-use Rattle.hir_session.specs.Spread.{Spread}
+use Rattle.hir_session.specs.Crates.{CrateValue, id_of}
+use Rattle.hir_session.specs.Kept.{Resolutions, kept_in}
+use Rattle.hir_session.specs.SessionState.{Resolution}
 use Rattle.hir_session.specs.Marks.{IsAltered}
 
 -- whether the text is this path
@@ -54,30 +55,12 @@ pub record IsTold (v w : Workspace) (kept : Option Resolution) (hit : Bool) : Ty
   pub asked : hit ≡ true → IsAsked v w kept
   pub missed : hit ≡ false → (r : Resolution) → kept ≡ Some r → AgreeOn r.asked v no_maps w no_maps
 
--- whether a list says that a crate's run asked for something that is altered
-abbrev pub hit_in : List Bool → ℕ → Bool
-hit_in hits k = slice_index_or hits k false
+-- the place was added where its run asked for something that is altered
+pub data IsJudged (v w : Workspace) (kept : Option Resolution) (id : MapId) (old new : List MapId) : Type 0 where
+  hit : IsAsked v w kept → new ≡ old ++ id ∷ [] → IsJudged v w kept id old new
+  missed : ((r : Resolution) → kept ≡ Some r → AgreeOn r.asked v no_maps w no_maps) → new ≡ old → IsJudged v w kept id old new
 
--- of each crate it is told whether its run asked for something that becomes another
-pub record IsJudged (v w : Workspace) (kept : List (Option Resolution)) (hits : List Bool) : Type 0 where
-  pub told : (k : ℕ) → IsTold v w (kept_in kept k) (hit_in hits k)
-
--- whether the crate was marked, or is hit
-abbrev pub seeded : List Bool → List Bool → ℕ → Bool
-seeded old hits k = mark_in old k || hit_in hits k
-
--- what is seeded is marked, and what depends on a marked one, and nothing else
-pub record IsSpread (crates : List CrateValue) (hits old new : List Bool) : Type 0 where
-  pub len : length new ≡ length crates
-  pub only : (k : ℕ) → mark_in new k ≡ true → Spread (dependencies_in crates) (λ j. seeded old hits j ≡ true) k
-  pub all : (k : ℕ) → Spread (dependencies_in crates) (λ j. seeded old hits j ≡ true) k → mark_in new k ≡ true
-
--- the crate has to be marked
-pub data IsHit (dependencies : List Crate) (marked : List Bool) (asked : Bool) : Type 0 where
-  asked_it : asked ≡ true → IsHit dependencies marked asked
-  depends_on : (d : Crate) → Contains dependencies d → mark_in marked d.0 ≡ true → IsHit dependencies marked asked
-
--- it need not be
-pub record IsMissed (dependencies : List Crate) (marked : List Bool) (asked : Bool) : Type 0 where
-  pub unasked : asked ≡ false
-  pub unmarked : (d : Crate) → Contains dependencies d → mark_in marked d.0 ≡ false
+-- the places are those of the first so many crates of which the run asked for something that is altered
+pub record AreHit (v w : Workspace) (kept : Resolutions) (count : ℕ) (hits : List MapId) : Type 0 where
+  pub asked : (id : MapId) → Contains hits id → IsAsked v w (kept_in kept id)
+  pub missed : (k : ℕ) (r : Resolution) → k < count → kept_in kept (id_of k) ≡ Some r → Contains hits (id_of k) ⊎ AgreeOn r.asked v no_maps w no_maps

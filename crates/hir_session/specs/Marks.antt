@@ -1,21 +1,22 @@
--- Which crates does an edit mark?
-use Rattle.std.specs.Prelude.{◌≡◌, ◌≢◌, ℕ, true, Some, Contains}
+-- Which places does an edit mark?
+use Rattle.std.specs.Prelude.{◌≡◌, ◌≢◌, true, Some, Contains}
+use Rattle.hir_base.specs.declared.ids.MapId.{MapId}
 use Rattle.hir_def_map.specs.State.{no_maps}
 use Rattle.hir_def_collector.specs.Workspace.{Workspace}
 use Rattle.hir_def_collector.specs.Keys.{look}
 use Rattle.hir_def_collector.specs.declared.source_database.Key.{Key}
-use Rattle.hir_session.specs.SessionState.{SessionState, Resolution, workspace_of, dependencies_of, kept_of, is_marked}
+use Rattle.hir_session.specs.SessionState.{SessionState, Resolution, workspace_of, follows, kept_of, is_marked}
 use Rattle.hir_session.specs.Spread.{Spread}
 
 -- the workspace becomes another at the key
 abbrev pub IsAltered : Workspace → Workspace → Key → Type 0
 IsAltered old new key = look new no_maps key ≢ look old no_maps key
 
--- the crate was marked, or asked for a key at which the workspace becomes another
-pub data IsTouched (s : SessionState) (w : Workspace) (k : ℕ) : Type 0 where
-  before : is_marked s k ≡ true → IsTouched s w k
-  asked_for : (key : Key) (r : Resolution) → kept_of s k ≡ Some r → Contains r.asked key → IsAltered (workspace_of s) w key → IsTouched s w k
+-- the place was marked, or asked for a key at which the workspace becomes another
+pub data IsTouched (s : SessionState) (w : Workspace) (id : MapId) : Type 0 where
+  before : is_marked s id ≡ true → IsTouched s w id
+  asked_for : (key : Key) (r : Resolution) → kept_of s id ≡ Some r → Contains r.asked key → IsAltered (workspace_of s) w key → IsTouched s w id
 
--- the crates that are marked once the workspace is `w`: those that are touched, and all that depends on them
-abbrev pub marks_after : SessionState → Workspace → ℕ → Type 0
-marks_after s w = Spread (dependencies_of s) (IsTouched s w)
+-- the places that are marked once the workspace is `w`: those that are touched, and all that depends on them
+abbrev pub marks_after : SessionState → Workspace → MapId → Type 0
+marks_after s w = Spread (follows s) (IsTouched s w)

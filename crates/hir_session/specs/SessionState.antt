@@ -1,32 +1,32 @@
 -- Where does a session stand?
-use Rattle.std.specs.Prelude.{◌≡◌, ◌↔◌, ℕ, ◌<◌, ◌≤◌, Bool, true, false, List, length, map, is_some, Option, Some, None, slice_index_or, Contains}
+use Rattle.std.specs.Prelude.{◌≡◌, ◌↔◌, ℕ, ◌<◌, ◌≤◌, Bool, true, false, List, length, map, is_none, is_some, Some, None, Option, Contains}
 use Rattle.hir_base.specs.declared.ids.Crate.{Crate}
+use Rattle.hir_base.specs.declared.ids.MapId.{MapId}
 use Rattle.hir_def_map.specs.Among.{among}
 use Rattle.hir_def_map.specs.Complete.{BeginsOnly, NamesOnly}
-use Rattle.hir_def_map.specs.State.{Maps, beside, crate_map}
+use Rattle.hir_def_map.specs.State.{Maps, beside}
 use Rattle.hir_def_collector.specs.Workspace.{Workspace}
 use Rattle.hir_def_collector.specs.Keys.{AgreeOn}
 use Rattle.hir_def_collector.specs.Derivation.{CollectedValue, Ends, keys_of}
 use Rattle.hir_def_collector.specs.declared.collector.Start.{Start}
 use Rattle.hir_def_collector.specs.Start.{root_file}
-use Rattle.hir_session.specs.Crates.{CrateValue, behind_in, crate_in, dependencies_in, start_in}
+use Rattle.hir_session.specs.Crates.{CrateValue, behind_in, crate_in, dependencies_in, follows_in, start_in}
 use Rattle.hir_session.specs.StandsOn.{StandsOn}
 use Rattle.hir_session.specs.Behind.{has_crate}
 use Rattle.hir_session.specs.Files.{Files, path_in, workspace_in}
-use Rattle.hir_session.specs.Kept.{finished_by}
+use Rattle.hir_session.specs.Kept.{Resolutions, finished_by, kept_in}
 
--- what is kept of a crate that was resolved: its map, the imports left over, and the keys that were asked for
+-- what is kept of a place that was resolved: its map, the imports left over, and the keys that were asked for
 abbrev pub Resolution : Type 0
 Resolution = CollectedValue
 
 -- the crates by number, the table of file paths (a file's id is a number in it), the files that are there,
--- and for each crate what is kept of it and whether that may be out of date
+-- and what is kept of the places that were resolved
 pub record SessionState : Type 0 where
   pub crates : List CrateValue
   pub paths : List (List ℕ)
   pub files : Files
-  pub kept : List (Option Resolution)
-  pub marked : List Bool
+  pub kept : Resolutions
 
 -- the workspace as it is now: a file that isn't there is not an empty one
 abbrev pub workspace_of : SessionState → Workspace
@@ -36,51 +36,52 @@ workspace_of s = workspace_in s.crates s.paths s.files
 abbrev pub dependencies_of : SessionState → ℕ → List Crate
 dependencies_of s k = dependencies_in s.crates k
 
--- where the run for a crate begins
-abbrev pub start_of : SessionState → ℕ → Start
-start_of s k = start_in s.crates k
+-- the maps on which that of a place directly depends
+abbrev pub follows : SessionState → MapId → List MapId
+follows s id = follows_in s.crates id
 
--- what a list keeps of a crate
-abbrev pub kept_in : List (Option Resolution) → ℕ → Option Resolution
-kept_in kept k = slice_index_or kept k None
+-- where the run for a place begins
+abbrev pub start_of : SessionState → MapId → Start
+start_of s id = start_in s.crates id.krate.0
 
--- what is kept of a crate
-abbrev pub kept_of : SessionState → ℕ → Option Resolution
-kept_of s k = kept_in s.kept k
+-- what is kept of a place
+abbrev pub kept_of : SessionState → MapId → Option Resolution
+kept_of s id = kept_in s.kept id
 
--- whether a list has a mark at a crate; one that isn't there counts as marked
-abbrev pub mark_in : List Bool → ℕ → Bool
-mark_in marked k = slice_index_or marked k true
+-- whether a place is stale: nothing is kept of it
+abbrev pub is_marked : SessionState → MapId → Bool
+is_marked s id = is_none (kept_of s id)
 
--- whether what is kept of a crate may be out of date
-abbrev pub is_marked : SessionState → ℕ → Bool
-is_marked s k = mark_in s.marked k
-
--- the finished maps: those of the crates of which something is kept
+-- the finished maps: those of the places of which something is kept
 abbrev pub finished_of : SessionState → Maps
 finished_of s = finished_by s.kept
 
--- the finished maps that a crate reads: those of the crates on which it stands
-abbrev pub read_of : SessionState → ℕ → Maps
-read_of s k = among (behind_in s.crates k) (finished_of s)
+-- the finished maps that a place reads: those of the crates on which its crate stands
+abbrev pub read_of : SessionState → MapId → Maps
+read_of s id = among (behind_in s.crates id.krate.0) (finished_of s)
 
 -- a derivation ends in the resolution over every workspace, beside finished maps, that agrees with this one, beside these, on the
 -- keys that it asked for
 pub record IsResolved (w : Workspace) (before : Maps) (start : Start) (r : Resolution) : Type 0 where
   pub ends : (v : Workspace) (finished : Maps) → AgreeOn (keys_of r) w before v finished → Ends v finished start r
 
--- the resolution of a crate is what the import rules could give just now, and names only what is there
-pub record IsResolutionOf (s : SessionState) (k : ℕ) (r : Resolution) : Type 0 where
-  pub resolved : IsResolved (workspace_of s) (finished_of s) (start_of s k) r
-  pub own : r.map.id ≡ crate_map (record { 0 = k })
-  pub names : NamesOnly (beside (read_of s k) r.map) r.map
-  pub begins : BeginsOnly (beside (read_of s k) r.map) r.local
+-- the resolution of a place is what the import rules could give just now, and names only what is there
+pub record IsResolutionOf (s : SessionState) (id : MapId) (r : Resolution) : Type 0 where
+  pub resolved : IsResolved (workspace_of s) (finished_of s) (start_of s id) r
+  pub own : r.map.id ≡ id
+  pub names : NamesOnly (beside (read_of s id) r.map) r.map
+  pub begins : BeginsOnly (beside (read_of s id) r.map) r.local
 
--- what is kept of the crate is what the import rules could have given just now
-pub record IsCurrent (s : SessionState) (k : ℕ) : Type 0 where
+-- what is kept of the place is what the import rules could have given just now
+pub record IsCurrent (s : SessionState) (id : MapId) : Type 0 where
   pub found : Resolution
-  pub is : kept_of s k ≡ Some found
-  pub gives : IsResolutionOf s k found
+  pub is : kept_of s id ≡ Some found
+  pub gives : IsResolutionOf s id found
+
+-- the id is that of the map of a crate of the session
+pub record IsPlace (s : SessionState) (id : MapId) : Type 0 where
+  pub of_crate : id.block ≡ None
+  pub within : id.krate.0 < length s.crates
 
 -- the most crates that a session has
 abbrev pub max_crates : ℕ
@@ -89,15 +90,12 @@ max_crates = 10000
 -- what is true of each session
 pub record IsSound (s : SessionState) : Type 0 where
   pub few : length s.crates ≤ max_crates
-  pub kept_len : length s.kept ≡ length s.crates
-  pub marked_len : length s.marked ≡ length s.crates
   pub below : (k : ℕ) (d : Crate) → Contains (dependencies_of s k) d → d.0 < k
   pub behind : (k : ℕ) (c : Crate) → (has_crate (behind_in s.crates k) c ≡ true) ↔ StandsOn (dependencies_of s) k c.0
   -- the dependencies that a run sees are those
   pub named : (k : ℕ) → map (λ d. d.krate) (crate_in s.crates k).own.dependencies ≡ dependencies_of s k
-  pub closed : (k : ℕ) (d : Crate) → is_marked s k ≡ false → Contains (dependencies_of s k) d → is_marked s d.0 ≡ false
-  pub current : (k : ℕ) → is_marked s k ≡ false → IsCurrent s k
-  -- nothing is kept of a marked crate
-  pub dropped : (k : ℕ) → is_marked s k ≡ true → kept_of s k ≡ None
+  pub placed : (id : MapId) → is_marked s id ≡ false → IsPlace s id
+  pub closed : (id d : MapId) → is_marked s id ≡ false → Contains (follows s id) d → is_marked s d ≡ false
+  pub current : (id : MapId) → is_marked s id ≡ false → IsCurrent s id
   -- the root file of each crate is one of the table
-  pub rooted : (k : ℕ) → k < length s.crates → is_some (path_in s.paths (root_file (start_of s k))) ≡ true
+  pub rooted : (k : ℕ) → k < length s.crates → is_some (path_in s.paths (root_file (start_in s.crates k))) ≡ true

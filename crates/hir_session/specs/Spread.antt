@@ -1,8 +1,8 @@
--- Which crates does a set of crates reach?
-use Rattle.std.specs.Prelude.{ℕ, List, Contains}
-use Rattle.hir_base.specs.declared.ids.Crate.{Crate}
+-- Which places does a set of places reach?
+use Rattle.std.specs.Prelude.{List, Contains}
+use Rattle.hir_base.specs.declared.ids.MapId.{MapId}
 
--- the least set that holds each crate of P, and each crate that depends on one in it
-pub data Spread (dependencies : ℕ → List Crate) (P : ℕ → Type 0) : ℕ → Type 0 where
-  here : (k : ℕ) → P k → Spread dependencies P k
-  depends : (k : ℕ) (d : Crate) → Contains (dependencies k) d → Spread dependencies P d.0 → Spread dependencies P k
+-- the least set that holds each place of P, and each that directly depends on one in it
+pub data Spread (follows : MapId → List MapId) (P : MapId → Type 0) : MapId → Type 0 where
+  here : (id : MapId) → P id → Spread follows P id
+  depends : (id d : MapId) → Contains (follows id) d → Spread follows P d → Spread follows P id

@@ -2,6 +2,7 @@
 use Rattle.std.specs.Prelude.{◌≡◌, ◌⊎◌, ℕ, List, [], ◌∷◌, Option, Some, Ok}
 use Rattle.hir_base.specs.ModPath.{Path}
 use Rattle.hir_base.specs.Place.{PlaceValue}
+use Rattle.hir_base.specs.declared.ids.MapId.{MapId}
 use Rattle.hir_def_collector.specs.declared.source_database.Key.{Key}
 use Rattle.hir_wire.specs.CommandValue.{edit, resolve}
 use Rattle.hir_wire.specs.Commands.{reading_of}
@@ -15,6 +16,7 @@ use Rattle.hir_session.specs.SessionState.{SessionState, workspace_of}
 use Rattle.hir_session.specs.Marks.{IsAltered}
 use Rattle.hir_session.specs.Due.{IsAskedBehind}
 use Rattle.hir_session.specs.Changes.{Applies}
+use Rattle.hir_session.specs.Status.{map_of}
 use Rattle.hir_session.specs.Machine.{MachineState, first_state}
 use Rattle.hir_session.specs.Lines.{AnswersInput, AnswersLines}
 
@@ -36,9 +38,9 @@ SomeLineAlters key old (line ∷ lines) (answer ∷ answers) new done = Alters o
 SomeLineAlters key old [] (answer ∷ answers) new done = ⊥
 SomeLineAlters key old (line ∷ lines) [] new done = ⊥
 
--- a run behind the crate asked for the key, in the session that there is
-abbrev pub IsAskedIn : MachineState → ℕ → Key → Type 0
-IsAskedIn m k key = (s : SessionState) × (m ≡ Some s) × IsAskedBehind s k key
+-- a run behind the place asked for the key, in the session that there is
+abbrev pub IsAskedIn : MachineState → MapId → Key → Type 0
+IsAskedIn m id key = (s : SessionState) × (m ≡ Some s) × IsAskedBehind s id key
 
 -- of the lines that are answered from the first state on, two that ask one query are answered alike, or a line between them is an
 -- edit that altered a key which was asked for behind the first answer
@@ -48,4 +50,4 @@ RepliesDifferOnlyWhereAltered = (earlier between : List (List ℕ)) (before afte
     → reading_of first ≡ Ok (resolve place path shadow style) → reading_of second ≡ Ok (resolve place path shadow style)
     → AnswersLines first_state earlier before s → AnswersInput s first (reply.Answer a) t
     → (done : AnswersLines t between after u) → AnswersInput u second (reply.Answer b) v
-    → (b ≡ a) ⊎ ((key : Key) × IsAskedIn t place.krate.0 key × SomeLineAlters key t between after u done)
+    → (b ≡ a) ⊎ ((key : Key) × IsAskedIn t (map_of place) key × SomeLineAlters key t between after u done)

@@ -1,5 +1,5 @@
 //! What a session begins with.
-ghost use Rattle.std.specs.Prelude.{◌≡◌, ◌<◌, ◌^◌, map, replicate, true, length, IfOk, option_map};
+ghost use Rattle.std.specs.Prelude.{◌≡◌, ◌<◌, ◌^◌, map, true, length, IfOk, option_map};
 ghost use Rattle.hir_base.specs.CfgOptions.{SetAlike};
 ghost use Rattle.hir_wire.specs.CommandValue.{crate_input_view};
 ghost use Rattle.hir_session.specs.Refusals.{dependency_crates, has_late, first_out_of_order};
@@ -130,17 +130,4 @@ pub fn roots_of(alloc: Global, inputs: &Vec<CrateInput>) -> Result<Vec<FilePath>
         paths.push(input.root.clone()?)?;
     }
     Ok(paths)
-}
-
-/// So many marks.
-#[tactic(auto, using(crate::proofs::Start::replicate_more))]
-pub fn all_marked(alloc: Global, count: usize) -> Result<Vec<bool>, AllocError>
-    ensures value { IfOk result (λ v. v.items ≡ replicate count true) }
-{
-    let mut marked = Vec::new(alloc);
-    for k in 0..count {
-        prove!(k < count);
-        marked.push(true)?;
-    }
-    Ok(marked)
 }

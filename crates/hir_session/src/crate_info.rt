@@ -1,7 +1,6 @@
 //! The crates of a session.
 ghost use Rattle.std.specs.Prelude.{◌≡◌, List, [], option_map, unwrap_or};
 ghost use Rattle.hir_item_tree.specs.Attributes.{attributes_view};
-ghost use Rattle.hir_session.specs.Crates.{crate_in, dependencies_in};
 ghost use Rattle.hir_session.specs.Files.{front_in};
 
 use hir_base::ast_id::EditionedFileId;
@@ -81,13 +80,6 @@ impl CrateInfo {
         self.own.root()
     }
 
-    /// What it depends on.
-    pub fn dependencies(&self) -> &[Crate]
-        ensures value { result.now ≡ self.now.dependencies }
-    {
-        self.dependencies.as_slice()
-    }
-
     /// On what it stands, directly or through others.
     pub fn behind(&self) -> &BTreeSet<Crate>
         ensures value { result.now.keys ≡ self.now.own.behind }
@@ -116,15 +108,5 @@ impl CrateInfo {
         ensures value { result.now ≡ self.now.options }
     {
         &self.options
-    }
-}
-
-/// What a crate depends on; nothing where it isn't there.
-pub fn dependencies_at(crates: &Vec<CrateInfo>, k: usize) -> &[Crate]
-    ensures value { result.now ≡ dependencies_in crates.now.items k }
-{
-    match crates.get(k) {
-        Some(info) => info.dependencies(),
-        None => &[],
     }
 }

@@ -1,11 +1,11 @@
 //! Which of what was asked for becomes another by an edit of a file.
-ghost use Rattle.std.specs.Prelude.{◌≡◌, true, false, IfOk, option_map};
+ghost use Rattle.std.specs.Prelude.{◌≡◌, ◌<◌, ◌^◌, true, false, length, IfOk, OnOk, option_map};
 ghost use Rattle.hir_item_tree.specs.Source.{source_view};
 ghost use Rattle.hir_def_map.specs.State.{no_maps};
 ghost use Rattle.hir_def_collector.specs.Keys.{AgreeOn};
 ghost use Rattle.hir_session.specs.Files.{workspace_in, edited_at};
-ghost use Rattle.hir_session.specs.SessionState.{kept_in};
-ghost use Rattle.hir_session.specs.Marking.{HasAltered, IsTold, IsJudged};
+ghost use Rattle.hir_session.specs.Kept.{kept_in};
+ghost use Rattle.hir_session.specs.Marking.{HasAltered, IsTold, IsJudged, AreHit};
 
 mod enums;
 mod trees;
@@ -15,7 +15,7 @@ use crate::files::Files;
 use crate::kept::Kept;
 use enums::{asks_for_variants, is_any_enum_altered, sides_of};
 use hir_base::file_path::FilePath;
-use hir_base::ids::Crate;
+use hir_base::ids::{Crate, MapId};
 use hir_def_collector::source_database::Key;
 use hir_item_tree::source::Source;
 use std::alloc::{AllocError, Global};
@@ -47,7 +47,7 @@ fn is_any_altered(
     is_any_enum_altered(alloc, crates, paths, files, path, new, &sides, keys)
 }
 
-/// Whether the run of which this is kept for a crate asked for something that is altered.
+/// Whether the run of which this is kept for a place asked for something that is altered.
 fn is_told(
     alloc: Global,
     crates: &Vec<CrateInfo>,
@@ -56,13 +56,13 @@ fn is_told(
     path: &FilePath,
     new: Option<&Source>,
     kept: &Kept,
-    k: usize,
+    id: MapId,
 ) -> Result<bool, AllocError>
     ensures told { IfOk result (λ hit. IsTold (workspace_in crates.now.items paths.now.items files.now)
         (workspace_in crates.now.items paths.now.items (edited_at files.now path.now (option_map (λ s. source_view s.now) new.entry)))
-        (kept_in kept.now k) hit) }
+        (kept_in kept.now id) hit) }
 {
-    match kept.get(k) {
+    match kept.get(id) {
         Some(found) => {
             let krate = found.map.krate();
             is_any_altered(alloc, crates, paths, files, path, new, krate, found.asked)
@@ -71,8 +71,30 @@ fn is_told(
     }
 }
 
-/// Of each crate whether its run asked for something that is altered. Trees are made for those that asked for the file.
-pub fn judged(
+/// Adds the place to those of which the run asked for something that is altered, if it did.
+fn judge(
+    alloc: Global,
+    crates: &Vec<CrateInfo>,
+    paths: &Vec<FilePath>,
+    files: &Files,
+    path: &FilePath,
+    new: Option<&Source>,
+    kept: &Kept,
+    id: MapId,
+    hits: &mut Vec<MapId>,
+) -> Result<(), AllocError>
+    ensures judged { OnOk result (IsJudged (workspace_in crates.now.items paths.now.items files.now)
+        (workspace_in crates.now.items paths.now.items (edited_at files.now path.now (option_map (λ s. source_view s.now) new.entry)))
+        (kept_in kept.now id) id hits.old.items hits.new.items) }
+{
+    if is_told(alloc, crates, paths, files, path, new, kept, id)? {
+        hits.push(id)?;
+    }
+    Ok(())
+}
+
+/// The places of which the run asked for something that is altered. Trees are made for those that asked for the file.
+pub fn affected(
     alloc: Global,
     crates: &Vec<CrateInfo>,
     paths: &Vec<FilePath>,
@@ -80,14 +102,16 @@ pub fn judged(
     kept: &Kept,
     path: &FilePath,
     new: Option<&Source>,
-) -> Result<Vec<bool>, AllocError>
-    ensures judged { IfOk result (λ hits. IsJudged (workspace_in crates.now.items paths.now.items files.now)
+) -> Result<Vec<MapId>, AllocError>
+    requires few { length crates.now.items < 2 ^ 32 }
+    ensures hit { IfOk result (λ hits. AreHit (workspace_in crates.now.items paths.now.items files.now)
         (workspace_in crates.now.items paths.now.items (edited_at files.now path.now (option_map (λ s. source_view s.now) new.entry)))
-        kept.now hits.items) }
+        kept.now (length crates.now.items) hits.items) }
 {
     let mut hits = Vec::new(alloc);
-    for k in 0..kept.len() {
-        hits.push(is_told(alloc, crates, paths, files, path, new, kept, k)?)?;
+    for k in 0..crates.as_slice().len() {
+        let id = MapId::of_crate(Crate(k as u32));
+        judge(alloc, crates, paths, files, path, new, kept, id, &mut hits)?;
     }
     Ok(hits)
 }

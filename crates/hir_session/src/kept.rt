@@ -1,14 +1,16 @@
-//! What is kept of the crates that were resolved.
-ghost use Rattle.std.specs.Prelude.{◌≡◌, ℕ, ◌<◌, ◌≤◌, ◌^◌, ◌⊎◌, true, false, length, replicate, slice_index_or, slice_set, None, Some, IfOk, OnOk, OnErr, option_map};
+//! What is kept of the places that were resolved.
+ghost use Rattle.std.specs.Prelude.{◌≡◌, ◌≢◌, ◌⊎◌, true, false, is_some, cond, None, Some, Contains, IfOk, OnOk, OnErr, option_map};
+ghost use Rattle.std.specs.BTreeMap.{get, is_at, IsUnchanged};
 ghost use Rattle.hir_base.specs.declared.ids.MapId.{MapId};
-ghost use Rattle.hir_def_map.specs.Named.{is_complete, names_map};
-ghost use Rattle.hir_def_map.specs.State.{crate_map};
-ghost use Rattle.hir_def_map.specs.World.{finished_in};
-ghost use Rattle.hir_session.specs.Kept.{finished_by, resolution_from, resolution_of, NameUnmarked};
-ghost use Rattle.hir_session.specs.SessionState.{kept_in, mark_in, Resolution};
+ghost use Rattle.hir_base.specs.contracts.ids.MapIdOrd.TheImpl as map_order;
+ghost use Rattle.hir_def_map.specs.Inserted.{may_join};
+ghost use Rattle.hir_def_map.specs.Named.{is_complete};
+ghost use Rattle.hir_def_map.specs.Removal.{Depends};
+ghost use Rattle.hir_def_map.specs.State.{beside};
+ghost use Rattle.hir_def_map.specs.World.{finished_in, local_in};
+ghost use Rattle.hir_session.specs.Kept.{finished_by, kept_in, names_in, leftover_of, asked_of, resolution_from, resolution_of, AreForgotten};
 
-use crate::marks::is_marked_in;
-use hir_base::ids::{Crate, MapId};
+use hir_base::ids::MapId;
 use hir_def_collector::collector::collected::Collected;
 use hir_def_collector::source_database::Key;
 use hir_def_map::nameres::DefMap;
@@ -17,6 +19,7 @@ use hir_def_map::world::World;
 use hir_def_map::world::insert::InsertError;
 use hir_scope::imports::ImportOrExternCrate;
 use std::alloc::{AllocError, Global};
+use std::collections::BTreeMap;
 use std::marker::Model;
 
 /// What is kept of a run beside the map and the crates that its paths may begin with.
@@ -26,7 +29,7 @@ struct KeptRun {
     asked: Vec<Key>,
 }
 
-/// What is kept of a crate, as `Collected` has it.
+/// What is kept of a place, as `Collected` has it.
 #[derive(Clone, Copy)]
 pub struct KeptResolution<'a> {
     pub map: &'a DefMap,
@@ -35,61 +38,49 @@ pub struct KeptResolution<'a> {
     pub asked: &'a [Key],
 }
 
-/// What is kept of each crate that was resolved, by number. Their maps stand in a world.
+/// What is kept of each place that was resolved. Their maps stand in a world.
+///
+/// The run of a place whose map has fallen stays until the place is resolved again.
 #[derive(Drop)]
 pub struct Kept {
     world: World,
-    runs: Vec<Option<KeptRun>>,
+    runs: BTreeMap<MapId, KeptRun>,
 }
 
 impl Model for Kept {
-    ghost use Rattle.std.specs.Prelude.{List, Option};
-    ghost use Rattle.hir_def_collector.specs.Derivation.{CollectedValue};
+    ghost use Rattle.hir_session.specs.Kept.{Resolutions};
     ghost use Rattle.hir_session.specs.KeptCodes.{coded_kept};
 
-    ghost Value = { List (Option CollectedValue) };
+    ghost Value = { Resolutions };
 
     ghost coded = { coded_kept };
 
-    ghost use Rattle.hir_session.specs.Kept.{resolutions_in, AreOfRuns};
+    ghost use Rattle.hir_session.specs.Kept.{resolutions_in, AreUnheld};
 
-    ghost view = { λ k. resolutions_in k.world.maps k.runs.items };
+    ghost view = { λ k. resolutions_in k.world.maps k.runs };
 
-    ghost invariant = { λ k. AreOfRuns k.world.maps k.runs.items };
+    ghost invariant = { λ k. AreUnheld k.world.maps };
 }
 
-/// So many runs of which nothing is kept.
-#[tactic(auto, using(crate::proofs::Start::replicate_more))]
-fn no_runs(alloc: Global, count: usize) -> Result<Vec<Option<KeptRun>>, AllocError>
-    ensures value { IfOk result (λ runs. runs.items ≡ replicate count None) }
+fn leftover_in(run: Option<&KeptRun>) -> &[ImportOrExternCrate]
+    ensures value { result.now ≡ leftover_of (option_map (λ r. r.now) run.entry) }
 {
-    let mut runs = Vec::new(alloc);
-    for k in 0..count {
-        prove!(k < count);
-        runs.push(None)?;
-    }
-    Ok(runs)
-}
-
-fn map_id_of(k: u32) -> MapId
-    ensures value { result ≡ crate_map (record { 0 = k }) }
-{
-    MapId {
-        krate: Crate(k),
-        block: None,
+    match run {
+        Some(run) => run.leftover.as_slice(),
+        None => &[],
     }
 }
 
-fn run_at(runs: &Vec<Option<KeptRun>>, k: usize) -> Option<&KeptRun>
-    ensures value { option_map (λ r. r.now) result ≡ slice_index_or runs.now.items k None }
+fn asked_in(run: Option<&KeptRun>) -> &[Key]
+    ensures value { result.now ≡ asked_of (option_map (λ r. r.now) run.entry) }
 {
-    match runs.get(k) {
-        Some(Some(run)) => Some(run),
-        _ => None,
+    match run {
+        Some(run) => run.asked.as_slice(),
+        None => &[],
     }
 }
 
-/// The parts of a resolution, where all are there.
+/// The parts of a resolution, where its map is there.
 fn joined<'a>(
     map: Option<&'a DefMap>,
     local: Option<&'a LocalDefMap>,
@@ -100,32 +91,60 @@ fn joined<'a>(
 {
     let map = map?;
     let local = local?;
-    let run = run?;
     Some(KeptResolution {
         map,
         local,
-        leftover: run.leftover.as_slice(),
-        asked: run.asked.as_slice(),
+        leftover: leftover_in(run),
+        asked: asked_in(run),
     })
 }
 
-impl Kept {
-    /// Nothing kept of so many crates.
-    pub fn none(alloc: Global, count: usize) -> Result<Kept, AllocError>
-        ensures value { IfOk result (λ kept. kept ≡ replicate count None) }
-    {
-        let runs = no_runs(alloc, count)?;
-        Ok(Kept {
-            world: World::new(alloc),
-            runs,
-        })
-    }
+fn run_at(runs: &BTreeMap<MapId, KeptRun>, id: MapId) -> Option<&KeptRun>
+    ensures value { option_map (λ r. r.now) result ≡ get map_order.ghosts.cmp runs.now id }
+{
+    runs.get(&id)
+}
 
-    /// Of how many crates something may be kept.
-    pub fn len(&self) -> usize
-        ensures value { result ≡ length self.now }
+fn put(
+    runs: &mut BTreeMap<MapId, KeptRun>,
+    id: MapId,
+    run: KeptRun,
+) -> Result<(), AllocError>
+    ensures here { OnOk result (get map_order.ghosts.cmp runs.new id ≡ Some run) }
+    ensures others { OnOk result ((j : MapId) → is_at (map_order.ghosts.cmp id) j ≡ false → get map_order.ghosts.cmp runs.new j ≡ get map_order.ghosts.cmp runs.old j) }
+    ensures err { OnErr result (IsUnchanged runs.old runs.new) }
+{
+    runs.insert(id, run)?;
+    Ok(())
+}
+
+/// Adds a map that is complete beside the others.
+fn join(world: &mut World, map: DefMap, local: LocalDefMap) -> Result<(), AllocError>
+    requires may { may_join (finished_in world.old.maps) map local ≡ true }
+    ensures maps { OnOk result ((id : MapId) → finished_in world.new.maps id ≡ beside (finished_in world.old.maps) map id) }
+    ensures locals { OnOk result ((id : MapId) → local_in world.new.maps id
+        ≡ cond (is_at (map_order.ghosts.cmp map.id) id) (Some local) (local_in world.old.maps id)) }
+    ensures err { OnErr result (IsUnchanged world.old.maps world.new.maps) }
+{
+    match world.insert(map, local) {
+        Ok(()) => Ok(()),
+        Err(refused) => {
+            let for_memory = matches!(refused.why, InsertError::Memory);
+            prove!(for_memory);
+            Err(AllocError)
+        }
+    }
+}
+
+impl Kept {
+    /// Nothing kept of any place.
+    pub fn new(alloc: Global) -> Kept
+        ensures none { (id : MapId) → kept_in result id ≡ None }
     {
-        self.runs.len()
+        Kept {
+            world: World::new(alloc),
+            runs: BTreeMap::new(alloc),
+        }
     }
 
     /// The maps of what is kept.
@@ -135,86 +154,48 @@ impl Kept {
         &self.world
     }
 
-    /// Nothing is kept of a crate whose number is no `u32`.
-    fn numbers_fit(&self)
-        ensures none { (k : ℕ) → 2 ^ 32 ≤ k → kept_in self.now k ≡ None }
+    /// What is kept of a place.
+    pub fn get(&self, id: MapId) -> Option<KeptResolution<'_>>
+        ensures value { option_map resolution_of result ≡ kept_in self.now id }
     {
-        let _runs = &self.runs;
-    }
-
-    /// What is kept of the crate of this number.
-    pub fn get(&self, k: usize) -> Option<KeptResolution<'_>>
-        ensures value { option_map resolution_of result ≡ kept_in self.now k }
-    {
-        self.numbers_fit();
-        if k > u32::MAX as usize {
-            return None;
-        }
-        let id = map_id_of(k as u32);
         joined(
             self.world.map(id),
             self.world.local(id),
-            run_at(&self.runs, k),
+            run_at(&self.runs, id),
         )
     }
 
-    /// Keeps what was found of a crate. Its map names only what is kept of others.
-    pub fn keep(&mut self, k: u32, found: Collected) -> Result<(), AllocError>
-        requires within { k < length self.old }
-        requires free { kept_in self.old k ≡ None }
-        requires own { found.map.id ≡ crate_map (record { 0 = k }) }
+    /// Keeps what was found of a place. Its map names only what is kept of others.
+    pub fn keep(&mut self, found: Collected) -> Result<(), AllocError>
+        requires free { kept_in self.old found.map.id ≡ None }
         requires unheld { found.map.holder ≡ None }
         requires complete { is_complete (finished_by self.old) found.map found.local ≡ true }
-        ensures ok { OnOk result (self.new ≡ slice_set self.old k (Some found)) }
+        ensures here { OnOk result (kept_in self.new found.map.id ≡ Some found) }
+        ensures others { OnOk result ((id : MapId) → id ≢ found.map.id → kept_in self.new id ≡ kept_in self.old id) }
         ensures err { OnErr result (self.new ≡ self.old) }
     {
         let (map, local, leftover, asked) = found.into_parts();
-        match self.world.insert(map, local) {
-            Ok(()) => {
-                self.runs[k as usize] = Some(KeptRun { leftover, asked });
-                Ok(())
-            }
-            Err(refused) => {
-                let for_memory = matches!(refused.why, InsertError::Memory);
-                prove!(for_memory);
-                Err(AllocError)
-            }
-        }
+        put(&mut self.runs, map.id(), KeptRun { leftover, asked })?;
+        join(&mut self.world, map, local)?;
+        Ok(())
     }
 
-    /// Drops what is kept of a marked crate; what falls with its map is of marked ones.
-    fn forget_at(&mut self, marked: &Vec<bool>, k: usize)
-        requires within { k < length self.old }
-        requires marked { mark_in marked.now.items k ≡ true }
-        requires named { NameUnmarked self.old marked.now.items }
-        ensures gone { kept_in self.new k ≡ None }
-        ensures fewer { (j : ℕ) → (kept_in self.new j ≡ kept_in self.old j) ⊎ (kept_in self.new j ≡ None) }
-        ensures stay { (j : ℕ) → mark_in marked.now.items j ≡ false → kept_in self.new j ≡ kept_in self.old j }
-        ensures len { length self.new ≡ length self.old }
+    /// Drops what is kept of a place, and of each that depends on it.
+    fn forget_one(&mut self, id: MapId)
+        ensures gone { (j : MapId) → Depends (names_in self.old) id j → kept_in self.new j ≡ None }
+        ensures stay { (j : MapId) → ¬ Depends (names_in self.old) id j → kept_in self.new j ≡ kept_in self.old j }
     {
-        self.numbers_fit();
-        if k > u32::MAX as usize {
-            return;
-        }
-        let _ = self.world.remove_with_dependents(map_id_of(k as u32));
-        self.runs[k] = None;
+        let _ = self.world.remove_with_dependents(id);
     }
 
-    /// Drops what is kept of the marked crates, where what is kept of others doesn't name their maps.
+    /// Drops what is kept of some places, and of each that depends on one of them.
     ///
     /// Its cost grows with the maps that go and what these name, and hardly with those that stay.
-    pub fn forget(&mut self, marked: &Vec<bool>)
-        requires len { length marked.now.items ≡ length self.old }
-        requires named { (j : ℕ) (r : Resolution) → kept_in self.old j ≡ Some r → mark_in marked.now.items j ≡ false
-            → (id : MapId) → names_map r.map r.local id ≡ true → mark_in marked.now.items id.krate.0 ≡ false }
-        ensures gone { (k : ℕ) → mark_in marked.now.items k ≡ true → kept_in self.new k ≡ None }
-        ensures stay { (k : ℕ) → mark_in marked.now.items k ≡ false → kept_in self.new k ≡ kept_in self.old k }
-        ensures len { length self.new ≡ length self.old }
+    pub fn forget(&mut self, ids: &[MapId])
+        ensures forgotten { AreForgotten self.old ids.now self.new }
     {
-        for k in 0..self.len() {
-            if is_marked_in(marked, k) {
-                self.forget_at(marked, k);
-            }
+        for id in ids {
+            self.forget_one(*id);
         }
     }
 }

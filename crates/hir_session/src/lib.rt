@@ -12,7 +12,6 @@ mod front;
 mod judge;
 mod kept;
 pub mod laws;
-mod marks;
 mod not_yet;
 mod open_line;
 mod output;

@@ -1,5 +1,6 @@
 //! The session: what is handed in, and what is kept of each crate that was resolved.
 ghost use Rattle.std.specs.Prelude.{◌≡◌, ℕ, ◌<◌, ◌++◌, ◌∷◌, [], map, true, false, length, None, IfOk, OnOk, OnErr, IfErr, ◌≤◌, ◌⊎◌, Ok, Err, option_map};
+ghost use Rattle.hir_base.specs.declared.ids.MapId.{MapId};
 ghost use Rattle.hir_base.specs.Refusal.{Gives};
 ghost use Rattle.hir_def_collector.specs.Derivation.{IsOverlong};
 ghost use Rattle.hir_wire.specs.CommandValue.{crate_input_view};
@@ -7,27 +8,27 @@ ghost use Rattle.hir_wire.specs.Edits.{edit_view};
 ghost use Rattle.hir_session.specs.Beginning.{Begins};
 ghost use Rattle.hir_item_tree.specs.Source.{source_view};
 ghost use Rattle.hir_session.specs.Files.{with_file, without_file, edited_at};
-ghost use Rattle.hir_session.specs.Marking.{IsJudged};
+ghost use Rattle.hir_session.specs.Crates.{id_of};
+ghost use Rattle.hir_session.specs.Marking.{AreHit};
 ghost use Rattle.hir_session.specs.SessionState.{SessionState, Resolution, workspace_of, finished_of, start_of, is_marked, IsResolutionOf, IsSound};
-ghost use Rattle.hir_session.specs.Due.{resolved_at, crate_place, HasOverlongRun};
+ghost use Rattle.hir_session.specs.Due.{root_place, Resolved, HasOverlongRun};
 ghost use Rattle.hir_session.specs.Refusals.{first_out_of_order, verdict_of_new, IsNewMemory, verdict_of_apply, verdict_of_source, IsEditMemory};
 ghost use Rattle.hir_session.specs.Changes.{with_files, Becomes, Applies, Refreshes, RefreshesPartly};
 
 mod queries;
 
-use crate::beginning::{all_marked, first_late, infos_of, roots_of};
+use crate::beginning::{first_late, infos_of, roots_of};
 use crate::crate_info::CrateInfo;
 use crate::error::{EditError, NewSessionError, RefreshError};
 use crate::file_trees::check_source;
 use crate::files::Files;
 use crate::front::{has_deep_condition, has_long_path};
-use crate::judge::judged;
+use crate::judge::affected;
 use crate::kept::Kept;
-use crate::marks::{is_marked_in, spread};
 use crate::not_yet::is_any_untaken;
 use crate::sources::resolve_crate;
 use hir_base::file_path::FilePath;
-use hir_base::ids::Crate;
+use hir_base::ids::{Crate, MapId};
 use hir_base::limit::Limit;
 use hir_base::place::Place;
 use hir_def_collector::collector::collected::Collected;
@@ -41,14 +42,13 @@ use std::marker::Model;
 /// The most crates that a session has.
 pub const MAX_CRATES: usize = 10000;
 
-/// Crates and files as they were handed in, and for each crate that was resolved what its names stand for.
+/// Crates and files as they were handed in, and for each place that was resolved what its names stand for.
 #[derive(Drop)]
 pub struct Session {
     crates: Vec<CrateInfo>,
     paths: Vec<FilePath>,
     files: Files,
     kept: Kept,
-    marked: Vec<bool>,
 }
 
 impl Model for Session {
@@ -59,14 +59,14 @@ impl Model for Session {
 
     ghost coded = { coded_session };
 
-    ghost view = { λ s. record { crates = s.crates.items; paths = s.paths.items; files = s.files; kept = s.kept; marked = s.marked.items } };
+    ghost view = { λ s. record { crates = s.crates.items; paths = s.paths.items; files = s.files; kept = s.kept } };
 
-    ghost invariant = { λ s. IsSound (record { crates = s.crates.items; paths = s.paths.items; files = s.files; kept = s.kept; marked = s.marked.items }) };
+    ghost invariant = { λ s. IsSound (record { crates = s.crates.items; paths = s.paths.items; files = s.files; kept = s.kept }) };
 }
 
 /// Puts the place of a crate's root at the end.
 fn note(alloc: Global, done: &mut Vec<Place>, k: u32) -> Result<(), AllocError>
-    ensures ok { OnOk result (done.new.items ≡ done.old.items ++ crate_place k ∷ []) }
+    ensures ok { OnOk result (done.new.items ≡ done.old.items ++ root_place (id_of k) ∷ []) }
 {
     done.push(Place::new(Crate(k), Vec::new(alloc)))?;
     Ok(())
@@ -104,21 +104,21 @@ impl Session {
     pub fn sound(&self)
         ensures sound { IsSound self.now }
     {
-        let _marked = &self.marked;
+        let _kept = &self.kept;
     }
 
-    /// Of each crate whether its run asked for something that is altered, where a file gets a source or is removed.
-    fn judged(
+    /// The places of which the run asked for something that is altered, where a file gets a source or is removed.
+    fn affected(
         &self,
         alloc: Global,
         file: &FilePath,
         new: Option<&Source>,
-    ) -> Result<Vec<bool>, AllocError>
-        ensures judged { IfOk result (λ hits. IsJudged (workspace_of self.now)
+    ) -> Result<Vec<MapId>, AllocError>
+        ensures hit { IfOk result (λ hits. AreHit (workspace_of self.now)
             (workspace_of (with_files self.now (edited_at self.now.files file.now (option_map (λ s. source_view s.now) new.entry))))
-            self.now.kept hits.items) }
+            self.now.kept (length self.now.crates) hits.items) }
     {
-        judged(
+        affected(
             alloc,
             &self.crates,
             &self.paths,
@@ -129,27 +129,25 @@ impl Session {
         )
     }
 
-    /// Sets a checked file, and marks what that touches.
+    /// Sets a checked file, and drops what is kept of what that touches.
     fn keep_file(&mut self, alloc: Global, file: FilePath, source: Source) -> Result<(), AllocError>
         ensures ok { OnOk result (Becomes self.old (with_file self.old.files file (source_view source)) self.new) }
         ensures err { OnErr result (self.new ≡ self.old) }
     {
-        let hits = self.judged(alloc, &file, Some(&source))?;
+        let hits = self.affected(alloc, &file, Some(&source))?;
         self.files.set(file, source)?;
-        spread(&self.crates, &hits, &mut self.marked);
-        self.kept.forget(&self.marked);
+        self.kept.forget(hits.as_slice());
         Ok(())
     }
 
-    /// Removes a file, and marks what that touches.
+    /// Removes a file, and drops what is kept of what that touches.
     fn remove_file(&mut self, alloc: Global, file: &FilePath) -> Result<(), AllocError>
         ensures ok { OnOk result (Becomes self.old (without_file self.old.files file.now) self.new) }
         ensures err { OnErr result (self.new ≡ self.old) }
     {
-        let hits = self.judged(alloc, file, None)?;
+        let hits = self.affected(alloc, file, None)?;
         self.files.remove(file);
-        spread(&self.crates, &hits, &mut self.marked);
-        self.kept.forget(&self.marked);
+        self.kept.forget(hits.as_slice());
         Ok(())
     }
 
@@ -183,25 +181,25 @@ impl Session {
     }
 
     /// How many crates there are.
-    fn len(&self) -> usize
+    fn len(&self) -> u32
         ensures value { result ≡ length self.now.crates }
     {
-        self.crates.len()
+        self.crates.len() as u32
     }
 
-    /// Whether what is kept of a crate may be out of date.
-    fn is_marked_at(&self, k: usize) -> bool
-        ensures value { result ≡ is_marked self.now k }
+    /// Whether nothing is kept of a crate.
+    fn is_marked_at(&self, k: u32) -> bool
+        ensures value { result ≡ is_marked self.now (id_of k) }
     {
-        is_marked_in(&self.marked, k)
+        self.kept.get(MapId::of_crate(Crate(k))).is_none()
     }
 
     /// What a run gives for a crate, beside the maps of those before it.
     fn found_at(&self, alloc: Global, k: u32) -> Result<Collected, RefreshError>
         requires within { k < length self.now.crates }
-        requires first { (j : ℕ) → j < k → is_marked self.now j ≡ false }
-        ensures found { IfOk result (λ r. IsResolutionOf self.now k r) }
-        ensures many { result ≡ Err RefreshError.TooMany → IsOverlong (workspace_of self.now) (finished_of self.now) (start_of self.now k) }
+        requires first { (j : ℕ) → j < k → is_marked self.now (id_of j) ≡ false }
+        ensures found { IfOk result (λ r. IsResolutionOf self.now (id_of k) r) }
+        ensures many { result ≡ Err RefreshError.TooMany → IsOverlong (workspace_of self.now) (finished_of self.now) (start_of self.now (id_of k)) }
     {
         runs_name_what_is_there();
         let world = self.kept.world();
@@ -212,22 +210,21 @@ impl Session {
     /// Resolves the first marked crate.
     fn resolve_at(&mut self, alloc: Global, k: u32) -> Result<(), RefreshError>
         requires within { k < length self.old.crates }
-        requires first { (j : ℕ) → j < k → is_marked self.old j ≡ false }
-        requires marked { is_marked self.old k ≡ true }
-        ensures ok { OnOk result ((r : Resolution) × IsResolutionOf self.old k r × (self.new ≡ resolved_at self.old k r)) }
-        ensures many { result ≡ Err RefreshError.TooMany → IsOverlong (workspace_of self.old) (finished_of self.old) (start_of self.old k) }
+        requires first { (j : ℕ) → j < k → is_marked self.old (id_of j) ≡ false }
+        requires marked { is_marked self.old (id_of k) ≡ true }
+        ensures ok { OnOk result ((r : Resolution) × IsResolutionOf self.old (id_of k) r × Resolved self.old (id_of k) r self.new) }
+        ensures many { result ≡ Err RefreshError.TooMany → IsOverlong (workspace_of self.old) (finished_of self.old) (start_of self.old (id_of k)) }
         ensures err { OnErr result (self.new ≡ self.old) }
     {
         let found = self.found_at(alloc, k)?;
-        self.kept.keep(k, found)?;
-        self.marked[k as usize] = false;
+        self.kept.keep(found)?;
         Ok(())
     }
 
     /// Resolves what is marked, in order, and lists it.
     pub fn refresh(&mut self, alloc: Global) -> Result<Vec<Place>, RefreshError>
         ensures refreshes { IfOk result (λ done. Refreshes self.old done.items self.new) }
-        ensures none_stale { OnOk result ((k : ℕ) → k < length self.new.crates → is_marked self.new k ≡ false) }
+        ensures none_stale { OnOk result ((k : ℕ) → k < length self.new.crates → is_marked self.new (id_of k) ≡ false) }
         ensures err { OnErr result (RefreshesPartly self.old self.new) }
         ensures many { result ≡ Err RefreshError.TooMany → HasOverlongRun self.new }
     {
@@ -236,8 +233,8 @@ impl Session {
         for k in 0..self.len() {
             if self.is_marked_at(k) {
                 self.sound();
-                note(alloc, &mut done, k as u32)?;
-                self.resolve_at(alloc, k as u32)?;
+                note(alloc, &mut done, k)?;
+                self.resolve_at(alloc, k)?;
             }
         }
         self.sound();
@@ -251,16 +248,12 @@ fn begin(alloc: Global, inputs: &Vec<CrateInput>) -> Result<Session, AllocError>
     requires ordered { first_out_of_order 0 (map crate_input_view inputs.now.items) ≡ None }
     ensures begins { IfOk result (λ s. Begins (map crate_input_view inputs.now.items) s) }
 {
-    let count = inputs.as_slice().len();
     let crates = infos_of(alloc, inputs)?;
     let paths = roots_of(alloc, inputs)?;
-    let kept = Kept::none(alloc, count)?;
-    let marked = all_marked(alloc, count)?;
     Ok(Session {
         crates,
         paths,
         files: Files::new(alloc),
-        kept,
-        marked,
+        kept: Kept::new(alloc),
     })
 }

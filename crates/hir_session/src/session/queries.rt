@@ -3,9 +3,10 @@ ghost use Rattle.std.specs.Prelude.{◌≡◌, ◌⊎◌, IfOk, IfErr, Ok, Err, 
 ghost use Rattle.hir_base.specs.Refusal.{Gives};
 ghost use Rattle.hir_item_tree.specs.Source.{source_view};
 ghost use Rattle.hir_session.specs.Files.{file_at};
-ghost use Rattle.hir_session.specs.SessionState.{read_of, kept_in, kept_of};
+ghost use Rattle.hir_session.specs.SessionState.{read_of, kept_of};
 ghost use Rattle.hir_session.specs.Refusals.{IsQueryMemory, IsTreeTextMemory};
-ghost use Rattle.hir_session.specs.Status.{module_in_kept, module_of, status_of};
+ghost use Rattle.hir_session.specs.Status.{map_of, module_of, status_of};
+ghost use Rattle.hir_session.specs.Crates.{id_of};
 ghost use Rattle.hir_session.specs.Answers.{answer_from, answer_of};
 ghost use Rattle.hir_session.specs.AnswersStand.{AnswersStand};
 ghost use Rattle.hir_session.specs.TreeText.{tree_text_of};
@@ -14,10 +15,8 @@ use super::Session;
 use crate::answers::{answer_at, module_below_root};
 use crate::error::{QueryError, TreeTextError};
 use crate::file_trees::page_at;
-use crate::kept::Kept;
-use crate::marks::is_marked_in;
 use hir_base::file_path::FilePath;
-use hir_base::ids::{Crate, ModuleId};
+use hir_base::ids::{Crate, MapId};
 use hir_base::mod_path::ModPath;
 use hir_base::place::{Place, PlaceElement};
 use hir_def_collector::laws::runs_bind_from_sources;
@@ -31,22 +30,12 @@ use hir_wire::command::{MacroStyle, Shadow};
 use hir_wire::reply::Status;
 use std::alloc::Global;
 
-/// The module to which the steps lead in what is kept of a crate.
-fn module_kept(kept: &Kept, k: usize, elements: &[PlaceElement]) -> Option<ModuleId>
-    ensures value { result ≡ module_in_kept (kept_in kept.now k) elements.now }
-{
-    match kept.get(k) {
-        Some(found) => module_below_root(found.map, elements),
-        None => None,
-    }
-}
-
 impl Session {
     /// The map of a crate, unless the crate is stale or unknown.
     pub fn def_map(&self, krate: Crate) -> Option<&DefMap>
-        ensures value { option_map (λ m. m.now) result ≡ option_map (λ r. r.map) (kept_of self.now krate.0) }
+        ensures value { option_map (λ m. m.now) result ≡ option_map (λ r. r.map) (kept_of self.now (id_of krate.0)) }
     {
-        match self.kept.get(krate.0 as usize) {
+        match self.kept.get(MapId::of_crate(krate)) {
             Some(found) => Some(found.map),
             None => None,
         }
@@ -63,14 +52,14 @@ impl Session {
     pub fn status(&self, place: &Place) -> Status
         ensures value { result ≡ status_of self.now place.now }
     {
-        let k = place.krate().0 as usize;
-        if k >= self.crates.len() {
+        let krate = place.krate();
+        if krate.0 as usize >= self.crates.len() {
             return Status::Unknown;
         }
-        if is_marked_in(&self.marked, k) {
+        let Some(found) = self.kept.get(MapId::of_crate(krate)) else {
             return Status::Stale;
-        }
-        match module_kept(&self.kept, k, place.elements()) {
+        };
+        match module_below_root(found.map, place.elements()) {
             Some(_) => Status::Current,
             None => Status::Unknown,
         }
@@ -85,14 +74,14 @@ impl Session {
         shadow: Shadow,
         style: Option<MacroStyle>,
     ) -> Result<Answer, QueryError>
-        ensures answer { Gives IsQueryMemory result (answer_from self.now.paths (read_of self.now place.now.krate.0) (kept_of self.now place.now.krate.0)
+        ensures answer { Gives IsQueryMemory result (answer_from self.now.paths (read_of self.now (map_of place.now)) (kept_of self.now (map_of place.now))
             (module_of self.now place.now) path.now shadow style) }
     {
-        let k = place.krate().0 as usize;
-        let Some(found) = self.kept.get(k) else {
+        let krate = place.krate();
+        let Some(found) = self.kept.get(MapId::of_crate(krate)) else {
             return Err(QueryError::UnknownPlace);
         };
-        let Some(info) = self.crates.get(k) else {
+        let Some(info) = self.crates.get(krate.0 as usize) else {
             return Err(QueryError::UnknownPlace);
         };
         match module_below_root(found.map, place.elements()) {
