@@ -2,17 +2,18 @@ use Rattle.std.proofs.Common.{◌≡◌, ◌⊎◌, inl, inr, ℕ, false, List, 
 use Rattle.hir_base.specs.ModPath.{Path}
 use Rattle.hir_base.specs.Place.{PlaceValue}
 use Rattle.hir_base.specs.declared.ids.Crate.{Crate}
+use Rattle.hir_base.specs.declared.ids.MapId.{MapId}
 use Rattle.hir_def_map.specs.Among.{among, among_agrees, unheld}
-use Rattle.hir_def_map.specs.State.{Placed, no_maps}
+use Rattle.hir_def_map.specs.State.{Placed, crate_map, no_maps}
 use Rattle.hir_def_collector.specs.Workspace.{Workspace}
 use Rattle.hir_def_collector.specs.Keys.{look}
 use Rattle.hir_def_collector.specs.declared.source_database.Key.{Key}
 use Rattle.hir_wire.specs.Edits.{EditValue}
 use Rattle.hir_wire.specs.declared.command.Shadow.{Shadow}
 use Rattle.hir_wire.specs.declared.command.MacroStyle.{MacroStyle}
-use Rattle.hir_session.specs.Crates.{CrateValue, behind_in, dependencies_in}
+use Rattle.hir_session.specs.Crates.{CrateValue, behind_in, follows_in, id_of}
 use Rattle.hir_session.specs.Files.{Files}
-use Rattle.hir_session.specs.SessionState.{SessionState, Resolution, workspace_of, dependencies_of, finished_of, read_of, kept_of, is_marked, IsSound}
+use Rattle.hir_session.specs.SessionState.{SessionState, Resolution, workspace_of, dependencies_of, finished_of, follows, read_of, kept_of, is_marked, IsSound}
 use Rattle.hir_session.specs.StandsOn.{StandsOn}
 use Rattle.hir_session.specs.StandsOn.StandsOn.{directly, through}
 use Rattle.hir_session.specs.Spread.{Spread}
@@ -22,62 +23,65 @@ use Rattle.hir_session.specs.Marks.IsTouched.{before, asked_for}
 use Rattle.hir_session.specs.Due.{IsBehind, IsAskedBehind}
 use Rattle.hir_session.specs.Due.IsBehind.{itself, next}
 use Rattle.hir_session.specs.Changes.{Becomes, Applies, Resolves, edited_files, with_files}
+use Rattle.hir_session.specs.Status.{map_of}
 use Rattle.hir_session.specs.Answers.{answer_of}
 use Rattle.hir_session.specs.Histories.{History, WasAltered, DifferOnlyWhereAltered}
 use Rattle.hir_session.specs.Histories.History.{none, edit, refresh}
+use Rattle.hir_session.proofs.Following.{followed}
 use Rattle.hir_session.proofs.Truth.{clash, on_bool}
+use Rattle.std.specs.Prelude.{is_none}
 
--- what is behind the crate is as it was
-pub record IsSame (from to : SessionState) (k : ℕ) : Type 0 where
+-- what is behind the place is as it was
+pub record IsSame (from to : SessionState) (id : MapId) : Type 0 where
   pub crates : to.crates ≡ from.crates
   pub paths : to.paths ≡ from.paths
-  pub off : (j : ℕ) → IsBehind from k j → is_marked to j ≡ false
-  pub kept : (j : ℕ) → IsBehind from k j → kept_of to j ≡ kept_of from j
+  pub off : (j : MapId) → IsBehind from id j → is_marked to j ≡ false
+  pub kept : (j : MapId) → IsBehind from id j → kept_of to j ≡ kept_of from j
 
 -- all behind an unmarked crate is unmarked
-pub unmarked_behind : {s : SessionState} {k j : ℕ} → IsSound s → is_marked s k ≡ false → IsBehind s k j → is_marked s j ≡ false
+pub unmarked_behind : {s : SessionState} {k j : MapId} → IsSound s → is_marked s k ≡ false → IsBehind s k j → is_marked s j ≡ false
 unmarked_behind sound off itself = off
 unmarked_behind {s} {k} sound off (next j d behind among) = sound.closed j d (unmarked_behind sound off behind) among
 
 -- what an unmarked crate depends on is unmarked
 pub record IsClosed (s : SessionState) : Type 0 where
-  pub closed : (k : ℕ) (d : Crate) → is_marked s k ≡ false → Contains (dependencies_of s k) d → is_marked s d.0 ≡ false
+  pub closed : (k d : MapId) → is_marked s k ≡ false → Contains (follows s k) d → is_marked s d ≡ false
 
 -- so it is after an edit
 pub closed_after : {old new : SessionState} {files : Files} → Becomes old files new → IsClosed new
 closed_after {old} {new} is = record {
-  closed = λ k d off among. on_bool (is_marked new d.0)
-      (λ on. clash (is.all k (depends k d (subst (λ (cs : List CrateValue). Contains (dependencies_in cs k) d) is.crates among) (is.only d.0 on))) off)
+  closed = λ k d off among. on_bool (is_marked new d)
+      (λ on. clash (is.all k (depends k d (subst (λ (cs : List CrateValue). Contains (follows_in cs k) d) is.crates among) (is.only d on))) off)
       (λ h. h);
 }
 
 -- all that was behind a crate is unmarked where the crate still is
-pub unmarked_still : {from to : SessionState} {k j : ℕ} → to.crates ≡ from.crates → IsClosed to → is_marked to k ≡ false → IsBehind from k j → is_marked to j ≡ false
+pub unmarked_still : {from to : SessionState} {k j : MapId} → to.crates ≡ from.crates → IsClosed to → is_marked to k ≡ false → IsBehind from k j → is_marked to j ≡ false
 unmarked_still alike closed off itself = off
 unmarked_still alike closed off (next j d behind among) =
-    closed.closed j d (unmarked_still alike closed off behind) (subst (λ (cs : List CrateValue). Contains (dependencies_in cs j) d) (sym alike) among)
+    closed.closed j d (unmarked_still alike closed off behind) (subst (λ (cs : List CrateValue). Contains (follows_in cs j) d) (sym alike) among)
 
 -- what was marked shows a key that was altered
-pub what_marked : {from mid : SessionState} {k : ℕ} (w : Workspace) → IsSame from mid k → {j : ℕ} → Spread (dependencies_of mid) (IsTouched mid w) j → IsBehind from k j
+pub what_marked : {from mid : SessionState} {k : MapId} (w : Workspace) → IsSame from mid k → {j : MapId} → Spread (follows mid) (IsTouched mid w) j → IsBehind from k j
     → (key : Key) × IsAskedBehind from k key × IsAltered (workspace_of mid) w key
 what_marked w same (here j (before m)) behind = clash m (same.off j behind)
 what_marked w same (here j (asked_for key r is has ne)) behind =
     (key, record { place = j; found = r; behind = behind; is = sym (same.kept j behind) ∙ is; asked = has }, ne)
 what_marked w same (depends j d among sp) behind =
-    what_marked w same sp (next j d behind (subst (λ (cs : List CrateValue). Contains (dependencies_in cs j) d) same.crates among))
+    what_marked w same sp (next j d behind (subst (λ (cs : List CrateValue). Contains (follows_in cs j) d) same.crates among))
 
 -- the workspace that an accepted edit leaves is the edited one
 workspace-becomes : {old new : SessionState} {files : Files} → Becomes old files new → workspace_of new ≡ workspace_of (with_files old files)
 workspace-becomes is = rw (is.crates, is.paths, is.files_are) refl
 
 -- an edit leaves all that is behind the crate as it was, or alters a key that was asked for there
-pub same_after_edit : {from mid to : SessionState} {k : ℕ} (e : EditValue) → IsSame from mid k → Applies mid e to
+pub same_after_edit : {from mid to : SessionState} {k : MapId} (e : EditValue) → IsSame from mid k → Applies mid e to
     → IsSame from to k ⊎ ((key : Key) × IsAskedBehind from k key × IsAltered (workspace_of mid) (workspace_of to) key)
 same_after_edit {from} {mid} {to} {k} e same is = on_bool (is_marked to k)
     (λ on. let hit = what_marked (workspace_of (with_files mid (edited_files mid e))) same (is.only k on) itself in
     inr (hit.0, hit.1, λ h. hit.2 (subst (λ (w : Workspace). look w no_maps hit.0 ≡ look (workspace_of mid) no_maps hit.0) (workspace-becomes is) h)))
     (λ still.
-    let off = λ (j : ℕ) (behind : IsBehind from k j). unmarked_still (is.crates ∙ same.crates) (closed_after is) still behind in
+    let off = λ (j : MapId) (behind : IsBehind from k j). unmarked_still (is.crates ∙ same.crates) (closed_after is) still behind in
     inl (record {
       crates = is.crates ∙ same.crates;
       paths = is.paths ∙ same.paths;
@@ -86,18 +90,18 @@ same_after_edit {from} {mid} {to} {k} e same is = on_bool (is_marked to k)
     }))
 
 -- and a refresh leaves it so
-pub same_after_refresh : {from mid to : SessionState} {k : ℕ} {done : List PlaceValue} → IsSame from mid k → Resolves mid done to → IsSame from to k
+pub same_after_refresh : {from mid to : SessionState} {k : MapId} {done : List PlaceValue} → IsSame from mid k → Resolves mid done to → IsSame from to k
 same_after_refresh same is = record {
   crates = is.crates ∙ same.crates;
   paths = is.paths ∙ same.paths;
-  off = λ j behind. (is.others j (same.off j behind)).0;
-  kept = λ j behind. (is.others j (same.off j behind)).1 ∙ same.kept j behind;
+  off = λ j behind. ap (λ (o : Option Resolution). is_none o) (is.others j (same.off j behind)) ∙ same.off j behind;
+  kept = λ j behind. is.others j (same.off j behind) ∙ same.kept j behind;
 }
 
-pub same_at_first : {from : SessionState} {k : ℕ} → IsSound from → is_marked from k ≡ false → IsSame from from k
+pub same_at_first : {from : SessionState} {k : MapId} → IsSound from → is_marked from k ≡ false → IsSame from from k
 same_at_first sound off = record { crates = refl; paths = refl; off = λ j behind. unmarked_behind sound off behind; kept = λ j behind. refl }
 
-pub same_or_altered : {from : SessionState} {k : ℕ} → IsSound from → is_marked from k ≡ false → {to : SessionState} → (h : History from to)
+pub same_or_altered : {from : SessionState} {k : MapId} → IsSound from → is_marked from k ≡ false → {to : SessionState} → (h : History from to)
     → IsSame from to k ⊎ ((key : Key) × IsAskedBehind from k key × WasAltered key h)
 same_or_altered sound off none = inl (same_at_first sound off)
 same_or_altered sound off (edit mid to e earlier is) = elim (same_or_altered sound off earlier) [
@@ -112,24 +116,24 @@ same_or_altered sound off (refresh mid to done earlier is) = elim (same_or_alter
   | inr hit ↦ inr (hit.0, hit.1, hit.2)
 ]
 
--- what is behind a crate on which another stands is behind that
-behind_from : {s : SessionState} {k j i : ℕ} → IsBehind s k j → StandsOn (dependencies_of s) j i → IsBehind s k i
-behind_from behind (directly k d among) = next k d behind among
-behind_from behind (through k i d among rest) = behind_from (next k d behind among) rest
+-- the maps of the crates on which a crate stands are behind its own
+behind_from : {s : SessionState} {id : MapId} {j i : ℕ} → IsBehind s id (id_of j) → StandsOn (dependencies_of s) j i → IsBehind s id (id_of i)
+behind_from {s} behind (directly k d among) = next (id_of k) (crate_map d) behind (followed s.crates (id_of k) d among)
+behind_from {s} behind (through k i d among rest) = behind_from (next (id_of k) (crate_map d) behind (followed s.crates (id_of k) d among)) rest
 
 -- the same finished maps are read
-same_read : {from to : SessionState} (k : ℕ) → IsSound from → IsSame from to k → read_of to k ≡ read_of from k
+same_read : {from to : SessionState} (k : ℕ) → IsSound from → IsSame from to (id_of k) → read_of to (id_of k) ≡ read_of from (id_of k)
 same_read {from} {to} k sound same =
     ap (λ (cs : List CrateValue). among (behind_in cs k) (finished_of to)) same.crates
     ∙ among_agrees (behind_in from.crates k) (finished_of to) (finished_of from)
     (λ c h. ap (λ (o : Option Resolution). option_map (λ (p : Placed). p.map) (option_map (λ (r : Resolution). unheld r.map) o))
-    (same.kept c.0 (behind_from itself ((sound.behind k c).0 h))))
+    (same.kept (crate_map c) (behind_from itself ((sound.behind k c).0 h))))
 
 -- and then a query has the same answer
 pub same_answer : {from to : SessionState} (place : PlaceValue) (path : Path) (shadow : Shadow) (style : Option MacroStyle) → IsSound from
-    → is_marked from place.krate.0 ≡ false → IsSame from to place.krate.0 → answer_of to place path shadow style ≡ answer_of from place path shadow style
+    → is_marked from (map_of place) ≡ false → IsSame from to (map_of place) → answer_of to place path shadow style ≡ answer_of from place path shadow style
 same_answer place path shadow style sound off same =
-    rw (same_read place.krate.0 sound same, same.crates, same.paths, same.off place.krate.0 itself, same.kept place.krate.0 itself, off) refl
+    rw (same_read place.krate.0 sound same, same.crates, same.paths, same.kept (map_of place) itself) refl
 
 pub differ_only : DifferOnlyWhereAltered
 differ_only from to place path shadow style sound off h = elim (same_or_altered sound off h) [

@@ -8,6 +8,7 @@ use Rattle.hir_base.specs.declared.ast_id.AstKind.TheVariants.{Enum}
 use Rattle.hir_base.specs.declared.ast_id.HirFileId.{HirFileId}
 use Rattle.hir_base.specs.declared.ast_id.SyntaxId.{SyntaxId}
 use Rattle.hir_base.specs.declared.ids.Crate.{Crate}
+use Rattle.hir_base.specs.declared.ids.MapId.{MapId}
 use Rattle.hir_item_tree.specs.BodyTexts.{BodyTextsLeaveTheTree, source_without_bodies}
 use Rattle.hir_item_tree.specs.ItemTree.{Tree}
 use Rattle.hir_item_tree.specs.Source.{SourceValue}
@@ -20,10 +21,11 @@ use Rattle.hir_wire.specs.declared.command.Shadow.{Shadow}
 use Rattle.hir_wire.specs.declared.command.MacroStyle.{MacroStyle}
 use Rattle.hir_wire.specs.declared.reply.Status.TheVariants as status
 use Rattle.hir_session.specs.declared.error.QueryError.TheVariants as error
+use Rattle.hir_session.specs.Status.{map_of}
 use Rattle.hir_session.specs.Answers.{answer_by, answer_of}
 use Rattle.hir_session.specs.Crates.{CrateValue, crate_in, options_in}
 use Rattle.hir_session.specs.Files.{Files, file_at, front_in, path_in, edited_at, tree_under, shown, variants_under, workspace_in}
-use Rattle.hir_session.specs.SessionState.{SessionState, Resolution, workspace_of, dependencies_of, kept_of, is_marked, IsSound}
+use Rattle.hir_session.specs.SessionState.{SessionState, Resolution, workspace_of, follows, kept_of, is_marked, IsSound}
 use Rattle.hir_session.specs.Spread.{Spread}
 use Rattle.hir_session.specs.Spread.Spread.{here, depends}
 use Rattle.hir_session.specs.Marks.{IsTouched}
@@ -38,8 +40,8 @@ use Rattle.hir_session.proofs.BodyVariants.{same_variants}
 use Rattle.hir_session.proofs.FileLemmas.{enum-other, enum-same, look-other, look-same, look-differs}
 
 -- what the edit leaves alike at each key marks what was marked
-unspread : {s : SessionState} {w : Workspace} {k : ℕ} → IsSound s → ((key : Key) → look w no_maps key ≡ look (workspace_of s) no_maps key)
-    → Spread (dependencies_of s) (IsTouched s w) k → is_marked s k ≡ true
+unspread : {s : SessionState} {w : Workspace} {k : MapId} → IsSound s → ((key : Key) → look w no_maps key ≡ look (workspace_of s) no_maps key)
+    → Spread (follows s) (IsTouched s w) k → is_marked s k ≡ true
 unspread sound same (here k (before m)) = m
 unspread sound same (here k (asked_for key r is has ne)) = absurd (ne (same key))
 unspread {s} sound same (depends k d among sp) = on_bool (is_marked s k)
@@ -48,7 +50,7 @@ unspread {s} sound same (depends k d among sp) = on_bool (is_marked s k)
 
 -- an edit that leaves each key as it was changes no mark
 unaltered_marks : {old new : SessionState} {files : Files} → IsSound old → Becomes old files new
-    → ((key : Key) → look (workspace_in old.crates old.paths files) no_maps key ≡ look (workspace_of old) no_maps key) → (k : ℕ) → is_marked new k ≡ is_marked old k
+    → ((key : Key) → look (workspace_in old.crates old.paths files) no_maps key ≡ look (workspace_of old) no_maps key) → (k : MapId) → is_marked new k ≡ is_marked old k
 unaltered_marks {old} {new} sound is same k = on_bool (is_marked new k)
     (λ on. on ∙ sym (unspread sound same (is.only k on)))
     (λ off. on_bool (is_marked old k)
@@ -69,7 +71,7 @@ same_looks s path there same alike (keys.Variants id) = on_bool (is_enum_at s.pa
 same_looks s path there same alike (keys.Map id) = refl
 
 -- a file whose trees become others marks what asked for it
-altered_marks : {old new : SessionState} (path : List ℕ) (there : Option SourceValue) (k : ℕ) (found : Resolution) (krate : Crate) (file : HirFileId)
+altered_marks : {old new : SessionState} (path : List ℕ) (there : Option SourceValue) (k : MapId) (found : Resolution) (krate : Crate) (file : HirFileId)
     → (shown old.crates krate.0 (Some path) there ≢ shown old.crates krate.0 (Some path) (file_at old.files path))
     → Becomes old (edited_at old.files path there) new → kept_of old k ≡ Some found → Contains found.asked (keys.Tree krate file)
     → path_in old.paths file ≡ Some path → is_marked new k ≡ true
@@ -79,7 +81,7 @@ altered_marks {old} {new} path there k found krate file other is kept asked at =
     (subst (λ (o : Option (List ℕ)). is_path path o ≡ true) (sym at) ((bytes_decides path path).1 refl)) other)))
 
 -- a marked place has an answer that tells of no more than its crate's number
-stale_answer : (s : SessionState) (place : PlaceValue) (path : Path) (shadow : Shadow) (style : Option MacroStyle) → is_marked s place.krate.0 ≡ true
+stale_answer : (s : SessionState) (place : PlaceValue) (path : Path) (shadow : Shadow) (style : Option MacroStyle) → is_marked s (map_of place) ≡ true
     → answer_of s place path shadow style ≡ answer_by (if nat_lt place.krate.0 (length s.crates) then status.Stale else status.Unknown) (Err error.UnknownPlace)
 stale_answer s place path shadow style on = on_bool (nat_lt place.krate.0 (length s.crates))
     (λ there. rw (there, on) refl)
@@ -88,12 +90,12 @@ stale_answer s place path shadow style on = on_bool (nat_lt place.krate.0 (lengt
 -- an edit that leaves each key as it was leaves each answer as it was
 unaltered_answers : {old new : SessionState} {files : Files} → IsSound old → Becomes old files new
     → ((key : Key) → look (workspace_in old.crates old.paths files) no_maps key ≡ look (workspace_of old) no_maps key) → AnswersAlike old new
-unaltered_answers {old} {new} sound is same place path shadow style = on_bool (is_marked old place.krate.0)
-    (λ on. stale_answer new place path shadow style (unaltered_marks sound is same place.krate.0 ∙ on)
+unaltered_answers {old} {new} sound is same place path shadow style = on_bool (is_marked old (map_of place))
+    (λ on. stale_answer new place path shadow style (unaltered_marks sound is same (map_of place) ∙ on)
     ∙ ap (λ (cs : List CrateValue). answer_by (if nat_lt place.krate.0 (length cs) then status.Stale else status.Unknown) (Err error.UnknownPlace)) is.crates
     ∙ sym (stale_answer old place path shadow style on))
     (λ off.
-    let still = λ (j : ℕ) (behind : IsBehind old place.krate.0 j). unaltered_marks sound is same j ∙ unmarked_behind sound off behind in
+    let still = λ (j : MapId) (behind : IsBehind old (map_of place) j). unaltered_marks sound is same j ∙ unmarked_behind sound off behind in
     same_answer {to = new} place path shadow style sound off (record {
       crates = is.crates;
       paths = is.paths;

@@ -1,19 +1,51 @@
-use Rattle.std.proofs.Common.{◌≡◌, ℕ, zero, suc, ◌+◌, ◌<◌, Bool, true, false, List, [], ◌∷◌, length, slice_index_or, arith, Option, refl, sym, subst, Contains}
+use Rattle.std.proofs.Common.{◌≡◌, ◌⊎◌, inl, inr, ℕ, zero, suc, ◌+◌, ◌<◌, Bool, true, false, List, [], ◌∷◌, ◌++◌, length, slice_index_or, arith, Option, refl, sym, ap, ◌∙◌, subst, Contains}
+use Rattle.std.proofs.lemmas.List.Elements.{Contains-append_left, Contains-append_right, Contains-append_cases}
+use Rattle.hir_base.specs.declared.ids.MapId.{MapId}
 use Rattle.hir_item_tree.specs.Source.{SourceValue}
 use Rattle.hir_def_map.specs.State.{no_maps}
 use Rattle.hir_def_collector.specs.Keys.{AgreeOn, look}
 use Rattle.hir_def_collector.specs.declared.source_database.Key.{Key}
 use Rattle.hir_def_collector.specs.Workspace.{Workspace}
-use Rattle.hir_session.specs.Crates.{CrateValue}
+use Rattle.hir_session.specs.Crates.{CrateValue, id_of}
+use Rattle.hir_session.specs.Kept.{Resolutions, kept_in}
 use Rattle.hir_session.specs.Files.{Files, edited_at, workspace_in}
-use Rattle.hir_session.specs.SessionState.{Resolution, kept_in}
-use Rattle.hir_session.specs.Marking.{AgreeAt, IsTold, hit_in, is_enum_at}
+use Rattle.hir_session.specs.SessionState.{Resolution}
+use Rattle.hir_session.specs.Marking.{AgreeAt, AreHit, IsAsked, IsJudged, is_enum_at}
+use Rattle.hir_session.specs.Marking.IsJudged.{hit, missed}
 use Rattle.hir_session.proofs.Truth.{on_bool, on_same}
 
 -- the crates below were judged
-pub record IsJudging (v w : Workspace) (kept : List (Option Resolution)) (hits : List Bool) (n : ℕ) : Type 0 where
-  pub len : length hits ≡ n
-  pub told : (k : ℕ) → k < n → IsTold v w (kept_in kept k) (hit_in hits k)
+pub judging-start : (v w : Workspace) (kept : Resolutions) → AreHit v w kept 0 []
+judging-start v w kept = record {
+  asked = λ id among. absurd (let past : among.0 < 0 = among.1 in omega arith);
+  missed = λ k r below is. absurd (omega arith);
+}
+
+-- one more was judged
+pub judging-more : (v w : Workspace) (kept : Resolutions) (k : ℕ) (old new : List MapId) → AreHit v w kept k old
+    → IsJudged v w (kept_in kept (id_of k)) (id_of k) old new → AreHit v w kept (k + 1) new
+judging-more v w kept k old new so_far (hit asked is) = subst (λ (ids : List MapId). AreHit v w kept (k + 1) ids) (sym is) (record {
+  asked = λ id among. elim (Contains-append_cases old (id_of k ∷ []) id among) [
+    | inl early ↦ so_far.asked id early
+    | inr last ↦ subst (λ (x : MapId). IsAsked v w (kept_in kept x)) (of_one (id_of k) id last) asked
+  ];
+  missed = λ j r below found. on_same j k
+      (λ e. inl (Contains-append_right old (id_of k ∷ []) (id_of j) (subst (λ (n : ℕ). Contains (id_of k ∷ []) (id_of n)) (sym e) (0, omega arith, refl))))
+      (λ ne. elim (so_far.missed j r (omega arith) found) [
+        | inl early ↦ inl (Contains-append_left old (id_of k ∷ []) (id_of j) early)
+        | inr alike ↦ inr alike
+      ]);
+})
+  where
+    of_one : (x id : MapId) → Contains (x ∷ []) id → x ≡ id
+    of_one x id (zero, within, is) = is
+    of_one x id (suc n, within, is) = absurd (omega arith)
+judging-more v w kept k old new so_far (missed alike is) = subst (λ (ids : List MapId). AreHit v w kept (k + 1) ids) (sym is) (record {
+  asked = so_far.asked;
+  missed = λ j r below found. on_same j k
+      (λ e. inr (alike r (ap (λ (n : ℕ). kept_in kept (id_of n)) (sym e) ∙ found)))
+      (λ ne. so_far.missed j r (omega arith) found);
+})
 
 -- ---- the keys of a run
 

@@ -52,13 +52,14 @@ use Rattle.hir_wire.specs.declared.command.MacroStyle.{MacroStyle}
 use Rattle.hir_wire.specs.declared.command.Shadow.{Shadow}
 use Rattle.hir_session.specs.Answers.{answer_in, asking_of}
 use Rattle.hir_session.specs.Behind.{has_crate}
-use Rattle.hir_session.specs.Crates.{behind_in}
+use Rattle.hir_session.specs.Crates.{behind_in, id_of}
 use Rattle.hir_session.specs.LeavesOut.{LeavesNothingOut}
-use Rattle.hir_session.specs.SessionState.{SessionState, Resolution, finished_of, is_marked, mark_in, read_of, start_of, workspace_of, IsSound}
+use Rattle.hir_session.specs.SessionState.{SessionState, Resolution, finished_of, is_marked, read_of, start_of, workspace_of, IsSound}
 use Rattle.hir_session.specs.SourceItems.{adt_definition, answered_macro, answered_type, answered_value, definition_of, import_source, item_of, macro_definition, maybe_source, module_by, module_definition, source_of, together, value_import_source, visibility_source}
 use Rattle.hir_session.specs.Status.{module_below}
 use Rattle.hir_session.proofs.Names.{among_at, among_there}
 use Rattle.hir_session.proofs.Resolving.{behind_current, behind_extends, behind_whole, own_absent, read_is, stands_on_whole}
+use Rattle.hir_session.proofs.Following.{follows_unmarked}
 use Rattle.hir_session.proofs.Worlds.{AgreeOn-refl, StandsOn-below, StandsOn-holds}
 
 -- ---- options
@@ -73,36 +74,30 @@ mapped_some f (Some x) = refl
 
 -- ---- the crates on which a current crate stands
 
--- a crate that isn't marked is there
-crate_there : (marked : List Bool) (k : ℕ) → mark_in marked k ≡ false → k < length marked
-crate_there [] k off = absurd (true≢false off)
-crate_there (m ∷ ms) zero off = omega arith
-crate_there (m ∷ ms) (suc k) off = let below : k < length ms = crate_there ms k off in omega arith
-
-unmarked_behind : (s : SessionState) → IsSound s → (k : ℕ) → is_marked s k ≡ false → (c : Crate) → has_crate (behind_in s.crates k) c ≡ true → is_marked s c.0 ≡ false
-unmarked_behind s sound k off c behind = StandsOn-holds {P = λ i. is_marked s i ≡ false} (λ i d p among. sound.closed i d p among) ((sound.behind k c).0 behind) off
+unmarked_behind : (s : SessionState) → IsSound s → (k : ℕ) → is_marked s (id_of k) ≡ false → (c : Crate) → has_crate (behind_in s.crates k) c ≡ true → is_marked s (crate_map c) ≡ false
+unmarked_behind s sound k off c behind = StandsOn-holds {P = λ i. is_marked s (id_of i) ≡ false} (λ i d p among. follows_unmarked sound i d p among) ((sound.behind k c).0 behind) off
 
 -- what is kept of a current crate
-abbrev current_of : (s : SessionState) → IsSound s → (k : ℕ) → is_marked s k ≡ false → Resolution
-current_of s sound k off = (sound.current k off).found
+abbrev current_of : (s : SessionState) → IsSound s → (k : ℕ) → is_marked s (id_of k) ≡ false → Resolution
+current_of s sound k off = (sound.current (id_of k) off).found
 
-own_apart : (s : SessionState) (sound : IsSound s) (k : ℕ) (off : is_marked s k ≡ false) → read_of s k (current_of s sound k off).map.id ≡ None
-own_apart s sound k off = ap (read_of s k) (sound.current k off).gives.own ∙ own_absent s k sound
+own_apart : (s : SessionState) (sound : IsSound s) (k : ℕ) (off : is_marked s (id_of k) ≡ false) → read_of s (id_of k) (current_of s sound k off).map.id ≡ None
+own_apart s sound k off = ap (read_of s (id_of k)) (sound.current (id_of k) off).gives.own ∙ own_absent s k sound
 
 -- ---- what current crates bind, under a test of sources that holds of nothing that a root file writes
 
 module _ (runs : RunsBindFromSources) (s : SessionState) (sound : IsSound s) (t : SourceTest)
-    (written : (j : ℕ) → j < length s.crates → t.holder (root_file (start_of s j)) None ≡ false) where
+    (written : (j : ℕ) → j < length s.crates → t.holder (root_file (start_of s (id_of j))) None ≡ false) where
   -- it holds of no module that is there beside the maps that a crate reads
   abbrev ShowsThere : ℕ → Resolution → Type 0
-  ShowsThere j r = (m : ModuleId) → ModuleIsThere (beside (read_of s j) r.map) m → t.shown m ≡ false
+  ShowsThere j r = (m : ModuleId) → ModuleIsThere (beside (read_of s (id_of j)) r.map) m → t.shown m ≡ false
 
   abbrev Nowhere : Resolution → Type 0
   Nowhere r = HoldsNowhereIn t r.map × HoldsOfNoExtern t r.local
 
-  reads : (j : ℕ) (off : is_marked s j ≡ false) → ShowsThere j (current_of s sound j off)
-      → ((i : ℕ) → i < j → (still : is_marked s i ≡ false) → ShowsThere i (current_of s sound i still) → Nowhere (current_of s sound i still))
-      → HoldsNowhere t (read_of s j)
+  reads : (j : ℕ) (off : is_marked s (id_of j) ≡ false) → ShowsThere j (current_of s sound j off)
+      → ((i : ℕ) → i < j → (still : is_marked s (id_of i) ≡ false) → ShowsThere i (current_of s sound i still) → Nowhere (current_of s sound i still))
+      → HoldsNowhere t (read_of s (id_of j))
   reads j off shows below id placed e =
       let own : Resolution = current_of s sound j off in
       let unmarked = unmarked_behind s sound j off in
@@ -110,28 +105,27 @@ module _ (runs : RunsBindFromSources) (s : SessionState) (sound : IsSound s) (t 
       let w = behind_current s j sound unmarked id.krate there.1 in
       let same : id ≡ crate_map id.krate = λ i. record { krate = id.krate; block = there.0 i } in
       let is : placed ≡ unheld w.found.map =
-      (let both : Some placed ≡ Some (unheld w.found.map) = sym e ∙ ap (read_of s j) same ∙ among_at (behind_in s.crates j) s.kept id.krate w.found there.1 w.is in cc) in
+      (let both : Some placed ≡ Some (unheld w.found.map) = sym e ∙ ap (read_of s (id_of j)) same ∙ among_at (behind_in s.crates j) s.kept id.krate w.found there.1 w.is in cc) in
       let lower : id.krate.0 < j = StandsOn-below sound.below ((sound.behind j id.krate).0 there.1) in
       let seen : ShowsThere id.krate.0 w.found =
-      λ m h. shows m (Extends-beside (read_of s j) own.map (own_apart s sound j off) (named.Module m) (behind_extends s j sound unmarked id.krate there.1 (named.Module m) h)) in
+      λ m h. shows m (Extends-beside (read_of s (id_of j)) own.map (own_apart s sound j off) (named.Module m) (behind_extends s j sound unmarked id.krate there.1 (named.Module m) h)) in
       let bound : Nowhere w.found = below id.krate.0 lower (unmarked id.krate there.1) seen in
       subst (λ (p : Placed). HoldsNowhereIn t p.map) (sym is) bound.0
 
-  binds : (n j : ℕ) → j < n → (off : is_marked s j ≡ false) → ShowsThere j (current_of s sound j off) → Nowhere (current_of s sound j off)
+  binds : (n j : ℕ) → j < n → (off : is_marked s (id_of j) ≡ false) → ShowsThere j (current_of s sound j off) → Nowhere (current_of s sound j off)
   binds zero j low off shows = absurd (omega arith)
   binds (suc n) j low off shows =
-      let now = sound.current j off in
+      let now = sound.current (id_of j) off in
       let unmarked = unmarked_behind s sound j off in
-      let count : length s.marked ≡ length s.crates = sound.marked_len in
-      let within : j < length s.marked = crate_there s.marked j off in
-      let same = read_is s j in
-      let clear : IsClearOf t (read_of s j) (start_of s j) now.found.map =
-      record { written = written j (omega arith); shown = shows; read = reads j off shows (λ i lower still seen. binds n i (omega arith) still seen) } in
-      runs t (workspace_of s) (finished_of s) (start_of s j) now.found
+      let within : j < length s.crates = (sound.placed (id_of j) off).within in
+      let same = read_is s (id_of j) in
+      let clear : IsClearOf t (read_of s (id_of j)) (start_of s (id_of j)) now.found.map =
+      record { written = written j within; shown = shows; read = reads j off shows (λ i lower still seen. binds n i (omega arith) still seen) } in
+      runs t (workspace_of s) (finished_of s) (start_of s (id_of j)) now.found
       (subst AreWhole same (behind_whole s j sound unmarked))
-      (subst (λ (maps : Maps). StandsOnWhole (workspace_of s) maps (start_of s j)) same (stands_on_whole s j sound unmarked))
+      (subst (λ (maps : Maps). StandsOnWhole (workspace_of s) maps (start_of s (id_of j))) same (stands_on_whole s j sound unmarked))
       (now.gives.resolved.ends (workspace_of s) (finished_of s) AgreeOn-refl)
-      (subst (λ (maps : Maps). IsClearOf t maps (start_of s j) now.found.map) same clear)
+      (subst (λ (maps : Maps). IsClearOf t maps (start_of s (id_of j)) now.found.map) same clear)
 
 -- ---- source items of what such a test doesn't hold of
 
@@ -304,26 +298,26 @@ module _ (finished : Maps) (map : Map) (names : NamesOnly (beside finished map) 
 -- ---- answers
 
 -- an answer from a module of a current crate leaves nothing out
-pub whole : RunsBindFromSources → PathsAnswerFromSources → PathsLeadToWhatIsThere → (s : SessionState) (sound : IsSound s) (k : ℕ) (off : is_marked s k ≡ false)
+pub whole : RunsBindFromSources → PathsAnswerFromSources → PathsLeadToWhatIsThere → (s : SessionState) (sound : IsSound s) (k : ℕ) (off : is_marked s (id_of k) ≡ false)
     → (elements : List PlaceElement) (at : ModuleId) (path : Path) (shadow : Shadow) (style : Option MacroStyle)
     → module_below (current_of s sound k off).map (root_of (current_of s sound k off).map.id) elements ≡ Some at
     → LeavesNothingOut
-    (resolution_of (beside (read_of s k) (current_of s sound k off).map) (asking_of (current_of s sound k off).local shadow style) at path).resolved_def
-    (answer_in s.paths (beside (read_of s k) (current_of s sound k off).map) (current_of s sound k off).local at path shadow style)
+    (resolution_of (beside (read_of s (id_of k)) (current_of s sound k off).map) (asking_of (current_of s sound k off).local shadow style) at path).resolved_def
+    (answer_in s.paths (beside (read_of s (id_of k)) (current_of s sound k off).map) (current_of s sound k off).local at path shadow style)
 whole runs answers leads s sound k off elements at path shadow style is =
-    let now = sound.current k off in
+    let now = sound.current (id_of k) off in
     let r : Resolution = now.found in
-    let maps : Maps = beside (read_of s k) r.map in
+    let maps : Maps = beside (read_of s (id_of k)) r.map in
     let test : SourceTest = unsourced s.paths maps in
-    let written : (j : ℕ) → j < length s.crates → test.holder (root_file (start_of s j)) None ≡ false = λ j within. ap not (mapped_some _ _ ∙ sound.rooted j within) in
+    let written : (j : ℕ) → j < length s.crates → test.holder (root_file (start_of s (id_of j))) None ≡ false = λ j within. ap not (mapped_some _ _ ∙ sound.rooted j within) in
     let shows : (m : ModuleId) → ModuleIsThere maps m → test.shown m ≡ false = λ m there. ap not there in
     let own = binds runs s sound test written (suc k) k (omega arith) off shows in
-    let nowhere : HoldsNowhere test maps = HoldsNowhere-beside test (read_of s k) r.map (reads runs s sound test written k off shows (binds runs s sound test written k)) own.0 in
+    let nowhere : HoldsNowhere test maps = HoldsNowhere-beside test (read_of s (id_of k)) r.map (reads runs s sound test written k off shows (binds runs s sound test written k)) own.0 in
     let asking : Asking = asking_of r.local shadow style in
     let apart = own_apart s sound k off in
-    let closed = IsClosed-beside (read_of s k) r.map apart (behind_whole s k sound (unmarked_behind s sound k off)) now.gives.names in
-    let root = module_there (read_of s k) r.map 0 now.gives.names.root in
-    let there = below_there (read_of s k) r.map now.gives.names elements (root_of r.map.id) at root is in
+    let closed = IsClosed-beside (read_of s (id_of k)) r.map apart (behind_whole s k sound (unmarked_behind s sound k off)) now.gives.names in
+    let root = module_there (read_of s (id_of k)) r.map 0 now.gives.names.root in
+    let there = below_there (read_of s (id_of k)) r.map now.gives.names elements (root_of r.map.id) at root is in
     let none : HoldsOfNone test (resolution_of maps asking at path).resolved_def = answers test maps asking at path nowhere own.1 in
     let lead : AreThere maps (resolution_of maps asking at path).resolved_def = leads maps asking at path closed (LocalIsThere-begins maps r.local now.gives.begins) there in
     record {

@@ -1,9 +1,11 @@
 pub mod Truth
-pub mod Spreading
+pub mod Ids
 pub mod KeptLemmas
 pub mod Names
 pub mod Worlds
+pub mod Following
 pub mod Resolving
+pub mod Naming
 pub mod Sound
 pub mod Gaining
 pub mod Stands

@@ -1,15 +1,12 @@
 -- What a map names is there, also among more maps.
 use Rattle.std.proofs.Common.{◌≡◌, ◌∙◌, ap, sym, subst, refl, ℕ, Bool, true, false, not, ◌&&◌, ◌||◌, is_none, is_some, cond, Option, Some, None, List, ◌⊎◌, inl, inr}
 use Rattle.std.specs.Option.{option_map, option_and_then}
-use Rattle.std.specs.Cmp.{tied_itself}
-use Rattle.std.specs.Ordering.{is_eq}
 use Rattle.std.specs.List.{list_any}
 use Rattle.std.specs.BTreeMap.{is_at}
 use Rattle.hir_base.specs.declared.ast_id.BlockId.{BlockId}
 use Rattle.hir_base.specs.declared.ids.Crate.{Crate}
 use Rattle.hir_base.specs.declared.ids.MapId.{MapId}
 use Rattle.hir_base.specs.contracts.ids.MapIdOrd.TheImpl as map_order
-use Rattle.hir_base.specs.contracts.ids.MapIdOrd.TheImpl.Laws.{total-law as order_total, matches_eq-law as order_ties}
 use Rattle.hir_base.specs.contracts.ids.MapIdPartialEq.TheImpl as map_id
 use Rattle.hir_def_map.specs.declared.world.named.Named.{Named}
 use Rattle.hir_def_map.specs.declared.world.named.Named.TheVariants as named
@@ -22,8 +19,8 @@ use Rattle.hir_def_map.proofs.NoneOf.{neither, none_of_less, not_first, not_seco
 use Rattle.hir_def_map.specs.State.{Local, Map, Maps, ModuleValue, Placed, beside, crate_map, map_in, module_at, placed_in, variants_at}
 use Rattle.hir_def_collector.specs.Derivation.{CollectedValue}
 use Rattle.hir_session.specs.Behind.{has_crate}
-use Rattle.hir_session.specs.Kept.{finished_by}
-use Rattle.hir_session.specs.SessionState.{kept_in}
+use Rattle.hir_session.specs.Kept.{Resolutions, finished_by, kept_in}
+use Rattle.hir_session.proofs.Ids.{equal_id, own_id}
 use Rattle.hir_session.proofs.Truth.{and_left, and_right, clash, on_bool}
 
 -- ---- a test that holds of nothing that a map names
@@ -64,12 +61,6 @@ module _ (test other : Named → Bool) (less : (n : Named) → test n ≡ false 
       (ap (λ x. is_some x && test_crate other map.id.krate) of_crate)))))
 
 -- ---- what a map names is there
-
-own_id : (a : MapId) → is_at (map_order.ghosts.cmp a) a ≡ true
-own_id a = ap is_eq (tied_itself order_total a)
-
-equal_id : (a b : MapId) → is_at (map_order.ghosts.cmp a) b ≡ true → a ≡ b
-equal_id a b e = exact_map a b (order_ties a b ∙ e)
 
 -- what is there lies in a map that is
 there_in : (maps : Maps) (n : Named) → is_there maps n ≡ true → is_some (maps (map_named n)) ≡ true
@@ -193,9 +184,9 @@ joins crates f map local names begins =
 -- ---- the maps of the crates on which a crate stands
 
 -- what is kept of a crate names only what is kept of those on which it stands
-pub record IsKeptWhole (behind : List Crate) (kept : List (Option CollectedValue)) (krate : Crate) : Type 0 where
+pub record IsKeptWhole (behind : List Crate) (kept : Resolutions) (krate : Crate) : Type 0 where
   pub found : CollectedValue
-  pub is : kept_in kept krate.0 ≡ Some found
+  pub is : kept_in kept (crate_map krate) ≡ Some found
   pub own : found.map.id ≡ crate_map krate
   pub names : NamesOnly (beside (among behind (finished_by kept)) found.map) found.map
 
@@ -214,13 +205,13 @@ among_more few more f id grows = go id.block (has_crate few id.krate) (has_crate
     go None true true s = inl refl
 
 -- the map of a crate among those of some
-pub among_at : (crates : List Crate) (kept : List (Option CollectedValue)) (krate : Crate) (found : CollectedValue) → has_crate crates krate ≡ true → kept_in kept krate.0 ≡ Some found
+pub among_at : (crates : List Crate) (kept : Resolutions) (krate : Crate) (found : CollectedValue) → has_crate crates krate ≡ true → kept_in kept (crate_map krate) ≡ Some found
     → among crates (finished_by kept) (crate_map krate) ≡ Some (unheld found.map)
 unfolding among
 among_at crates kept krate found has is =
     λ i. cond (has i) (option_map unheld (option_map (λ (p : Placed). p.map) (option_map (λ (r : CollectedValue). unheld r.map) (is i)))) None
 
-module _ (behind : ℕ → List Crate) (kept : List (Option CollectedValue)) (crates : List Crate)
+module _ (behind : ℕ → List Crate) (kept : Resolutions) (crates : List Crate)
     (whole : (krate : Crate) → has_crate crates krate ≡ true → IsKeptWhole (behind krate.0) kept krate)
     (closed : (krate c : Crate) → has_crate crates krate ≡ true → has_crate (behind krate.0) c ≡ true → has_crate crates c ≡ true) where
   -- what a crate's map names is there among the maps of the crates

@@ -1,178 +1,321 @@
-use Rattle.std.proofs.Common.{◌≡◌, ◌≢◌, ℕ, ◌<◌, Bool, true, false, List, length, set, arith, Option, Some, None, refl, sym, ◌∙◌, subst, Contains}
-use Rattle.std.proofs.lemmas.List.{get_or-set_same, get_or-set_other, length-set}
+-- An edit, and the resolution of a place, leave a sound session.
+use Rattle.std.proofs.Common.{◌≡◌, ◌≢◌, ◌⊎◌, inl, inr, ℕ, zero, suc, ◌<◌, ◌+◌, Bool, true, false, is_some, List, [], ◌∷◌, length, arith, Option, Some, None, refl, sym, ap, ◌∙◌, subst, Contains}
+use Rattle.std.specs.Prelude.{is_none, map}
 use Rattle.hir_base.specs.declared.ids.Crate.{Crate}
 use Rattle.hir_base.specs.declared.ids.MapId.{MapId}
 use Rattle.hir_item_tree.specs.Source.{SourceValue}
 use Rattle.hir_def_map.specs.Named.{names_map}
+use Rattle.hir_def_map.specs.Removal.{Depends}
+use Rattle.hir_def_map.specs.Removal.Depends.{itself, through}
+use Rattle.hir_def_map.specs.State.{crate_map, no_maps}
+use Rattle.hir_def_collector.specs.Keys.{AgreeOn}
 use Rattle.hir_def_collector.specs.Workspace.{Workspace}
 use Rattle.hir_session.specs.Behind.{has_crate}
-use Rattle.hir_session.specs.Crates.{CrateValue, behind_in, dependencies_in}
+use Rattle.hir_session.specs.Crates.{CrateValue, behind_in, dependencies_in, follows_in, id_of}
 use Rattle.hir_session.specs.Files.{Files, edited_at, workspace_in}
-use Rattle.hir_session.specs.SessionState.{SessionState, Resolution, workspace_of, finished_of, kept_of, kept_in, mark_in, is_marked, IsResolutionOf, IsCurrent, IsSound}
+use Rattle.hir_session.specs.Kept.{Resolutions, kept_in, names_in, names_of, AreForgotten}
+use Rattle.hir_session.specs.SessionState.{SessionState, Resolution, workspace_of, finished_of, follows, kept_of, is_marked, IsResolutionOf, IsCurrent, IsPlace, IsSound}
 use Rattle.hir_session.specs.Spread.{Spread}
 use Rattle.hir_session.specs.Spread.Spread.{here, depends}
 use Rattle.hir_session.specs.Marks.{IsTouched}
 use Rattle.hir_session.specs.Marks.IsTouched.{before, asked_for}
-use Rattle.hir_session.specs.Marking.{IsJudged, hit_in, seeded, IsSpread}
+use Rattle.hir_session.specs.Marking.{AreHit}
 use Rattle.hir_session.specs.Changes.{with_files, Becomes}
-use Rattle.hir_session.specs.Due.{resolved_at}
+use Rattle.hir_session.proofs.Following.{dependency_behind, followed, follows_unmarked, spread_on}
+use Rattle.hir_session.proofs.Ids.{of_number, on_id}
 use Rattle.hir_session.proofs.Names.{among-names}
-use Rattle.hir_session.proofs.Truth.{clash, or_left, or_right, or_first, on_bool, on_same}
-use Rattle.hir_session.proofs.Spreading.{mark-set}
+use Rattle.hir_session.proofs.Naming.{names-behind}
+use Rattle.hir_session.proofs.Truth.{clash, on_bool, on_same}
 use Rattle.hir_session.proofs.Worlds.{AgreeOn-refl, IsResolutionOf-stays, StandsOn-below, StandsOn-holds}
 
--- what is told of each crate says what was touched
-pub touched_from_seeded : (s : SessionState) (w : Workspace) (hits : List Bool) (j : ℕ) → IsJudged (workspace_of s) w s.kept hits
-    → seeded s.marked hits j ≡ true → IsTouched s w j
-touched_from_seeded s w hits j judged h = on_bool (is_marked s j)
-    (λ m. before m)
-    (λ off. let hit = (judged.told j).asked (or_first _ _ h off) in asked_for hit.altered.key hit.found hit.is hit.altered.asked hit.altered.altered)
+-- ---- what is kept
 
-pub seeded_from_touched : (s : SessionState) (w : Workspace) (hits : List Bool) (j : ℕ) → IsJudged (workspace_of s) w s.kept hits
-    → IsTouched s w j → seeded s.marked hits j ≡ true
-seeded_from_touched s w hits j judged (before m) = or_left _ _ m
-seeded_from_touched s w hits j judged (asked_for key r is has ne) = on_bool (hit_in hits j)
-    (λ on. or_right _ _ on)
-    (λ off. absurd (ne (((judged.told j).missed off r is).same key has)))
+-- a place is marked, or something is kept of it
+on_kept : {A : Type 0} (o : Option Resolution) → (o ≡ None → A) → ((r : Resolution) → o ≡ Some r → A) → A
+on_kept None f g = f refl
+on_kept (Some r) f g = g r refl
 
-pub Spread-map : {deps : ℕ → List Crate} {P Q : ℕ → Type 0} {k : ℕ} → ((j : ℕ) → P j → Q j) → Spread deps P k → Spread deps Q k
-Spread-map f (here k p) = here k (f k p)
-Spread-map f (depends k d among sp) = depends k d among (Spread-map f sp)
+marked_none : (o : Option Resolution) → is_none o ≡ true → o ≡ None
+marked_none None e = refl
+marked_none (Some r) e = clash e refl
 
--- what depends on a marked crate is marked, so what an unmarked crate depends on is unmarked
-pub spread_closed : {crates : List CrateValue} {hits old M : List Bool} → IsSpread crates hits old M → (k : ℕ) (d : Crate) → mark_in M k ≡ false
-    → Contains (dependencies_in crates k) d → mark_in M d.0 ≡ false
-spread_closed {M = M} sp k d off among = on_bool (mark_in M d.0) (λ on. clash (sp.all k (depends k d among (sp.only d.0 on))) off) (λ h. h)
+some_unmarked : (o : Option Resolution) (r : Resolution) → o ≡ Some r → is_none o ≡ false
+some_unmarked o r e = ap (λ (p : Option Resolution). is_none p) e
 
--- what is unmarked now wasn't marked before, and wasn't hit
-unseeded : {crates : List CrateValue} {hits old M : List Bool} → IsSpread crates hits old M → (k : ℕ) → mark_in M k ≡ false → seeded old hits k ≡ false
-unseeded {hits = hits} {old} sp k off = on_bool (seeded old hits k) (λ on. clash (sp.all k (here k on)) off) (λ h. h)
+none_marked : (o : Option Resolution) → o ≡ None → is_none o ≡ true
+none_marked o e = ap (λ (p : Option Resolution). is_none p) e
 
-unmarked_before : {crates : List CrateValue} {hits old M : List Bool} → IsSpread crates hits old M → (k : ℕ) → mark_in M k ≡ false → mark_in old k ≡ false
-unmarked_before {old = old} sp k off = on_bool (mark_in old k) (λ on. clash (or_left _ _ on) (unseeded sp k off)) (λ h. h)
+unmarked_some : (o : Option Resolution) → is_none o ≡ false → is_some o ≡ true
+unmarked_some None e = clash refl e
+unmarked_some (Some r) e = refl
 
--- nothing is kept of what is marked now, and all else stays
-pub record IsForgotten (old : List (Option Resolution)) (marked : List Bool) (new : List (Option Resolution)) : Type 0 where
-  pub gone : (k : ℕ) → mark_in marked k ≡ true → kept_in new k ≡ None
-  pub stay : (k : ℕ) → mark_in marked k ≡ false → kept_in new k ≡ kept_in old k
-  pub len : length new ≡ length old
+module _ (s : SessionState) (sound : IsSound s) where
+  -- what is kept of a place is a resolution of it
+  gives : (id : MapId) (r : Resolution) → kept_of s id ≡ Some r → IsResolutionOf s id r
+  gives id r is =
+      let now = sound.current id (some_unmarked (kept_of s id) r is) in
+      let same : now.found ≡ r = (let both : Some now.found ≡ Some r = sym now.is ∙ is in cc) in
+      subst (λ (x : Resolution). IsResolutionOf s id x) same now.gives
 
--- what is kept of an unmarked crate names no map of a marked one
-pub names_unmarked : (s : SessionState) (hits M : List Bool) → IsSound s → IsSpread s.crates hits s.marked M
-    → (j : ℕ) (r : Resolution) → kept_of s j ≡ Some r → mark_in M j ≡ false → (id : MapId) → names_map r.map r.local id ≡ true → mark_in M id.krate.0 ≡ false
-names_unmarked s hits M sound sp j r is off id names =
-    let now = sound.current j (unmarked_before sp j off) in
-    let same : now.found ≡ r = let both : (Some now.found) ≡ (Some r) = sym now.is ∙ is in cc in
-    let gives : IsResolutionOf s j r = subst (λ (x : Resolution). IsResolutionOf s j x) same now.gives in
-    let among = among-names (behind_in s.crates j) (finished_of s) r.map r.local gives.names gives.begins id names in
-    StandsOn-holds {P = λ i. mark_in M i ≡ false} (λ k d p within. spread_closed sp k d p within) ((sound.behind j id.krate).0 among.1) off
+  -- it names maps of crates on which its own stands
+  names_stand : (id other : MapId) (r : Resolution) → kept_of s id ≡ Some r → names_map r.map r.local other ≡ true
+      → (other ≡ id_of other.krate.0) × (has_crate (behind_in s.crates id.krate.0) other.krate ≡ true)
+  names_stand id other r is names =
+      let p = gives id r is in
+      let among = among-names (behind_in s.crates id.krate.0) (finished_of s) r.map r.local p.names p.begins other names in
+      (of_number other among.0, among.1)
 
--- an edit that was marked for leaves a sound session
-pub applied_sound : (s : SessionState) (F : Files) (hits M : List Bool) (K : List (Option Resolution)) → IsSound s
-    → IsJudged (workspace_of s) (workspace_in s.crates s.paths F) s.kept hits → IsSpread s.crates hits s.marked M → IsForgotten s.kept M K
-    → IsSound (record s { files = F; kept = K; marked = M })
-applied_sound s F hits M K sound judged sp forgotten = record {
-  few = sound.few;
-  kept_len = forgotten.len ∙ sound.kept_len;
-  marked_len = sp.len;
-  below = sound.below;
-  behind = sound.behind;
-  named = sound.named;
-  closed = spread_closed sp;
-  current = λ k off.
-      let missed : hit_in hits k ≡ false = on_bool (hit_in hits k) (λ on. clash (or_right _ _ on) (unseeded sp k off)) (λ h. h) in
-      let now = sound.current k (unmarked_before sp k off) in
-      record {
-        found = now.found;
-        is = forgotten.stay k off ∙ now.is;
-        gives = IsResolutionOf-stays s F K M k now.found now.gives
-            (λ c behind. forgotten.stay c.0
-            (StandsOn-holds {P = λ i. mark_in M i ≡ false} (λ j d p within. spread_closed sp j d p within) ((sound.behind k c).0 behind) off))
-            ((judged.told k).missed missed now.found now.is);
-      };
-  dropped = forgotten.gone;
-  rooted = sound.rooted;
-}
+  -- and those that it follows
+  names_followed : (id d : MapId) (r : Resolution) → kept_of s id ≡ Some r → Contains (follows s id) d → names_in s.kept id d ≡ true
+  names_followed id d r is among =
+      ap (λ (o : Option Resolution). names_of o d) is
+      ∙ names-behind s sound id r (gives id r is) d among
 
--- and has its effect
-pub becomes : (s : SessionState) (F : Files) (hits M : List Bool) (K : List (Option Resolution)) → IsSound s
-    → IsJudged (workspace_of s) (workspace_in s.crates s.paths F) s.kept hits → IsSpread s.crates hits s.marked M → IsForgotten s.kept M K
-    → Becomes s F (record s { files = F; kept = K; marked = M })
-becomes s F hits M K sound judged sp forgotten = record {
-  crates = refl;
-  paths = refl;
-  files_are = refl;
-  only = λ k h. Spread-map (λ j. touched_from_seeded s (workspace_in s.crates s.paths F) hits j judged) (sp.only k h);
-  all = λ k h. sp.all k (Spread-map (λ j. seeded_from_touched s (workspace_in s.crates s.paths F) hits j judged) h);
-  kept = forgotten.stay;
-  sound = applied_sound s F hits M K sound judged sp forgotten;
-}
+  -- ---- what spreads
 
-module _ (s view : SessionState) (F : Files) (file : List ℕ) (there : Option SourceValue) (hits M : List Bool) (K : List (Option Resolution)) where
+  -- what depends on a place by what is named depends on it directly or through others
+  spread_named : {P : MapId → Type 0} {on id : MapId} → Depends (names_in s.kept) on id → Spread (follows s) P on → Spread (follows s) P id
+  spread_named {P} (itself id e) sp = subst (λ (x : MapId). Spread (follows s) P x) (sym e) sp
+  spread_named {P} (through id other names d) sp = on_kept (kept_of s id)
+      (λ none. clash names (ap (λ (o : Option Resolution). names_of o other) none))
+      (λ r is.
+      let n : names_map r.map r.local other ≡ true = sym (ap (λ (o : Option Resolution). names_of o other) is) ∙ names in
+      let stands = names_stand id other r is n in
+      let own = of_number id (sound.placed id (some_unmarked (kept_of s id) r is)).of_crate in
+      subst (λ (x : MapId). Spread (follows s) P x) (sym own)
+      (spread_on ((sound.behind id.krate.0 other.krate).0 stands.1) (subst (λ (x : MapId). Spread (follows s) P x) stands.0 (spread_named d sp))))
+
+-- what is in a spread set is in it for a reason
+spread_cases : {A : Type 0} {follows : MapId → List MapId} {P : MapId → Type 0} {id : MapId} → (P id → A) → ((d : MapId) → Contains (follows id) d → Spread follows P d → A)
+    → Spread follows P id → A
+spread_cases f g (here id p) = f p
+spread_cases f g (depends id d among sp) = g d among sp
+
+-- one in a list is in the set, or none is
+any_of : {P : MapId → Type 0} (ids : List MapId) → ((d : MapId) → Contains ids d → P d ⊎ (¬ P d)) → ((d : MapId) × Contains ids d × P d) ⊎ ((d : MapId) → Contains ids d → ¬ P d)
+any_of [] each = inr (λ d among. absurd (let past : among.0 < 0 = among.1 in omega arith))
+any_of {P} (x ∷ xs) each = elim (each x (zero, omega arith, refl)) [
+  | inl yes ↦ inl (x, (zero, omega arith, refl), yes)
+  | inr no ↦ elim (any_of {P} xs (λ d among. each d (later d among))) [
+    | inl found ↦ inl (found.0, later found.0 found.1, found.2)
+    | inr none ↦ inr (λ d among. first_or d among no none)
+  ]
+]
+  where
+    later : (d : MapId) → Contains xs d → Contains (x ∷ xs) d
+    later d among = (suc among.0, (let below : among.0 < length xs = among.1 in omega arith), among.2)
+
+    first_or : (d : MapId) → Contains (x ∷ xs) d → (¬ P x) → ((e : MapId) → Contains xs e → ¬ P e) → ¬ P d
+    first_or d (zero, within, is) no none = λ p. no (subst P (sym is) p)
+    first_or d (suc n, within, is) no none = none d (n, (omega arith), is)
+
+-- ---- an edit
+
+module _ (s : SessionState) (sound : IsSound s) (F : Files) (hits : List MapId) (K : Resolutions)
+    (hit : AreHit (workspace_of s) (workspace_in s.crates s.paths F) s.kept (length s.crates) hits) (forgotten : AreForgotten s.kept hits K) where
+  abbrev edited : Workspace
+  edited = workspace_in s.crates s.paths F
+
+  abbrev IsReached : MapId → Type 0
+  IsReached id = Spread (follows s) (IsTouched s edited) id
+
+  -- a place of which something is kept is hit, or what it asked for is as it was
+  judged : (id : MapId) (r : Resolution) → kept_of s id ≡ Some r → Contains hits id ⊎ AgreeOn r.asked (workspace_of s) no_maps edited no_maps
+  judged id r is =
+      let place = sound.placed id (some_unmarked (kept_of s id) r is) in
+      let own = of_number id place.of_crate in
+      elim (hit.missed id.krate.0 r place.within (ap (kept_of s) (sym own) ∙ is)) [
+        | inl yes ↦ inl (subst (λ (x : MapId). Contains hits x) (sym own) yes)
+        | inr alike ↦ inr alike
+      ]
+
+  hit_touched : (id : MapId) → Contains hits id → IsTouched s edited id
+  hit_touched id among = let asked = hit.asked id among in asked_for asked.altered.key asked.found asked.is asked.altered.asked asked.altered.altered
+
+  touched_or : (id : MapId) → IsTouched s edited id ⊎ (¬ IsTouched s edited id)
+  touched_or id = on_kept (kept_of s id)
+      (λ none. inl (before (none_marked (kept_of s id) none)))
+      (λ r is. elim (judged id r is) [
+        | inl yes ↦ inl (hit_touched id yes)
+        | inr alike ↦ inr (untouched id r is alike)
+      ])
+    where
+      untouched : (id : MapId) (r : Resolution) → kept_of s id ≡ Some r → AgreeOn r.asked (workspace_of s) no_maps edited no_maps → ¬ IsTouched s edited id
+      untouched id r is alike (before m) = clash m (some_unmarked (kept_of s id) r is)
+      untouched id r is alike (asked_for key q there has ne) =
+          let same : q ≡ r = (let both : Some q ≡ Some r = sym there ∙ is in cc) in
+          ne (alike.same key (subst (λ (x : Resolution). Contains x.asked key) same has))
+
+  reached_or : (n : ℕ) (id : MapId) → id.krate.0 < n → IsReached id ⊎ (¬ IsReached id)
+  reached_or zero id low = absurd (omega arith)
+  reached_or (suc n) id low = elim (touched_or id) [
+    | inl yes ↦ inl (here id yes)
+    | inr no ↦ elim (any_of {P = IsReached} (follows s id) (λ d among.
+        let c = dependency_behind s.crates id d among in
+        let lower : c.0.0 < id.krate.0 = sound.below id.krate.0 c.0 c.1 in
+        let number : d.krate.0 ≡ c.0.0 = ap (λ (x : MapId). x.krate.0) c.2 in
+        reached_or n d (omega arith))) [
+      | inl found ↦ inl (depends id found.0 found.1 found.2)
+      | inr none ↦ inr (λ sp. spread_cases no (λ d among rest. none d among rest) sp)
+    ]
+  ]
+
+  -- of what isn't reached what was kept stays
+  unreached_stays : (id : MapId) → (¬ IsReached id) → kept_in K id ≡ kept_of s id
+  unreached_stays id apart = forgotten.stay id (λ on among d. apart (spread_named s sound d (here on (hit_touched on among))))
+
+  gone_reached : (id : MapId) → kept_in K id ≡ None → IsReached id
+  gone_reached id none = elim (reached_or (suc id.krate.0) id (omega arith)) [
+    | inl yes ↦ yes
+    | inr no ↦ here id (before (none_marked (kept_of s id) (sym (unreached_stays id no) ∙ none)))
+  ]
+
+  still_none : (id : MapId) → kept_of s id ≡ None → kept_in K id ≡ None
+  still_none id none = elim (forgotten.fewer id) [ inl same ↦ same ∙ none | inr nothing ↦ nothing ]
+
+  reached_gone : {id : MapId} → IsReached id → kept_in K id ≡ None
+  reached_gone (here id (before m)) = still_none id (marked_none (kept_of s id) m)
+  reached_gone (here id (asked_for key r is has ne)) = elim (judged id r is) [
+    | inl yes ↦ forgotten.gone id yes
+    | inr alike ↦ absurd (ne (alike.same key has))
+  ]
+  reached_gone (depends id d among sp) = on_kept (kept_of s id)
+      (λ none. still_none id none)
+      (λ r is. forgotten.named id d (names_followed s sound id d r is among)
+      (unmarked_some (kept_of s d) (sound.closed id d (some_unmarked (kept_of s id) r is) among)) (reached_gone sp))
+
+  -- of what is kept still, the same is
+  stays : (id : MapId) → is_none (kept_in K id) ≡ false → kept_in K id ≡ kept_of s id
+  stays id off = elim (forgotten.fewer id) [ inl same ↦ same | inr none ↦ clash (none_marked (kept_in K id) none) off ]
+
+  was_unmarked : (id : MapId) → is_none (kept_in K id) ≡ false → is_marked s id ≡ false
+  was_unmarked id off = sym (ap (λ (o : Option Resolution). is_none o) (stays id off)) ∙ off
+
+  closed_still : (id d : MapId) → is_none (kept_in K id) ≡ false → Contains (follows s id) d → is_none (kept_in K d) ≡ false
+  closed_still id d off among = on_bool (is_none (kept_in K d))
+      (λ on. clash (none_marked (kept_in K id) (reached_gone (depends id d among (gone_reached d (marked_none (kept_in K d) on))))) off)
+      (λ h. h)
+
+  behind_still : (id : MapId) → is_none (kept_in K id) ≡ false → (c : Crate) → has_crate (behind_in s.crates id.krate.0) c ≡ true → kept_in K (crate_map c) ≡ kept_of s (crate_map c)
+  behind_still id off c behind =
+      let own = of_number id (sound.placed id (was_unmarked id off)).of_crate in
+      let from : is_none (kept_in K (id_of id.krate.0)) ≡ false = ap (λ (x : MapId). is_none (kept_in K x)) (sym own) ∙ off in
+      stays (crate_map c)
+      (StandsOn-holds {P = λ (i : ℕ). is_none (kept_in K (id_of i)) ≡ false}
+      (λ j d p among. closed_still (id_of j) (crate_map d) p (followed s.crates (id_of j) d among)) ((sound.behind id.krate.0 c).0 behind) from)
+
+  -- an edit leaves a sound session
+  pub applied_sound : IsSound (record s { files = F; kept = K })
+  applied_sound = record {
+    few = sound.few;
+    below = sound.below;
+    behind = sound.behind;
+    named = sound.named;
+    placed = λ id off. let was = sound.placed id (was_unmarked id off) in record { of_crate = was.of_crate; within = was.within };
+    closed = closed_still;
+    current = λ id off.
+        let now = sound.current id (was_unmarked id off) in
+        record {
+          found = now.found;
+          is = stays id off ∙ now.is;
+          gives = IsResolutionOf-stays s F K id now.found now.gives (behind_still id off) (unhit id off now.found now.is);
+        };
+    rooted = sound.rooted;
+  }
+    where
+      unhit : (id : MapId) → is_none (kept_in K id) ≡ false → (r : Resolution) → kept_of s id ≡ Some r → AgreeOn r.asked (workspace_of s) no_maps edited no_maps
+      unhit id off r is = elim (judged id r is) [
+        | inl yes ↦ clash (none_marked (kept_in K id) (forgotten.gone id yes)) off
+        | inr alike ↦ alike
+      ]
+
+  -- and has its effect
+  pub becomes : Becomes s F (record s { files = F; kept = K })
+  becomes = record {
+    crates = refl;
+    paths = refl;
+    files_are = refl;
+    only = λ id on. gone_reached id (marked_none (kept_in K id) on);
+    all = λ id sp. none_marked (kept_in K id) (reached_gone sp);
+    kept = stays;
+    sound = applied_sound;
+  }
+
+module _ (s view : SessionState) (F : Files) (file : List ℕ) (there : Option SourceValue) (hits : List MapId) (K : Resolutions) where
   -- what is judged of the view of a session is judged of it
-  judged_of : s ≡ view → F ≡ edited_at s.files file there
-      → IsJudged (workspace_of view) (workspace_of (with_files view (edited_at view.files file there))) view.kept hits
-      → IsJudged (workspace_of s) (workspace_in s.crates s.paths F) s.kept hits
-  judged_of seen is judged =
-      let own = subst (λ (v : SessionState). IsJudged (workspace_of v) (workspace_of (with_files v (edited_at v.files file there))) v.kept hits) (sym seen) judged in
-      subst (λ (G : Files). IsJudged (workspace_of s) (workspace_in s.crates s.paths G) s.kept hits) (sym is) own
+  hit_of : s ≡ view → F ≡ edited_at s.files file there
+      → AreHit (workspace_of view) (workspace_of (with_files view (edited_at view.files file there))) view.kept (length view.crates) hits
+      → AreHit (workspace_of s) (workspace_in s.crates s.paths F) s.kept (length s.crates) hits
+  hit_of seen is hit =
+      let own = subst (λ (v : SessionState). AreHit (workspace_of v) (workspace_of (with_files v (edited_at v.files file there))) v.kept (length v.crates) hits) (sym seen) hit in
+      subst (λ (G : Files). AreHit (workspace_of s) (workspace_in s.crates s.paths G) s.kept (length s.crates) hits) (sym is) own
 
   -- an edit of one file leaves a sound session
   pub edited_sound : s ≡ view → IsSound s → F ≡ edited_at s.files file there
-      → IsJudged (workspace_of view) (workspace_of (with_files view (edited_at view.files file there))) view.kept hits
-      → IsSpread s.crates hits s.marked M → IsForgotten s.kept M K → IsSound (record s { files = F; kept = K; marked = M })
-  edited_sound seen sound is judged sp forgotten = applied_sound s F hits M K sound (judged_of seen is judged) sp forgotten
+      → AreHit (workspace_of view) (workspace_of (with_files view (edited_at view.files file there))) view.kept (length view.crates) hits
+      → AreForgotten s.kept hits K → IsSound (record s { files = F; kept = K })
+  edited_sound seen sound is hit forgotten = applied_sound s sound F hits K (hit_of seen is hit) forgotten
 
   -- and it has its effect
   pub edited_becomes : s ≡ view → IsSound s → F ≡ edited_at s.files file there
-      → IsJudged (workspace_of view) (workspace_of (with_files view (edited_at view.files file there))) view.kept hits
-      → IsSpread s.crates hits s.marked M → IsForgotten s.kept M K
-      → Becomes view (edited_at view.files file there) (record s { files = F; kept = K; marked = M })
-  edited_becomes seen sound is judged sp forgotten =
-      let new : SessionState = record s { files = F; kept = K; marked = M } in
+      → AreHit (workspace_of view) (workspace_of (with_files view (edited_at view.files file there))) view.kept (length view.crates) hits
+      → AreForgotten s.kept hits K → Becomes view (edited_at view.files file there) (record s { files = F; kept = K })
+  edited_becomes seen sound is hit forgotten =
+      let new : SessionState = record s { files = F; kept = K } in
       subst (λ (v : SessionState). Becomes v (edited_at v.files file there) new) seen
-      (subst (λ (G : Files). Becomes s G new) is (becomes s F hits M K sound (judged_of seen is judged) sp forgotten))
+      (subst (λ (G : Files). Becomes s G new) is (becomes s sound F hits K (hit_of seen is hit) forgotten))
 
--- a marked crate was resolved that comes after no other marked one: the session stays sound
-pub resolved_sound : (s : SessionState) (k : ℕ) (r : Resolution) → IsSound s → k < length s.crates
-    → ((j : ℕ) → j < k → is_marked s j ≡ false) → is_marked s k ≡ true → IsResolutionOf s k r → IsSound (resolved_at s k r)
-resolved_sound s k r sound within first on gives =
-    let kept_len : length s.kept ≡ length s.crates = sound.kept_len in
-    let marked_len : length s.marked ≡ length s.crates = sound.marked_len in
-    let kept_else : (j : ℕ) → j ≢ k → kept_in (set s.kept k (Some r)) j ≡ kept_of s j = λ j ne. get_or-set_other s.kept k j (Some r) None ne in
-    let kept_here : kept_in (set s.kept k (Some r)) k ≡ Some r = get_or-set_same s.kept k (Some r) None (omega arith) in
-    let mark_else : (j : ℕ) → j ≢ k → mark_in (set s.marked k false) j ≡ is_marked s j = λ j ne. get_or-set_other s.marked k j false true ne in
-    let mark_here : mark_in (set s.marked k false) k ≡ false = get_or-set_same s.marked k false true (omega arith) in
-    let stays : (j : ℕ) (x : Resolution) → ((c : Crate) → has_crate (behind_in s.crates j) c ≡ true → is_marked s c.0 ≡ false) → IsResolutionOf s j x
-    → IsResolutionOf (resolved_at s k r) j x =
-    λ j x unmarked p. IsResolutionOf-stays s s.files (set s.kept k (Some r)) (set s.marked k false) j x p
-    (λ c behind. kept_else c.0 (λ e. clash on (subst (λ (i : ℕ). is_marked s i ≡ false) e (unmarked c behind)))) AgreeOn-refl in
-    record {
-      few = sound.few;
-      kept_len = length-set s.kept k (Some r) ∙ kept_len;
-      marked_len = length-set s.marked k false ∙ marked_len;
-      below = sound.below;
-      behind = sound.behind;
-      named = sound.named;
-      closed = λ j d off among. on_same j k
-          (λ e. mark-set s.marked k d.0 false (first d.0 (let lower : d.0 < j = sound.below j d among in omega arith)))
-          (λ ne. mark-set s.marked k d.0 false (sound.closed j d (sym (mark_else j ne) ∙ off) among));
-      current = λ j off. on_same j k
-          (λ e. subst (λ (i : ℕ). IsCurrent (resolved_at s k r) i) (sym e) (record {
-            found = r;
-            is = kept_here;
-            gives = stays k r (λ c behind. first c.0 (StandsOn-below sound.below ((sound.behind k c).0 behind))) gives;
-          }))
-          (λ ne. let was : is_marked s j ≡ false = sym (mark_else j ne) ∙ off in
-          let now = sound.current j was in
-          record {
-            found = now.found;
-            is = kept_else j ne ∙ now.is;
-            gives = stays j now.found
-                (λ c behind. StandsOn-holds {P = λ i. is_marked s i ≡ false} (λ i d p among. sound.closed i d p among) ((sound.behind j c).0 behind) was) now.gives;
-          });
-      dropped = λ j marked. on_same j k
-          (λ e. clash (subst (λ (i : ℕ). mark_in (set s.marked k false) i ≡ true) e marked) mark_here)
-          (λ ne. kept_else j ne ∙ sound.dropped j (sym (mark_else j ne) ∙ marked));
-      rooted = sound.rooted;
-    }
+-- ---- a resolution
+
+module _ (s : SessionState) (k : ℕ) (r : Resolution) (K : Resolutions) (sound : IsSound s) (within : k < length s.crates)
+    (first : (j : ℕ) → j < k → is_marked s (id_of j) ≡ false) (on : is_marked s (id_of k) ≡ true) (found : IsResolutionOf s (id_of k) r)
+    (kept_here : kept_in K (id_of k) ≡ Some r) (kept_else : (j : MapId) → j ≢ id_of k → kept_in K j ≡ kept_of s j) where
+  -- what was unmarked still is
+  still_unmarked : (j : MapId) → is_marked s j ≡ false → is_none (kept_in K j) ≡ false
+  still_unmarked j off = on_id j (id_of k)
+      (λ e. clash on (ap (is_marked s) (sym e) ∙ off))
+      (λ ne. ap (λ (o : Option Resolution). is_none o) (kept_else j ne) ∙ off)
+
+  was : (j : MapId) → j ≢ id_of k → is_none (kept_in K j) ≡ false → is_marked s j ≡ false
+  was j ne off = sym (ap (λ (o : Option Resolution). is_none o) (kept_else j ne)) ∙ off
+
+  stays_resolved : (j : MapId) (x : Resolution) → ((c : Crate) → has_crate (behind_in s.crates j.krate.0) c ≡ true → is_marked s (crate_map c) ≡ false) → IsResolutionOf s j x
+      → IsResolutionOf (record s { kept = K }) j x
+  stays_resolved j x unmarked p = IsResolutionOf-stays s s.files K j x p
+      (λ c behind. kept_else (crate_map c) (λ e. clash on (ap (is_marked s) (sym e) ∙ unmarked c behind))) AgreeOn-refl
+
+  -- what the crate stands on comes before it
+  before_it : (c : Crate) → has_crate (behind_in s.crates k) c ≡ true → is_marked s (crate_map c) ≡ false
+  before_it c behind = first c.0 (StandsOn-below sound.below ((sound.behind k c).0 behind))
+
+  -- what an unmarked place stands on is unmarked
+  behind_it : (j : MapId) → is_marked s j ≡ false → (c : Crate) → has_crate (behind_in s.crates j.krate.0) c ≡ true → is_marked s (crate_map c) ≡ false
+  behind_it j off c behind =
+      let own = of_number j (sound.placed j off).of_crate in
+      StandsOn-holds {P = λ (i : ℕ). is_marked s (id_of i) ≡ false} (λ i d p among. follows_unmarked sound i d p among) ((sound.behind j.krate.0 c).0 behind)
+      (ap (is_marked s) (sym own) ∙ off)
+
+  -- a marked crate was resolved that comes after no other marked one: the session stays sound
+  pub resolved_sound : IsSound (record s { kept = K })
+  resolved_sound = record {
+    few = sound.few;
+    below = sound.below;
+    behind = sound.behind;
+    named = sound.named;
+    placed = λ j off. on_id j (id_of k)
+        (λ e. subst (λ (x : MapId). IsPlace (record s { kept = K }) x) (sym e) (record { of_crate = refl; within = within }))
+        (λ ne. let old = sound.placed j (was j ne off) in record { of_crate = old.of_crate; within = old.within });
+    closed = λ j d off among. still_unmarked d (on_id j (id_of k)
+        (λ e.
+        let c = dependency_behind s.crates j d among in
+        let number : j.krate.0 ≡ k = ap (λ (x : MapId). x.krate.0) e in
+        let lower : c.0.0 < j.krate.0 = sound.below j.krate.0 c.0 c.1 in
+        ap (is_marked s) c.2 ∙ first c.0.0 (omega arith))
+        (λ ne. sound.closed j d (was j ne off) among));
+    current = λ j off. on_id j (id_of k)
+        (λ e. subst (λ (x : MapId). IsCurrent (record s { kept = K }) x) (sym e) (record { found = r; is = kept_here; gives = stays_resolved (id_of k) r before_it found }))
+        (λ ne.
+        let now = sound.current j (was j ne off) in
+        record { found = now.found; is = kept_else j ne ∙ now.is; gives = stays_resolved j now.found (behind_it j (was j ne off)) now.gives });
+    rooted = sound.rooted;
+  }

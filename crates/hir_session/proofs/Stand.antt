@@ -13,7 +13,7 @@ use Rattle.hir_session.specs.SessionState.{SessionState, kept_of, read_of, is_ma
 use Rattle.hir_wire.specs.declared.reply.Status.{Status}
 use Rattle.hir_wire.specs.declared.reply.Status.TheVariants as status
 use Rattle.hir_session.specs.declared.error.QueryError.{QueryError}
-use Rattle.hir_session.specs.Status.{module_below, module_of, status_of}
+use Rattle.hir_session.specs.Status.{map_of, module_below, module_of, status_of}
 use Rattle.hir_session.specs.Answers.{answer_of, answer_by, answer_from, answer_in, asking_of}
 use Rattle.hir_session.specs.AnswersStand.{AnswersStand}
 use Rattle.hir_session.specs.LeavesOut.{LeavesNothingOut}
@@ -26,19 +26,19 @@ on_option (Some x) f g = g x refl
 
 -- where the status is current, the answer is the one over what is kept
 pub answer_of-current : (s : SessionState) (place : PlaceValue) (path : Path) (shadow : Shadow) (style : Option MacroStyle) {r : Result Answer QueryError}
-    → status.Current ≡ status_of s place → answer_from s.paths (read_of s place.krate.0) (kept_of s place.krate.0) (module_of s place) path shadow style ≡ r
+    → status.Current ≡ status_of s place → answer_from s.paths (read_of s (map_of place)) (kept_of s (map_of place)) (module_of s place) path shadow style ≡ r
     → answer_of s place path shadow style ≡ r
 answer_of-current s place path shadow style current over =
-    ap (λ (now : Status). answer_by now (answer_from s.paths (read_of s place.krate.0) (kept_of s place.krate.0) (module_of s place) path shadow style)) (sym current) ∙ over
+    ap (λ (now : Status). answer_by now (answer_from s.paths (read_of s (map_of place)) (kept_of s (map_of place)) (module_of s place) path shadow style)) (sym current) ∙ over
 
 -- an answer that is given stands
 pub stands : RunsBindFromSources → PathsAnswerFromSources → PathsLeadToWhatIsThere → (s : SessionState) (place : PlaceValue) (path : Path) (shadow : Shadow) (style : Option MacroStyle) (a : Answer) → IsSound s
     → answer_of s place path shadow style ≡ Ok a → AnswersStand s place path shadow style a
 stands runs answers leads s place path shadow style a sound h =
     on_bool (nat_lt place.krate.0 (length s.crates))
-    (λ within. on_bool (is_marked s place.krate.0)
+    (λ within. on_bool (is_marked s (map_of place))
     (λ stale. absurd (let wrong : ⊥ = cc (rw (within, stale) at h) in wrong))
-    (λ off. let now = sound.current place.krate.0 off in
+    (λ off. let now = sound.current (map_of place) off in
     let over = rw (within, off, now.is) at h in
     on_option (module_below now.found.map (root_of now.found.map.id) place.elements)
     (λ none. absurd (let wrong : ⊥ = cc (rw none at over) in wrong))
@@ -49,9 +49,9 @@ stands runs answers leads s place path shadow style a sound h =
       present = now.gives.resolved;
       asked_from = m;
       named = some;
-      whole = subst (LeavesNothingOut (resolution_of (beside (read_of s place.krate.0) now.found.map) (asking_of now.found.local shadow style) m path).resolved_def)
-          (sym (let e : a ≡ answer_in s.paths (beside (read_of s place.krate.0) now.found.map) now.found.local m path shadow style = cc given in e))
+      whole = subst (LeavesNothingOut (resolution_of (beside (read_of s (map_of place)) now.found.map) (asking_of now.found.local shadow style) m path).resolved_def)
+          (sym (let e : a ≡ answer_in s.paths (beside (read_of s (map_of place)) now.found.map) now.found.local m path shadow style = cc given in e))
           (whole runs answers leads s sound place.krate.0 off place.elements m path shadow style some);
-      is = let e : a ≡ answer_in s.paths (beside (read_of s place.krate.0) now.found.map) now.found.local m path shadow style = cc given in e;
+      is = let e : a ≡ answer_in s.paths (beside (read_of s (map_of place)) now.found.map) now.found.local m path shadow style = cc given in e;
     })))
     (λ past. absurd (let wrong : ⊥ = cc (rw past at h) in wrong))

@@ -17,7 +17,7 @@ pub any-found : (test : Crate → Bool) (ds : List Crate) (d : Crate) → Contai
 any-found test ds d h passes = list_any_at test ds h.0 d h.1 (rw h.2 passes)
 
 -- and what is found is a crate that passes
-found-any : (test : Crate → Bool) (ds : List Crate) → list_any test ds ≡ true → (d : Crate) × Contains ds d × (test d ≡ true)
+pub found-any : (test : Crate → Bool) (ds : List Crate) → list_any test ds ≡ true → (d : Crate) × Contains ds d × (test d ≡ true)
 found-any test [] h = clash h refl
 found-any test (d ∷ ds) h = on_bool (test d)
     (λ on. (d, (0, omega arith, refl), on))

@@ -1,35 +1,22 @@
-use Rattle.std.proofs.Common.{◌≡◌, ℕ, zero, suc, ◌+◌, ◌<◌, ◌≤◌, Bool, true, false, List, [], ◌∷◌, ◌++◌, length, map, is_some, slice_get, replicate, drop, get_or, drop-cons, add-one, append_assoc, append-nil, drop_of_length-le, Option, None, refl, sym, ap, subst, ◌∙◌, Contains, arith, nat_le}
+use Rattle.std.proofs.Common.{◌≡◌, ℕ, zero, suc, ◌+◌, ◌<◌, ◌≤◌, Bool, true, false, List, [], ◌∷◌, ◌++◌, length, map, is_none, is_some, slice_get, drop, get_or, drop-cons, add-one, append_assoc, append-nil, drop_of_length-le, Option, None, refl, sym, ap, subst, ◌∙◌, Contains, arith, nat_le}
 use Rattle.std.proofs.lemmas.List.{length-map}
 use Rattle.std.proofs.lemmas.List.Folds.{list_any_at}
 use Rattle.hir_base.specs.declared.ast_id.EditionedFileId.{EditionedFileId}
 use Rattle.hir_base.specs.declared.ids.Crate.{Crate}
+use Rattle.hir_base.specs.declared.ids.MapId.{MapId}
 use Rattle.hir_def_collector.specs.declared.source_database.Dependency.{Dependency}
 use Rattle.hir_wire.specs.CommandValue.{CrateInputValue, crate_input_view}
 use Rattle.hir_wire.specs.declared.command.CrateInput.{CrateInput}
 use Rattle.hir_wire.specs.declared.command.Dependency.{Dependency as HandedIn}
 use Rattle.hir_session.specs.Crates.{CrateValue, crate_in, dependencies_in}
 use Rattle.hir_session.specs.Files.{Files}
-use Rattle.hir_session.specs.SessionState.{SessionState, Resolution, kept_in, mark_in, is_marked, IsSound}
+use Rattle.hir_session.specs.Kept.{Resolutions, kept_in}
+use Rattle.hir_session.specs.SessionState.{SessionState, Resolution, is_marked, IsSound}
 use Rattle.hir_session.specs.Refusals.{dependency_crates, has_late, first_out_of_order}
 use Rattle.hir_session.specs.Beginning.{dependency_of, IsMade, AreMade, Begins}
 use Rattle.hir_session.specs.Behind.{AreBuilt}
 use Rattle.hir_session.proofs.Stands.{stands}
 use Rattle.hir_session.proofs.Truth.{clash, on_bool}
-
--- one more at the end
-pub replicate_more : {A : Type 0} (n : ℕ) (x : A) → replicate (n + 1) x ≡ replicate n x ++ x ∷ []
-replicate_more zero x = refl
-replicate_more (suc n) x = let e : suc n + 1 ≡ suc (n + 1) = omega arith in rw (e, replicate_more n x) refl
-
--- all of them are marked
-pub mark-replicate : (n k : ℕ) → mark_in (replicate n true) k ≡ true
-mark-replicate zero k = refl
-mark-replicate (suc n) zero = refl
-mark-replicate (suc n) (suc k) = mark-replicate n k
-
-pub length-replicate : {A : Type 0} (n : ℕ) (x : A) → length (replicate n x) ≡ n
-length-replicate zero x = refl
-length-replicate (suc n) x = let e : length (replicate n x) ≡ n = length-replicate n x in omega arith
 
 -- as many crates are made as were handed in
 pub length-made : (n : ℕ) (inputs : List CrateInputValue) (crates : List CrateValue) → AreMade n inputs crates → length crates ≡ length inputs
@@ -99,12 +86,6 @@ named_from n (i ∷ is) (c ∷ cs) made zero =
     ap (λ (ds : List Dependency). map (λ d. d.krate) ds) made.0.named ∙ crates_named i.deps ∙ sym made.0.dependencies
 named_from n (i ∷ is) (c ∷ cs) made (suc k) = named_from (n + 1) is cs made.1 k
 
--- nothing is kept of any
-kept-replicate : (n k : ℕ) → kept_in (replicate n None) k ≡ None
-kept-replicate zero k = refl
-kept-replicate (suc n) zero = refl
-kept-replicate (suc n) (suc k) = kept-replicate n k
-
 -- the root file of a crate has the crate's number
 numbered_from : (n : ℕ) (inputs : List CrateInputValue) (crates : List CrateValue) → AreMade n inputs crates → (k : ℕ) → k < length crates
     → (crate_in crates k).own.root.file_id.0 ≡ n + k
@@ -124,19 +105,16 @@ path_handed_in (i ∷ is) (suc k) within = path_handed_in is k (omega arith)
 -- a session is sound when it begins
 pub begins_sound : (inputs : List CrateInputValue) (s : SessionState) → length inputs ≤ 10000 → first_out_of_order 0 inputs ≡ None → Begins inputs s → IsSound s
 begins_sound inputs s few ordered is =
-    let on : (k : ℕ) → is_marked s k ≡ true =
-    λ k. subst (λ (m : List Bool). mark_in m k ≡ true) (sym is.marked) (mark-replicate (length inputs) k) in
+    let on : (id : MapId) → is_marked s id ≡ true = λ id. ap (λ (o : Option Resolution). is_none o) (is.kept id) in
     let count : length s.crates ≡ length inputs = length-made 0 inputs s.crates is.crates in
     record {
       few = omega arith;
-      kept_len = ap (λ (xs : List (Option Resolution)). length xs) is.kept ∙ length-replicate (length inputs) None ∙ sym count;
-      marked_len = ap (λ (xs : List Bool). length xs) is.marked ∙ length-replicate (length inputs) true ∙ sym count;
       below = λ k d among. let lower : d.0 < 0 + k = below_from 0 inputs s.crates is.crates ordered k d among in omega arith;
       behind = is.behind;
       named = named_from 0 inputs s.crates is.crates;
-      closed = λ k d off among. clash (on k) off;
-      current = λ k off. clash (on k) off;
-      dropped = λ k marked. ap (λ (kept : List (Option Resolution)). kept_in kept k) is.kept ∙ kept-replicate (length inputs) k;
+      placed = λ id off. clash (on id) off;
+      closed = λ id d off among. clash (on id) off;
+      current = λ id off. clash (on id) off;
       rooted = λ k within.
           let number : (crate_in s.crates k).own.root.file_id.0 ≡ k =
           (let from : (crate_in s.crates k).own.root.file_id.0 ≡ 0 + k = numbered_from 0 inputs s.crates is.crates k within in omega arith) in
@@ -146,18 +124,14 @@ begins_sound inputs s few ordered is =
     }
 
 -- the parts of a session that begins
-pub begins_with : (inputs : List CrateInput) (crates : List CrateValue) (paths : List (List ℕ)) (files : Files) (kept : List (Option Resolution)) (marked : List Bool)
-    (n : ℕ) → n ≡ length inputs → AreMade 0 (map crate_input_view inputs) crates → AreBuilt crates → first_out_of_order 0 (map crate_input_view inputs) ≡ None
-    → paths ≡ map (λ c. c.root) (map crate_input_view inputs) → files ≡ []
-    → kept ≡ replicate n None → marked ≡ replicate n true
-    → Begins (map crate_input_view inputs) (record { crates = crates; paths = paths; files = files; kept = kept; marked = marked })
-begins_with inputs crates paths files kept marked n count made built ordered is_paths is_files is_kept is_marked =
-    let all : n ≡ length (map crate_input_view inputs) = count ∙ sym (length-map inputs crate_input_view) in
-    record {
-      crates = made;
-      behind = stands crates built (λ k d among. let lower : d.0 < 0 + k = below_from 0 (map crate_input_view inputs) crates made ordered k d among in omega arith);
-      paths = is_paths;
-      files = is_files;
-      kept = is_kept ∙ ap (λ (m : ℕ). replicate m None) all;
-      marked = is_marked ∙ ap (λ (m : ℕ). replicate m true) all;
-    }
+pub begins_with : (inputs : List CrateInput) (crates : List CrateValue) (paths : List (List ℕ)) (files : Files) (kept : Resolutions)
+    → AreMade 0 (map crate_input_view inputs) crates → AreBuilt crates → first_out_of_order 0 (map crate_input_view inputs) ≡ None
+    → paths ≡ map (λ c. c.root) (map crate_input_view inputs) → files ≡ [] → ((id : MapId) → kept_in kept id ≡ None)
+    → Begins (map crate_input_view inputs) (record { crates = crates; paths = paths; files = files; kept = kept })
+begins_with inputs crates paths files kept made built ordered is_paths is_files is_kept = record {
+  crates = made;
+  behind = stands crates built (λ k d among. let lower : d.0 < 0 + k = below_from 0 (map crate_input_view inputs) crates made ordered k d among in omega arith);
+  paths = is_paths;
+  files = is_files;
+  kept = is_kept;
+}

@@ -2,6 +2,7 @@
 use Rattle.std.proofs.Common.{◌≡◌, ◌⊎◌, inl, inr, ℕ, Bool, true, false, nat_le, nat_lt, List, [], ◌∷◌, length, Option, Some, None, Result, Ok, Err, refl, sym, subst, ◌∙◌}
 use Rattle.hir_base.specs.ModPath.{Path}
 use Rattle.hir_base.specs.Place.{PlaceValue}
+use Rattle.hir_base.specs.declared.ids.MapId.{MapId}
 use Rattle.hir_def_collector.specs.declared.source_database.Key.{Key}
 use Rattle.hir_wire.specs.CommandValue.{CommandValue, edit, resolve}
 use Rattle.hir_wire.specs.Commands.{reading_of}
@@ -16,6 +17,7 @@ use Rattle.hir_session.specs.declared.error.QueryError.{QueryError}
 use Rattle.hir_session.specs.declared.error.QueryError.TheVariants as query_error
 use Rattle.hir_session.specs.declared.open_line.TheConstants.{LINE_LIMIT}
 use Rattle.hir_session.specs.SessionState.{SessionState, is_marked, IsSound}
+use Rattle.hir_session.specs.Status.{map_of}
 use Rattle.hir_session.specs.Answers.{answer_of}
 use Rattle.hir_session.specs.Due.{IsAskedBehind}
 use Rattle.hir_session.specs.Machine.{MachineState, first_state, query_reply, Moves, AnswersCommand, AnswersLine}
@@ -86,8 +88,8 @@ answered_within false line asks skipped = let told = skipped.0 in absurd (let wr
 
 -- where there is an answer, the crate isn't marked
 unmarked_where_answered : (s : SessionState) (place : PlaceValue) (path : Path) (shadow : Shadow) (style : Option MacroStyle) (a : Answer)
-    → answer_of s place path shadow style ≡ Ok a → is_marked s place.krate.0 ≡ false
-unmarked_where_answered s place path shadow style a is = on_bool (is_marked s place.krate.0)
+    → answer_of s place path shadow style ≡ Ok a → is_marked s (map_of place) ≡ false
+unmarked_where_answered s place path shadow style a is = on_bool (is_marked s (map_of place))
     (λ stale. on_bool (nat_lt place.krate.0 (length s.crates))
     (λ within. absurd (let wrong : ⊥ = cc (rw (within, stale) at is) in wrong))
     (λ past. absurd (let wrong : ⊥ = cc (rw past at is) in wrong)))
@@ -96,11 +98,11 @@ unmarked_where_answered s place path shadow style a is = on_bool (is_marked s pl
 -- ---- what lies between two replies
 
 -- a session is there again, and what is behind the crate is as it was, or the line altered a key that was asked for
-abbrev KeepsOrAlters : SessionState → ℕ → MachineState → List ℕ → MachineState → Type 0
+abbrev KeepsOrAlters : SessionState → MapId → MachineState → List ℕ → MachineState → Type 0
 KeepsOrAlters from k old line new = (to : SessionState) × (new ≡ Some to)
     × (IsSame from to k ⊎ ((key : Key) × IsAskedBehind from k key × Alters old line new key))
 
-kept_by_call : {from s t : SessionState} {k : ℕ} {line : List ℕ} {c : CommandValue} {answer : Reply} → reading_of line ≡ Ok c → IsSame from s k
+kept_by_call : {from s t : SessionState} {k : MapId} {line : List ℕ} {c : CommandValue} {answer : Reply} → reading_of line ≡ Ok c → IsSame from s k
     → Moves s c answer t → IsSame from t k ⊎ ((key : Key) × IsAskedBehind from k key × Alters (Some s) line (Some t) key)
 kept_by_call {s = s} {t} {line = line} read same (applies e is_edit accepted is told) = elim (same_after_edit e same is) [
   | inl still ↦ inl still
@@ -115,10 +117,10 @@ kept_by_call {from} {k = k} read same (shows krate path text is_tree still found
 kept_by_call {from} {k = k} read same (shows_none krate path why is_tree still refused told) = inl (subst (λ (x : SessionState). IsSame from x k) (sym still) same)
 
 -- nothing changed
-kept_so : {from s : SessionState} {k : ℕ} {old new : MachineState} {line : List ℕ} → old ≡ Some s → IsSame from s k → new ≡ old → KeepsOrAlters from k old line new
+kept_so : {from s : SessionState} {k : MapId} {old new : MachineState} {line : List ℕ} → old ≡ Some s → IsSame from s k → new ≡ old → KeepsOrAlters from k old line new
 kept_so {s = s} is same still = (s, still ∙ is, inl same)
 
-kept_by_command : {from s : SessionState} {k : ℕ} {old new : MachineState} {line : List ℕ} {c : CommandValue} {answer : Reply} → old ≡ Some s → IsSame from s k
+kept_by_command : {from s : SessionState} {k : MapId} {old new : MachineState} {line : List ℕ} {c : CommandValue} {answer : Reply} → old ≡ Some s → IsSame from s k
     → reading_of line ≡ Ok c → AnswersCommand old c answer new → KeepsOrAlters from k old line new
 kept_by_command is same read (finds_no_memory told still) = kept_so is same still
 kept_by_command is same read (begins inputs t is_crates before accepted made told still) = absurd (let wrong : ⊥ = cc in wrong)
@@ -141,20 +143,20 @@ kept_by_command {from} {s = s} {k} {old} {new} {line} {c} {answer} is same read 
       ],
     )
 
-kept_by_line : {from s : SessionState} {k : ℕ} {old new : MachineState} {line : List ℕ} {answer : Reply} → old ≡ Some s → IsSame from s k
+kept_by_line : {from s : SessionState} {k : MapId} {old new : MachineState} {line : List ℕ} {answer : Reply} → old ≡ Some s → IsSame from s k
     → AnswersLine old line answer new → KeepsOrAlters from k old line new
 kept_by_line is same (finds_no_memory_for_line told still) = kept_so is same still
 kept_by_line is same (reads_no_command why read told still) = kept_so is same still
 kept_by_line is same (carries_out c read done) = kept_by_command is same read done
 
-kept_within : {from s : SessionState} {k : ℕ} {old new : MachineState} {line : List ℕ} (fits : Bool) (answer : Reply) → old ≡ Some s → IsSame from s k
+kept_within : {from s : SessionState} {k : MapId} {old new : MachineState} {line : List ℕ} (fits : Bool) (answer : Reply) → old ≡ Some s → IsSame from s k
     → AnswersWithin fits old line answer new → KeepsOrAlters from k old line new
 kept_within true answer is same (inl done) = kept_by_line is same done
 kept_within true answer is same (inr lost) = kept_so is same lost.1
 kept_within false answer is same skipped = kept_so is same skipped.1
 
 -- all the lines leave what is behind the crate as it was, or one of them altered a key that was asked for
-kept_by_lines : {from : SessionState} {k : ℕ} {new : MachineState} (lines : List (List ℕ)) (answers : List Reply) {s : SessionState} {old : MachineState} → old ≡ Some s → IsSame from s k
+kept_by_lines : {from : SessionState} {k : MapId} {new : MachineState} (lines : List (List ℕ)) (answers : List Reply) {s : SessionState} {old : MachineState} → old ≡ Some s → IsSame from s k
     → (done : AnswersLines old lines answers new)
     → ((to : SessionState) × (new ≡ Some to) × IsSame from to k) ⊎ ((key : Key) × IsAskedBehind from k key × SomeLineAlters key old lines answers new done)
 kept_by_lines [] [] {s} is same done = inl (s, done ∙ is, same)
@@ -186,7 +188,7 @@ differ_only earlier between before after first second a b s t u v place path sha
     elim (kept_by_lines between after was.after (same_at_first sound off) done) [
       | inl still ↦
           let there : still.0 ≡ now.at = one_value (sym still.1 ∙ now.before) in
-          let alike = same_answer place path shadow style sound off (subst (λ (x : SessionState). IsSame was.at x place.krate.0) there still.2) in
+          let alike = same_answer place path shadow style sound off (subst (λ (x : SessionState). IsSame was.at x (map_of place)) there still.2) in
           inl (let given : (Ok b) ≡ (Ok a) = sym now.is ∙ alike ∙ was.is in cc)
       | inr hit ↦ inr (hit.0, (was.at, was.after, hit.1), hit.2)
     ]

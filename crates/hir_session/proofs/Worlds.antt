@@ -1,9 +1,10 @@
 -- The finished maps that a crate reads stay while what is kept of the crates on which it stands does.
 use Rattle.std.proofs.Common.{◌≡◌, ℕ, zero, suc, ◌<◌, List, [], ◌∷◌, ◌++◌, length, Bool, true, false, arith, Option, Some, None, option_map, refl, sym, ap, ◌∙◌, subst, Contains, map, slice_get, eq-eqb}
 use Rattle.hir_base.specs.declared.ids.Crate.{Crate}
+use Rattle.hir_base.specs.declared.ids.MapId.{MapId}
 use Rattle.hir_def_map.specs.Among.{among_agrees, unheld}
 use Rattle.hir_def_map.specs.Complete.{BeginsOnly, NamesOnly}
-use Rattle.hir_def_map.specs.State.{Maps, Placed, beside, no_maps}
+use Rattle.hir_def_map.specs.State.{Maps, Placed, beside, crate_map, no_maps}
 use Rattle.hir_def_collector.specs.Causes.{HasCause}
 use Rattle.hir_def_collector.specs.Causes.HasCause.{root_file, declared_enum, dependency}
 use Rattle.hir_def_collector.specs.Derivation.{Ends, keys_of}
@@ -15,10 +16,10 @@ use Rattle.hir_def_collector.specs.declared.collector.Start.{Start}
 use Rattle.hir_def_collector.specs.declared.source_database.Dependency.{Dependency}
 use Rattle.hir_def_collector.specs.declared.source_database.Key.{Key}
 use Rattle.hir_session.specs.Behind.{has_crate}
-use Rattle.hir_session.specs.Crates.{CrateValue, behind_in, crate_in}
+use Rattle.hir_session.specs.Crates.{CrateValue, behind_in, crate_in, id_of}
 use Rattle.hir_session.specs.Files.{Files}
-use Rattle.hir_session.specs.Kept.{finished_by}
-use Rattle.hir_session.specs.SessionState.{SessionState, Resolution, workspace_of, start_of, finished_of, read_of, kept_of, kept_in, is_marked, IsResolved, IsResolutionOf, IsSound}
+use Rattle.hir_session.specs.Kept.{Resolutions, finished_by, kept_in}
+use Rattle.hir_session.specs.SessionState.{SessionState, Resolution, workspace_of, start_of, finished_of, read_of, kept_of, is_marked, IsResolved, IsResolutionOf, IsSound}
 use Rattle.hir_session.specs.StandsOn.{StandsOn}
 use Rattle.hir_session.specs.StandsOn.StandsOn.{directly, through}
 use Rattle.hir_session.proofs.Stands.{any-found}
@@ -84,23 +85,23 @@ of_crate (c ∷ cs) key (suc n, within, is) =
 
 -- ---- a session that changes
 
-module _ (s : SessionState) (F : Files) (K : List (Option Resolution)) (M : List Bool) where
-  -- the session with other files, other resolutions and other marks
+module _ (s : SessionState) (F : Files) (K : Resolutions) where
+  -- the session with other files and other resolutions
   abbrev pub changed : SessionState
-  changed = record s { files = F; kept = K; marked = M }
+  changed = record s { files = F; kept = K }
 
   -- what is kept of the crates on which a crate stands is as it was
-  abbrev pub IsKeptBehind : ℕ → Type 0
-  IsKeptBehind k = (c : Crate) → has_crate (behind_in s.crates k) c ≡ true → kept_in K c.0 ≡ kept_of s c.0
+  abbrev pub IsKeptBehind : MapId → Type 0
+  IsKeptBehind id = (c : Crate) → has_crate (behind_in s.crates id.krate.0) c ≡ true → kept_in K (crate_map c) ≡ kept_of s (crate_map c)
 
-  pub read_stays : (k : ℕ) → IsKeptBehind k → read_of changed k ≡ read_of s k
-  read_stays k kept = among_agrees (behind_in s.crates k) (finished_by K) (finished_of s)
+  pub read_stays : (id : MapId) → IsKeptBehind id → read_of changed id ≡ read_of s id
+  read_stays id kept = among_agrees (behind_in s.crates id.krate.0) (finished_by K) (finished_of s)
       (λ c h. ap (λ (o : Option Resolution). option_map (λ (p : Placed). p.map) (option_map (λ (r : Resolution). unheld r.map) o)) (kept c h))
 
   -- what is seen at the key of such a crate's map
-  map_stays : (k : ℕ) (c : Crate) (key : Key) → IsKeptBehind k → has_crate (behind_in s.crates k) c ≡ true → key ≡ map_key c
+  map_stays : (id : MapId) (c : Crate) (key : Key) → IsKeptBehind id → has_crate (behind_in s.crates id.krate.0) c ≡ true → key ≡ map_key c
       → look (workspace_of changed) (finished_of changed) key ≡ look (workspace_of s) (finished_of s) key
-  map_stays k c key kept behind is = subst (λ (x : Key). look (workspace_of changed) (finished_of changed) x ≡ look (workspace_of s) (finished_of s) x) (sym is)
+  map_stays id c key kept behind is = subst (λ (x : Key). look (workspace_of changed) (finished_of changed) x ≡ look (workspace_of s) (finished_of s) x) (sym is)
       (ap (λ (o : Option Resolution). of_map (option_map (λ (p : Placed). p.map) (option_map (λ (r : Resolution). unheld r.map) o))) (kept c behind))
 
   -- what is seen at the key of a file's tree, or of an enum's variants, where no map counts
@@ -115,27 +116,27 @@ module _ (s : SessionState) (F : Files) (K : List (Option Resolution)) (M : List
   tree_stays start key end (dependency c among is) alike by_map = by_map c among is
 
   -- what agrees on the keys that are kept one by one agrees on all
-  pub agrees_on_all : (k : ℕ) (r : Resolution) → IsResolved (workspace_of s) (finished_of s) (start_of s k) r → IsKeptBehind k
+  pub agrees_on_all : (id : MapId) (r : Resolution) → IsResolved (workspace_of s) (finished_of s) (start_of s id) r → IsKeptBehind id
       → AgreeOn r.asked (workspace_of s) no_maps (workspace_of changed) no_maps
       → AgreeOn (keys_of r) (workspace_of s) (finished_of s) (workspace_of changed) (finished_of changed)
-  agrees_on_all k r resolved kept alike =
-      let ended : Ends (workspace_of s) (finished_of s) (start_of s k) r = resolved.ends (workspace_of s) (finished_of s) AgreeOn-refl in
-      let by_map = λ (key : Key) (c : Crate) (among : Contains (run_behind (workspace_of s) (record { 0 = k })) c) (is : key ≡ map_key c).
-      map_stays k c key kept (has_listed (behind_in s.crates k) c (subst (λ (cs : List Crate). Contains cs c) (own_behind s.crates k) among)) is in
+  agrees_on_all id r resolved kept alike =
+      let ended : Ends (workspace_of s) (finished_of s) (start_of s id) r = resolved.ends (workspace_of s) (finished_of s) AgreeOn-refl in
+      let by_map = λ (key : Key) (c : Crate) (among : Contains (run_behind (workspace_of s) id.krate) c) (is : key ≡ map_key c).
+      map_stays id c key kept (has_listed (behind_in s.crates id.krate.0) c (subst (λ (cs : List Crate). Contains cs c) (own_behind s.crates id.krate.0) among)) is in
       record {
         crates = alike.crates;
         same = λ key h. in_either r.asked (map_keys r.map.crate_data.dependencies) key h
-            (λ own. tree_stays (start_of s k) key ended.end (ended.caused key h) (alike.same key own) (by_map key))
+            (λ own. tree_stays (start_of s id) key ended.end (ended.caused key h) (alike.same key own) (by_map key))
             (λ mapped. let c = of_crate r.map.crate_data.dependencies key mapped in
             by_map key c.0 (subst (λ (cs : List Crate). Contains cs c.0) ended.behind_is c.1) c.2);
       }
 
   -- a resolution stands where what it asked for is as it was
-  pub IsResolutionOf-stays : (k : ℕ) (r : Resolution) → IsResolutionOf s k r → IsKeptBehind k
-      → AgreeOn r.asked (workspace_of s) no_maps (workspace_of changed) no_maps → IsResolutionOf changed k r
-  IsResolutionOf-stays k r p kept alike = record {
-    resolved = record { ends = λ u finished same. p.resolved.ends u finished (AgreeOn-trans (agrees_on_all k r p.resolved kept alike) same) };
+  pub IsResolutionOf-stays : (id : MapId) (r : Resolution) → IsResolutionOf s id r → IsKeptBehind id
+      → AgreeOn r.asked (workspace_of s) no_maps (workspace_of changed) no_maps → IsResolutionOf changed id r
+  IsResolutionOf-stays id r p kept alike = record {
+    resolved = record { ends = λ u finished same. p.resolved.ends u finished (AgreeOn-trans (agrees_on_all id r p.resolved kept alike) same) };
     own = p.own;
-    names = subst (λ (maps : Maps). NamesOnly (beside maps r.map) r.map) (sym (read_stays k kept)) p.names;
-    begins = subst (λ (maps : Maps). BeginsOnly (beside maps r.map) r.local) (sym (read_stays k kept)) p.begins;
+    names = subst (λ (maps : Maps). NamesOnly (beside maps r.map) r.map) (sym (read_stays id kept)) p.names;
+    begins = subst (λ (maps : Maps). BeginsOnly (beside maps r.map) r.local) (sym (read_stays id kept)) p.begins;
   }

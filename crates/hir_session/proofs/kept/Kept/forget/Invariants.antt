@@ -1,5 +1,5 @@
 use Rattle.hir_session.proofs.KeptLemmas.{IsForgetting}
 use Rattle.hir_session.proofs.kept.Kept.forget.Given as goal
 
-abbrev pub invariant-loop-k : goal.invariant-loop-k
-invariant-loop-k l = IsForgetting l.initial.self l.self l.marked.items l.k
+abbrev pub invariant-loop-id : goal.invariant-loop-id
+invariant-loop-id l = IsForgetting l.initial.self l.ids l.id-index l.self
