@@ -21,6 +21,7 @@ use Rattle.hir_session.specs.Marks.{IsTouched}
 use Rattle.hir_session.specs.Marks.IsTouched.{before, asked_for}
 use Rattle.hir_session.specs.Marking.{AreHit}
 use Rattle.hir_session.specs.Changes.{with_files, Becomes}
+use Rattle.hir_session.specs.Due.{Resolved}
 use Rattle.hir_session.proofs.Following.{dependency_behind, followed, follows_unmarked, spread_on}
 use Rattle.hir_session.proofs.Ids.{of_number, on_id}
 use Rattle.hir_session.proofs.Names.{among-names}
@@ -266,6 +267,22 @@ module _ (s view : SessionState) (F : Files) (file : List ℕ) (there : Option S
       (subst (λ (G : Files). Becomes s G new) is (becomes s sound F hits K (hit_of seen is hit) forgotten))
 
 -- ---- a resolution
+
+-- nothing is kept of the place of a resolution where that is marked
+pub free_own : (s : SessionState) (id : MapId) (r : Resolution) → r.map.id ≡ id → is_marked s id ≡ true → kept_of s r.map.id ≡ None
+free_own s id r own on = ap (kept_of s) own ∙ marked_none (kept_of s id) on
+
+-- the place is resolved once its resolution is kept
+pub resolved_of : (s view : SessionState) (K : Resolutions) (id : MapId) (r : Resolution) → s ≡ view → r.map.id ≡ id → kept_in K r.map.id ≡ Some r
+    → ((j : MapId) → j ≢ r.map.id → kept_in K j ≡ kept_of s j) → Resolved view id r (record s { kept = K })
+resolved_of s view K id r seen own here others =
+    subst (λ (v : SessionState). Resolved v id r (record s { kept = K })) seen (record {
+      crates = refl;
+      paths = refl;
+      files = refl;
+      here = ap (kept_in K) (sym own) ∙ here;
+      others = λ j ne. others j (λ e. ne (e ∙ own));
+    })
 
 module _ (s : SessionState) (k : ℕ) (r : Resolution) (K : Resolutions) (sound : IsSound s) (within : k < length s.crates)
     (first : (j : ℕ) → j < k → is_marked s (id_of j) ≡ false) (on : is_marked s (id_of k) ≡ true) (found : IsResolutionOf s (id_of k) r)

@@ -191,8 +191,8 @@ impl Kept {
     /// Drops what is kept of some places, and of each that depends on one of them.
     ///
     /// Its cost grows with the maps that go and what these name, and hardly with those that stay.
-    pub fn forget(&mut self, ids: &[MapId])
-        ensures forgotten { AreForgotten self.old ids.now self.new }
+    pub fn forget(&mut self, ids: &Vec<MapId>)
+        ensures forgotten { AreForgotten self.old ids.now.items self.new }
     {
         for id in ids {
             self.forget_one(*id);

@@ -136,7 +136,7 @@ impl Session {
     {
         let hits = self.affected(alloc, &file, Some(&source))?;
         self.files.set(file, source)?;
-        self.kept.forget(hits.as_slice());
+        self.kept.forget(&hits);
         Ok(())
     }
 
@@ -147,7 +147,7 @@ impl Session {
     {
         let hits = self.affected(alloc, file, None)?;
         self.files.remove(file);
-        self.kept.forget(hits.as_slice());
+        self.kept.forget(&hits);
         Ok(())
     }
 
@@ -213,6 +213,7 @@ impl Session {
         requires first { (j : ℕ) → j < k → is_marked self.old (id_of j) ≡ false }
         requires marked { is_marked self.old (id_of k) ≡ true }
         ensures ok { OnOk result ((r : Resolution) × IsResolutionOf self.old (id_of k) r × Resolved self.old (id_of k) r self.new) }
+        ensures sound { OnOk result (IsSound self.new) }
         ensures many { result ≡ Err RefreshError.TooMany → IsOverlong (workspace_of self.old) (finished_of self.old) (start_of self.old (id_of k)) }
         ensures err { OnErr result (self.new ≡ self.old) }
     {

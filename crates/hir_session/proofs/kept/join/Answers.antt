@@ -6,7 +6,7 @@ use Rattle.hir_session.proofs.kept.join.Goals.{in-Memory, in_default}
 
 pub prove-unreachable-requires : goal.prove-unreachable-requires
 prove-unreachable-requires c =
-    let memory = only_memory _ c.in-Err.refused.why c.requires c.in-Err.ensures.answer.2 in
+    let memory = only_memory _ c.in-Err.refused.why c.requires.may c.in-Err.ensures.answer.2 in
     elim c.match-matches.branch [
       | in-Memory w ↦ clash w.matches-is c.if-prove.true
       | in_default w ↦ w.in_default.not-Memory memory

@@ -11,13 +11,13 @@ loop-k-init c = rw c.new-done.ensures.items (refreshing-start _ c.sound.ensures.
 pub returns-clause-refreshes : goal.returns-clause-refreshes
 returns-clause-refreshes c =
     let count = ap (λ (xs : List CrateValue). length xs) c.loop-k.invariant.so_far.crates in
-    refreshing-end c.loop-k.k c.loop-k.invariant c.sound-2.ensures.sound (omega arith)
+    refreshing-end c.loop-k.k c.loop-k.invariant (omega arith)
 
 pub returns-in_err-resolve_at-clause-many : goal.returns-in_err-resolve_at-clause-many
 returns-in_err-resolve_at-clause-many c = λ many.
     let count = ap (λ (xs : List CrateValue). length xs) c.loop-k.invariant.so_far.crates in
     rw c.in_err-resolve_at.ensures.err
-    (overlong_first c.loop-k.k c.loop-k.invariant c.sound-then-is_marked_at.ensures.sound (omega arith) (sym c.is_marked_at.ensures.value ∙ c.if-is_marked_at.true)
+    (overlong_first c.loop-k.k c.loop-k.invariant (omega arith) (sym c.is_marked_at.ensures.value ∙ c.if-is_marked_at.true)
     (c.resolve_at.ensures.many (passed_on _ _ _ _ c.in_err-resolve_at.was c.from_residual-in_err-resolve_at.ensures.1 many)))
 
 pub loop-k-preserved : goal.loop-k-preserved
@@ -26,7 +26,7 @@ loop-k-preserved c =
     elim c.if-is_marked_at.branch [
       | then-is_marked_at+in_ok-note+in_ok-resolve_at w ↦
           let found = w.in_ok-resolve_at.ensures.ok in
-          rw (w.self-is, w.done-is, found.2, w.in_ok-note.ensures.ok)
-          (refreshing-more c.loop-k.k found.0 c.loop-k.invariant w.sound-then-is_marked_at.ensures.sound (omega arith) (sym c.is_marked_at.ensures.value ∙ w.if-is_marked_at.true) found.1)
+          rw (w.self-is, w.done-is, w.in_ok-note.ensures.ok)
+          (refreshing-more c.loop-k.k found.0 _ c.loop-k.invariant w.in_ok-resolve_at.ensures.sound (omega arith) (sym c.is_marked_at.ensures.value ∙ w.if-is_marked_at.true) found.2)
       | else-is_marked_at w ↦ rw (w.self-is, w.done-is) (refreshing-skip c.loop-k.k c.loop-k.invariant (sym c.is_marked_at.ensures.value ∙ w.if-is_marked_at.false))
     ]

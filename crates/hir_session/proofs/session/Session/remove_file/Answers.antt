@@ -1,20 +1,12 @@
--- It was told which runs asked for something that is altered, and the marks were spread from there.
-use Rattle.std.proofs.Common.{◌∙◌, sym, None}
-use Rattle.hir_session.proofs.Sound.{edited_sound, edited_becomes, names_unmarked}
+-- It was found which runs asked for something that is altered, and nothing is kept of what depends on those.
+use Rattle.std.proofs.Common.{None}
+use Rattle.hir_session.proofs.Sound.{edited_sound, edited_becomes}
 use Rattle.hir_session.proofs.session.Session.remove_file.Goals as goal
 
-pub forget-requires-clause-len : goal.forget-requires-clause-len
-forget-requires-clause-len c = c.spread.ensures.spread.len ∙ sym c.self.invariant.kept_len
-
-pub forget-requires-clause-named : goal.forget-requires-clause-named
-forget-requires-clause-named c = names_unmarked _ _ _ c.self.invariant c.spread.ensures.spread
-
 pub invariant_of-self : goal.invariant_of-self
-invariant_of-self c = edited_sound _ c.args.self.now _ c.args.file.now None _ _ _
-    c.self.view_is c.self.invariant c.remove.ensures.value c.in_ok-hits.ensures.judged c.spread.ensures.spread
-    (record { gone = c.forget.ensures.gone; stay = c.forget.ensures.stay; len = c.forget.ensures.len })
+invariant_of-self c = edited_sound _ c.args.self.now _ c.args.file.now None _ _
+    c.self.view_is c.self.invariant c.remove.ensures.value c.in_ok-hits.ensures.hit c.forget.ensures.forgotten
 
 pub returns-clause-ok : goal.returns-clause-ok
-returns-clause-ok c = edited_becomes _ c.args.self.now _ c.args.file.now None _ _ _
-    c.self.view_is c.self.invariant c.remove.ensures.value c.in_ok-hits.ensures.judged c.spread.ensures.spread
-    (record { gone = c.forget.ensures.gone; stay = c.forget.ensures.stay; len = c.forget.ensures.len })
+returns-clause-ok c = edited_becomes _ c.args.self.now _ c.args.file.now None _ _
+    c.self.view_is c.self.invariant c.remove.ensures.value c.in_ok-hits.ensures.hit c.forget.ensures.forgotten
