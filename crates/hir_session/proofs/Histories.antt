@@ -9,14 +9,13 @@ use Rattle.hir_session.specs.NotYet.{is_crate_taken}
 use Rattle.hir_session.specs.Refusals.{first_out_of_order, is_too_deep, is_too_long, verdict_of_limits, verdict_of_order, verdict_of_new}
 use Rattle.hir_session.proofs.Truth.{on_bool}
 use Rattle.hir_session.proofs.Start.{begins_sound}
-use Rattle.hir_session.specs.Machine.{MachineState, Moves, AnswersCommand, AnswersLine, Runs}
+use Rattle.hir_session.specs.Machine.{MachineState, Moves, AnswersCommand, AnswersLine}
 use Rattle.hir_session.specs.Machine.Moves.{applies, refuses, refreshes, refreshes_partly, resolves, tells, shows, shows_none}
 use Rattle.hir_session.specs.Machine.AnswersCommand.{finds_no_memory, begins, refuses_session, comes_too_soon, comes_too_late, calls}
 use Rattle.hir_session.specs.Machine.AnswersLine.{finds_no_memory_for_line, reads_no_command, carries_out}
-use Rattle.hir_session.specs.Machine.Runs.{none as nothing_yet, more}
 use Rattle.hir_session.specs.declared.open_line.TheConstants.{LINE_LIMIT}
-use Rattle.hir_session.specs.Lines.{AnswersWithin, AnswersLines}
-use Rattle.hir_session.specs.Histories.{History, HasBegun, RunsMakeHistories, LinesMakeHistories, LinesBeginHistories}
+use Rattle.hir_session.specs.Lines.{AnswersInput, AnswersWithin, AnswersLines}
+use Rattle.hir_session.specs.Histories.{History, HasBegun, LinesBeginHistories}
 use Rattle.hir_session.specs.Histories.History.{none, edit, refresh}
 
 -- one call lengthens the history, or changes nothing
@@ -31,7 +30,7 @@ after_call {from} h (shows krate path text is_tree same found told) = subst (λ 
 after_call {from} h (shows_none krate path why is_tree same refused told) = subst (λ (x : SessionState). History from x) (sym same) h
 
 -- a session is there, and its history goes on
-abbrev HasHistory : SessionState → MachineState → Type 0
+abbrev pub HasHistory : SessionState → MachineState → Type 0
 HasHistory from new = (to : SessionState) × (new ≡ Some to) × History from to
 
 -- the value that is there is one
@@ -56,20 +55,14 @@ after_line {s = s} h (finds_no_memory_for_line told same) = (s, same, h)
 after_line {s = s} h (reads_no_command why read told same) = (s, same, h)
 after_line h (carries_out c read done) = after_command h done
 
-after_runs : {from : SessionState} {new : MachineState} → Runs (Some from) new → HasHistory from new
-after_runs {from} nothing_yet = (from, refl, none)
-after_runs {from} (more mid to line answer earlier last) =
-    let so_far = after_runs earlier in
-    after_line so_far.2 (subst (λ (m : MachineState). AnswersLine m line answer to) so_far.1 last)
-
-pub runs_make_histories : RunsMakeHistories
-runs_make_histories from new runs = after_runs runs
-
 after_within : {from s : SessionState} {new : MachineState} (fits : Bool) (line : List ℕ) (answer : Reply) → History from s
     → AnswersWithin fits (Some s) line answer new → HasHistory from new
 after_within true line answer h (inl done) = after_line h done
 after_within {s = s} true line answer h (inr lost) = (s, lost.1, h)
 after_within {s = s} false line answer h skipped = (s, skipped.1, h)
+
+pub after_input : {from s : SessionState} {new : MachineState} (line : List ℕ) (answer : Reply) → History from s → AnswersInput (Some s) line answer new → HasHistory from new
+after_input line answer h done = after_within (nat_le (length line) LINE_LIMIT) line answer h done
 
 pub after_lines : {from : SessionState} {new : MachineState} (lines : List (List ℕ)) (answers : List Reply) {s : SessionState} → History from s
     → AnswersLines (Some s) lines answers new → HasHistory from new
@@ -79,9 +72,6 @@ after_lines {new = new} (line ∷ lines) (answer ∷ answers) h done =
     after_lines lines answers next.2 (subst (λ (m : MachineState). AnswersLines m lines answers new) next.1 done.2)
 after_lines [] (answer ∷ answers) h wrong = absurd wrong
 after_lines (line ∷ lines) [] h wrong = absurd wrong
-
-pub lines_make_histories : LinesMakeHistories
-lines_make_histories from lines answers new done = after_lines lines answers none done
 
 -- a history leads from a sound session to a sound one
 pub history_sound : {from to : SessionState} → IsSound from → History from to → IsSound to
@@ -116,7 +106,7 @@ accepted_in_order : (inputs : List CrateInputValue) → verdict_of_new inputs �
 accepted_in_order inputs accepted = (accepted_both inputs accepted).0
 
 -- no session yet, or one with a history
-abbrev MayHaveBegun : MachineState → Type 0
+abbrev pub MayHaveBegun : MachineState → Type 0
 MayHaveBegun new = (new ≡ None) ⊎ HasBegun new
 
 first_command : {c : CommandValue} {answer : Reply} {new : MachineState} → AnswersCommand None c answer new → MayHaveBegun new
@@ -146,6 +136,9 @@ first_within : {new : MachineState} (fits : Bool) (line : List ℕ) (answer : Re
 first_within true line answer (inl done) = first_line done
 first_within true line answer (inr lost) = inl lost.1
 first_within false line answer skipped = inl skipped.1
+
+pub begun_input : {new : MachineState} (line : List ℕ) (answer : Reply) → AnswersInput None line answer new → MayHaveBegun new
+begun_input line answer done = first_within (nat_le (length line) LINE_LIMIT) line answer done
 
 -- it was sound when it began
 begun_sound : {new : MachineState} → (b : HasBegun new) → IsSound b.from

@@ -20,7 +20,7 @@ pub mod LeftOut
 pub mod Stand
 pub mod Replies
 pub mod Histories
-pub mod TwoReplies
+pub mod Headline
 pub mod BodyVariants
 pub mod EditLaws
 pub mod CutLemmas

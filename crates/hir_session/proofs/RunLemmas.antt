@@ -11,7 +11,9 @@ use Rattle.hir_session.specs.declared.output.Fault.TheVariants as fault
 use Rattle.hir_session.specs.declared.server.Server.{Server}
 use Rattle.hir_session.specs.Machine.{MachineState, first_state}
 use Rattle.hir_session.specs.Output.{WritesPart, IsToldAs, reply_line}
-use Rattle.hir_session.specs.Lines.{with_last, ended_lines, lines_of, cut_from, HasNoEnd, AnswersLines, BrokenAt, Answered, Ends, AnswersInput, replies_text}
+use Rattle.hir_session.specs.Headline.{RepliesHoldTheHeadline}
+use Rattle.hir_session.specs.Lines.{with_last, ended_lines, lines_of, cut_from, HasNoEnd, AnswersLines, AnswersInput}
+use Rattle.hir_session.specs.Runs.{BrokenAt, Answered, Ends, replies_text}
 use Rattle.hir_session.specs.Serving.{Told, BreaksOff, Fed, Finished, Holds}
 use Rattle.hir_session.proofs.CutLemmas.{cut_from-append, cut_from-ended, cut_from-plain, with_last-nil}
 use Rattle.hir_session.proofs.PartLemmas.{WritesPart-after}
@@ -135,11 +137,12 @@ pub none_last : (s : Server) (part : List ℕ) (known : Option (List ℕ)) → n
 none_last s [] known none = record { answers = []; last = s.machine; answered = refl; written = Appends-nil known }
 none_last s (b ∷ bs) known none = absurd (grind (arith, nat_tests))
 
-pub so_far : (first now : Server) (input : List ℕ) (w0 w1 : Option (List ℕ)) → first.machine ≡ first_state → Fed first [] input now w0 w1 → Answered (ended_lines input) w0 w1
-so_far first now input w0 w1 empty fed = record {
+pub so_far : RepliesHoldTheHeadline → (first now : Server) (input : List ℕ) (w0 w1 : Option (List ℕ)) → first.machine ≡ first_state → Fed first [] input now w0 w1 → Answered (ended_lines input) w0 w1
+so_far law first now input w0 w1 empty fed = let done = subst (λ a. AnswersLines a (ended_lines input) fed.answers now.machine) empty fed.answered in record {
   answers = fed.answers;
   last = now.machine;
-  answered = subst (λ a. AnswersLines a (ended_lines input) fed.answers now.machine) empty fed.answered;
+  answered = done;
+  headline = law (ended_lines input) fed.answers now.machine done;
   written = fed.written;
 }
 
@@ -156,20 +159,22 @@ BrokenAt-tail first now input w0 w1 w2 empty fed broken = record {
 }
 
 -- the last line was answered, or the write of its reply failed
-pub ends_at : (r : Result (Unit {0}) Fault) (first now : Server) (input : List ℕ) (left w0 w1 w2 : Option (List ℕ)) → first.machine ≡ first_state → IsAtEnd left → Fed first [] input now w0 w1
+pub ends_at : RepliesHoldTheHeadline → (r : Result (Unit {0}) Fault) (first now : Server) (input : List ℕ) (left w0 w1 w2 : Option (List ℕ)) → first.machine ≡ first_state → IsAtEnd left → Fed first [] input now w0 w1
     → OnOk r (Finished now.machine (cut_from [] input).1 w1 w2)
     → IfErr r (λ e. (e ≡ fault.WriteFault) × BrokenAt now.machine (with_last [] (cut_from [] input).1) w1 w2) → Ends r input left w0 w2
-ends_at (Ok done) first now input left w0 w1 w2 empty end fed ok err = (
+ends_at law (Ok done) first now input left w0 w1 w2 empty end fed ok err = (
   end,
   record {
     answers = fed.answers ++ ok.answers;
     last = ok.last;
     answered = run_to_end first_state input fed.answers now.machine ok.answers ok.last (subst (λ a. AnswersLines a (ended_lines input) fed.answers now.machine) empty fed.answered) ok.answered;
+    headline = law (lines_of input) (fed.answers ++ ok.answers) ok.last
+        (run_to_end first_state input fed.answers now.machine ok.answers ok.last (subst (λ a. AnswersLines a (ended_lines input) fed.answers now.machine) empty fed.answered) ok.answered);
     written = subst (Appends w0 w2) (sym (replies_text-append fed.answers ok.answers)) (Appends-trans w0 w1 w2 _ _ fed.written ok.written);
   },
 )
-ends_at (Err fault.ReadFault) first now input left w0 w1 w2 empty end fed ok err = let never = err.0 in absurd (cc)
-ends_at (Err fault.WriteFault) first now input left w0 w1 w2 empty end fed ok err = BrokenAt-tail first now input w0 w1 w2 empty fed err.1
+ends_at law (Err fault.ReadFault) first now input left w0 w1 w2 empty end fed ok err = let never = err.0 in absurd (cc)
+ends_at law (Err fault.WriteFault) first now input left w0 w1 w2 empty end fed ok err = BrokenAt-tail first now input w0 w1 w2 empty fed err.1
 
 -- the write of a reply failed before the input had ended
 pub breaks_at : (first now : Server) (input bytes : List ℕ) (w0 w1 w2 : Option (List ℕ)) → first.machine ≡ first_state → Fed first [] input now w0 w1

@@ -17,6 +17,7 @@ use Rattle.hir_session.specs.Status.{map_of, module_below, module_of, status_of}
 use Rattle.hir_session.specs.Answers.{answer_of, answer_by, answer_from, answer_in, asking_of}
 use Rattle.hir_session.specs.AnswersStand.{AnswersStand}
 use Rattle.hir_session.specs.LeavesOut.{LeavesNothingOut}
+use Rattle.hir_session.proofs.Differ.{unmarked_behind}
 use Rattle.hir_session.proofs.LeftOut.{whole}
 use Rattle.hir_session.proofs.Truth.{on_bool}
 
@@ -47,6 +48,7 @@ stands runs answers leads s place path shadow style a sound h =
       found = now.found;
       kept = now.is;
       present = now.gives.resolved;
+      behind = λ id b. sound.current id (unmarked_behind sound off b);
       asked_from = m;
       named = some;
       whole = subst (LeavesNothingOut (resolution_of (beside (read_of s (map_of place)) now.found.map) (asking_of now.found.local shadow style) m path).resolved_def)

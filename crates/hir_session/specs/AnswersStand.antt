@@ -2,13 +2,15 @@
 use Rattle.std.specs.Prelude.{◌≡◌, Some, Option}
 use Rattle.hir_base.specs.ModPath.{Path}
 use Rattle.hir_base.specs.Place.{PlaceValue}
+use Rattle.hir_base.specs.declared.ids.MapId.{MapId}
 use Rattle.hir_base.specs.declared.ids.ModuleId.{ModuleId}
 use Rattle.hir_def_map.specs.Scoping.{resolution_of}
 use Rattle.hir_def_map.specs.State.{beside, root_of}
 use Rattle.hir_wire.specs.declared.answer.Answer.{Answer}
 use Rattle.hir_wire.specs.declared.command.Shadow.{Shadow}
 use Rattle.hir_wire.specs.declared.command.MacroStyle.{MacroStyle}
-use Rattle.hir_session.specs.SessionState.{SessionState, Resolution, workspace_of, finished_of, read_of, start_of, kept_of, IsResolved}
+use Rattle.hir_session.specs.SessionState.{SessionState, Resolution, workspace_of, finished_of, read_of, start_of, kept_of, IsCurrent, IsResolved}
+use Rattle.hir_session.specs.Due.{IsBehind}
 use Rattle.hir_session.specs.Status.{map_of, module_below}
 use Rattle.hir_session.specs.Answers.{answer_in, asking_of}
 use Rattle.hir_session.specs.LeavesOut.{LeavesNothingOut}
@@ -20,6 +22,8 @@ pub record AnswersStand (s : SessionState) (place : PlaceValue) (path : Path) (s
   pub kept : kept_of s (map_of place) ≡ Some found
   -- over the present workspace and finished maps, and over all that agree with them on what the run asked for
   pub present : IsResolved (workspace_of s) (finished_of s) (start_of s (map_of place)) found
+  -- and so is what stands behind the place
+  pub behind : (id : MapId) → IsBehind s (map_of place) id → IsCurrent s id
   pub asked_from : ModuleId
   pub named : module_below found.map (root_of found.map.id) place.elements ≡ Some asked_from
   -- and it has a source item wherever scoping gives something

@@ -16,9 +16,8 @@ use Rattle.hir_session.specs.Status.{map_of}
 use Rattle.hir_session.specs.Answers.{answer_of}
 use Rattle.hir_session.specs.Beginning.{Begins}
 use Rattle.hir_session.specs.Refusals.{verdict_of_new}
-use Rattle.hir_session.specs.Machine.{MachineState, first_state, Runs}
+use Rattle.hir_session.specs.Machine.{MachineState, first_state}
 use Rattle.hir_session.specs.Lines.{AnswersLines}
-
 -- edits and refreshes in any order; a refused edit changes nothing, and a refused refresh is one that did less
 pub data History (from : SessionState) : SessionState → Type 0 where
   none : History from from
@@ -37,15 +36,6 @@ DifferOnlyWhereAltered = (from to : SessionState) (place : PlaceValue) (path : P
     → IsSound from → is_marked from (map_of place) ≡ false → (h : History from to)
     → (answer_of to place path shadow style ≡ answer_of from place path shadow style)
     ⊎ ((key : Key) × IsAskedBehind from (map_of place) key × WasAltered key h)
-
--- what answers lines makes such a history of its session, whatever the lines are
-abbrev pub RunsMakeHistories : Type 0
-RunsMakeHistories = (from : SessionState) (new : MachineState) → Runs (Some from) new → (to : SessionState) × (new ≡ Some to) × History from to
-
--- the lines of an input that are answered from a session on make such a history of it, whatever they are
-abbrev pub LinesMakeHistories : Type 0
-LinesMakeHistories = (from : SessionState) (lines : List (List ℕ)) (answers : List Reply) (new : MachineState)
-    → AnswersLines (Some from) lines answers new → (to : SessionState) × (new ≡ Some to) × History from to
 
 -- a session began over crates that were not refused, and its history led here
 pub record HasBegun (new : MachineState) : Type 0 where

@@ -28,5 +28,6 @@ pub mod MachineCodes
 pub mod Laws
 pub mod Output
 pub mod Lines
+pub mod Headline
+pub mod Runs
 pub mod Serving
-pub mod TwoReplies

@@ -147,8 +147,3 @@ pub data AnswersLine (old : MachineState) (line : List ℕ) (answer : Reply) (ne
   reads_no_command : (why : ReadError) → reading_of line ≡ Err why → answer ≡ read_reply why → new ≡ old → AnswersLine old line answer new
   -- the line is a command
   carries_out : (c : CommandValue) → reading_of line ≡ Ok c → AnswersCommand old c answer new → AnswersLine old line answer new
-
--- lines one after another, each answered in the state that the one before it left
-pub data Runs (from : MachineState) : MachineState → Type 0 where
-  none : Runs from from
-  more : (mid to : MachineState) (line : List ℕ) (answer : Reply) → Runs from mid → AnswersLine mid line answer to → Runs from to

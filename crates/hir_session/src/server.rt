@@ -1,6 +1,6 @@
 // Bytes as they come, cut into lines, each answered.
-ghost use Rattle.hir_session.specs.Lines.{Converses};
-
+ghost use Rattle.hir_session.specs.Runs.{Converses};
+use crate::laws::replies_hold_the_headline;
 use crate::open_line::{Fate, OpenLine, split_line};
 use crate::output::{Fault, write_reply};
 use crate::server_state::Machine;
@@ -27,7 +27,8 @@ impl Server {
     ghost use Rattle.hir_wire.specs.Replies.{is_fixed};
     ghost use Rattle.hir_wire.specs.declared.reply.Reply.TheVariants as reply;
     ghost use Rattle.hir_session.specs.Machine.{first_state};
-    ghost use Rattle.hir_session.specs.Lines.{AnswersInput, BrokenAt, Converses, HasNoEnd, cut_from, with_last};
+    ghost use Rattle.hir_session.specs.Lines.{AnswersInput, HasNoEnd, cut_from, with_last};
+    ghost use Rattle.hir_session.specs.Runs.{BrokenAt, Converses};
     ghost use Rattle.hir_session.specs.Serving.{Holds, Told, BreaksOff, Fed, Finished};
 
     pub fn new(alloc: Global) -> Server
@@ -142,6 +143,7 @@ impl Server {
             → Converses result (R.remaining reader.old) (R.remaining reader.new)
             (W.contents writer.old) (W.contents writer.new) }
     {
+        replies_hold_the_headline();
         let mut buffer = [0u8; READ_SIZE];
         for _turn in 0..MOST_READS {
             let count = match reader.read(&mut buffer) {

@@ -1,5 +1,5 @@
--- Two replies to one query.
-use Rattle.std.proofs.Common.{◌≡◌, ◌⊎◌, inl, inr, ℕ, Bool, true, false, nat_le, nat_lt, List, [], ◌∷◌, length, Option, Some, None, Result, Ok, Err, refl, sym, subst, ◌∙◌}
+-- What holds of all replies.
+use Rattle.std.proofs.Common.{◌≡◌, ◌⊎◌, inl, inr, ℕ, zero, suc, ◌<◌, arith, ap, slice_get, Bool, true, false, nat_le, nat_lt, List, [], ◌∷◌, length, Option, Some, None, Result, Ok, Err, refl, sym, subst, ◌∙◌}
 use Rattle.hir_base.specs.ModPath.{Path}
 use Rattle.hir_base.specs.Place.{PlaceValue}
 use Rattle.hir_base.specs.declared.ids.MapId.{MapId}
@@ -19,16 +19,20 @@ use Rattle.hir_session.specs.declared.open_line.TheConstants.{LINE_LIMIT}
 use Rattle.hir_session.specs.SessionState.{SessionState, is_marked, IsSound}
 use Rattle.hir_session.specs.Status.{map_of}
 use Rattle.hir_session.specs.Answers.{answer_of}
+use Rattle.hir_def_collector.specs.Sources.{RunsBindFromSources}
+use Rattle.hir_def_map.specs.Closed.{PathsLeadToWhatIsThere}
+use Rattle.hir_def_map.specs.Sources.{PathsAnswerFromSources}
 use Rattle.hir_session.specs.Due.{IsAskedBehind}
 use Rattle.hir_session.specs.Machine.{MachineState, first_state, query_reply, Moves, AnswersCommand, AnswersLine}
 use Rattle.hir_session.specs.Machine.Moves.{applies, refuses, refreshes, refreshes_partly, resolves, tells, shows, shows_none}
 use Rattle.hir_session.specs.Machine.AnswersCommand.{finds_no_memory, begins, refuses_session, comes_too_soon, comes_too_late, calls}
 use Rattle.hir_session.specs.Machine.AnswersLine.{finds_no_memory_for_line, reads_no_command, carries_out}
 use Rattle.hir_session.specs.Lines.{AnswersWithin, AnswersInput, AnswersLines}
-use Rattle.hir_session.specs.TwoReplies.{Alters, SomeLineAlters, IsAskedIn, RepliesDifferOnlyWhereAltered}
+use Rattle.hir_session.specs.Headline.{Query, Asks, Alters, IsAlteredBetween, Stands, Headline, RepliesHoldTheHeadline, state_at}
 use Rattle.hir_session.proofs.Truth.{on_bool, clash}
 use Rattle.hir_session.proofs.Differ.{IsSame, same_after_edit, same_after_refresh, same_at_first, same_answer}
-use Rattle.hir_session.proofs.Histories.{one_value, begun_by}
+use Rattle.hir_session.proofs.Histories.{after_input, begun_input, history_sound, one_value}
+use Rattle.hir_session.proofs.Stand.{stands}
 
 -- ---- what a reply with an answer says
 
@@ -155,40 +159,142 @@ kept_within true answer is same (inl done) = kept_by_line is same done
 kept_within true answer is same (inr lost) = kept_so is same lost.1
 kept_within false answer is same skipped = kept_so is same skipped.1
 
--- all the lines leave what is behind the crate as it was, or one of them altered a key that was asked for
-kept_by_lines : {from : SessionState} {k : MapId} {new : MachineState} (lines : List (List ℕ)) (answers : List Reply) {s : SessionState} {old : MachineState} → old ≡ Some s → IsSame from s k
-    → (done : AnswersLines old lines answers new)
-    → ((to : SessionState) × (new ≡ Some to) × IsSame from to k) ⊎ ((key : Key) × IsAskedBehind from k key × SomeLineAlters key old lines answers new done)
-kept_by_lines [] [] {s} is same done = inl (s, done ∙ is, same)
-kept_by_lines (line ∷ lines) (answer ∷ answers) is same done =
+-- a session that is there is sound
+abbrev IsGood : MachineState → Type 0
+IsGood m = (s : SessionState) → m ≡ Some s → IsSound s
+
+good_first : IsGood first_state
+good_first s is = absurd (let wrong : ⊥ = cc in wrong)
+
+good_next : {old new : MachineState} (line : List ℕ) (answer : Reply) → IsGood old → AnswersInput old line answer new → IsGood new
+good_next {old} {new} line answer good done = go old refl
+  where
+    go : (m : MachineState) → old ≡ m → IsGood new
+    go None is = λ s there. elim (begun_input line answer (subst (λ (m : MachineState). AnswersInput m line answer new) is done)) [
+      | inl none ↦ absurd (let wrong : None ≡ Some s = sym none ∙ there in let both : ⊥ = cc in both)
+      | inr begun ↦ subst IsSound (one_value (sym begun.is ∙ there)) begun.sound
+    ]
+    go (Some t) is = λ s there.
+        let next = after_input line answer none (subst (λ (m : MachineState). AnswersInput m line answer new) is done) in
+        subst IsSound (one_value (sym next.1 ∙ there)) (history_sound (good t is) next.2)
+
+-- ---- positions
+
+-- what stands first in a list
+first_of : {A : Type 0} {x y : A} → Some x ≡ Some y → x ≡ y
+first_of e = cc
+
+module _ (runs : RunsBindFromSources) (paths : PathsAnswerFromSources) (leads : PathsLeadToWhatIsThere) where
+  stands_at : (n : ℕ) (q : Query) (a : Answer) (old : MachineState) (lines : List (List ℕ)) (answers : List Reply) (new : MachineState) (done : AnswersLines old lines answers new)
+      → IsGood old → Asks lines n q → slice_get answers n ≡ Some (reply.Answer a) → Stands old lines answers new done n q a
+  stands_at n q a old [] [] new done good asks told = absurd (let wrong = told in cc)
+  stands_at n q a old [] (answer ∷ answers) new done good asks told = absurd done
+  stands_at n q a old (line ∷ lines) [] new done good asks told = absurd done
+  stands_at zero q a old (line ∷ lines) (answer ∷ answers) new done good asks told =
+      let read : reading_of line ≡ Ok (resolve q.place q.path q.shadow q.style) = ap reading_of (first_of asks.is) ∙ asks.read in
+      let here = answered_within (nat_le (length line) LINE_LIMIT) line read (subst (λ (r : Reply). AnswersInput old line r done.0) (first_of told) done.1) in
+      record { session = here.at; is = here.before; stands = stands runs paths leads here.at q.place q.path q.shadow q.style a (good here.at here.before) here.is }
+  stands_at (suc n) q a old (line ∷ lines) (answer ∷ answers) new done good asks told =
+      let rest = stands_at n q a done.0 lines answers new done.2 (good_next line answer good done.1) (record { line = asks.line; is = asks.is; read = asks.read }) told in
+      record { session = rest.session; is = rest.is; stands = rest.stands }
+
+-- where what is behind a place was as it is in a session, it is so up to a number, or a line before altered a key that was asked for
+record IsKeptUpTo (from : SessionState) (id : MapId) (old : MachineState) (lines : List (List ℕ)) (answers : List Reply) (new : MachineState) (done : AnswersLines old lines answers new) (n : ℕ) : Type 0 where
+  session : SessionState
+  is : state_at n old lines answers new done ≡ Some session
+  same : IsSame from session id
+
+record IsAlteredBefore (from : SessionState) (id : MapId) (old : MachineState) (lines : List (List ℕ)) (answers : List Reply) (new : MachineState) (done : AnswersLines old lines answers new) (n : ℕ) : Type 0 where
+  key : Key
+  asked : IsAskedBehind from id key
+  at : ℕ
+  before : at < n
+  line : List ℕ
+  is : slice_get lines at ≡ Some line
+  alters : Alters (state_at at old lines answers new done) line (state_at (suc at) old lines answers new done) key
+
+kept_up_to : (from : SessionState) (id : MapId) (n : ℕ) (old : MachineState) (lines : List (List ℕ)) (answers : List Reply) (new : MachineState) (done : AnswersLines old lines answers new)
+    (s : SessionState) → old ≡ Some s → IsSame from s id → n < length lines
+    → IsKeptUpTo from id old lines answers new done n ⊎ IsAlteredBefore from id old lines answers new done n
+kept_up_to from id n old [] [] new done s is same within = absurd (omega arith)
+kept_up_to from id n old [] (answer ∷ answers) new done s is same within = absurd done
+kept_up_to from id n old (line ∷ lines) [] new done s is same within = absurd done
+kept_up_to from id zero old (line ∷ lines) (answer ∷ answers) new done s is same within = inl (record { session = s; is = is; same = same })
+kept_up_to from id (suc n) old (line ∷ lines) (answer ∷ answers) new done s is same within =
     let next = kept_within (nat_le (length line) LINE_LIMIT) answer is same done.1 in
     elim next.2 [
-      | inl still ↦ elim (kept_by_lines lines answers next.1 still done.2) [
-        | inl end ↦ inl end
-        | inr hit ↦ inr (hit.0, hit.1, inr hit.2)
+      | inl still ↦ elim (kept_up_to from id n done.0 lines answers new done.2 next.0 next.1 still (omega arith)) [
+        | inl kept ↦ inl (record { session = kept.session; is = kept.is; same = kept.same })
+        | inr hit ↦ inr (record { key = hit.key; asked = hit.asked; at = suc hit.at; before = (let low : hit.at < n = hit.before in omega arith); line = hit.line; is = hit.is; alters = hit.alters })
       ]
-      | inr hit ↦ inr (hit.0, hit.1, inl hit.2)
+      | inr hit ↦ inr (record { key = hit.0; asked = hit.1; at = 0; before = omega arith; line = line; is = refl; alters = hit.2 })
     ]
-kept_by_lines [] (answer ∷ answers) is same done = absurd done
-kept_by_lines (line ∷ lines) [] is same done = absurd done
 
--- a session that lines led to is sound
-sound_there : (lines : List (List ℕ)) (answers : List Reply) {m : MachineState} {s : SessionState} → AnswersLines first_state lines answers m → m ≡ Some s → IsSound s
-sound_there lines answers done is = elim (begun_by lines answers done) [
-  | inl none ↦ absurd (let wrong : ⊥ = cc in wrong)
-  | inr begun ↦ subst IsSound (one_value (sym begun.is ∙ is)) begun.sound
-]
+within_list : {A : Type 0} {x : A} (xs : List A) (n : ℕ) → slice_get xs n ≡ Some x → n < length xs
+within_list {x = x} [] n is = absurd (let wrong : ⊥ = cc is in wrong)
+within_list (y ∷ xs) zero is = omega arith
+within_list (y ∷ xs) (suc n) is = let low : n < length xs = within_list xs n is in omega arith
 
-pub differ_only : RepliesDifferOnlyWhereAltered
-differ_only earlier between before after first second a b s t u v place path shadow style asks asks_again led one done other =
-    let was = answered_within (nat_le (length first) LINE_LIMIT) first asks one in
-    let now = answered_within (nat_le (length second) LINE_LIMIT) second asks_again other in
-    let off = unmarked_where_answered was.at place path shadow style a was.is in
-    let sound = sound_there earlier before led was.before in
-    elim (kept_by_lines between after was.after (same_at_first sound off) done) [
-      | inl still ↦
-          let there : still.0 ≡ now.at = one_value (sym still.1 ∙ now.before) in
-          let alike = same_answer place path shadow style sound off (subst (λ (x : SessionState). IsSame was.at x (map_of place)) there still.2) in
-          inl (let given : (Ok b) ≡ (Ok a) = sym now.is ∙ alike ∙ was.is in cc)
-      | inr hit ↦ inr (hit.0, (was.at, was.after, hit.1), hit.2)
+-- the answer of a number, from the session in which it was given
+answered_at : (n : ℕ) (q : Query) (a : Answer) (old : MachineState) (lines : List (List ℕ)) (answers : List Reply) (new : MachineState) (done : AnswersLines old lines answers new)
+    → Asks lines n q → slice_get answers n ≡ Some (reply.Answer a) → (s : SessionState) × (state_at n old lines answers new done ≡ Some s) × (answer_of s q.place q.path q.shadow q.style ≡ Ok a)
+answered_at n q a old [] [] new done asks told = absurd (let wrong = told in cc)
+answered_at n q a old [] (answer ∷ answers) new done asks told = absurd done
+answered_at n q a old (line ∷ lines) [] new done asks told = absurd done
+answered_at zero q a old (line ∷ lines) (answer ∷ answers) new done asks told =
+    let read : reading_of line ≡ Ok (resolve q.place q.path q.shadow q.style) = ap reading_of (first_of asks.is) ∙ asks.read in
+    let here = answered_within (nat_le (length line) LINE_LIMIT) line read (subst (λ (r : Reply). AnswersInput old line r done.0) (first_of told) done.1) in
+    (here.at, here.before, here.is)
+answered_at (suc n) q a old (line ∷ lines) (answer ∷ answers) new done asks told =
+    answered_at n q a done.0 lines answers new done.2 (record { line = asks.line; is = asks.is; read = asks.read }) told
+
+differ_at : (m n : ℕ) (q : Query) (one other : Answer) (old : MachineState) (lines : List (List ℕ)) (answers : List Reply) (new : MachineState) (done : AnswersLines old lines answers new)
+    → IsGood old → m < n → Asks lines m q → Asks lines n q → slice_get answers m ≡ Some (reply.Answer one) → slice_get answers n ≡ Some (reply.Answer other)
+    → (other ≡ one) ⊎ IsAlteredBetween old lines answers new done m n q.place
+differ_at m n q one other old [] [] new done good low first second told again = absurd (let wrong = told in cc)
+differ_at m n q one other old [] (answer ∷ answers) new done good low first second told again = absurd done
+differ_at m n q one other old (line ∷ lines) [] new done good low first second told again = absurd done
+differ_at m zero q one other old (line ∷ lines) (answer ∷ answers) new done good low first second told again = absurd (omega arith)
+differ_at (suc m) (suc n) q one other old (line ∷ lines) (answer ∷ answers) new done good low first second told again =
+    elim (differ_at m n q one other done.0 lines answers new done.2 (good_next line answer good done.1) (omega arith)
+    (record { line = first.line; is = first.is; read = first.read }) (record { line = second.line; is = second.is; read = second.read }) told again) [
+      | inl same ↦ inl same
+      | inr hit ↦ inr (record {
+        key = hit.key;
+        asked = hit.asked;
+        at = suc hit.at;
+        after = (let low : m < hit.at = hit.after in omega arith);
+        before = (let high : hit.at < n = hit.before in omega arith);
+        line = hit.line;
+        is = hit.is;
+        alters = hit.alters;
+      })
     ]
+differ_at zero (suc n) q one other old (line ∷ lines) (answer ∷ answers) new done good low first second told again =
+    let read : reading_of line ≡ Ok (resolve q.place q.path q.shadow q.style) = ap reading_of (first_of first.is) ∙ first.read in
+    let was = answered_within (nat_le (length line) LINE_LIMIT) line read (subst (λ (r : Reply). AnswersInput old line r done.0) (first_of told) done.1) in
+    let sound = good was.at was.before in
+    let off = unmarked_where_answered was.at q.place q.path q.shadow q.style one was.is in
+    let now = answered_at n q other done.0 lines answers new done.2 (record { line = second.line; is = second.is; read = second.read }) again in
+    elim (kept_up_to was.at (map_of q.place) n done.0 lines answers new done.2 was.at was.after (same_at_first sound off) (within_list lines n second.is)) [
+      | inl kept ↦
+          let there : kept.session ≡ now.0 = one_value (sym kept.is ∙ now.1) in
+          let alike = same_answer q.place q.path q.shadow q.style sound off (subst (λ (x : SessionState). IsSame was.at x (map_of q.place)) there kept.same) in
+          inl (let given : (Ok other) ≡ (Ok one) = sym now.2 ∙ alike ∙ was.is in cc)
+      | inr hit ↦ inr (record {
+        key = hit.key;
+        asked = (was.at, was.before, hit.asked);
+        at = suc hit.at;
+        after = omega arith;
+        before = (let high : hit.at < n = hit.before in omega arith);
+        line = hit.line;
+        is = hit.is;
+        alters = hit.alters;
+      })
+    ]
+
+pub headline : RunsBindFromSources → PathsAnswerFromSources → PathsLeadToWhatIsThere → RepliesHoldTheHeadline
+headline runs paths leads lines answers last done = record {
+  stands = λ n query answer asks told. stands_at runs paths leads n query answer first_state lines answers last done good_first asks told;
+  differ = λ m n query one other low first second told again. differ_at m n query one other first_state lines answers last done good_first low first second told again;
+}

@@ -1,5 +1,0 @@
-use Rattle.hir_session.proofs.Histories as histories
-use Rattle.hir_session.proofs.laws.lines_make_histories.Goals as goal
-
-pub returns : goal.returns
-returns c = record { law = histories.lines_make_histories; begun = histories.lines_begin_histories }
