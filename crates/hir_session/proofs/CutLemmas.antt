@@ -4,6 +4,7 @@ use Rattle.std.specs.Prelude.{if◌then◌else◌, ◌==◌, fold}
 use Rattle.std.proofs.lemmas.List.Sums.{fold-append}
 use Rattle.std.proofs.lemmas.Bool.Decides.{nat_tests}
 use Rattle.hir_session.specs.Lines.{Cut, next_byte, cut_from, with_last, HasNoEnd}
+
 abbrev pub onto : List (List ℕ) → Cut → Cut
 onto ls k = (ls ++ k.0, k.1)
 

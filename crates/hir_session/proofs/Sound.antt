@@ -156,9 +156,9 @@ module _ (s : SessionState) (sound : IsSound s) (F : Files) (hits : List MapId) 
         let lower : c.0.0 < id.krate.0 = sound.below id.krate.0 c.0 c.1 in
         let number : d.krate.0 ≡ c.0.0 = ap (λ (x : MapId). x.krate.0) c.2 in
         reached_or n d (omega arith))) [
-      | inl found ↦ inl (depends id found.0 found.1 found.2)
-      | inr none ↦ inr (λ sp. spread_cases no (λ d among rest. none d among rest) sp)
-    ]
+          | inl found ↦ inl (depends id found.0 found.1 found.2)
+          | inr none ↦ inr (λ sp. spread_cases no (λ d among rest. none d among rest) sp)
+        ]
   ]
 
   -- of what isn't reached what was kept stays

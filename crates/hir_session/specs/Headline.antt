@@ -20,6 +20,7 @@ use Rattle.hir_session.specs.Status.{map_of}
 use Rattle.hir_session.specs.AnswersStand.{AnswersStand}
 use Rattle.hir_session.specs.Machine.{MachineState, first_state}
 use Rattle.hir_session.specs.Lines.{AnswersLines}
+
 -- what a line asks that resolves a path
 pub record Query : Type 0 where
   pub place : PlaceValue

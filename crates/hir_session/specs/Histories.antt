@@ -18,6 +18,7 @@ use Rattle.hir_session.specs.Beginning.{Begins}
 use Rattle.hir_session.specs.Refusals.{verdict_of_new}
 use Rattle.hir_session.specs.Machine.{MachineState, first_state}
 use Rattle.hir_session.specs.Lines.{AnswersLines}
+
 -- edits and refreshes in any order; a refused edit changes nothing, and a refused refresh is one that did less
 pub data History (from : SessionState) : SessionState → Type 0 where
   none : History from from

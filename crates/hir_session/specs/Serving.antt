@@ -11,6 +11,7 @@ use Rattle.hir_session.specs.Machine.{MachineState}
 use Rattle.hir_session.specs.Output.{WritesPart, reply_line}
 use Rattle.hir_session.specs.Lines.{AnswersInput, AnswersLines, cut_from, with_last}
 use Rattle.hir_session.specs.Runs.{replies_text}
+
 -- a line of this fate is kept whole, or is counted, or is above the limit
 abbrev pub HoldsPart : Fate → List ℕ → ℕ → List ℕ → Type 0
 HoldsPart fate.Kept kept count part = (kept ≡ part) × (count ≡ length part) × (length part ≤ LINE_LIMIT)

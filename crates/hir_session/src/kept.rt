@@ -105,11 +105,7 @@ fn run_at(runs: &BTreeMap<MapId, KeptRun>, id: MapId) -> Option<&KeptRun>
     runs.get(&id)
 }
 
-fn put(
-    runs: &mut BTreeMap<MapId, KeptRun>,
-    id: MapId,
-    run: KeptRun,
-) -> Result<(), AllocError>
+fn put(runs: &mut BTreeMap<MapId, KeptRun>, id: MapId, run: KeptRun) -> Result<(), AllocError>
     ensures here { OnOk result (get map_order.ghosts.cmp runs.new id ≡ Some run) }
     ensures others { OnOk result ((j : MapId) → is_at (map_order.ghosts.cmp id) j ≡ false → get map_order.ghosts.cmp runs.new j ≡ get map_order.ghosts.cmp runs.old j) }
     ensures err { OnErr result (IsUnchanged runs.old runs.new) }

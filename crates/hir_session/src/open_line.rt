@@ -1,6 +1,7 @@
 // The line that is being read, which comes in pieces.
 ghost use Rattle.std.specs.Prelude.{MatchOption};
 ghost use Rattle.hir_session.specs.Lines.{HasNoEnd, EndsLine};
+
 use memchr::memchr;
 use std::alloc::Global;
 

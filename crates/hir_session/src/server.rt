@@ -1,5 +1,6 @@
 // Bytes as they come, cut into lines, each answered.
 ghost use Rattle.hir_session.specs.Runs.{Converses};
+
 use crate::laws::replies_hold_the_headline;
 use crate::open_line::{Fate, OpenLine, split_line};
 use crate::output::{Fault, write_reply};

@@ -77,11 +77,10 @@ impl Session {
         ensures answer { Gives IsQueryMemory result (answer_from self.now.paths (read_of self.now (map_of place.now)) (kept_of self.now (map_of place.now))
             (module_of self.now place.now) path.now shadow style) }
     {
-        let krate = place.krate();
-        let Some(found) = self.kept.get(MapId::of_crate(krate)) else {
+        let Some(found) = self.kept.get(MapId::of_crate(place.krate())) else {
             return Err(QueryError::UnknownPlace);
         };
-        let Some(info) = self.crates.get(krate.0 as usize) else {
+        let Some(info) = self.crates.get(place.krate().0 as usize) else {
             return Err(QueryError::UnknownPlace);
         };
         match module_below_root(found.map, place.elements()) {

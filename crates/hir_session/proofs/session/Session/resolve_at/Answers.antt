@@ -33,6 +33,9 @@ pub returns-clause-sound : goal.returns-clause-sound
 returns-clause-sound c = invariant_of-self-2 c
 
 pub returns-clause-ok : goal.returns-clause-ok
-returns-clause-ok c = (c.in_ok-found.found, c.in_ok-found.ensures.found,
-    resolved_of _ c.args.self.now c.keep.new.self (id_of c.args.k) c.in_ok-found.found c.self.view_is c.in_ok-found.ensures.found.own
-    c.in_ok-keep.ensures.here c.in_ok-keep.ensures.others)
+returns-clause-ok c = (
+  c.in_ok-found.found,
+  c.in_ok-found.ensures.found,
+  resolved_of _ c.args.self.now c.keep.new.self (id_of c.args.k) c.in_ok-found.found c.self.view_is c.in_ok-found.ensures.found.own
+      c.in_ok-keep.ensures.here c.in_ok-keep.ensures.others,
+)
