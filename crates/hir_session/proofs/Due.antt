@@ -54,8 +54,9 @@ due_first s t k r within first on is =
     let zero_k : 0 + k ≡ k = omega arith in
     subst (λ (i : ℕ). due s ≡ id_of i ∷ filter (is_marked t) (places_from 0 s.crates)) zero_k
     (first_left (is_marked s) (is_marked t) 0 k s.crates within
-    (λ j h. let e : 0 + j ≡ j = omega arith in rw e (first j h)) (rw zero_k on)
-    (rw zero_k (ap (λ (o : Option Resolution). is_none o) is.here))
+    (λ j h. let e : j ≡ 0 + j = omega arith in subst (λ (i : ℕ). is_marked s (id_of i) ≡ false) e (first j h))
+    (subst (λ (i : ℕ). is_marked s (id_of i) ≡ true) (sym zero_k) on)
+    (subst (λ (i : ℕ). is_marked t (id_of i) ≡ false) (sym zero_k) (ap (λ (o : Option Resolution). is_none o) is.here))
     (λ j ne. ap (λ (o : Option Resolution). is_none o) (is.others (id_of j) (λ e. let number : j ≡ k = ap (λ (x : MapId). x.krate.0) e in ne (omega arith)))))
     ∙ ap (λ (cs : List CrateValue). id_of k ∷ filter (is_marked t) (places_from 0 cs)) (sym is.crates)
 
@@ -105,7 +106,8 @@ refreshing-more {old} {mid} {done} k r new p sound within on is =
 -- the end: nothing is due
 pub refreshing-end : {old new : SessionState} {done : List PlaceValue} (k : ℕ) → IsRefreshing old new done k → length new.crates ≤ k → Refreshes old done new
 refreshing-end {old} {new} {done} k p long =
-    let rest : due new ≡ [] = none_left (is_marked new) 0 new.crates (λ j h. let e : 0 + j ≡ j = omega arith in rw e (p.below j (omega arith))) in
+    let rest : due new ≡ [] = none_left (is_marked new) 0 new.crates
+    (λ j h. let e : j ≡ 0 + j = omega arith in subst (λ (i : ℕ). is_marked new (id_of i) ≡ false) e (p.below j (omega arith))) in
     record {
       resolves = p.so_far;
       listed = sym (p.so_far.due ∙ ap (λ (ids : List MapId). done ++ map root_place ids) rest ∙ append-nil done);
@@ -121,14 +123,15 @@ pub overlong_first : {old new : SessionState} {done : List PlaceValue} (k : ℕ)
     → k < length new.crates → is_marked new (id_of k) ≡ true → IsOverlong (workspace_of new) (finished_of new) (start_of new (id_of k)) → HasOverlongRun new
 overlong_first {old} {new} k p within on overlong =
     let zero_k : 0 + k ≡ k = omega arith in
-    let else : MapId → Bool = λ id. is_marked new id && not (nat_eq id.krate.0 k) in
+    let later : MapId → Bool = λ id. is_marked new id && not (nat_eq id.krate.0 k) in
     record {
       place = id_of k;
-      others = filter else (places_from 0 new.crates);
-      first = subst (λ (i : ℕ). due new ≡ id_of i ∷ filter else (places_from 0 new.crates)) zero_k
-          (first_left (is_marked new) else 0 k new.crates within
-          (λ j h. let e : 0 + j ≡ j = omega arith in rw e (p.below j h)) (rw zero_k on)
-          (rw zero_k (let same : nat_eq k k ≡ true = eq-eqb k k refl in and_off (is_marked new (id_of k)) (not (nat_eq k k)) (ap not same)))
+      others = filter later (places_from 0 new.crates);
+      first = subst (λ (i : ℕ). due new ≡ id_of i ∷ filter later (places_from 0 new.crates)) zero_k
+          (first_left (is_marked new) later 0 k new.crates within
+          (λ j h. let e : j ≡ 0 + j = omega arith in subst (λ (i : ℕ). is_marked new (id_of i) ≡ false) e (p.below j h))
+          (subst (λ (i : ℕ). is_marked new (id_of i) ≡ true) (sym zero_k) on)
+          (subst (λ (i : ℕ). later (id_of i) ≡ false) (sym zero_k) (and_off (is_marked new (id_of k)) (not (nat_eq k k)) (ap not (eq-eqb k k refl))))
           (λ j ne. and_on (is_marked new (id_of j)) (not (nat_eq j k)) (ap not (eqb-apart j k (λ e. ne (omega arith))))));
       overlong = overlong;
     }

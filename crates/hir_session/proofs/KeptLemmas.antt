@@ -195,8 +195,8 @@ module _ (old new : Store) (runs runs' : Runs) (map : Map) (local : Local) (run 
     each = λ id f e. on_id id map.id
         (λ same.
         let placed : option_map placed_of (Some f) ≡ Some (placed_in (finished_in old) map) = ap (option_map placed_of) (sym e) ∙ ap (finished_in new) same ∙ placed_here in
-        let is : f.holders.items ≡ (placed_in (finished_in old) map).holders = cc in
-        is ∙ ap (λ (o : Option Placed). holders_or o (holders_under (finished_in old) map.id map.holder)) none ∙ own_holders alone)
+        let is : placed_of f ≡ placed_in (finished_in old) map = cc in
+        ap (λ (p : Placed). p.holders) is ∙ ap (λ (o : Option Placed). holders_or o (holders_under (finished_in old) map.id map.holder)) none ∙ own_holders alone)
         (λ ne. held_by id f e (found_in old id) refl (placed_else id ne));
   }
     where
