@@ -34,7 +34,7 @@ use Rattle.std.specs.Prelude.{is_none}
 -- what is behind the place is as it was
 pub record IsSame (from to : SessionState) (id : MapId) : Type 0 where
   pub crates : to.crates ≡ from.crates
-  pub paths : to.paths ≡ from.paths
+  pub tables : to.tables ≡ from.tables
   pub off : (j : MapId) → IsBehind from id j → is_marked to j ≡ false
   pub kept : (j : MapId) → IsBehind from id j → kept_of to j ≡ kept_of from j
 
@@ -72,7 +72,7 @@ what_marked w same (depends j d among sp) behind =
 
 -- the workspace that an accepted edit leaves is the edited one
 workspace-becomes : {old new : SessionState} {files : Files} → Becomes old files new → workspace_of new ≡ workspace_of (with_files old files)
-workspace-becomes is = rw (is.crates, is.paths, is.files_are) refl
+workspace-becomes is = rw (is.crates, is.tables.files, is.files_are) refl
 
 -- an edit leaves all that is behind the crate as it was, or alters a key that was asked for there
 pub same_after_edit : {from mid to : SessionState} {k : MapId} (e : EditValue) → IsSame from mid k → Applies mid e to
@@ -84,7 +84,7 @@ same_after_edit {from} {mid} {to} {k} e same is = on_bool (is_marked to k)
     let off = λ (j : MapId) (behind : IsBehind from k j). unmarked_still (is.crates ∙ same.crates) (closed_after is) still behind in
     inl (record {
       crates = is.crates ∙ same.crates;
-      paths = is.paths ∙ same.paths;
+      paths = is.tables.files ∙ same.paths;
       off = off;
       kept = λ j behind. is.kept j (off j behind) ∙ same.kept j behind;
     }))
@@ -93,13 +93,13 @@ same_after_edit {from} {mid} {to} {k} e same is = on_bool (is_marked to k)
 pub same_after_refresh : {from mid to : SessionState} {k : MapId} {done : List PlaceValue} → IsSame from mid k → Resolves mid done to → IsSame from to k
 same_after_refresh same is = record {
   crates = is.crates ∙ same.crates;
-  paths = is.paths ∙ same.paths;
+  paths = is.tables.files ∙ same.paths;
   off = λ j behind. ap (λ (o : Option Resolution). is_none o) (is.others j (same.off j behind)) ∙ same.off j behind;
   kept = λ j behind. is.others j (same.off j behind) ∙ same.kept j behind;
 }
 
 pub same_at_first : {from : SessionState} {k : MapId} → IsSound from → is_marked from k ≡ false → IsSame from from k
-same_at_first sound off = record { crates = refl; paths = refl; off = λ j behind. unmarked_behind sound off behind; kept = λ j behind. refl }
+same_at_first sound off = record { crates = refl; tables = refl; off = λ j behind. unmarked_behind sound off behind; kept = λ j behind. refl }
 
 pub same_or_altered : {from : SessionState} {k : MapId} → IsSound from → is_marked from k ≡ false → {to : SessionState} → (h : History from to)
     → IsSame from to k ⊎ ((key : Key) × IsAskedBehind from k key × WasAltered key h)
@@ -133,7 +133,7 @@ same_read {from} {to} k sound same =
 pub same_answer : {from to : SessionState} (place : PlaceValue) (path : Path) (shadow : Shadow) (style : Option MacroStyle) → IsSound from
     → is_marked from (map_of place) ≡ false → IsSame from to (map_of place) → answer_of to place path shadow style ≡ answer_of from place path shadow style
 same_answer place path shadow style sound off same =
-    rw (same_read place.krate.0 sound same, same.crates, same.paths, same.kept (map_of place) itself) refl
+    rw (same_read place.krate.0 sound same, same.crates, same.tables, same.kept (map_of place) itself) refl
 
 pub differ_only : DifferOnlyWhereAltered
 differ_only from to place path shadow style sound off h = elim (same_or_altered sound off h) [

@@ -67,7 +67,7 @@ pub record IsRefreshing (old new : SessionState) (done : List PlaceValue) (k : �
 
 pub refreshing-start : (s : SessionState) → IsSound s → IsRefreshing s s [] 0
 refreshing-start s sound = record {
-  so_far = record { crates = refl; paths = refl; files = refl; due = refl; others = λ id off. refl; sound = sound };
+  so_far = record { crates = refl; tables = refl; files = refl; due = refl; others = λ id off. refl; sound = sound };
   below = λ j h. absurd (omega arith);
 }
 
@@ -88,7 +88,7 @@ refreshing-more {old} {mid} {done} k r new p sound within on is =
     record {
       so_far = record {
         crates = is.crates ∙ p.so_far.crates;
-        paths = is.paths ∙ p.so_far.paths;
+        paths = is.tables.files ∙ p.so_far.paths;
         files = is.files ∙ p.so_far.files;
         due = p.so_far.due
             ∙ ap (λ (ids : List MapId). done ++ map root_place ids) (due_first mid new k r within p.below on is)

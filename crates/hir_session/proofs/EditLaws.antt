@@ -50,7 +50,7 @@ unspread {s} sound same (depends k d among sp) = on_bool (is_marked s k)
 
 -- an edit that leaves each key as it was changes no mark
 unaltered_marks : {old new : SessionState} {files : Files} → IsSound old → Becomes old files new
-    → ((key : Key) → look (workspace_in old.crates old.paths files) no_maps key ≡ look (workspace_of old) no_maps key) → (k : MapId) → is_marked new k ≡ is_marked old k
+    → ((key : Key) → look (workspace_in old.crates old.tables.files files) no_maps key ≡ look (workspace_of old) no_maps key) → (k : MapId) → is_marked new k ≡ is_marked old k
 unaltered_marks {old} {new} sound is same k = on_bool (is_marked new k)
     (λ on. on ∙ sym (unspread sound same (is.only k on)))
     (λ off. on_bool (is_marked old k)
@@ -61,23 +61,23 @@ unaltered_marks {old} {new} sound is same k = on_bool (is_marked new k)
 same_looks : (s : SessionState) (path : List ℕ) (there : Option SourceValue)
     → ((k : ℕ) → shown s.crates k (Some path) there ≡ shown s.crates k (Some path) (file_at s.files path))
     → ((k : ℕ) (id : SyntaxId) → variants_under s.crates k there id ≡ variants_under s.crates k (file_at s.files path) id)
-    → (key : Key) → look (workspace_in s.crates s.paths (edited_at s.files path there)) no_maps key ≡ look (workspace_of s) no_maps key
-same_looks s path there same alike (keys.Tree krate file) = on_bool (is_path path (path_in s.paths file))
-    (λ on. look-same s.crates s.paths s.files path there krate file on (same krate.0))
-    (λ off. look-other s.crates s.paths s.files path there krate file off)
-same_looks s path there same alike (keys.Variants id) = on_bool (is_enum_at s.paths path (keys.Variants id))
-    (λ on. enum-same s.crates s.paths s.files path there id on (alike id.loc.container.map.krate.0 id.loc.id))
-    (λ off. enum-other s.crates s.paths s.files path there id off)
+    → (key : Key) → look (workspace_in s.crates s.tables.files (edited_at s.files path there)) no_maps key ≡ look (workspace_of s) no_maps key
+same_looks s path there same alike (keys.Tree krate file) = on_bool (is_path path (path_in s.tables.files file))
+    (λ on. look-same s.crates s.tables.files s.files path there krate file on (same krate.0))
+    (λ off. look-other s.crates s.tables.files s.files path there krate file off)
+same_looks s path there same alike (keys.Variants id) = on_bool (is_enum_at s.tables.files path (keys.Variants id))
+    (λ on. enum-same s.crates s.tables.files s.files path there id on (alike id.loc.container.map.krate.0 id.loc.id))
+    (λ off. enum-other s.crates s.tables.files s.files path there id off)
 same_looks s path there same alike (keys.Map id) = refl
 
 -- a file whose trees become others marks what asked for it
 altered_marks : {old new : SessionState} (path : List ℕ) (there : Option SourceValue) (k : MapId) (found : Resolution) (krate : Crate) (file : HirFileId)
     → (shown old.crates krate.0 (Some path) there ≢ shown old.crates krate.0 (Some path) (file_at old.files path))
     → Becomes old (edited_at old.files path there) new → kept_of old k ≡ Some found → Contains found.asked (keys.Tree krate file)
-    → path_in old.paths file ≡ Some path → is_marked new k ≡ true
+    → path_in old.tables.files file ≡ Some path → is_marked new k ≡ true
 altered_marks {old} {new} path there k found krate file other is kept asked at =
     is.all k (here k (asked_for (keys.Tree krate file) found kept asked
-    (look-differs old.crates old.paths old.files path there krate file
+    (look-differs old.crates old.tables.files old.files path there krate file
     (subst (λ (o : Option (List ℕ)). is_path path o ≡ true) (sym at) ((bytes_decides path path).1 refl)) other)))
 
 -- a marked place has an answer that tells of no more than its crate's number
@@ -89,7 +89,7 @@ stale_answer s place path shadow style on = on_bool (nat_lt place.krate.0 (lengt
 
 -- an edit that leaves each key as it was leaves each answer as it was
 unaltered_answers : {old new : SessionState} {files : Files} → IsSound old → Becomes old files new
-    → ((key : Key) → look (workspace_in old.crates old.paths files) no_maps key ≡ look (workspace_of old) no_maps key) → AnswersAlike old new
+    → ((key : Key) → look (workspace_in old.crates old.tables.files files) no_maps key ≡ look (workspace_of old) no_maps key) → AnswersAlike old new
 unaltered_answers {old} {new} sound is same place path shadow style = on_bool (is_marked old (map_of place))
     (λ on. stale_answer new place path shadow style (unaltered_marks sound is same (map_of place) ∙ on)
     ∙ ap (λ (cs : List CrateValue). answer_by (if nat_lt place.krate.0 (length cs) then status.Stale else status.Unknown) (Err error.UnknownPlace)) is.crates
@@ -98,7 +98,7 @@ unaltered_answers {old} {new} sound is same place path shadow style = on_bool (i
     let still = λ (j : MapId) (behind : IsBehind old (map_of place) j). unaltered_marks sound is same j ∙ unmarked_behind sound off behind in
     same_answer {to = new} place path shadow style sound off (record {
       crates = is.crates;
-      paths = is.paths;
+      paths = is.tables.files;
       off = still;
       kept = λ j behind. is.kept j (still j behind);
     }))
@@ -106,7 +106,7 @@ unaltered_answers {old} {new} sound is same place path shadow style = on_bool (i
 -- a file that is set to a source with other bodies leaves each key as it was
 same_but_bodies : BodyTextsLeaveTheTree → (s : SessionState) (path : List ℕ) (was source : SourceValue) → file_at s.files path ≡ Some was
     → source_without_bodies was ≡ source_without_bodies source
-    → (key : Key) → look (workspace_in s.crates s.paths (edited_at s.files path (Some source))) no_maps key ≡ look (workspace_of s) no_maps key
+    → (key : Key) → look (workspace_in s.crates s.tables.files (edited_at s.files path (Some source))) no_maps key ≡ look (workspace_of s) no_maps key
 same_but_bodies law s path was source is_was alike = same_looks s path (Some source) (λ k.
     let same : tree_under s.crates k (Some path) source ≡ tree_under s.crates k (Some path) was =
     law (is_set (options_in s.crates k)) (front_in (crate_in s.crates k) (Some path)) source was (sym alike) in
@@ -116,7 +116,7 @@ same_but_bodies law s path was source is_was alike = same_looks s path (Some sou
 
 -- a file that is removed where none is leaves each key as it was
 same_without : (s : SessionState) (path : List ℕ) → file_at s.files path ≡ None
-    → (key : Key) → look (workspace_in s.crates s.paths (edited_at s.files path None)) no_maps key ≡ look (workspace_of s) no_maps key
+    → (key : Key) → look (workspace_in s.crates s.tables.files (edited_at s.files path None)) no_maps key ≡ look (workspace_of s) no_maps key
 same_without s path absent = same_looks s path None
     (λ k. ap (λ (o : Option SourceValue). shown s.crates k (Some path) o) (sym absent))
     (λ k id. ap (λ (o : Option SourceValue). variants_under s.crates k o id) (sym absent))

@@ -1,21 +1,27 @@
-use Rattle.std.proofs.Common.{◌≡◌, ◌≢◌, ℕ, Bool, true, false, ◌&&◌, is_none, cond, Ordering, Less, Equal, Greater, List, [], ◌∷◌, Option, Some, None, refl, sym, ap, ◌∙◌, option_and_then}
+use Rattle.std.proofs.Common.{◌≡◌, ◌≢◌, ℕ, nat_eq, eq-eqb, slice_get, Bool, true, false, ◌&&◌, is_none, cond, Ordering, Less, Equal, Greater, List, [], ◌∷◌, Option, Some, None, refl, sym, ap, ◌∙◌, option_and_then}
 use Rattle.std.specs.Ordering.{nat_cmp, match_ordering, is_eq}
-use Rattle.std.specs.Cmp.Lexicographic.{slice_cmp, bytes_decides}
+use Rattle.std.specs.Cmp.Lexicographic.{slice_cmp, bytes_decides, pointwise}
 use Rattle.std.specs.BTreeMap.{is_at}
 use Rattle.std.proofs.lemmas.Map.Text.{is_eq-slice_cmp}
+use Rattle.hir_base.specs.declared.ast_id.FileId.{FileId}
 use Rattle.hir_base.specs.declared.ast_id.HirFileId.{HirFileId}
+use Rattle.hir_base.specs.declared.ast_id.HirFileId.TheVariants.{File, Macro}
 use Rattle.hir_base.specs.declared.ids.Crate.{Crate}
 use Rattle.hir_base.specs.declared.ids.EnumId.{EnumId}
 use Rattle.hir_item_tree.specs.Source.{SourceValue}
 use Rattle.hir_item_tree.specs.declared.side_lists.VariantItem.{VariantItem}
 use Rattle.hir_def_map.specs.State.{no_maps}
 use Rattle.hir_def_collector.specs.Workspace.{TreeLook}
-use Rattle.hir_def_collector.specs.Keys.{Look, of_tree, of_variants, look}
+use Rattle.hir_def_collector.specs.Keys.{AgreeOn, Look, of_tree, of_variants, look}
+use Rattle.hir_def_collector.specs.declared.source_database.Key.{Key}
 use Rattle.hir_def_collector.specs.declared.source_database.Key.TheVariants as keys
 use Rattle.hir_session.specs.Crates.{CrateValue}
 use Rattle.hir_session.specs.Files.{Files, file_at, path_in, with_file, without_file, edited_at, shown, source_in, variants_under, workspace_in}
 use Rattle.hir_session.specs.Marking.{is_enum_at, is_path}
+use Rattle.hir_tables.specs.Interning.{IsOnce}
+use Rattle.hir_tables.specs.Tables.{TablesValue, file_at}
 use Rattle.hir_session.proofs.Truth.{clash, on_bool}
+use Rattle.std.proofs.lemmas.Bool.{eqb-true}
 
 -- the test at a path says that two paths are the same
 pub is_at-same : (p q : List ℕ) → is_at (slice_cmp nat_cmp p) q ≡ true → p ≡ q
@@ -201,3 +207,47 @@ module _ (crates : List CrateValue) (paths : List (List ℕ)) (F : Files) (path 
           ∙ variants-same _ _ same
           ∙ ap (λ (o : Option SourceValue). variants_under crates id.loc.container.map.krate.0 o id.loc.id) (source-was F path there (path_in paths id.loc.file_id) e))
       go false e same = clash e refl
+
+-- ---- numbers of files
+
+-- a number is that of the file exactly where it means its path
+pub numbered : (tables : TablesValue) (path : List ℕ) (number n : ℕ) → slice_get tables.files number ≡ Some path → IsOnce tables.files
+    → nat_eq n number ≡ is_path path (slice_get tables.files n)
+numbered tables path number n means once = on_bool (nat_eq n number)
+    (λ on. on ∙ sym (ap (is_path path) (ap (slice_get tables.files) (eqb-true n number on) ∙ means) ∙ (bytes_decides path path).1 refl))
+    (λ off. off ∙ sym (go (slice_get tables.files n) refl off))
+  where
+    go : (o : Option (List ℕ)) → slice_get tables.files n ≡ o → nat_eq n number ≡ false → is_path path o ≡ false
+    go None s off = refl
+    go (Some q) s off = on_bool (pointwise nat_eq q path)
+        (λ on.
+        let same : q ≡ path = (bytes_decides q path).0 on in
+        let equal : n ≡ number = once n number path (s ∙ ap (λ (p : List ℕ). Some p) same) means in
+        clash (ap (λ (m : ℕ). nat_eq m number) equal ∙ eq-eqb number number refl) off)
+        (λ h. h)
+
+-- where no number means the path, no key is of the file
+unnumbered : (tables : TablesValue) (path : List ℕ) → ((id : FileId) → file_at tables id ≢ Some path) → (file : HirFileId) → is_path path (path_in tables.files file) ≡ false
+unnumbered tables path none (Macro call) = refl
+unnumbered tables path none (File f) = go (slice_get tables.files f.file_id.0) refl
+  where
+    go : (o : Option (List ℕ)) → slice_get tables.files f.file_id.0 ≡ o → is_path path o ≡ false
+    go None s = refl
+    go (Some q) s = on_bool (pointwise nat_eq q path)
+        (λ on. absurd (none f.file_id (s ∙ ap (λ (p : List ℕ). Some p) ((bytes_decides q path).0 on))))
+        (λ h. h)
+
+-- and what is seen stays
+pub agrees_unnumbered : (crates : List CrateValue) (tables : TablesValue) (F : Files) (path : List ℕ) (there : Option SourceValue) (keys : List Key)
+    → ((id : FileId) → file_at tables id ≢ Some path)
+    → AgreeOn keys (workspace_in crates tables.files F) no_maps (workspace_in crates tables.files (edited_at F path there)) no_maps
+agrees_unnumbered crates tables F path there asked none = record { crates = refl; same = λ key among. same key }
+  where
+    apart : (b : Bool) (x : Bool) → x ≡ false → (b && x) ≡ false
+    apart true x e = e
+    apart false x e = refl
+
+    same : (key : Key) → look (workspace_in crates tables.files (edited_at F path there)) no_maps key ≡ look (workspace_in crates tables.files F) no_maps key
+    same (keys.Tree krate file) = look-other crates tables.files F path there krate file (unnumbered tables path none file)
+    same (keys.Variants id) = enum-other crates tables.files F path there id (apart (is_none id.loc.block) _ (unnumbered tables path none id.loc.file_id))
+    same (keys.Map id) = refl

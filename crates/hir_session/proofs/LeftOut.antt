@@ -303,13 +303,13 @@ pub whole : RunsBindFromSources → PathsAnswerFromSources → PathsLeadToWhatIs
     → module_below (current_of s sound k off).map (root_of (current_of s sound k off).map.id) elements ≡ Some at
     → LeavesNothingOut
     (resolution_of (beside (read_of s (id_of k)) (current_of s sound k off).map) (asking_of (current_of s sound k off).local shadow style) at path).resolved_def
-    (answer_in s.paths (beside (read_of s (id_of k)) (current_of s sound k off).map) (current_of s sound k off).local at path shadow style)
+    (answer_in s.tables.files (beside (read_of s (id_of k)) (current_of s sound k off).map) (current_of s sound k off).local at path shadow style)
 whole runs answers leads s sound k off elements at path shadow style is =
     let now = sound.current (id_of k) off in
     let r : Resolution = now.found in
     let maps : Maps = beside (read_of s (id_of k)) r.map in
-    let test : SourceTest = unsourced s.paths maps in
-    let written : (j : ℕ) → j < length s.crates → test.holder (root_file (start_of s (id_of j))) None ≡ false = λ j within. ap not (mapped_some _ _ ∙ sound.rooted j within) in
+    let test : SourceTest = unsourced s.tables.files maps in
+    let written : (j : ℕ) → j < length s.crates → test.holder (root_file (start_of s (id_of j))) None ≡ false = λ j within. ap not (mapped_some _ _ ∙ ap (λ (o : Option (List ℕ)). is_some o) (sound.rooted j within)) in
     let shows : (m : ModuleId) → ModuleIsThere maps m → test.shown m ≡ false = λ m there. ap not there in
     let own = binds runs s sound test written (suc k) k (omega arith) off shows in
     let nowhere : HoldsNowhere test maps = HoldsNowhere-beside test (read_of s (id_of k)) r.map (reads runs s sound test written k off shows (binds runs s sound test written k)) own.0 in
@@ -321,7 +321,7 @@ whole runs answers leads s sound k off elements at path shadow style is =
     let none : HoldsOfNone test (resolution_of maps asking at path).resolved_def = answers test maps asking at path nowhere own.1 in
     let lead : AreThere maps (resolution_of maps asking at path).resolved_def = leads maps asking at path closed (LocalIsThere-begins maps r.local now.gives.begins) there in
     record {
-      types = types s.paths maps nowhere (resolution_of maps asking at path).resolved_def.types none.types lead;
-      values = values s.paths maps nowhere (resolution_of maps asking at path).resolved_def.values none.values;
-      macros = macros s.paths maps nowhere (resolution_of maps asking at path).resolved_def.macros none.macros;
+      types = types s.tables.files maps nowhere (resolution_of maps asking at path).resolved_def.types none.types lead;
+      values = values s.tables.files maps nowhere (resolution_of maps asking at path).resolved_def.values none.values;
+      macros = macros s.tables.files maps nowhere (resolution_of maps asking at path).resolved_def.macros none.macros;
     }

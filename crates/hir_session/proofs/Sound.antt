@@ -113,9 +113,9 @@ any_of {P} (x ∷ xs) each = elim (each x (zero, omega arith, refl)) [
 -- ---- an edit
 
 module _ (s : SessionState) (sound : IsSound s) (F : Files) (hits : List MapId) (K : Resolutions)
-    (hit : AreHit (workspace_of s) (workspace_in s.crates s.paths F) s.kept (length s.crates) hits) (forgotten : AreForgotten s.kept hits K) where
+    (hit : AreHit (workspace_of s) (workspace_in s.crates s.tables.files F) s.kept (length s.crates) hits) (forgotten : AreForgotten s.kept hits K) where
   abbrev edited : Workspace
-  edited = workspace_in s.crates s.paths F
+  edited = workspace_in s.crates s.tables.files F
 
   abbrev IsReached : MapId → Type 0
   IsReached id = Spread (follows s) (IsTouched s edited) id
@@ -234,7 +234,7 @@ module _ (s : SessionState) (sound : IsSound s) (F : Files) (hits : List MapId) 
   pub becomes : Becomes s F (record s { files = F; kept = K })
   becomes = record {
     crates = refl;
-    paths = refl;
+    tables = refl;
     files_are = refl;
     only = λ id on. gone_reached id (marked_none (kept_in K id) on);
     all = λ id sp. none_marked (kept_in K id) (reached_gone sp);
@@ -246,10 +246,10 @@ module _ (s view : SessionState) (F : Files) (file : List ℕ) (there : Option S
   -- what is judged of the view of a session is judged of it
   hit_of : s ≡ view → F ≡ edited_at s.files file there
       → AreHit (workspace_of view) (workspace_of (with_files view (edited_at view.files file there))) view.kept (length view.crates) hits
-      → AreHit (workspace_of s) (workspace_in s.crates s.paths F) s.kept (length s.crates) hits
+      → AreHit (workspace_of s) (workspace_in s.crates s.tables.files F) s.kept (length s.crates) hits
   hit_of seen is hit =
       let own = subst (λ (v : SessionState). AreHit (workspace_of v) (workspace_of (with_files v (edited_at v.files file there))) v.kept (length v.crates) hits) (sym seen) hit in
-      subst (λ (G : Files). AreHit (workspace_of s) (workspace_in s.crates s.paths G) s.kept (length s.crates) hits) (sym is) own
+      subst (λ (G : Files). AreHit (workspace_of s) (workspace_in s.crates s.tables.files G) s.kept (length s.crates) hits) (sym is) own
 
   -- an edit of one file leaves a sound session
   pub edited_sound : s ≡ view → IsSound s → F ≡ edited_at s.files file there
@@ -278,7 +278,7 @@ pub resolved_of : (s view : SessionState) (K : Resolutions) (id : MapId) (r : Re
 resolved_of s view K id r seen own here others =
     subst (λ (v : SessionState). Resolved v id r (record s { kept = K })) seen (record {
       crates = refl;
-      paths = refl;
+      tables = refl;
       files = refl;
       here = ap (kept_in K) (sym own) ∙ here;
       others = λ j ne. others j (λ e. ne (e ∙ own));

@@ -27,10 +27,10 @@ on_option (Some x) f g = g x refl
 
 -- where the status is current, the answer is the one over what is kept
 pub answer_of-current : (s : SessionState) (place : PlaceValue) (path : Path) (shadow : Shadow) (style : Option MacroStyle) {r : Result Answer QueryError}
-    → status.Current ≡ status_of s place → answer_from s.paths (read_of s (map_of place)) (kept_of s (map_of place)) (module_of s place) path shadow style ≡ r
+    → status.Current ≡ status_of s place → answer_from s.tables.files (read_of s (map_of place)) (kept_of s (map_of place)) (module_of s place) path shadow style ≡ r
     → answer_of s place path shadow style ≡ r
 answer_of-current s place path shadow style current over =
-    ap (λ (now : Status). answer_by now (answer_from s.paths (read_of s (map_of place)) (kept_of s (map_of place)) (module_of s place) path shadow style)) (sym current) ∙ over
+    ap (λ (now : Status). answer_by now (answer_from s.tables.files (read_of s (map_of place)) (kept_of s (map_of place)) (module_of s place) path shadow style)) (sym current) ∙ over
 
 -- an answer that is given stands
 pub stands : RunsBindFromSources → PathsAnswerFromSources → PathsLeadToWhatIsThere → (s : SessionState) (place : PlaceValue) (path : Path) (shadow : Shadow) (style : Option MacroStyle) (a : Answer) → IsSound s
@@ -52,8 +52,8 @@ stands runs answers leads s place path shadow style a sound h =
       asked_from = m;
       named = some;
       whole = subst (LeavesNothingOut (resolution_of (beside (read_of s (map_of place)) now.found.map) (asking_of now.found.local shadow style) m path).resolved_def)
-          (sym (let e : a ≡ answer_in s.paths (beside (read_of s (map_of place)) now.found.map) now.found.local m path shadow style = cc given in e))
+          (sym (let e : a ≡ answer_in s.tables.files (beside (read_of s (map_of place)) now.found.map) now.found.local m path shadow style = cc given in e))
           (whole runs answers leads s sound place.krate.0 off place.elements m path shadow style some);
-      is = let e : a ≡ answer_in s.paths (beside (read_of s (map_of place)) now.found.map) now.found.local m path shadow style = cc given in e;
+      is = let e : a ≡ answer_in s.tables.files (beside (read_of s (map_of place)) now.found.map) now.found.local m path shadow style = cc given in e;
     })))
     (λ past. absurd (let wrong : ⊥ = cc (rw past at h) in wrong))

@@ -69,4 +69,4 @@ answer_by status.Unknown answer = Err error.UnknownPlace
 -- the answer to a query
 abbrev pub answer_of : SessionState → PlaceValue → Path → Shadow → Option MacroStyle → Result Answer QueryError
 answer_of s place path shadow style =
-    answer_by (status_of s place) (answer_from s.paths (read_of s (map_of place)) (kept_of s (map_of place)) (module_of s place) path shadow style)
+    answer_by (status_of s place) (answer_from s.tables.files (read_of s (map_of place)) (kept_of s (map_of place)) (module_of s place) path shadow style)

@@ -20,7 +20,7 @@ with_files s files = record s { files = files }
 -- the files became these, and exactly what that touches is marked
 pub record Becomes (old : SessionState) (files : Files) (new : SessionState) : Type 0 where
   pub crates : new.crates ≡ old.crates
-  pub paths : new.paths ≡ old.paths
+  pub tables : new.tables ≡ old.tables
   pub files_are : new.files ≡ files
   pub only : (id : MapId) → is_marked new id ≡ true → marks_after old (workspace_of (with_files old files)) id
   pub all : (id : MapId) → marks_after old (workspace_of (with_files old files)) id → is_marked new id ≡ true
@@ -35,7 +35,7 @@ Applies old edit new = Becomes old (edited_files old edit) new
 -- the places of the list, the first that were due, were resolved in turn, and nothing else was
 pub record Resolves (old : SessionState) (done : List PlaceValue) (new : SessionState) : Type 0 where
   pub crates : new.crates ≡ old.crates
-  pub paths : new.paths ≡ old.paths
+  pub tables : new.tables ≡ old.tables
   pub files : new.files ≡ old.files
   pub due : due_places old ≡ done ++ due_places new
   pub others : (id : MapId) → is_marked old id ≡ false → kept_of new id ≡ kept_of old id

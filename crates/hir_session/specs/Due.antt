@@ -27,7 +27,7 @@ due_places s = map root_place (due s)
 -- a place was resolved so, and nothing else changed
 pub record Resolved (old : SessionState) (id : MapId) (r : Resolution) (new : SessionState) : Type 0 where
   pub crates : new.crates ≡ old.crates
-  pub paths : new.paths ≡ old.paths
+  pub tables : new.tables ≡ old.tables
   pub files : new.files ≡ old.files
   pub here : kept_of new id ≡ Some r
   pub others : (j : MapId) → j ≢ id → kept_of new j ≡ kept_of old j

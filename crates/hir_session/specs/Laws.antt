@@ -38,14 +38,14 @@ BodyEditsLeaveAnswers = (old new : SessionState) (path : List ℕ) (was source :
 abbrev pub SetAbsentFileMarks : Type 0
 SetAbsentFileMarks = (old new : SessionState) (path : List ℕ) (source : SourceValue) (id : MapId) (found : Resolution) (krate : Crate) (file : HirFileId)
     → file_at old.files path ≡ None → Applies old (set_file path source) new
-    → kept_of old id ≡ Some found → Contains found.asked (Tree krate file) → path_in old.paths file ≡ Some path
+    → kept_of old id ≡ Some found → Contains found.asked (Tree krate file) → path_in old.tables.files file ≡ Some path
     → is_marked new id ≡ true
 
 -- a file that was there is removed, an empty one too: each place whose run asked for it is marked
 abbrev pub RemovePresentFileMarks : Type 0
 RemovePresentFileMarks = (old new : SessionState) (path : List ℕ) (was : SourceValue) (id : MapId) (found : Resolution) (krate : Crate) (file : HirFileId)
     → file_at old.files path ≡ Some was → Applies old (remove_file path) new
-    → kept_of old id ≡ Some found → Contains found.asked (Tree krate file) → path_in old.paths file ≡ Some path
+    → kept_of old id ≡ Some found → Contains found.asked (Tree krate file) → path_in old.tables.files file ≡ Some path
     → is_marked new id ≡ true
 
 -- a file that isn't there is removed: no mark changes

@@ -1,6 +1,7 @@
 -- How does the code find what an edit touches? No public clause speaks of this.
 use Rattle.std.specs.Prelude.{◌≡◌, ◌⊎◌, ℕ, ◌<◌, Bool, true, false, ◌&&◌, is_none, List, [], ◌∷◌, ◌++◌, Option, Some, None, Contains, nat_eq}
 use Rattle.std.specs.Cmp.Lexicographic.{pointwise}
+use Rattle.hir_base.specs.declared.ast_id.FileId.{FileId}
 use Rattle.hir_base.specs.declared.ids.Crate.{Crate}
 use Rattle.hir_base.specs.declared.ids.MapId.{MapId}
 use Rattle.hir_def_map.specs.State.{no_maps}
@@ -15,12 +16,19 @@ use Rattle.hir_session.specs.Files.{path_in, sides_under}
 use Rattle.hir_session.specs.Crates.{CrateValue, id_of}
 use Rattle.hir_session.specs.Kept.{Resolutions, kept_in}
 use Rattle.hir_session.specs.SessionState.{Resolution}
+use Rattle.hir_tables.specs.Interning.{IsOnce}
+use Rattle.hir_tables.specs.Tables.{TablesValue, file_at}
 use Rattle.hir_session.specs.Marks.{IsAltered}
 
 -- whether the text is this path
 abbrev pub is_path : List ℕ → Option (List ℕ) → Bool
 is_path path None = false
 is_path path (Some other) = pointwise nat_eq other path
+
+-- the number is that of the file at the path, and of no other
+pub record IsNumberOf (tables : TablesValue) (path : List ℕ) (number : FileId) : Type 0 where
+  pub means : file_at tables number ≡ Some path
+  pub once : IsOnce tables.files
 
 -- whether a key is of the variants of an enum in the file at the path
 abbrev pub is_enum_at : List (List ℕ) → List ℕ → Key → Bool

@@ -1,5 +1,5 @@
 -- Where does a session stand?
-use Rattle.std.specs.Prelude.{◌≡◌, ◌↔◌, ℕ, ◌<◌, ◌≤◌, Bool, true, false, List, length, map, is_none, is_some, Some, None, Option, Contains}
+use Rattle.std.specs.Prelude.{◌≡◌, ◌↔◌, ℕ, ◌<◌, ◌≤◌, Bool, true, false, List, length, map, is_none, Some, None, Option, Contains}
 use Rattle.hir_base.specs.declared.ids.Crate.{Crate}
 use Rattle.hir_base.specs.declared.ids.MapId.{MapId}
 use Rattle.hir_def_map.specs.Among.{among}
@@ -15,22 +15,23 @@ use Rattle.hir_session.specs.StandsOn.{StandsOn}
 use Rattle.hir_session.specs.Behind.{has_crate}
 use Rattle.hir_session.specs.Files.{Files, path_in, workspace_in}
 use Rattle.hir_session.specs.Kept.{Resolutions, finished_by, kept_in}
+use Rattle.hir_tables.specs.Tables.{TablesValue}
 
 -- what is kept of a place that was resolved: its map, the imports left over, and the keys that were asked for
 abbrev pub Resolution : Type 0
 Resolution = CollectedValue
 
--- the crates by number, the table of file paths (a file's id is a number in it), the files that are there,
+-- the crates by number, what the numbers of files mean, the files that are there,
 -- and what is kept of the places that were resolved
 pub record SessionState : Type 0 where
   pub crates : List CrateValue
-  pub paths : List (List ℕ)
+  pub tables : TablesValue
   pub files : Files
   pub kept : Resolutions
 
 -- the workspace as it is now: a file that isn't there is not an empty one
 abbrev pub workspace_of : SessionState → Workspace
-workspace_of s = workspace_in s.crates s.paths s.files
+workspace_of s = workspace_in s.crates s.tables.files s.files
 
 -- what a crate depends on
 abbrev pub dependencies_of : SessionState → ℕ → List Crate
@@ -97,5 +98,5 @@ pub record IsSound (s : SessionState) : Type 0 where
   pub placed : (id : MapId) → is_marked s id ≡ false → IsPlace s id
   pub closed : (id d : MapId) → is_marked s id ≡ false → Contains (follows s id) d → is_marked s d ≡ false
   pub current : (id : MapId) → is_marked s id ≡ false → IsCurrent s id
-  -- the root file of each crate is one of the table
-  pub rooted : (k : ℕ) → k < length s.crates → is_some (path_in s.paths (root_file (start_in s.crates k))) ≡ true
+  -- the number of a crate's root file means its path
+  pub rooted : (k : ℕ) → k < length s.crates → path_in s.tables.files (root_file (start_in s.crates k)) ≡ Some (crate_in s.crates k).root_path

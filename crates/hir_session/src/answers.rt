@@ -1,4 +1,4 @@
-//! Answers to paths, in source items.
+//! Answers to tables, in source items.
 ghost use Rattle.std.specs.Prelude.{◌≡◌, IfOk};
 ghost use Rattle.std.specs.Option.{option_and_then};
 ghost use Rattle.hir_def_map.specs.DefMaps.{maps_of};
@@ -10,7 +10,6 @@ ghost use Rattle.hir_session.specs.Answers.{shadow_mode_of, sub_ns_of, answer_in
 use crate::source_items::definitions::{definition_at, macro_at};
 use crate::source_items::imports::{import_at, value_import_at};
 use crate::source_items::visibilities::visibility_at;
-use hir_base::file_path::FilePath;
 use hir_base::ids::ModuleId;
 use hir_base::mod_path::ModPath;
 use hir_base::place::PlaceElement;
@@ -20,6 +19,7 @@ use hir_def_map::nameres::local_def_map::LocalDefMap;
 use hir_def_map::nameres::path_resolution::{BuiltinShadowMode, MacroSubNs, ResolveMode};
 use hir_scope::imports::{ImportOrExternCrate, ImportOrGlob};
 use hir_scope::per_ns::{MacrosItem, TypesItem, ValuesItem};
+use hir_tables::Tables;
 use hir_wire::answer::{Answer, AnswerItem, AnswerVisibility, Definition, ImportSource};
 use hir_wire::command::{MacroStyle, Shadow};
 use std::alloc::{AllocError, Global};
@@ -77,13 +77,13 @@ fn all_of(
 /// What made a type or a macro, where an import did.
 fn maybe_import(
     alloc: Global,
-    paths: &Vec<FilePath>,
+    tables: &Tables,
     by: Option<ImportOrExternCrate>,
 ) -> Result<Option<Option<ImportSource>>, AllocError>
-    ensures value { IfOk result (λ o. o ≡ maybe_source (import_source paths.now.items) by) }
+    ensures value { IfOk result (λ o. o ≡ maybe_source (import_source tables.now.files) by) }
 {
     match by {
-        Some(by) => match import_at(alloc, paths, by)? {
+        Some(by) => match import_at(alloc, tables, by)? {
             Some(source) => Ok(Some(Some(source))),
             None => Ok(None),
         },
@@ -94,13 +94,13 @@ fn maybe_import(
 /// What made a value, where an import did.
 fn maybe_value_import(
     alloc: Global,
-    paths: &Vec<FilePath>,
+    tables: &Tables,
     by: Option<ImportOrGlob>,
 ) -> Result<Option<Option<ImportSource>>, AllocError>
-    ensures value { IfOk result (λ o. o ≡ maybe_source (value_import_source paths.now.items) by) }
+    ensures value { IfOk result (λ o. o ≡ maybe_source (value_import_source tables.now.files) by) }
 {
     match by {
-        Some(by) => match value_import_at(alloc, paths, by)? {
+        Some(by) => match value_import_at(alloc, tables, by)? {
             Some(source) => Ok(Some(Some(source))),
             None => Ok(None),
         },
@@ -111,17 +111,17 @@ fn maybe_value_import(
 /// What a type is answered.
 fn type_at(
     alloc: Global,
-    paths: &Vec<FilePath>,
+    tables: &Tables,
     maps: &DefMaps<'_>,
     item: Option<TypesItem>,
 ) -> Result<Option<AnswerItem>, AllocError>
-    ensures value { IfOk result (λ o. o ≡ option_and_then (answered_type paths.now.items (maps_of maps.now)) item) }
+    ensures value { IfOk result (λ o. o ≡ option_and_then (answered_type tables.now.files (maps_of maps.now)) item) }
 {
     match item {
         Some(item) => {
-            let def = definition_at(alloc, paths, maps, item.def)?;
-            let import = maybe_import(alloc, paths, item.import)?;
-            let vis = visibility_at(alloc, paths, maps, item.vis)?;
+            let def = definition_at(alloc, tables, maps, item.def)?;
+            let import = maybe_import(alloc, tables, item.import)?;
+            let vis = visibility_at(alloc, tables, maps, item.vis)?;
             Ok(all_of(def, import, vis))
         }
         None => Ok(None),
@@ -131,17 +131,17 @@ fn type_at(
 /// What a value is answered.
 fn value_at(
     alloc: Global,
-    paths: &Vec<FilePath>,
+    tables: &Tables,
     maps: &DefMaps<'_>,
     item: Option<ValuesItem>,
 ) -> Result<Option<AnswerItem>, AllocError>
-    ensures value { IfOk result (λ o. o ≡ option_and_then (answered_value paths.now.items (maps_of maps.now)) item) }
+    ensures value { IfOk result (λ o. o ≡ option_and_then (answered_value tables.now.files (maps_of maps.now)) item) }
 {
     match item {
         Some(item) => {
-            let def = definition_at(alloc, paths, maps, item.def)?;
-            let import = maybe_value_import(alloc, paths, item.import)?;
-            let vis = visibility_at(alloc, paths, maps, item.vis)?;
+            let def = definition_at(alloc, tables, maps, item.def)?;
+            let import = maybe_value_import(alloc, tables, item.import)?;
+            let vis = visibility_at(alloc, tables, maps, item.vis)?;
             Ok(all_of(def, import, vis))
         }
         None => Ok(None),
@@ -151,17 +151,17 @@ fn value_at(
 /// What a macro is answered.
 fn macro_item_at(
     alloc: Global,
-    paths: &Vec<FilePath>,
+    tables: &Tables,
     maps: &DefMaps<'_>,
     item: Option<MacrosItem>,
 ) -> Result<Option<AnswerItem>, AllocError>
-    ensures value { IfOk result (λ o. o ≡ option_and_then (answered_macro paths.now.items (maps_of maps.now)) item) }
+    ensures value { IfOk result (λ o. o ≡ option_and_then (answered_macro tables.now.files (maps_of maps.now)) item) }
 {
     match item {
         Some(item) => {
-            let def = macro_at(alloc, paths, item.def)?;
-            let import = maybe_import(alloc, paths, item.import)?;
-            let vis = visibility_at(alloc, paths, maps, item.vis)?;
+            let def = macro_at(alloc, tables, item.def)?;
+            let import = maybe_import(alloc, tables, item.import)?;
+            let vis = visibility_at(alloc, tables, maps, item.vis)?;
             Ok(all_of(def, import, vis))
         }
         None => Ok(None),
@@ -171,7 +171,7 @@ fn macro_item_at(
 /// What a path means in a module of one of the maps, in source items.
 pub fn answer_at(
     alloc: Global,
-    paths: &Vec<FilePath>,
+    tables: &Tables,
     maps: &DefMaps<'_>,
     local: &LocalDefMap,
     at: ModuleId,
@@ -179,7 +179,7 @@ pub fn answer_at(
     shadow: Shadow,
     style: Option<MacroStyle>,
 ) -> Result<Answer, AllocError>
-    ensures value { IfOk result (λ a. a ≡ answer_in paths.now.items (maps_of maps.now) local.now at path.now shadow style) }
+    ensures value { IfOk result (λ a. a ≡ answer_in tables.now.files (maps_of maps.now) local.now at path.now shadow style) }
 {
     let mode = ResolveMode::Other;
     let found = maps.resolve_path_fp_with_macro(
@@ -191,9 +191,9 @@ pub fn answer_at(
         sub_ns(style),
     );
     let items = found.resolved_def;
-    let types = type_at(alloc, paths, maps, items.types)?;
-    let values = value_at(alloc, paths, maps, items.values)?;
-    let macros = macro_item_at(alloc, paths, maps, items.macros)?;
+    let types = type_at(alloc, tables, maps, items.types)?;
+    let values = value_at(alloc, tables, maps, items.values)?;
+    let macros = macro_item_at(alloc, tables, maps, items.macros)?;
     Ok(Answer {
         types,
         values,

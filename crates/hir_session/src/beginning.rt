@@ -1,10 +1,11 @@
 //! What a session begins with.
-ghost use Rattle.std.specs.Prelude.{◌≡◌, ◌<◌, ◌^◌, map, true, length, IfOk, option_map};
+ghost use Rattle.std.specs.Prelude.{◌≡◌, ◌<◌, ◌^◌, map, true, Some, IfOk, OnOk, option_map};
 ghost use Rattle.hir_base.specs.CfgOptions.{SetAlike};
 ghost use Rattle.hir_wire.specs.CommandValue.{crate_input_view};
 ghost use Rattle.hir_session.specs.Refusals.{dependency_crates, has_late, first_out_of_order};
 ghost use Rattle.hir_session.specs.Behind.{AreBehind, AreBuilt};
-ghost use Rattle.hir_session.specs.Beginning.{dependency_of, IsMade, AreMade};
+ghost use Rattle.hir_session.specs.Beginning.{dependency_of, IsAdded, IsMade, AreMade, AreRooted};
+ghost use Rattle.hir_tables.specs.Tables.{file_at, KeepsTables};
 
 use crate::behind::behind_of;
 use crate::crate_info::CrateInfo;
@@ -15,6 +16,7 @@ use hir_base::cfg_options::CfgOptions;
 use hir_base::file_path::FilePath;
 use hir_base::ids::Crate;
 use hir_def_collector::source_database::{CrateData, Dependency as RunDependency};
+use hir_tables::Tables;
 use hir_wire::command::{CrateInput, Dependency};
 use std::alloc::{AllocError, Global};
 use std::rc::Rc;
@@ -84,18 +86,20 @@ fn options_of(alloc: Global, atoms: &Vec<CfgAtom>) -> Result<CfgOptions, AllocEr
     Ok(options)
 }
 
-/// A crate of this number, with a root file of the same, behind the crates before it.
+/// A crate with a root file of this number, behind the crates before it.
 fn info_of(
     alloc: Global,
-    k: u32,
+    file: FileId,
     input: &CrateInput,
     before: &Vec<CrateInfo>,
 ) -> Result<CrateInfo, AllocError>
-    ensures made { IfOk result (λ c. IsMade k (crate_input_view input.now) c) }
+    ensures made { IfOk result (λ c. IsMade (crate_input_view input.now) c) }
+    ensures number { IfOk result (λ c. c.own.root.file_id ≡ file) }
+    ensures root { IfOk result (λ c. c.root_path ≡ (crate_input_view input.now).root) }
     ensures behind { IfOk result (λ c. AreBehind before.now.items c.dependencies c.own.behind) }
 {
     let root = EditionedFileId {
-        file_id: FileId(k),
+        file_id: file,
         edition: input.edition,
     };
     let dependencies = named_crates(alloc, input.deps.as_slice())?;
@@ -108,26 +112,45 @@ fn info_of(
     Ok(CrateInfo::new(own, dependencies, options, root_path, attrs))
 }
 
-/// The crates of a session.
-pub fn infos_of(alloc: Global, inputs: &Vec<CrateInput>) -> Result<Vec<CrateInfo>, AllocError>
-    requires few { length inputs.now.items < 2 ^ 32 }
-    ensures made { IfOk result (λ v. AreMade 0 (map crate_input_view inputs.now.items) v.items) }
-    ensures built { IfOk result (λ v. AreBuilt v.items) }
+/// The number of a root file. A session has too few crates for numbers to run out.
+fn number_of(tables: &mut Tables, root: FilePath) -> Result<FileId, AllocError>
+    ensures found { IfOk result (λ id. file_at tables.new id ≡ Some root) }
+    ensures kept { KeepsTables tables.old tables.new }
 {
-    let mut infos = Vec::new(alloc);
-    for k in 0..inputs.as_slice().len() {
-        infos.push(info_of(alloc, k as u32, &inputs[k], &infos)?)?;
+    match tables.intern_file(root) {
+        Ok(number) => Ok(number),
+        Err(_) => Err(AllocError),
     }
-    Ok(infos)
 }
 
-/// The root files of the crates.
-pub fn roots_of(alloc: Global, inputs: &Vec<CrateInput>) -> Result<Vec<FilePath>, AllocError>
-    ensures value { IfOk result (λ v. v.items ≡ map (λ c. c.root) (map crate_input_view inputs.now.items)) }
+/// Adds a crate behind those before it.
+fn add_crate(
+    alloc: Global,
+    input: &CrateInput,
+    infos: &mut Vec<CrateInfo>,
+    tables: &mut Tables,
+) -> Result<(), AllocError>
+    ensures added { OnOk result (IsAdded (crate_input_view input.now) infos.old.items infos.new.items tables.old tables.new) }
 {
-    let mut paths = Vec::new(alloc);
+    let file = number_of(tables, input.root.clone()?)?;
+    let info = info_of(alloc, file, input, infos)?;
+    infos.push(info)?;
+    Ok(())
+}
+
+/// The crates of a session, and the numbers of their root files.
+pub fn infos_of(
+    alloc: Global,
+    inputs: &Vec<CrateInput>,
+    tables: &mut Tables,
+) -> Result<Vec<CrateInfo>, AllocError>
+    ensures made { IfOk result (λ v. AreMade (map crate_input_view inputs.now.items) v.items) }
+    ensures built { IfOk result (λ v. AreBuilt v.items) }
+    ensures rooted { IfOk result (λ v. AreRooted tables.new v.items) }
+{
+    let mut infos = Vec::new(alloc);
     for input in inputs {
-        paths.push(input.root.clone()?)?;
+        add_crate(alloc, input, &mut infos, tables)?;
     }
-    Ok(paths)
+    Ok(infos)
 }

@@ -18,54 +18,53 @@ use hir_base::file_path::FilePath;
 use hir_base::ids::{Crate, MapId};
 use hir_def_collector::source_database::Key;
 use hir_item_tree::source::Source;
+use hir_tables::Tables;
 use std::alloc::{AllocError, Global};
-use trees::is_any_tree_altered;
+use trees::{EditedFile, is_any_tree_altered};
 
 /// Whether one of the keys of a crate's run is altered. Side lists are made where the run asked for variants of the file.
 fn is_any_altered(
     alloc: Global,
     crates: &Vec<CrateInfo>,
-    paths: &Vec<FilePath>,
     files: &Files,
-    path: &FilePath,
+    file: &EditedFile<'_>,
     new: Option<&Source>,
     krate: Crate,
     keys: &[Key],
 ) -> Result<bool, AllocError>
-    ensures none { IfOk result (λ altered. altered ≡ false → AgreeOn keys.now (workspace_in crates.now.items paths.now.items files.now) no_maps
-        (workspace_in crates.now.items paths.now.items (edited_at files.now path.now (option_map (λ s. source_view s.now) new.entry))) no_maps) }
-    ensures some { IfOk result (λ altered. altered ≡ true → HasAltered (workspace_in crates.now.items paths.now.items files.now)
-        (workspace_in crates.now.items paths.now.items (edited_at files.now path.now (option_map (λ s. source_view s.now) new.entry))) keys.now) }
+    ensures none { IfOk result (λ altered. altered ≡ false → AgreeOn keys.now (workspace_in crates.now.items file.now.tables.now.files files.now) no_maps
+        (workspace_in crates.now.items file.now.tables.now.files (edited_at files.now file.now.path.now (option_map (λ s. source_view s.now) new.entry))) no_maps) }
+    ensures some { IfOk result (λ altered. altered ≡ true → HasAltered (workspace_in crates.now.items file.now.tables.now.files files.now)
+        (workspace_in crates.now.items file.now.tables.now.files (edited_at files.now file.now.path.now (option_map (λ s. source_view s.now) new.entry))) keys.now) }
 {
-    if is_any_tree_altered(alloc, crates, paths, files, path, new, keys)? {
+    if is_any_tree_altered(alloc, crates, files, file, new, keys)? {
         return Ok(true);
     }
-    if !asks_for_variants(paths, path, keys) {
+    if !asks_for_variants(file, keys) {
         return Ok(false);
     }
-    let sides = sides_of(alloc, crates, krate, files.get(path), new)?;
-    is_any_enum_altered(alloc, crates, paths, files, path, new, &sides, keys)
+    let sides = sides_of(alloc, crates, krate, files.get(file.path), new)?;
+    is_any_enum_altered(alloc, crates, files, file, new, &sides, keys)
 }
 
 /// Whether the run of which this is kept for a place asked for something that is altered.
 fn is_told(
     alloc: Global,
     crates: &Vec<CrateInfo>,
-    paths: &Vec<FilePath>,
     files: &Files,
-    path: &FilePath,
+    file: &EditedFile<'_>,
     new: Option<&Source>,
     kept: &Kept,
     id: MapId,
 ) -> Result<bool, AllocError>
-    ensures told { IfOk result (λ hit. IsTold (workspace_in crates.now.items paths.now.items files.now)
-        (workspace_in crates.now.items paths.now.items (edited_at files.now path.now (option_map (λ s. source_view s.now) new.entry)))
+    ensures told { IfOk result (λ hit. IsTold (workspace_in crates.now.items file.now.tables.now.files files.now)
+        (workspace_in crates.now.items file.now.tables.now.files (edited_at files.now file.now.path.now (option_map (λ s. source_view s.now) new.entry)))
         (kept_in kept.now id) hit) }
 {
     match kept.get(id) {
         Some(found) => {
             let krate = found.map.krate();
-            is_any_altered(alloc, crates, paths, files, path, new, krate, found.asked)
+            is_any_altered(alloc, crates, files, file, new, krate, found.asked)
         }
         None => Ok(false),
     }
@@ -75,43 +74,70 @@ fn is_told(
 fn judge(
     alloc: Global,
     crates: &Vec<CrateInfo>,
-    paths: &Vec<FilePath>,
     files: &Files,
-    path: &FilePath,
+    file: &EditedFile<'_>,
     new: Option<&Source>,
     kept: &Kept,
     id: MapId,
     hits: &mut Vec<MapId>,
 ) -> Result<(), AllocError>
-    ensures judged { OnOk result (IsJudged (workspace_in crates.now.items paths.now.items files.now)
-        (workspace_in crates.now.items paths.now.items (edited_at files.now path.now (option_map (λ s. source_view s.now) new.entry)))
+    ensures judged { OnOk result (IsJudged (workspace_in crates.now.items file.now.tables.now.files files.now)
+        (workspace_in crates.now.items file.now.tables.now.files (edited_at files.now file.now.path.now (option_map (λ s. source_view s.now) new.entry)))
         (kept_in kept.now id) id hits.old.items hits.new.items) }
 {
-    if is_told(alloc, crates, paths, files, path, new, kept, id)? {
+    if is_told(alloc, crates, files, file, new, kept, id)? {
         hits.push(id)?;
     }
     Ok(())
 }
 
-/// The places of which the run asked for something that is altered. Trees are made for those that asked for the file.
+/// The places of which the run asked for something that an edit of a file of the tables alters.
+fn affected_by(
+    alloc: Global,
+    crates: &Vec<CrateInfo>,
+    files: &Files,
+    kept: &Kept,
+    file: &EditedFile<'_>,
+    new: Option<&Source>,
+) -> Result<Vec<MapId>, AllocError>
+    requires few { length crates.now.items < 2 ^ 32 }
+    ensures hit { IfOk result (λ hits. AreHit (workspace_in crates.now.items file.now.tables.now.files files.now)
+        (workspace_in crates.now.items file.now.tables.now.files (edited_at files.now file.now.path.now (option_map (λ s. source_view s.now) new.entry)))
+        kept.now (length crates.now.items) hits.items) }
+{
+    let mut hits = Vec::new(alloc);
+    for k in 0..crates.as_slice().len() {
+        let id = MapId::of_crate(Crate(k as u32));
+        judge(alloc, crates, files, file, new, kept, id, &mut hits)?;
+    }
+    Ok(hits)
+}
+
+/// The places of which the run asked for something that is altered. Trees are made for those that asked for the file,
+/// and none is looked at where no run could name the file.
 pub fn affected(
     alloc: Global,
     crates: &Vec<CrateInfo>,
-    paths: &Vec<FilePath>,
+    tables: &Tables,
     files: &Files,
     kept: &Kept,
     path: &FilePath,
     new: Option<&Source>,
 ) -> Result<Vec<MapId>, AllocError>
     requires few { length crates.now.items < 2 ^ 32 }
-    ensures hit { IfOk result (λ hits. AreHit (workspace_in crates.now.items paths.now.items files.now)
-        (workspace_in crates.now.items paths.now.items (edited_at files.now path.now (option_map (λ s. source_view s.now) new.entry)))
+    ensures hit { IfOk result (λ hits. AreHit (workspace_in crates.now.items tables.now.files files.now)
+        (workspace_in crates.now.items tables.now.files (edited_at files.now path.now (option_map (λ s. source_view s.now) new.entry)))
         kept.now (length crates.now.items) hits.items) }
 {
-    let mut hits = Vec::new(alloc);
-    for k in 0..crates.as_slice().len() {
-        let id = MapId::of_crate(Crate(k as u32));
-        judge(alloc, crates, paths, files, path, new, kept, id, &mut hits)?;
+    match tables.file_number(path) {
+        Some(number) => {
+            let file = EditedFile {
+                tables,
+                path,
+                number,
+            };
+            affected_by(alloc, crates, files, kept, &file, new)
+        }
+        None => Ok(Vec::new(alloc)),
     }
-    Ok(hits)
 }

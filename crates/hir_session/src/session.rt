@@ -17,7 +17,7 @@ ghost use Rattle.hir_session.specs.Changes.{with_files, Becomes, Applies, Refres
 
 mod queries;
 
-use crate::beginning::{first_late, infos_of, roots_of};
+use crate::beginning::{first_late, infos_of};
 use crate::crate_info::CrateInfo;
 use crate::error::{EditError, NewSessionError, RefreshError};
 use crate::file_trees::check_source;
@@ -34,6 +34,7 @@ use hir_base::place::Place;
 use hir_def_collector::collector::collected::Collected;
 use hir_def_collector::laws::runs_name_what_is_there;
 use hir_item_tree::source::Source;
+use hir_tables::Tables;
 use hir_wire::command::CrateInput;
 use hir_wire::edit::Edit;
 use std::alloc::{AllocError, Global};
@@ -46,7 +47,7 @@ pub const MAX_CRATES: usize = 10000;
 #[derive(Drop)]
 pub struct Session {
     crates: Vec<CrateInfo>,
-    paths: Vec<FilePath>,
+    tables: Tables,
     files: Files,
     kept: Kept,
 }
@@ -59,9 +60,9 @@ impl Model for Session {
 
     ghost coded = { coded_session };
 
-    ghost view = { λ s. record { crates = s.crates.items; paths = s.paths.items; files = s.files; kept = s.kept } };
+    ghost view = { λ s. record { crates = s.crates.items; tables = s.tables; files = s.files; kept = s.kept } };
 
-    ghost invariant = { λ s. IsSound (record { crates = s.crates.items; paths = s.paths.items; files = s.files; kept = s.kept }) };
+    ghost invariant = { λ s. IsSound (record { crates = s.crates.items; tables = s.tables; files = s.files; kept = s.kept }) };
 }
 
 /// Puts the place of a crate's root at the end.
@@ -121,7 +122,7 @@ impl Session {
         affected(
             alloc,
             &self.crates,
-            &self.paths,
+            &self.tables,
             &self.files,
             &self.kept,
             file,
@@ -203,7 +204,7 @@ impl Session {
     {
         runs_name_what_is_there();
         let world = self.kept.world();
-        let found = resolve_crate(alloc, &self.crates, &self.paths, &self.files, world, k)?;
+        let found = resolve_crate(alloc, &self.crates, &self.tables, &self.files, world, k)?;
         Ok(found)
     }
 
@@ -249,11 +250,11 @@ fn begin(alloc: Global, inputs: &Vec<CrateInput>) -> Result<Session, AllocError>
     requires ordered { first_out_of_order 0 (map crate_input_view inputs.now.items) ≡ None }
     ensures begins { IfOk result (λ s. Begins (map crate_input_view inputs.now.items) s) }
 {
-    let crates = infos_of(alloc, inputs)?;
-    let paths = roots_of(alloc, inputs)?;
+    let mut tables = Tables::new(alloc);
+    let crates = infos_of(alloc, inputs, &mut tables)?;
     Ok(Session {
         crates,
-        paths,
+        tables,
         files: Files::new(alloc),
         kept: Kept::new(alloc),
     })

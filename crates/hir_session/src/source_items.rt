@@ -8,24 +8,24 @@ pub mod visibilities;
 
 use crate::sources::path_at;
 use hir_base::ast_id::{BlockId, HirFileId, SyntaxId};
-use hir_base::file_path::FilePath;
 use hir_base::ids::Crate;
+use hir_tables::Tables;
 use hir_wire::answer::{Definition, ItemSource, SourceCalls, SourceItem, SourceKind, SourceRoot};
 use std::alloc::{AllocError, Global};
 
 /// What holds syntax, where it is a file of the table.
 fn source_at(
     alloc: Global,
-    paths: &Vec<FilePath>,
+    tables: &Tables,
     file: HirFileId,
     block: Option<BlockId>,
 ) -> Result<Option<ItemSource>, AllocError>
-    ensures value { IfOk result (λ o. o ≡ source_of paths.now.items file block) }
+    ensures value { IfOk result (λ o. o ≡ source_of tables.now.files file block) }
 {
     if block.is_some() {
         return Ok(None);
     }
-    match path_at(paths, file) {
+    match path_at(tables, file) {
         Some(path) => Ok(Some(ItemSource {
             root: SourceRoot::File(path.clone()?),
             calls: SourceCalls::new(Vec::new(alloc)),
@@ -37,16 +37,16 @@ fn source_at(
 /// An item of a crate, by what holds it and its node there.
 fn item_at(
     alloc: Global,
-    paths: &Vec<FilePath>,
+    tables: &Tables,
     krate: Crate,
     kind: SourceKind,
     file: HirFileId,
     block: Option<BlockId>,
     id: SyntaxId,
 ) -> Result<Option<Definition>, AllocError>
-    ensures value { IfOk result (λ o. o ≡ item_of paths.now.items krate kind file block id) }
+    ensures value { IfOk result (λ o. o ≡ item_of tables.now.files krate kind file block id) }
 {
-    match source_at(alloc, paths, file, block)? {
+    match source_at(alloc, tables, file, block)? {
         Some(source) => Ok(Some(Definition::Item {
             krate,
             item: SourceItem { source, kind, id },

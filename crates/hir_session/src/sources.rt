@@ -27,25 +27,26 @@ use hir_item_tree::indexed_source::IndexedSource;
 use hir_item_tree::item_tree::ItemTree;
 use hir_item_tree::side_lists::VariantItem;
 use hir_item_tree::source::Source;
+use hir_tables::Tables;
 use std::alloc::{AllocError, Global};
 
 /// The parts of a session that make up its workspace, and the side lists of one file under a crate.
 #[derive(Drop)]
 pub struct Sources<'a> {
     pub crates: &'a Vec<CrateInfo>,
-    pub paths: &'a Vec<FilePath>,
+    pub tables: &'a Tables,
     pub files: &'a Files,
     krate: Crate,
     file: HirFileId,
     side: &'a IndexedSource,
     ghost indexed: { (id : SyntaxId) → option_and_then entry_variants (entry_of (record { kind = Enum; id = id }) (entries_view side.now.kept.side.items))
-        ≡ variants_under crates.now.items krate.0 (source_in paths.now.items files.now file) id },
+        ≡ variants_under crates.now.items krate.0 (source_in tables.now.files files.now file) id },
 }
 
 impl<'a> SourceDatabase for Sources<'a> {
     ghost use Rattle.hir_session.specs.Files.{workspace_in};
 
-    ghost workspace = { λ s. workspace_in s.crates.now.items s.paths.now.items s.files.now };
+    ghost workspace = { λ s. workspace_in s.crates.now.items s.tables.now.files s.files.now };
 
     fn krate(&self, krate: Crate) -> Option<&CrateData> {
         match self.crates.get(krate.0 as usize) {
@@ -59,13 +60,13 @@ impl<'a> SourceDatabase for Sources<'a> {
             alloc,
             self.crates,
             krate,
-            path_at(self.paths, file),
-            source_at(self.paths, self.files, file),
+            path_at(self.tables, file),
+            source_at(self.tables, self.files, file),
         )
     }
 
     fn present(&self, _krate: Crate, file: HirFileId) -> bool {
-        source_at(self.paths, self.files, file).is_some()
+        source_at(self.tables, self.files, file).is_some()
     }
 
     fn variants(&self, alloc: Global, id: EnumId) -> Result<Option<Vec<VariantItem>>, AllocError> {
@@ -76,27 +77,27 @@ impl<'a> SourceDatabase for Sources<'a> {
         if krate == self.krate && id.loc.file_id == self.file {
             return copy_variants(alloc, variants_in(self.side, id.loc.id));
         }
-        let source = source_at(self.paths, self.files, id.loc.file_id);
+        let source = source_at(self.tables, self.files, id.loc.file_id);
         let side = side_index(alloc, self.crates, krate, source)?;
         copy_variants(alloc, variants_in(&side, id.loc.id))
     }
 }
 
 /// The path of what holds syntax, where it is a file of the table.
-pub fn path_at(paths: &Vec<FilePath>, file: HirFileId) -> Option<&FilePath>
-    ensures value { option_map (λ p. p.now) result ≡ path_in paths.now.items file }
+pub fn path_at(tables: &Tables, file: HirFileId) -> Option<&FilePath>
+    ensures value { option_map (λ p. p.now) result ≡ path_in tables.now.files file }
 {
     match file {
-        HirFileId::File(file) => paths.get(file.file_id.0 as usize),
+        HirFileId::File(file) => tables.file(file.file_id),
         HirFileId::Macro(_) => None,
     }
 }
 
 /// The source of what holds syntax, if it is there.
-fn source_at<'a>(paths: &'a Vec<FilePath>, files: &'a Files, file: HirFileId) -> Option<&'a Source>
-    ensures value { option_map (λ s. source_view s.now) result ≡ source_in paths.now.items files.now file }
+fn source_at<'a>(tables: &'a Tables, files: &'a Files, file: HirFileId) -> Option<&'a Source>
+    ensures value { option_map (λ s. source_view s.now) result ≡ source_in tables.now.files files.now file }
 {
-    match path_at(paths, file) {
+    match path_at(tables, file) {
         Some(path) => files.get(path),
         None => None,
     }
@@ -109,10 +110,10 @@ fn run(
     world: &World,
     start: Start,
 ) -> Result<Collected, RefreshError>
-    ensures resolved { IfOk result (λ found. IsResolved (workspace_in sources.now.crates.now.items sources.now.paths.now.items sources.now.files.now)
+    ensures resolved { IfOk result (λ found. IsResolved (workspace_in sources.now.crates.now.items sources.now.tables.now.files sources.now.files.now)
         (finished_in world.now.maps) start found) }
     ensures many { result ≡ Err RefreshError.TooMany
-        → IsOverlong (workspace_in sources.now.crates.now.items sources.now.paths.now.items sources.now.files.now) (finished_in world.now.maps) start }
+        → IsOverlong (workspace_in sources.now.crates.now.items sources.now.tables.now.files sources.now.files.now) (finished_in world.now.maps) start }
 {
     let found = collect_defs(alloc, sources, world, start)?;
     Ok(found)
@@ -122,24 +123,24 @@ fn run(
 pub fn resolve_crate(
     alloc: Global,
     crates: &Vec<CrateInfo>,
-    paths: &Vec<FilePath>,
+    tables: &Tables,
     files: &Files,
     world: &World,
     k: u32,
 ) -> Result<Collected, RefreshError>
     requires within { k < length crates.now.items }
-    ensures resolved { IfOk result (λ found. IsResolved (workspace_in crates.now.items paths.now.items files.now)
+    ensures resolved { IfOk result (λ found. IsResolved (workspace_in crates.now.items tables.now.files files.now)
         (finished_in world.now.maps) (start_in crates.now.items k) found) }
     ensures many { result ≡ Err RefreshError.TooMany
-        → IsOverlong (workspace_in crates.now.items paths.now.items files.now) (finished_in world.now.maps) (start_in crates.now.items k) }
+        → IsOverlong (workspace_in crates.now.items tables.now.files files.now) (finished_in world.now.maps) (start_in crates.now.items k) }
 {
     let krate = Crate(k);
     let root = crates[k as usize].root();
     let file = HirFileId::File(root);
-    let side = side_index(alloc, crates, krate, source_at(paths, files, file))?;
+    let side = side_index(alloc, crates, krate, source_at(tables, files, file))?;
     let sources = Sources {
         crates,
-        paths,
+        tables,
         files,
         krate,
         file,

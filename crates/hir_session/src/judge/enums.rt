@@ -8,12 +8,11 @@ ghost use Rattle.hir_session.specs.Files.{file_at, variants_under, workspace_in,
 ghost use Rattle.hir_session.specs.Marks.{IsAltered};
 ghost use Rattle.hir_session.specs.Marking.{is_enum_at, AgreeAt, AreSidesOf, HasAltered};
 
-use super::trees::is_file_at;
+use super::trees::{EditedFile, is_file_at};
 use crate::crate_info::CrateInfo;
 use crate::files::Files;
 use crate::side_index::{differ_at, side_index};
 use hir_base::ast_id::SyntaxId;
-use hir_base::file_path::FilePath;
 use hir_base::ids::Crate;
 use hir_def_collector::source_database::Key;
 use hir_item_tree::indexed_source::IndexedSource;
@@ -21,18 +20,18 @@ use hir_item_tree::source::Source;
 use std::alloc::{AllocError, Global};
 
 /// Whether a key is of the variants of an enum in the file at a path.
-fn is_enum_at(paths: &Vec<FilePath>, path: &FilePath, key: Key) -> bool
-    ensures value { result ≡ is_enum_at paths.now.items path.now key }
+fn is_enum_at(file: &EditedFile<'_>, key: Key) -> bool
+    ensures value { result ≡ is_enum_at file.now.tables.now.files file.now.path.now key }
 {
     match key {
-        Key::Variants(id) => id.loc.block.is_none() && is_file_at(paths, id.loc.file_id, path),
+        Key::Variants(id) => id.loc.block.is_none() && is_file_at(file, id.loc.file_id),
         Key::Tree(_, _) | Key::Map(_) => false,
     }
 }
 
 /// Whether one of the keys is of the variants of an enum in the file at a path.
-pub fn asks_for_variants(paths: &Vec<FilePath>, path: &FilePath, keys: &[Key]) -> bool
-    ensures value { result ≡ list_any (is_enum_at paths.now.items path.now) keys.now }
+pub fn asks_for_variants(file: &EditedFile<'_>, keys: &[Key]) -> bool
+    ensures value { result ≡ list_any (is_enum_at file.now.tables.now.files file.now.path.now) keys.now }
 {
     for key in keys {
         if is_enum_at(paths, path, *key) {
@@ -77,18 +76,18 @@ fn are_variants_altered(
     krate: Crate,
     id: SyntaxId,
 ) -> Result<bool, AllocError>
-    requires sides { AreSidesOf crates.now.items sides.now.krate (file_at files.now path.now) (option_map (λ s. source_view s.now) new) sides.now }
+    requires sides { AreSidesOf crates.now.items sides.now.krate (file_at files.now file.now.path.now) (option_map (λ s. source_view s.now) new) sides.now }
     ensures same { IfOk result (λ altered. altered ≡ false
         → variants_under crates.now.items krate.0 (option_map (λ s. source_view s.now) new.entry) id
-        ≡ variants_under crates.now.items krate.0 (file_at files.now path.now) id) }
+        ≡ variants_under crates.now.items krate.0 (file_at files.now file.now.path.now) id) }
     ensures other { IfOk result (λ altered. altered ≡ true
         → variants_under crates.now.items krate.0 (option_map (λ s. source_view s.now) new.entry) id
-        ≢ variants_under crates.now.items krate.0 (file_at files.now path.now) id) }
+        ≢ variants_under crates.now.items krate.0 (file_at files.now file.now.path.now) id) }
 {
     if krate == sides.krate {
         return Ok(differ_at(&sides.old, &sides.new, id));
     }
-    let others = sides_of(alloc, crates, krate, files.get(path), new)?;
+    let others = sides_of(alloc, crates, krate, files.get(file.path), new)?;
     Ok(differ_at(&others.old, &others.new, id))
 }
 
@@ -96,21 +95,20 @@ fn are_variants_altered(
 fn is_enum_altered(
     alloc: Global,
     crates: &Vec<CrateInfo>,
-    paths: &Vec<FilePath>,
     files: &Files,
-    path: &FilePath,
+    file: &EditedFile<'_>,
     new: Option<&Source>,
     sides: &Sides,
     key: Key,
 ) -> Result<bool, AllocError>
-    requires sides { AreSidesOf crates.now.items sides.now.krate (file_at files.now path.now) (option_map (λ s. source_view s.now) new) sides.now }
-    ensures same { IfOk result (λ altered. altered ≡ false → is_enum_at paths.now.items path.now key ≡ true
-        → look (workspace_in crates.now.items paths.now.items (edited_at files.now path.now (option_map (λ s. source_view s.now) new.entry))) no_maps key
-        ≡ look (workspace_in crates.now.items paths.now.items files.now) no_maps key) }
-    ensures other { IfOk result (λ altered. altered ≡ true → IsAltered (workspace_in crates.now.items paths.now.items files.now)
-        (workspace_in crates.now.items paths.now.items (edited_at files.now path.now (option_map (λ s. source_view s.now) new.entry))) key) }
+    requires sides { AreSidesOf crates.now.items sides.now.krate (file_at files.now file.now.path.now) (option_map (λ s. source_view s.now) new) sides.now }
+    ensures same { IfOk result (λ altered. altered ≡ false → is_enum_at file.now.tables.now.files file.now.path.now key ≡ true
+        → look (workspace_in crates.now.items file.now.tables.now.files (edited_at files.now file.now.path.now (option_map (λ s. source_view s.now) new.entry))) no_maps key
+        ≡ look (workspace_in crates.now.items file.now.tables.now.files files.now) no_maps key) }
+    ensures other { IfOk result (λ altered. altered ≡ true → IsAltered (workspace_in crates.now.items file.now.tables.now.files files.now)
+        (workspace_in crates.now.items file.now.tables.now.files (edited_at files.now file.now.path.now (option_map (λ s. source_view s.now) new.entry))) key) }
 {
-    if !is_enum_at(paths, path, key) {
+    if !is_enum_at(file, key) {
         return Ok(false);
     }
     match key {
@@ -126,21 +124,20 @@ fn is_enum_altered(
 pub fn is_any_enum_altered(
     alloc: Global,
     crates: &Vec<CrateInfo>,
-    paths: &Vec<FilePath>,
     files: &Files,
-    path: &FilePath,
+    file: &EditedFile<'_>,
     new: Option<&Source>,
     sides: &Sides,
     keys: &[Key],
 ) -> Result<bool, AllocError>
-    requires sides { AreSidesOf crates.now.items sides.now.krate (file_at files.now path.now) (option_map (λ s. source_view s.now) new) sides.now }
-    ensures none { IfOk result (λ altered. altered ≡ false → AgreeAt paths.now.items path.now true keys.now (workspace_in crates.now.items paths.now.items files.now)
-        (workspace_in crates.now.items paths.now.items (edited_at files.now path.now (option_map (λ s. source_view s.now) new.entry)))) }
-    ensures some { IfOk result (λ altered. altered ≡ true → HasAltered (workspace_in crates.now.items paths.now.items files.now)
-        (workspace_in crates.now.items paths.now.items (edited_at files.now path.now (option_map (λ s. source_view s.now) new.entry))) keys.now) }
+    requires sides { AreSidesOf crates.now.items sides.now.krate (file_at files.now file.now.path.now) (option_map (λ s. source_view s.now) new) sides.now }
+    ensures none { IfOk result (λ altered. altered ≡ false → AgreeAt file.now.tables.now.files file.now.path.now true keys.now (workspace_in crates.now.items file.now.tables.now.files files.now)
+        (workspace_in crates.now.items file.now.tables.now.files (edited_at files.now file.now.path.now (option_map (λ s. source_view s.now) new.entry)))) }
+    ensures some { IfOk result (λ altered. altered ≡ true → HasAltered (workspace_in crates.now.items file.now.tables.now.files files.now)
+        (workspace_in crates.now.items file.now.tables.now.files (edited_at files.now file.now.path.now (option_map (λ s. source_view s.now) new.entry))) keys.now) }
 {
     for key in keys {
-        if is_enum_altered(alloc, crates, paths, files, path, new, sides, *key)? {
+        if is_enum_altered(alloc, crates, files, file, new, sides, *key)? {
             return Ok(true);
         }
     }

@@ -6,18 +6,18 @@ ghost use Rattle.hir_def_collector.specs.Keys.{look};
 ghost use Rattle.hir_def_collector.specs.declared.source_database.Key.TheVariants.{Tree};
 ghost use Rattle.hir_session.specs.Files.{path_in, tree_under, shown, workspace_in, edited_at};
 ghost use Rattle.hir_session.specs.Marks.{IsAltered};
-ghost use Rattle.hir_session.specs.Marking.{is_enum_at, is_path, AgreeAt, HasAltered};
+ghost use Rattle.hir_session.specs.Marking.{is_enum_at, is_path, AgreeAt, HasAltered, IsNumberOf};
 
 use crate::crate_info::CrateInfo;
 use crate::file_trees::make_tree;
 use crate::files::Files;
-use crate::sources::path_at;
-use hir_base::ast_id::HirFileId;
+use hir_base::ast_id::{FileId, HirFileId};
 use hir_base::file_path::FilePath;
 use hir_base::ids::Crate;
 use hir_def_collector::source_database::Key;
 use hir_item_tree::item_tree::ItemTree;
 use hir_item_tree::source::Source;
+use hir_tables::Tables;
 use std::alloc::{AllocError, Global};
 
 /// Whether two trees are different.
@@ -70,13 +70,22 @@ fn becomes_another(
     }
 }
 
-/// Whether what holds syntax is the file at a path.
-pub fn is_file_at(paths: &Vec<FilePath>, file: HirFileId, path: &FilePath) -> bool
-    ensures value { result ≡ is_path path.now (path_in paths.now.items file) }
+/// A file that is edited, by its path and its number.
+#[derive(Drop)]
+pub struct EditedFile<'a> {
+    pub tables: &'a Tables,
+    pub path: &'a FilePath,
+    pub number: FileId,
+    ghost numbered: { IsNumberOf tables.now path.now number },
+}
+
+/// Whether what holds syntax is the file.
+pub fn is_file_at(file: &EditedFile<'_>, id: HirFileId) -> bool
+    ensures value { result ≡ is_path file.now.path.now (path_in file.now.tables.now.files id) }
 {
-    match path_at(paths, file) {
-        Some(other) => *other == *path,
-        None => false,
+    match id {
+        HirFileId::File(other) => other.file_id.0 == file.number.0,
+        HirFileId::Macro(_) => false,
     }
 }
 
@@ -84,23 +93,22 @@ pub fn is_file_at(paths: &Vec<FilePath>, file: HirFileId, path: &FilePath) -> bo
 fn is_tree_altered(
     alloc: Global,
     crates: &Vec<CrateInfo>,
-    paths: &Vec<FilePath>,
     files: &Files,
-    path: &FilePath,
+    file: &EditedFile<'_>,
     new: Option<&Source>,
     krate: Crate,
-    file: HirFileId,
+    id: HirFileId,
 ) -> Result<bool, AllocError>
     ensures same { IfOk result (λ altered. altered ≡ false
-        → look (workspace_in crates.now.items paths.now.items (edited_at files.now path.now (option_map (λ s. source_view s.now) new.entry)))
-        no_maps (Tree krate file)
-        ≡ look (workspace_in crates.now.items paths.now.items files.now) no_maps (Tree krate file)) }
-    ensures other { IfOk result (λ altered. altered ≡ true → IsAltered (workspace_in crates.now.items paths.now.items files.now)
-        (workspace_in crates.now.items paths.now.items (edited_at files.now path.now (option_map (λ s. source_view s.now) new.entry)))
-        (Tree krate file)) }
+        → look (workspace_in crates.now.items file.now.tables.now.files (edited_at files.now file.now.path.now (option_map (λ s. source_view s.now) new.entry)))
+        no_maps (Tree krate id)
+        ≡ look (workspace_in crates.now.items file.now.tables.now.files files.now) no_maps (Tree krate id)) }
+    ensures other { IfOk result (λ altered. altered ≡ true → IsAltered (workspace_in crates.now.items file.now.tables.now.files files.now)
+        (workspace_in crates.now.items file.now.tables.now.files (edited_at files.now file.now.path.now (option_map (λ s. source_view s.now) new.entry)))
+        (Tree krate id)) }
 {
-    if is_file_at(paths, file, path) {
-        becomes_another(alloc, crates, krate, path, files.get(path), new)
+    if is_file_at(file, id) {
+        becomes_another(alloc, crates, krate, file.path, files.get(file.path), new)
     } else {
         Ok(false)
     }
@@ -111,22 +119,19 @@ fn is_tree_altered(
 fn is_altered(
     alloc: Global,
     crates: &Vec<CrateInfo>,
-    paths: &Vec<FilePath>,
     files: &Files,
-    path: &FilePath,
+    file: &EditedFile<'_>,
     new: Option<&Source>,
     key: Key,
 ) -> Result<bool, AllocError>
-    ensures same { IfOk result (λ altered. altered ≡ false → is_enum_at paths.now.items path.now key ≡ false
-        → look (workspace_in crates.now.items paths.now.items (edited_at files.now path.now (option_map (λ s. source_view s.now) new.entry))) no_maps key
-        ≡ look (workspace_in crates.now.items paths.now.items files.now) no_maps key) }
-    ensures other { IfOk result (λ altered. altered ≡ true → IsAltered (workspace_in crates.now.items paths.now.items files.now)
-        (workspace_in crates.now.items paths.now.items (edited_at files.now path.now (option_map (λ s. source_view s.now) new.entry))) key) }
+    ensures same { IfOk result (λ altered. altered ≡ false → is_enum_at file.now.tables.now.files file.now.path.now key ≡ false
+        → look (workspace_in crates.now.items file.now.tables.now.files (edited_at files.now file.now.path.now (option_map (λ s. source_view s.now) new.entry))) no_maps key
+        ≡ look (workspace_in crates.now.items file.now.tables.now.files files.now) no_maps key) }
+    ensures other { IfOk result (λ altered. altered ≡ true → IsAltered (workspace_in crates.now.items file.now.tables.now.files files.now)
+        (workspace_in crates.now.items file.now.tables.now.files (edited_at files.now file.now.path.now (option_map (λ s. source_view s.now) new.entry))) key) }
 {
     match key {
-        Key::Tree(krate, file) => {
-            is_tree_altered(alloc, crates, paths, files, path, new, krate, file)
-        }
+        Key::Tree(krate, id) => { is_tree_altered(alloc, crates, files, file, new, krate, id) }
         Key::Variants(_) | Key::Map(_) => Ok(false),
     }
 }
@@ -135,19 +140,18 @@ fn is_altered(
 pub fn is_any_tree_altered(
     alloc: Global,
     crates: &Vec<CrateInfo>,
-    paths: &Vec<FilePath>,
     files: &Files,
-    path: &FilePath,
+    file: &EditedFile<'_>,
     new: Option<&Source>,
     keys: &[Key],
 ) -> Result<bool, AllocError>
-    ensures none { IfOk result (λ altered. altered ≡ false → AgreeAt paths.now.items path.now false keys.now (workspace_in crates.now.items paths.now.items files.now)
-        (workspace_in crates.now.items paths.now.items (edited_at files.now path.now (option_map (λ s. source_view s.now) new.entry)))) }
-    ensures some { IfOk result (λ altered. altered ≡ true → HasAltered (workspace_in crates.now.items paths.now.items files.now)
-        (workspace_in crates.now.items paths.now.items (edited_at files.now path.now (option_map (λ s. source_view s.now) new.entry))) keys.now) }
+    ensures none { IfOk result (λ altered. altered ≡ false → AgreeAt file.now.tables.now.files file.now.path.now false keys.now (workspace_in crates.now.items file.now.tables.now.files files.now)
+        (workspace_in crates.now.items file.now.tables.now.files (edited_at files.now file.now.path.now (option_map (λ s. source_view s.now) new.entry)))) }
+    ensures some { IfOk result (λ altered. altered ≡ true → HasAltered (workspace_in crates.now.items file.now.tables.now.files files.now)
+        (workspace_in crates.now.items file.now.tables.now.files (edited_at files.now file.now.path.now (option_map (λ s. source_view s.now) new.entry))) keys.now) }
 {
     for key in keys {
-        if is_altered(alloc, crates, paths, files, path, new, *key)? {
+        if is_altered(alloc, crates, files, file, new, *key)? {
             return Ok(true);
         }
     }

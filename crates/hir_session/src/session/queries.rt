@@ -74,7 +74,7 @@ impl Session {
         shadow: Shadow,
         style: Option<MacroStyle>,
     ) -> Result<Answer, QueryError>
-        ensures answer { Gives IsQueryMemory result (answer_from self.now.paths (read_of self.now (map_of place.now)) (kept_of self.now (map_of place.now))
+        ensures answer { Gives IsQueryMemory result (answer_from self.now.tables.files (read_of self.now (map_of place.now)) (kept_of self.now (map_of place.now))
             (module_of self.now place.now) path.now shadow style) }
     {
         let Some(found) = self.kept.get(MapId::of_crate(place.krate())) else {
@@ -89,7 +89,7 @@ impl Session {
                 let maps = DefMaps::new(read, found.map);
                 let answer = answer_at(
                     alloc,
-                    &self.paths,
+                    &self.tables,
                     &maps,
                     found.local,
                     at,

@@ -6,11 +6,11 @@ ghost use Rattle.hir_session.specs.SourceItems.{item_of, crate_of, module_by, mo
 
 use super::item_at;
 use hir_base::ast_id::{AstKind, BlockId, HirFileId, SyntaxId};
-use hir_base::file_path::FilePath;
 use hir_base::ids::{AdtId, Crate, ItemContainerId, ModuleDefId, ModuleId};
 use hir_base::macro_kind::MacroId;
 use hir_def_map::def_maps::DefMaps;
 use hir_def_map::nameres::origin::ModuleOrigin;
+use hir_tables::Tables;
 use hir_wire::answer::{Definition, SourceKind};
 use std::alloc::{AllocError, Global};
 
@@ -29,11 +29,11 @@ fn crate_at(container: ItemContainerId) -> Crate
 /// The crate's root, or the module's node; a block is none.
 fn module_with(
     alloc: Global,
-    paths: &Vec<FilePath>,
+    tables: &Tables,
     krate: Crate,
     origin: ModuleOrigin,
 ) -> Result<Option<Definition>, AllocError>
-    ensures value { IfOk result (λ o. o ≡ module_by paths.now.items krate origin) }
+    ensures value { IfOk result (λ o. o ≡ module_by tables.now.files krate origin) }
 {
     match origin {
         ModuleOrigin::CrateRoot { .. } => Ok(Some(Definition::CrateRoot(krate))),
@@ -47,7 +47,15 @@ fn module_with(
             definition: node,
         } => {
             let kind = SourceKind::Node(AstKind::Module);
-            item_at(alloc, paths, krate, kind, node.file_id, tree.block, node.id)
+            item_at(
+                alloc,
+                tables,
+                krate,
+                kind,
+                node.file_id,
+                tree.block,
+                node.id,
+            )
         }
         ModuleOrigin::BlockExpr { .. } => Ok(None),
     }
@@ -66,25 +74,21 @@ fn origin_at(maps: &DefMaps<'_>, m: ModuleId) -> Option<ModuleOrigin>
 /// A module of one of the maps, by its node.
 pub fn module_at(
     alloc: Global,
-    paths: &Vec<FilePath>,
+    tables: &Tables,
     maps: &DefMaps<'_>,
     m: ModuleId,
 ) -> Result<Option<Definition>, AllocError>
-    ensures value { IfOk result (λ o. o ≡ module_definition paths.now.items (maps_of maps.now) m) }
+    ensures value { IfOk result (λ o. o ≡ module_definition tables.now.files (maps_of maps.now) m) }
 {
     match origin_at(maps, m) {
-        Some(origin) => module_with(alloc, paths, m.map.krate, origin),
+        Some(origin) => module_with(alloc, tables, m.map.krate, origin),
         None => Ok(None),
     }
 }
 
 /// A struct, a union or an enum.
-fn adt_at(
-    alloc: Global,
-    paths: &Vec<FilePath>,
-    adt: AdtId,
-) -> Result<Option<Definition>, AllocError>
-    ensures value { IfOk result (λ o. o ≡ adt_definition paths.now.items adt) }
+fn adt_at(alloc: Global, tables: &Tables, adt: AdtId) -> Result<Option<Definition>, AllocError>
+    ensures value { IfOk result (λ o. o ≡ adt_definition tables.now.files adt) }
 {
     match adt {
         AdtId::StructId(i) => {
@@ -92,7 +96,7 @@ fn adt_at(
             let krate = i.loc.container.map.krate;
             item_at(
                 alloc,
-                paths,
+                tables,
                 krate,
                 kind,
                 i.loc.file_id,
@@ -105,7 +109,7 @@ fn adt_at(
             let krate = i.loc.container.map.krate;
             item_at(
                 alloc,
-                paths,
+                tables,
                 krate,
                 kind,
                 i.loc.file_id,
@@ -118,7 +122,7 @@ fn adt_at(
             let krate = i.loc.container.map.krate;
             item_at(
                 alloc,
-                paths,
+                tables,
                 krate,
                 kind,
                 i.loc.file_id,
@@ -132,10 +136,10 @@ fn adt_at(
 /// A macro; a procedural one is named by its function.
 pub fn macro_at(
     alloc: Global,
-    paths: &Vec<FilePath>,
+    tables: &Tables,
     makro: MacroId,
 ) -> Result<Option<Definition>, AllocError>
-    ensures value { IfOk result (λ o. o ≡ macro_definition paths.now.items makro) }
+    ensures value { IfOk result (λ o. o ≡ macro_definition tables.now.files makro) }
 {
     match makro {
         MacroId::Macro2Id(i) => {
@@ -143,7 +147,7 @@ pub fn macro_at(
             let krate = i.loc.container.map.krate;
             item_at(
                 alloc,
-                paths,
+                tables,
                 krate,
                 kind,
                 i.loc.file_id,
@@ -156,7 +160,7 @@ pub fn macro_at(
             let krate = i.loc.container.map.krate;
             item_at(
                 alloc,
-                paths,
+                tables,
                 krate,
                 kind,
                 i.loc.file_id,
@@ -169,7 +173,7 @@ pub fn macro_at(
             let krate = i.loc.container.map.krate;
             item_at(
                 alloc,
-                paths,
+                tables,
                 krate,
                 kind,
                 i.loc.file_id,
@@ -183,34 +187,42 @@ pub fn macro_at(
 /// An item in a module, a trait, an impl or an extern block.
 fn held_item_at(
     alloc: Global,
-    paths: &Vec<FilePath>,
+    tables: &Tables,
     container: ItemContainerId,
     kind: AstKind,
     file: HirFileId,
     block: Option<BlockId>,
     id: SyntaxId,
 ) -> Result<Option<Definition>, AllocError>
-    ensures value { IfOk result (λ o. o ≡ item_of paths.now.items (crate_of container) (SourceKind.Node kind) file block id) }
+    ensures value { IfOk result (λ o. o ≡ item_of tables.now.files (crate_of container) (SourceKind.Node kind) file block id) }
 {
     let krate = crate_at(container);
-    item_at(alloc, paths, krate, SourceKind::Node(kind), file, block, id)
+    item_at(
+        alloc,
+        tables,
+        krate,
+        SourceKind::Node(kind),
+        file,
+        block,
+        id,
+    )
 }
 
 /// What a type or a value stands for.
 pub fn definition_at(
     alloc: Global,
-    paths: &Vec<FilePath>,
+    tables: &Tables,
     maps: &DefMaps<'_>,
     def: ModuleDefId,
 ) -> Result<Option<Definition>, AllocError>
-    ensures value { IfOk result (λ o. o ≡ definition_of paths.now.items (maps_of maps.now) def) }
+    ensures value { IfOk result (λ o. o ≡ definition_of tables.now.files (maps_of maps.now) def) }
 {
     match def {
-        ModuleDefId::ModuleId(m) => module_at(alloc, paths, maps, m),
+        ModuleDefId::ModuleId(m) => module_at(alloc, tables, maps, m),
         ModuleDefId::FunctionId(i) => {
             held_item_at(
                 alloc,
-                paths,
+                tables,
                 i.loc.container,
                 AstKind::Fn,
                 i.loc.file_id,
@@ -218,14 +230,14 @@ pub fn definition_at(
                 i.loc.id,
             )
         }
-        ModuleDefId::AdtId(adt) => adt_at(alloc, paths, adt),
+        ModuleDefId::AdtId(adt) => adt_at(alloc, tables, adt),
         ModuleDefId::EnumVariantId(i) => {
             let kind = SourceKind::Node(AstKind::Variant);
             let parent = i.parent;
             let krate = parent.loc.container.map.krate;
             item_at(
                 alloc,
-                paths,
+                tables,
                 krate,
                 kind,
                 parent.loc.file_id,
@@ -236,7 +248,7 @@ pub fn definition_at(
         ModuleDefId::ConstId(i) => {
             held_item_at(
                 alloc,
-                paths,
+                tables,
                 i.loc.container,
                 AstKind::Const,
                 i.loc.file_id,
@@ -247,7 +259,7 @@ pub fn definition_at(
         ModuleDefId::StaticId(i) => {
             held_item_at(
                 alloc,
-                paths,
+                tables,
                 i.loc.container,
                 AstKind::Static,
                 i.loc.file_id,
@@ -260,7 +272,7 @@ pub fn definition_at(
             let krate = i.loc.container.map.krate;
             item_at(
                 alloc,
-                paths,
+                tables,
                 krate,
                 kind,
                 i.loc.file_id,
@@ -271,7 +283,7 @@ pub fn definition_at(
         ModuleDefId::TypeAliasId(i) => {
             held_item_at(
                 alloc,
-                paths,
+                tables,
                 i.loc.container,
                 AstKind::TypeAlias,
                 i.loc.file_id,
@@ -280,6 +292,6 @@ pub fn definition_at(
             )
         }
         ModuleDefId::BuiltinType(builtin) => Ok(Some(Definition::Builtin(builtin))),
-        ModuleDefId::MacroId(makro) => macro_at(alloc, paths, makro),
+        ModuleDefId::MacroId(makro) => macro_at(alloc, tables, makro),
     }
 }

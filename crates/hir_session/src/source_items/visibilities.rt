@@ -4,10 +4,10 @@ ghost use Rattle.hir_def_map.specs.DefMaps.{maps_of};
 ghost use Rattle.hir_session.specs.SourceItems.{is_explicit, visibility_source};
 
 use super::definitions::module_at;
-use hir_base::file_path::FilePath;
 use hir_def_map::def_maps::DefMaps;
 use hir_item_tree::raw_visibility::VisibilityExplicitness;
 use hir_scope::visibility::Visibility;
+use hir_tables::Tables;
 use hir_wire::answer::AnswerVisibility;
 use std::alloc::{AllocError, Global};
 
@@ -23,16 +23,16 @@ fn is_written(explicitness: VisibilityExplicitness) -> bool
 /// From where a binding is visible.
 pub fn visibility_at(
     alloc: Global,
-    paths: &Vec<FilePath>,
+    tables: &Tables,
     maps: &DefMaps<'_>,
     visibility: Visibility,
 ) -> Result<Option<AnswerVisibility>, AllocError>
-    ensures value { IfOk result (λ o. o ≡ visibility_source paths.now.items (maps_of maps.now) visibility) }
+    ensures value { IfOk result (λ o. o ≡ visibility_source tables.now.files (maps_of maps.now) visibility) }
 {
     match visibility {
         Visibility::Public => Ok(Some(AnswerVisibility::Public)),
         Visibility::PubCrate(krate) => Ok(Some(AnswerVisibility::Crate(krate))),
-        Visibility::Module(m, written) => match module_at(alloc, paths, maps, m)? {
+        Visibility::Module(m, written) => match module_at(alloc, tables, maps, m)? {
             Some(module) => Ok(Some(AnswerVisibility::Module {
                 explicit: is_written(written),
                 module,

@@ -1,6 +1,5 @@
-use Rattle.hir_session.specs.Behind.{AreBuilt}
-use Rattle.hir_session.proofs.Start.{IsMaking}
+use Rattle.hir_session.proofs.Start.{IsBeginning}
 use Rattle.hir_session.proofs.beginning.infos_of.Given as goal
 
-abbrev pub invariant-loop-k : goal.invariant-loop-k
-invariant-loop-k l = IsMaking l.k l.inputs.items l.infos.items × AreBuilt l.infos.items
+abbrev pub invariant-loop-input : goal.invariant-loop-input
+invariant-loop-input l = IsBeginning l.input-index l.inputs.items l.infos.items l.tables

@@ -10,7 +10,7 @@ pub returns-clause-found : goal.returns-clause-found
 returns-clause-found c =
     let now : SessionState = record {
       crates = c.self.inside.crates.items;
-      paths = c.self.inside.paths.items;
+      tables = c.self.inside.tables;
       files = c.self.inside.files;
       kept = c.self.inside.kept;
     } in
