@@ -1,0 +1,52 @@
+//! What holds of all that a session does; each function's contract is a law.
+ghost use Rattle.hir_session.specs.Headline.{RepliesHoldTheHeadline};
+ghost use Rattle.hir_session.specs.Histories.{DifferOnlyWhereAltered, LinesBeginHistories};
+ghost use Rattle.hir_session.specs.Laws.{BodyEditsMarkNothing, BodyEditsLeaveAnswers, SetAbsentFileMarks, RemovePresentFileMarks, RemoveAbsentFileMarksNothing, RemoveAbsentFileLeavesAnswers};
+
+use hir_def_collector::laws::runs_bind_from_sources;
+use hir_def_map::laws::{paths_answer_from_sources, paths_lead_to_what_is_there};
+use hir_item_tree::laws::body_texts_leave_the_tree;
+
+/// Two answers to one query differ only where an edit between them altered something that was asked for behind the first.
+pub fn answers_differ_only_where_altered()
+    ensures law { DifferOnlyWhereAltered }
+{}
+
+/// Where lines are answered from the first state on, a session begins, and then has a history of edits and refreshes.
+pub fn lines_begin_histories()
+    ensures law { LinesBeginHistories }
+{}
+
+/// Each answer of a machine is what its path means by the present sources, and two to one query are alike, or a line
+/// between them was an edit that altered something that was asked for behind the first.
+pub fn replies_hold_the_headline()
+    ensures law { RepliesHoldTheHeadline }
+{
+    runs_bind_from_sources();
+    paths_answer_from_sources();
+    paths_lead_to_what_is_there();
+}
+
+/// An edit that changes nothing but bodies leaves every mark and every answer as it is.
+pub fn body_edits_mark_nothing()
+    ensures law { BodyEditsMarkNothing }
+    ensures answers { BodyEditsLeaveAnswers }
+{
+    body_texts_leave_the_tree();
+}
+
+/// A file that was looked for and wasn't there makes stale what looked for it, once it is set.
+pub fn set_absent_file_marks()
+    ensures law { SetAbsentFileMarks }
+{}
+
+/// A file that was looked for and was there makes stale what looked for it, once it is removed.
+pub fn remove_present_file_marks()
+    ensures law { RemovePresentFileMarks }
+{}
+
+/// Removing a file that isn't there leaves every mark and every answer as it is.
+pub fn remove_absent_file_marks_nothing()
+    ensures law { RemoveAbsentFileMarksNothing }
+    ensures answers { RemoveAbsentFileLeavesAnswers }
+{}
