@@ -13,6 +13,7 @@ use crate::crate_info::CrateInfo;
 use crate::files::Files;
 use crate::side_index::{differ_at, side_index};
 use hir_base::ast_id::SyntaxId;
+use hir_base::file_path::FilePath;
 use hir_base::ids::Crate;
 use hir_def_collector::source_database::Key;
 use hir_item_tree::indexed_source::IndexedSource;
@@ -34,7 +35,7 @@ pub fn asks_for_variants(file: &EditedFile<'_>, keys: &[Key]) -> bool
     ensures value { result ≡ list_any (is_enum_at file.now.tables.now.files file.now.path.now) keys.now }
 {
     for key in keys {
-        if is_enum_at(paths, path, *key) {
+        if is_enum_at(file, *key) {
             return true;
         }
     }
@@ -76,18 +77,18 @@ fn are_variants_altered(
     krate: Crate,
     id: SyntaxId,
 ) -> Result<bool, AllocError>
-    requires sides { AreSidesOf crates.now.items sides.now.krate (file_at files.now file.now.path.now) (option_map (λ s. source_view s.now) new) sides.now }
+    requires sides { AreSidesOf crates.now.items sides.now.krate (file_at files.now path.now) (option_map (λ s. source_view s.now) new) sides.now }
     ensures same { IfOk result (λ altered. altered ≡ false
         → variants_under crates.now.items krate.0 (option_map (λ s. source_view s.now) new.entry) id
-        ≡ variants_under crates.now.items krate.0 (file_at files.now file.now.path.now) id) }
+        ≡ variants_under crates.now.items krate.0 (file_at files.now path.now) id) }
     ensures other { IfOk result (λ altered. altered ≡ true
         → variants_under crates.now.items krate.0 (option_map (λ s. source_view s.now) new.entry) id
-        ≢ variants_under crates.now.items krate.0 (file_at files.now file.now.path.now) id) }
+        ≢ variants_under crates.now.items krate.0 (file_at files.now path.now) id) }
 {
     if krate == sides.krate {
         return Ok(differ_at(&sides.old, &sides.new, id));
     }
-    let others = sides_of(alloc, crates, krate, files.get(file.path), new)?;
+    let others = sides_of(alloc, crates, krate, files.get(path), new)?;
     Ok(differ_at(&others.old, &others.new, id))
 }
 
@@ -114,7 +115,7 @@ fn is_enum_altered(
     match key {
         Key::Variants(id) => {
             let krate = id.loc.container.map.krate;
-            are_variants_altered(alloc, crates, files, path, new, sides, krate, id.loc.id)
+            are_variants_altered(alloc, crates, files, file.path, new, sides, krate, id.loc.id)
         }
         Key::Tree(_, _) | Key::Map(_) => Ok(false),
     }
