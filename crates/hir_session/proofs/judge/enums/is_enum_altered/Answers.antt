@@ -30,11 +30,11 @@ module _ (crates : List CrateValue) (paths : List (List ℕ)) (F : Files) (path 
 
 pub returns-in-Variants-clause-same : goal.returns-in-Variants-clause-same
 returns-in-Variants-clause-same c = on_ok c.are_variants_altered.result (λ altered alike off at.
-    key-same c.args.crates.now.items c.args.paths.now.items c.args.files.now c.args.path.now _ c.in-Variants.id c.args.key c.in-Variants.is at (alike off))
+    key-same c.args.crates.now.items c.args.file.now.tables.now.files c.args.files.now c.args.file.now.path.now _ c.in-Variants.id c.args.key c.in-Variants.is at (alike off))
     c.are_variants_altered.ensures.same
 
 pub returns-in-Variants-clause-other : goal.returns-in-Variants-clause-other
 returns-in-Variants-clause-other c = on_ok c.are_variants_altered.result (λ altered other on.
-    key-differs c.args.crates.now.items c.args.paths.now.items c.args.files.now c.args.path.now _ c.in-Variants.id c.args.key c.in-Variants.is
+    key-differs c.args.crates.now.items c.args.file.now.tables.now.files c.args.files.now c.args.file.now.path.now _ c.in-Variants.id c.args.key c.in-Variants.is
     (sym c.is_enum_at.ensures.value ∙ c.if-not-is_enum_at.false) (other on))
     c.are_variants_altered.ensures.other

@@ -25,6 +25,6 @@ elsewhere crates paths F path there key (inr m) apart =
 
 pub returns-in-Variants : goal.returns-in-Variants
 returns-in-Variants c = record {
-  same = λ _ apart. elsewhere c.args.crates.now.items c.args.paths.now.items c.args.files.now c.args.path.now _ c.args.key c.in-Variants.is apart;
+  same = λ _ apart. elsewhere c.args.crates.now.items c.args.file.now.tables.now.files c.args.files.now c.args.file.now.path.now _ c.args.key c.in-Variants.is apart;
   other = λ wrong. clash wrong refl;
 }

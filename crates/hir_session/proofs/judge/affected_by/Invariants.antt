@@ -2,11 +2,11 @@ use Rattle.std.proofs.Common.{option_map}
 use Rattle.hir_item_tree.specs.Source.{source_view}
 use Rattle.hir_session.specs.Files.{edited_at, workspace_in}
 use Rattle.hir_session.specs.Marking.{AreHit}
-use Rattle.hir_session.proofs.judge.affected.Given as goal
+use Rattle.hir_session.proofs.judge.affected_by.Given as goal
 
 -- the crates so far were judged
 abbrev pub invariant-loop-k : goal.invariant-loop-k
 invariant-loop-k l =
-    AreHit (workspace_in l.crates.items l.paths.items l.files)
-    (workspace_in l.crates.items l.paths.items (edited_at l.files l.path (option_map (λ s. source_view s.now) l.new)))
+    AreHit (workspace_in l.crates.items l.file.tables.now.files l.files)
+    (workspace_in l.crates.items l.file.tables.now.files (edited_at l.files l.file.path.now (option_map (λ s. source_view s.now) l.new)))
     l.kept l.k l.hits.items
