@@ -8,11 +8,10 @@ use Rattle.hir_scope.specs.ModuleTree.{same_crate}
 use Rattle.hir_def_map.specs.Among.{among, among_agrees}
 use Rattle.hir_def_map.specs.Named.{crate_map}
 use Rattle.hir_def_map.specs.State.{Map, Maps, map_in}
-use Rattle.hir_def_collector.specs.declared.collector.Start.{Start}
 use Rattle.hir_def_collector.specs.declared.source_database.Key.{Key}
-use Rattle.hir_def_collector.specs.Workspace.{Workspace, CrateData, TreeLook, behind_in, behind_of, crate_in}
-use Rattle.hir_def_collector.specs.Keys.{Look, of_tree, of_map, of_variants, AgreeOn, map_key}
-use Rattle.hir_def_collector.specs.Start.{root_file, root_key}
+use Rattle.hir_def_collector.specs.Workspace.{TreeLook}
+use Rattle.hir_def_collector.specs.Keys.{Environment, Look, of_tree, of_map, of_variants, absent_tree, look, map_key}
+use Rattle.hir_def_collector.specs.Start.{Beginning, krate_of, root_key, root_tree}
 use Rattle.hir_def_collector.specs.Derivation.{read_by}
 
 -- ---- lists
@@ -43,24 +42,25 @@ seen_map (of_tree t) other = other
 seen_map (of_variants vs) other = other
 seen_map (of_map m) other = m
 
-module _ (start : Start) {keys : List Key} {v w : Workspace} {before finished : Maps} (agrees : AgreeOn keys v before w finished)
-    (root_asked : Contains keys (root_key start)) (maps_asked : (krate : Crate) → Contains (behind_in v start.krate) krate → Contains keys (map_key krate)) where
-  pub same_tree : w.tree start.krate (root_file start) ≡ v.tree start.krate (root_file start)
-  same_tree =
-      let other = v.tree start.krate (root_file start) in
-      ap (λ (l : Look). seen_tree l other) (agrees.same (root_key start) root_asked)
+-- a workspace with its finished maps is like another, where both are spoken of by numbers of their own
+pub record Alike (keys : List Key) (env : Environment) (before : Maps) (other : Environment) (finished : Maps) : Type 0 where
+  pub config : (krate : Crate) → other.workspace.config krate ≡ env.workspace.config krate
+  pub behind : (krate : Crate) → other.workspace.behind krate ≡ env.workspace.behind krate
+  pub same : (key : Key) → Contains keys key → look other.tables other.workspace finished key ≡ look env.tables env.workspace before key
 
-  pub same_crate_data : crate_in w start.krate ≡ crate_in v start.krate
-  same_crate_data = ap (λ (crates : List CrateData). slice_get crates start.krate.0) agrees.crates
+module _ (from : Beginning) {keys : List Key} {env other : Environment} {before finished : Maps} (alike : Alike keys env before other finished)
+    (root_asked : Contains keys (root_key from.start from.tree))
+    (maps_asked : (krate : Crate) → Contains (env.workspace.behind (krate_of from.start)) krate → Contains keys (map_key krate)) where
+  pub same_tree : root_tree other.tables other.workspace from ≡ root_tree env.tables env.workspace from
+  same_tree = ap (λ (l : Look). (seen_tree l absent_tree).tree) (alike.same (root_key from.start from.tree) root_asked)
 
-  same_map : (krate : Crate) → list_any (same_crate krate) (behind_in v start.krate) ≡ true → map_in finished (crate_map krate) ≡ map_in before (crate_map krate)
+  same_map : (krate : Crate) → list_any (same_crate krate) (env.workspace.behind (krate_of from.start)) ≡ true → map_in finished (crate_map krate) ≡ map_in before (crate_map krate)
   same_map krate h =
-      let behind = behind_in v start.krate in
-      let among : Contains behind krate = Contains-from_any exact_crate krate behind h in
-      ap (λ (l : Look). seen_map l None) (agrees.same (map_key krate) (maps_asked krate among))
+      let among : Contains (env.workspace.behind (krate_of from.start)) krate = Contains-from_any exact_crate krate (env.workspace.behind (krate_of from.start)) h in
+      ap (λ (l : Look). seen_map l None) (alike.same (map_key krate) (maps_asked krate among))
 
   -- the maps that a run reads are the same
-  pub same_read : read_by w finished start ≡ read_by v before start
+  pub same_read : read_by other.workspace finished from.start ≡ read_by env.workspace before from.start
   same_read =
-      ap (λ (c : Option CrateData). among (behind_of c) finished) same_crate_data
-      ∙ among_agrees (behind_in v start.krate) finished before same_map
+      ap (λ (crates : List Crate). among crates finished) (alike.behind (krate_of from.start))
+      ∙ among_agrees (env.workspace.behind (krate_of from.start)) finished before same_map

@@ -1,6 +1,7 @@
 -- ---- what is handed in, and what a run may ask for
 pub mod Workspace
 pub mod Keys
+pub mod Asked
 -- ---- where a run stands, and where it begins
 pub mod State
 pub mod CrateTop
