@@ -9,7 +9,7 @@ use Rattle.hir_def_map.specs.State.{Maps}
 use Rattle.hir_def_collector.specs.declared.source_database.Dependency.{Dependency}
 use Rattle.hir_def_collector.specs.declared.source_database.Key.{Key}
 use Rattle.hir_def_collector.specs.declared.source_database.Key.TheVariants as keys
-use Rattle.hir_def_collector.specs.Workspace.{Config, Workspace, dependencies_in, dependencies_of}
+use Rattle.hir_def_collector.specs.Workspace.{ConfigValue, Workspace, dependencies_in, dependencies_of}
 use Rattle.hir_def_collector.specs.Keys.{AgreeOn, Environment, environment, look, map_key, map_keys}
 use Rattle.hir_def_collector.specs.State.{State, Core, at_rest}
 use Rattle.hir_def_collector.specs.Imports.{kind_of, reached_by}
@@ -108,7 +108,7 @@ module _ (tables : TablesValue) (v : Workspace) (before : Maps) (from : Beginnin
     begins_same =
         ap (λ (maps : Maps). start_by maps (root_tree grown w from) (dependencies_of (w.config (krate_of from.start))) (w.behind (krate_of from.start)) from.start from.tree) reads_same
         ∙ ap (λ (t : Tree). start_by (read_by v before from.start) t (dependencies_of (w.config (krate_of from.start))) (w.behind (krate_of from.start)) from.start from.tree) (same_tree from alike root_among map_among)
-        ∙ ap (λ (o : Option Config). start_by (read_by v before from.start) (root_tree tables v from) (dependencies_of o) (w.behind (krate_of from.start)) from.start from.tree) (alike.config (krate_of from.start))
+        ∙ ap (λ (o : Option ConfigValue). start_by (read_by v before from.start) (root_tree tables v from) (dependencies_of o) (w.behind (krate_of from.start)) from.start from.tree) (alike.config (krate_of from.start))
         ∙ ap (λ (crates : List Crate). start_by (read_by v before from.start) (root_tree tables v from) (dependencies_of (v.config (krate_of from.start))) crates from.start from.tree) same_behind
 
     derived_over : Steps (environment grown w) (read_by w finished from.start) (begin_of grown w finished from) (at_rest c)

@@ -19,6 +19,7 @@ pub mod Steps
 -- ---- what a run comes to
 pub mod Derivation
 pub mod Causes
+pub mod Growth
 pub mod Whole
 pub mod Sources
 -- ---- words of private code

@@ -4,16 +4,17 @@ use Rattle.hir_base.specs.ModPath.{Path}
 use Rattle.hir_base.specs.declared.cfg.CfgAtom.{CfgAtom}
 use Rattle.hir_base.specs.declared.edition.Edition.{Edition}
 use Rattle.hir_base.specs.declared.ids.Crate.{Crate}
-use Rattle.hir_item_tree.specs.Attributes.{Attributes}
+use Rattle.hir_item_tree.specs.Attributes.{Attributes, attributes_view}
 use Rattle.hir_item_tree.specs.ItemTree.{Tree}
 use Rattle.hir_item_tree.specs.SideLists.{SideEntry}
 use Rattle.hir_item_tree.specs.declared.check.NodeId.{NodeId}
 use Rattle.hir_tables.specs.SourcePlaces.{ExpansionValue, SourcePlaceValue}
+use Rattle.hir_def_collector.specs.declared.source_database.Config.{Config}
 use Rattle.hir_def_collector.specs.declared.source_database.CrateRoot.{CrateRoot}
 use Rattle.hir_def_collector.specs.declared.source_database.Dependency.{Dependency}
 
 -- what a crate was handed in with, its root aside
-pub record Config : Type 0 where
+pub record ConfigValue : Type 0 where
   pub edition : Edition
   -- the attributes in front of those of its root
   pub attributes : Attributes
@@ -21,6 +22,10 @@ pub record Config : Type 0 where
   pub dependencies : List Dependency
   -- the options that are set
   pub options : List CfgAtom
+
+-- the plain value of that
+abbrev pub config_view : Config → ConfigValue
+config_view c = record { edition = c.edition; attributes = attributes_view c.attributes.items; dependencies = c.dependencies.items; options = c.options }
 
 -- a source under a crate: whether it is there, and what is kept of it; one that is absent keeps no items
 pub record TreeLook : Type 0 where
@@ -37,7 +42,7 @@ pub record EntryLook : Type 0 where
 pub record Workspace : Type 0 where
   pub crates : List CrateRoot
   -- none of a crate that isn't there
-  pub config : Crate → Option Config
+  pub config : Crate → Option ConfigValue
   -- the crates on which a crate stands, directly or through others, by number
   pub behind : Crate → List Crate
   pub tree : Crate → SourcePlaceValue → TreeLook
@@ -49,7 +54,7 @@ abbrev pub crate_in : Workspace → Crate → Option CrateRoot
 crate_in w krate = slice_get w.crates krate.0
 
 -- what a crate depends on; nothing where it isn't there
-abbrev pub dependencies_of : Option Config → List Dependency
+abbrev pub dependencies_of : Option ConfigValue → List Dependency
 dependencies_of None = []
 dependencies_of (Some c) = c.dependencies
 

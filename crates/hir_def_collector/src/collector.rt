@@ -15,7 +15,7 @@ ghost use Rattle.hir_tables.specs.Tables.{KeepsTables};
 ghost use Rattle.hir_def_map.specs.Parts.{part_of};
 ghost use Rattle.hir_def_map.specs.State.{Maps};
 ghost use Rattle.hir_def_map.specs.World.{finished_in};
-ghost use Rattle.hir_def_collector.specs.Workspace.{Workspace, dependencies_of};
+ghost use Rattle.hir_def_collector.specs.Workspace.{Workspace, config_view, dependencies_of};
 ghost use Rattle.hir_def_collector.specs.Keys.{AgreeOn, environment, tree_at};
 ghost use Rattle.hir_def_collector.specs.Start.{beginning, core_of, edition_of, krate_of, origin_of, root_site, start_by, tree_key, tree_visits};
 ghost use Rattle.hir_def_collector.specs.State.{at_rest, joined};
@@ -140,6 +140,7 @@ impl From<AddModuleError> for CollectError {
 /// `tree` is the tree of the crate's root file, and `local` is of no use to a crate. Of the tree's items all kinds but
 /// modules in files of their own, macro calls and macros, which are passed over, and its imports but globs, which are
 /// left over. After rust-analyzer's `collect_defs`.
+#[tactic(auto, using(crate::proofs::Numbers::tables_stay))]
 pub fn collect_defs<D: SourceDatabase>(
     alloc: Global,
     db: &D,
@@ -170,10 +171,10 @@ pub fn collect_defs<D: SourceDatabase>(
 
 /// What a crate depends on; nothing where it isn't there.
 fn dependencies_of(config: Option<&Config>) -> &[Dependency]
-    ensures value { result.now ≡ dependencies_of (option_map (λ c. c.now) config.entry) }
+    ensures value { result.now ≡ dependencies_of (option_map (λ c. config_view c.now) config.entry) }
 {
     match config {
-        Some(config) => config.dependencies(),
+        Some(config) => config.dependencies.as_slice(),
         None => &[],
     }
 }

@@ -2,11 +2,10 @@
 ghost use Rattle.std.specs.Prelude.{◌≡◌, IfOk, [], option_map, unwrap_or};
 ghost use Rattle.std.specs.Option.{option_and_then};
 ghost use Rattle.hir_base.specs.declared.ast_id.AstKind.TheVariants as kinds;
-ghost use Rattle.hir_item_tree.specs.Attributes.{attributes_view};
 ghost use Rattle.hir_item_tree.specs.SideLists.{entry_variants};
 ghost use Rattle.hir_item_tree.specs.SyntaxIds.{node_id};
 ghost use Rattle.hir_tables.specs.SourcePlaces.{source_value};
-ghost use Rattle.hir_def_collector.specs.Workspace.{Workspace, crate_in};
+ghost use Rattle.hir_def_collector.specs.Workspace.{Workspace, config_view, crate_in};
 
 use hir_base::ast_id::SyntaxId;
 use hir_base::cfg_options::CfgOptions;
@@ -21,7 +20,6 @@ use hir_item_tree::tree_id::TreeKey;
 use hir_tables::SourcePlace;
 use std::alloc::{AllocError, Global};
 use std::collections::BTreeSet;
-use std::marker::Model;
 use std::rc::Rc;
 
 /// What a run may ask for.
@@ -68,64 +66,13 @@ impl Dependency {
 /// What a crate was handed in with, its root aside.
 #[derive(Drop)]
 pub struct Config {
-    edition: Edition,
-    attributes: Vec<RawAttr>,
-    dependencies: Vec<Dependency>,
-    options: CfgOptions,
-}
-
-impl Model for Config {
-    ghost use Rattle.hir_item_tree.specs.Attributes.{attributes_view};
-    ghost use Rattle.hir_def_collector.specs.Workspace.{Config};
-
-    ghost Value = { Config };
-
-    ghost view = { λ c. record { edition = c.edition; attributes = attributes_view c.attributes.items; dependencies = c.dependencies.items; options = c.options } };
-}
-
-impl Config {
-    pub fn new(
-        edition: Edition,
-        attributes: Vec<RawAttr>,
-        dependencies: Vec<Dependency>,
-        options: CfgOptions,
-    ) -> Config
-        ensures value { result ≡ record { edition = edition; attributes = attributes_view attributes.items; dependencies = dependencies.items; options = options } }
-    {
-        Config {
-            edition,
-            attributes,
-            dependencies,
-            options,
-        }
-    }
-
-    pub fn edition(&self) -> Edition
-        ensures value { result ≡ self.now.edition }
-    {
-        self.edition
-    }
-
+    pub edition: Edition,
     /// The attributes in front of those of its root.
-    pub fn attributes(&self) -> &Vec<RawAttr>
-        ensures value { attributes_view result.now.items ≡ self.now.attributes }
-    {
-        &self.attributes
-    }
-
+    pub attributes: Vec<RawAttr>,
     /// The crates that it depends on, in the order in which they were handed in.
-    pub fn dependencies(&self) -> &[Dependency]
-        ensures value { result.now ≡ self.now.dependencies }
-    {
-        self.dependencies.as_slice()
-    }
-
+    pub dependencies: Vec<Dependency>,
     /// The options that are set.
-    pub fn options(&self) -> &CfgOptions
-        ensures value { result.now ≡ self.now.options }
-    {
-        &self.options
-    }
+    pub options: CfgOptions,
 }
 
 /// A workspace, one part at a time.
@@ -141,7 +88,7 @@ pub trait SourceDatabase {
 
     /// What a crate was handed in with.
     fn config(&self, krate: Crate) -> Option<&Config>
-        ensures value { option_map (λ c. c.now) result ≡ (workspace self.now).config krate };
+        ensures value { option_map (λ c. config_view c.now) result ≡ (workspace self.now).config krate };
 
     /// The crates on which a crate stands, directly or through others; none where there is no such crate.
     fn behind(&self, krate: Crate) -> Option<&Rc<BTreeSet<Crate>>>

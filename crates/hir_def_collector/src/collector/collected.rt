@@ -1,5 +1,5 @@
 //! What a run answers.
-ghost use Rattle.std.specs.Prelude.{◌≡◌, List};
+ghost use Rattle.std.specs.Prelude.{◌≡◌, ◌++◌, List};
 ghost use Rattle.std.specs.Iterator.{YieldsFirst, item_count};
 ghost use Rattle.hir_def_collector.specs.Asked.{IsOwnPart};
 ghost use Rattle.hir_def_collector.specs.Keys.{map_keys};
@@ -9,8 +9,8 @@ use hir_base::ids::{Crate, MapId};
 use hir_def_map::nameres::DefMap;
 use hir_def_map::nameres::local_def_map::LocalDefMap;
 use hir_scope::imports::ImportOrExternCrate;
-use std::alloc::AllocError;
 use std::collections::BTreeSet;
+use std::collections::btree_set;
 use std::marker::Model;
 use std::rc::Rc;
 
@@ -60,5 +60,51 @@ impl Asked {
         ensures value { IsOwnPart result.now self.now }
     {
         self.own.as_slice()
+    }
+
+    /// The keys, those of steps first.
+    pub fn iter(&self) -> AskedKeys<'_>
+        ensures value { result ≡ self.now }
+    {
+        AskedKeys {
+            own: self.own.as_slice(),
+            behind: self.behind.iter(),
+        }
+    }
+}
+
+/// The keys that a run asked for, one after another; see `Asked::iter`.
+#[derive(Drop)]
+pub struct AskedKeys<'a> {
+    own: &'a [Key],
+    behind: btree_set::Iter<'a, Crate>,
+}
+
+impl<'a> Model for AskedKeys<'a> {
+    ghost use Rattle.std.specs.Prelude.{List, ◌++◌};
+    ghost use Rattle.hir_def_collector.specs.declared.source_database.Key.{Key};
+    ghost use Rattle.hir_def_collector.specs.Keys.{map_keys};
+
+    ghost Value = { List Key };
+
+    ghost view = { λ k. k.own.now ++ map_keys k.behind };
+}
+
+impl<'a> Iterator for AskedKeys<'a> {
+    type Item = Key;
+
+    ghost next_gives = { YieldsFirst (λ (left : List _). left) };
+
+    ghost remaining = { item_count (λ (left : List _). left) };
+
+    fn next(&mut self) -> Option<Key> {
+        if let [key, others @ ..] = self.own {
+            self.own = others;
+            return Some(*key);
+        }
+        match self.behind.next() {
+            Some(krate) => Some(Key::Map(MapId::of_crate(*krate))),
+            None => None,
+        }
     }
 }
