@@ -22,7 +22,7 @@ module _ (holders : List ModuleId) (finished : Maps) (id : MapId) where
   missing None e = e
   missing (Some crates) e = ap (λ (p : Option Placed). cond (is_of_some crates.keys holders id) (option_and_then (with_its_holders crates.keys holders) p) None) e ∙ none (is_of_some crates.keys holders id)
     where
-      none : (b : Bool) → cond b None None ≡ None
+      none : (b : Bool) → cond {A = Option Placed} b None None ≡ None
       none true = refl
       none false = refl
 
@@ -46,22 +46,22 @@ module _ (part : WorldPart) (id : MapId) where
   abbrev whole : Maps
   whole = finished_in part.world.now.maps
 
-  pub part-outside : is_within (option_copied part.crates) part.holders id ≡ false → part_of part id ≡ None
+  pub part-outside : is_within (option_copied part.crates) part.holders.now id ≡ false → part_of part id ≡ None
   unfolding part_of
-  part-outside e = outside part.holders whole id (option_copied part.crates) e
+  part-outside e = outside part.holders.now whole id (option_copied part.crates) e
 
   pub part-missing : finished_in part.world.now.maps id ≡ None → part_of part id ≡ None
   unfolding part_of
-  part-missing e = missing part.holders whole id (option_copied part.crates) e
+  part-missing e = missing part.holders.now whole id (option_copied part.crates) e
 
-  pub part-within : (placed : Placed) → is_within (option_copied part.crates) part.holders id ≡ true → finished_in part.world.now.maps id ≡ Some placed
-      → are_within (option_copied part.crates) part.holders placed.holders ≡ true → part_of part id ≡ Some placed
+  pub part-within : (placed : Placed) → is_within (option_copied part.crates) part.holders.now id ≡ true → finished_in part.world.now.maps id ≡ Some placed
+      → are_within (option_copied part.crates) part.holders.now placed.holders ≡ true → part_of part id ≡ Some placed
   unfolding part_of
-  part-within placed here there held = within part.holders whole id (option_copied part.crates) placed here there held
+  part-within placed here there held = within part.holders.now whole id (option_copied part.crates) placed here there held
 
-  pub part-cut : (placed : Placed) → is_within (option_copied part.crates) part.holders id ≡ true → finished_in part.world.now.maps id ≡ Some placed
-      → are_within (option_copied part.crates) part.holders placed.holders ≡ false → part_of part id ≡ None
+  pub part-cut : (placed : Placed) → is_within (option_copied part.crates) part.holders.now id ≡ true → finished_in part.world.now.maps id ≡ Some placed
+      → are_within (option_copied part.crates) part.holders.now placed.holders ≡ false → part_of part id ≡ None
   unfolding part_of
-  part-cut placed here there held = cut part.holders whole id (option_copied part.crates) placed here there held
+  part-cut placed here there held = cut part.holders.now whole id (option_copied part.crates) placed here there held
 
 pub ruleset parts = (part-outside, part-missing, part-within, part-cut)

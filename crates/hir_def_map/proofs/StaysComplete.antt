@@ -269,9 +269,9 @@ module _ (finished : Maps) (map : Map) (at : ℕ) (here : at < length map.module
   NamesOnly-made f =
       let more = NamesOnly-more (beside finished map) (beside finished grown) Extends-made map f in
       record {
-        own_crate = f.own_crate;
-        held = f.held;
-        outside = f.outside;
+        own_crate = more.own_crate;
+        held = more.held;
+        outside = more.outside;
         root = longer older made;
         in_order = in_order;
         modules = none_more (names_in_module (is_missing (beside finished grown))) older made

@@ -26,13 +26,13 @@ abbrev pub are_within : Option (BTreeSet Crate) → List ModuleId → List Modul
 are_within crates holders modules = list_all (λ (h : ModuleId). is_within crates holders h.map) modules
 
 unfoldable pub part_of : WorldPart → Maps
-part_of part = limited_to (option_copied part.crates) part.holders (finished_in part.world.now.maps)
+part_of part = limited_to (option_copied part.crates) part.holders.now (finished_in part.world.now.maps)
 
 -- they are in their places
 pub part_placed : (part : WorldPart) → IsPlaced (part_of part)
 unfolding part_of
 part_placed part = go (option_copied part.crates)
   where
-    go : (o : Option (BTreeSet Crate)) → IsPlaced (limited_to o part.holders (finished_in part.world.now.maps))
+    go : (o : Option (BTreeSet Crate)) → IsPlaced (limited_to o part.holders.now (finished_in part.world.now.maps))
     go None = part.world.now.checked.placed
-    go (Some crates) = IsPlaced-among crates.keys part.holders (finished_in part.world.now.maps) part.world.now.checked.placed
+    go (Some crates) = IsPlaced-among crates.keys part.holders.now (finished_in part.world.now.maps) part.world.now.checked.placed

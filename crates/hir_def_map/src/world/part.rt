@@ -61,7 +61,7 @@ impl<'a> WorldPart<'a> {
 
     /// Whether one of the holders lies in a map.
     fn has_holder_in(&self, id: MapId) -> bool
-        ensures value { result ≡ list_any (λ (h : ModuleId). map_id.ghosts.eq h.map id) self.now.holders }
+        ensures value { result ≡ list_any (λ (h : ModuleId). map_id.ghosts.eq h.map id) self.now.holders.now }
     {
         let mut left = self.holders;
         'next: while let [holder, others @ ..] = left {
@@ -74,7 +74,7 @@ impl<'a> WorldPart<'a> {
     }
 
     fn is_within(&self, id: MapId) -> bool
-        ensures value { result ≡ is_within (option_copied self.now.crates) self.now.holders id }
+        ensures value { result ≡ is_within (option_copied self.now.crates) self.now.holders.now id }
     {
         match self.crates {
             Some(crates) => {
@@ -85,7 +85,7 @@ impl<'a> WorldPart<'a> {
     }
 
     fn are_within(&self, modules: &[ModuleId]) -> bool
-        ensures value { result ≡ are_within (option_copied self.now.crates) self.now.holders modules.now }
+        ensures value { result ≡ are_within (option_copied self.now.crates) self.now.holders.now modules.now }
     {
         let mut left = modules;
         'next: while let [module, others @ ..] = left {
