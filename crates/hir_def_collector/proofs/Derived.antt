@@ -159,9 +159,9 @@ module _ (tables : TablesValue) (v : Workspace) (before : Maps) (from : Beginnin
 
 -- a run over the parts of a workspace, beside the maps that it may read, is one over the workspace beside all finished maps
 module _ (tables : TablesValue) (w : Workspace) (finished : Maps) (from : Beginning) (part : Maps) (dependencies : List Dependency) (behind : List Crate)
-    (reads : part ≡ among behind finished) (depends : dependencies ≡ dependencies_in w (krate_of from.start)) (stands : behind ≡ w.behind (krate_of from.start)) where
+    (reads : part ≡ among behind [] finished) (depends : dependencies ≡ dependencies_in w (krate_of from.start)) (stands : behind ≡ w.behind (krate_of from.start)) where
   pub read_whole : part ≡ read_by w finished from.start
-  read_whole = reads ∙ ap (λ (crates : List Crate). among crates finished) stands
+  read_whole = reads ∙ ap (λ (crates : List Crate). among crates [] finished) stands
 
   pub begun : (P : Maps → State → Type 0) → P part (start_by part (root_tree tables w from) dependencies behind from.start from.tree) → P (read_by w finished from.start) (begin_of tables w finished from)
   begun P h =

@@ -296,8 +296,8 @@ module _ (paths : PathsLeadToWhatIsThere) (finished : Maps) (whole : AreWhole fi
     -- the root of its own crate is there, and of each crate on which it depends
     own_there : is_missing (beside finished here) (named.Module (crate_root here.id.krate)) ≡ false
     own_there =
-        let own : here.id ≡ crate_map here.id.krate = λ i. record { krate = here.id.krate; block = f.names.of_crate i } in
-        subst (λ (id : MapId). is_missing (beside finished here) (named.Module (root_of id)) ≡ false) own (ap not (module_there finished here 0 f.names.root))
+        let closed = IsClosed-beside finished here f.apart whole f.names in
+        ap not (closed.roots (crate_map here.id.krate) (closed.crates (root_of here.id) (module_there finished here 0 f.names.root)))
 
     dependency_there : (ds : List Dependency) → list_any (λ (d : Dependency). test_crate (is_missing finished) d.krate) ds ≡ false → (name : List ℕ)
         → test_of (is_missing (beside finished here)) (root_named (dependency_named ds name)) ≡ false
@@ -372,8 +372,9 @@ module _ (finished : Maps) (crate_data : CrateData) (start : Start) where
 
   root_names : finished root.id ≡ None → list_any (test_crate (is_missing finished)) crate_data.dependencies ≡ false → NamesOnly (beside finished root) root
   root_names apart below = record {
-    of_crate = refl;
-    unheld = refl;
+    own_crate = refl;
+    held = refl;
+    outside = refl;
     root = omega arith;
     in_order = λ at m e. first at m e;
     modules = refl;

@@ -59,7 +59,7 @@ collected_view c = record { map = c.map; local = c.local; leftover = c.leftover.
 
 -- the finished maps that a run reads: those of the crates on which its crate stands
 abbrev pub read_by : Workspace → Maps → Start → Maps
-read_by w finished start = among (w.behind (krate_of start)) finished
+read_by w finished start = among (w.behind (krate_of start)) [] finished
 
 -- the start of a run beside finished maps
 abbrev pub begin_of : TablesValue → Workspace → Maps → Beginning → State

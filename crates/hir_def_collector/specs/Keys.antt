@@ -14,7 +14,7 @@ use Rattle.hir_item_tree.specs.declared.tree_id.TreeKey.{TreeKey}
 use Rattle.hir_tables.specs.SourcePlaces.{SourcePlaceValue}
 use Rattle.hir_tables.specs.Tables.{TablesValue, source_of}
 use Rattle.hir_def_map.specs.Named.{crate_map}
-use Rattle.hir_def_map.specs.State.{Map as DefMap, Maps, map_in}
+use Rattle.hir_def_map.specs.State.{Maps, Placed}
 use Rattle.hir_def_collector.specs.declared.source_database.Key.{Key}
 use Rattle.hir_def_collector.specs.declared.source_database.Key.TheVariants.{Tree, Variants, Map}
 use Rattle.hir_def_collector.specs.Workspace.{Workspace, TreeLook}
@@ -62,13 +62,13 @@ variants_at tables w id = option_and_then entry_variants (side_at tables w (enum
 pub data Look : Type 0 where
   of_tree : TreeLook → Look
   of_variants : Option (List VariantItem) → Look
-  of_map : Option DefMap → Look
+  of_map : Option Placed → Look
 
 -- what is there at a key; that it is absent is an answer too
 abbrev pub look : TablesValue → Workspace → Maps → Key → Look
 look tables w finished (Tree key) = of_tree (tree_at tables w key)
 look tables w finished (Variants id) = of_variants (variants_at tables w id)
-look tables w finished (Map id) = of_map (map_in finished id)
+look tables w finished (Map id) = of_map (finished id)
 
 -- the numbers in a key mean something
 abbrev pub HasMeaning : TablesValue → Key → Type 0

@@ -161,7 +161,7 @@ pub fn collect_defs<D: SourceDatabase>(
 {
     let krate = start.krate();
     let behind = behind_of(alloc, db.behind(krate))?;
-    let world = WorldPart::among(world, &behind);
+    let world = WorldPart::among(world, &behind, &[]);
     let dependencies = dependencies_of(db.config(krate));
     let mut run = begin(alloc, db, world, locations, dependencies, &behind, start, tree)?;
     settle(&mut run, world)?;

@@ -1,4 +1,4 @@
-use Rattle.std.proofs.Common.{◌≡◌, ◌∙◌, ℕ, List, rules, option_map, refl, ap, subst}
+use Rattle.std.proofs.Common.{◌≡◌, ◌∙◌, ℕ, List, [], rules, option_map, refl, ap, subst}
 use Rattle.std.specs.BTreeSet.{BTreeSet}
 use Rattle.hir_base.specs.declared.ids.Crate.{Crate}
 use Rattle.hir_def_map.specs.Among.{among}
@@ -23,8 +23,8 @@ returns-in_err-settle-clause-many g c h =
     let from = beginning c.args.start c.args.tree (option_map (λ l. l.now) c.args._local) in
     let depends : c.dependencies_of-dependencies.result.now ≡ dependencies_in w (krate_of c.args.start) =
     c.dependencies_of-dependencies.ensures.value ∙ ap dependencies_of c.config.ensures.value ∙ ap (dependencies_in w) c.krate-krate.ensures.value in
-    let reads : part_of c.among-world.result ≡ among c.in_ok-behind.behind.value.keys all =
-    c.among-world.ensures.value ∙ ap (λ (s : BTreeSet Crate). among s.keys all) c.deref.ensures in
+    let reads : part_of c.among-world.result ≡ among c.in_ok-behind.behind.value.keys [] all =
+    c.among-world.ensures.value ∙ ap (λ (s : BTreeSet Crate). among s.keys [] all) c.deref.ensures in
     let stands : c.in_ok-behind.behind.value.keys ≡ w.behind (krate_of c.args.start) =
     c.in_ok-behind.ensures.value ∙ c.behind.ensures.value ∙ ap w.behind c.krate-krate.ensures.value in
     begun tables w all from (part_of c.among-world.result) c.dependencies_of-dependencies.result.now c.in_ok-behind.behind.value.keys reads depends stands
@@ -38,8 +38,8 @@ returns-clause-ends g c = λ v finished agrees.
     let from = beginning c.args.start c.args.tree (option_map (λ l. l.now) c.args._local) in
     let depends : c.dependencies_of-dependencies.result.now ≡ dependencies_in w (krate_of c.args.start) =
     c.dependencies_of-dependencies.ensures.value ∙ ap dependencies_of c.config.ensures.value ∙ ap (dependencies_in w) c.krate-krate.ensures.value in
-    let reads : part_of c.among-world.result ≡ among c.in_ok-behind.behind.value.keys all =
-    c.among-world.ensures.value ∙ ap (λ (s : BTreeSet Crate). among s.keys all) c.deref.ensures in
+    let reads : part_of c.among-world.result ≡ among c.in_ok-behind.behind.value.keys [] all =
+    c.among-world.ensures.value ∙ ap (λ (s : BTreeSet Crate). among s.keys [] all) c.deref.ensures in
     let stands : c.in_ok-behind.behind.value.keys ≡ w.behind (krate_of c.args.start) =
     c.in_ok-behind.ensures.value ∙ c.behind.ensures.value ∙ ap w.behind c.krate-krate.ensures.value in
     let part = part_of c.among-world.result in
