@@ -1,14 +1,12 @@
 -- Tables that grow keep what their numbers mean.
-use Rattle.std.proofs.Common.{◌≡◌, ℕ, List, Option, Some, None, refl, rules, option_map}
+use Rattle.std.proofs.Common.{◌≡◌, Option, Some, None, refl, option_map}
 use Rattle.std.specs.Option.{option_and_then}
 use Rattle.hir_base.specs.declared.ast_id.BlockId.{BlockId}
 use Rattle.hir_base.specs.declared.ast_id.HirFileId.{HirFileId}
-use Rattle.hir_base.specs.declared.macro_kind.MacroCallLoc.{MacroCallLoc}
 use Rattle.hir_base.specs.declared.ast_id.HirFileId.TheVariants.{File, Macro}
-use Rattle.hir_base.specs.Locations.{KeepsNumbers}
 use Rattle.hir_tables.specs.Laws.{GrowthKeepsSources, GrowthIsTransitive, NoGrowthIsGrowth}
-use Rattle.hir_tables.specs.SourcePlaces.{ExpansionValue, SourcePlaceValue}
-use Rattle.hir_tables.specs.Tables.{TablesValue, KeepsTables, source_under, source_of, file_source, expansion_of, call_at, entry_at}
+use Rattle.hir_tables.specs.SourcePlaces.{SourcePlaceValue}
+use Rattle.hir_tables.specs.Tables.{TablesValue, KeepsTables, source_under, file_source, call_at}
 
 pub KeepsTables-refl : NoGrowthIsGrowth
 KeepsTables-refl t = record { files = λ n v h. h; blocks = λ n v h. h; entries = λ n v h. h; calls = λ n v h. h }

@@ -1,1 +1,5 @@
 pub mod Growth
+mod InternerLemmas
+mod PlainLemmas
+mod Exact
+mod TableLemmas

@@ -17,12 +17,13 @@ pub(crate) struct Interner<V: Eq + Hash> {
 
 impl<V: Eq + Hash> Model for Interner<V> {
     ghost use Rattle.std.specs.Prelude.{List, length, ◌≤◌};
+    ghost use Rattle.std.specs.List.{IsDistinct};
 
     ghost Value = { List V };
 
     ghost view = { λ t. t.values.keys };
 
-    ghost invariant = { λ t. length t.values.keys ≤ 2147483647 };
+    ghost invariant = { λ t. (length t.values.keys ≤ 2147483647) × IsDistinct V.eq t.values.keys };
 }
 
 impl<V: Eq + Hash + Drop> Interner<V> {

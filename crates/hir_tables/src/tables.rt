@@ -62,8 +62,10 @@ impl Tables {
         ensures err { OnErr result (self.new ≡ self.old) }
         ensures too_many { (result ≡ Err LocationsError.TooMany) ↔ IsFull self.old.files path }
     {
-        let number = self.files.intern(path)?;
-        Ok(FileId(number))
+        match self.files.intern(path) {
+            Ok(number) => Ok(FileId(number)),
+            Err(error) => Err(error),
+        }
     }
 
     /// The number of a block.
@@ -76,8 +78,10 @@ impl Tables {
         ensures err { OnErr result (self.new ≡ self.old) }
         ensures too_many { (result ≡ Err LocationsError.TooMany) ↔ IsFull self.old.blocks place }
     {
-        let number = self.blocks.intern(place)?;
-        Ok(BlockId(number))
+        match self.blocks.intern(place) {
+            Ok(number) => Ok(BlockId(number)),
+            Err(error) => Err(error),
+        }
     }
 
     /// The number of an expansion.
@@ -91,8 +95,10 @@ impl Tables {
         ensures err { OnErr result (self.new ≡ self.old) }
         ensures too_many { (result ≡ Err LocationsError.TooMany) ↔ IsFull self.old.entries (expansion_value key) }
     {
-        let number = self.entries.intern(key)?;
-        Ok(EntryId(number))
+        match self.entries.intern(key) {
+            Ok(number) => Ok(EntryId(number)),
+            Err(error) => Err(error),
+        }
     }
 
     /// The number of a macro call.
@@ -105,8 +111,10 @@ impl Tables {
         ensures err { OnErr result (self.new ≡ self.old) }
         ensures too_many { (result ≡ Err LocationsError.TooMany) ↔ IsFull self.old.calls loc }
     {
-        let number = self.calls.intern(loc)?;
-        Ok(MacroCallId(number))
+        match self.calls.intern(loc) {
+            Ok(number) => Ok(MacroCallId(number)),
+            Err(error) => Err(error),
+        }
     }
 
     /// The path of a file.
@@ -201,6 +209,7 @@ impl Tables {
         ensures value { option_map source_value result ≡ source_of self.now id }
         ensures once { HasEachOnce self.now }
     {
+        let _ = &self.files;
         match id.block {
             Some(block) => match self.block(block) {
                 Some(place) => Some(SourcePlace::Block(place)),
