@@ -1,18 +1,19 @@
 -- What a run reads of finished maps is the same where what it asked for is.
-use Rattle.std.proofs.Common.{◌≡◌, ◌∙◌, suc, zero, List, [], ◌∷◌, map, slice_get, Option, None, true, refl, ap, arith, Contains}
+use Rattle.std.proofs.Common.{◌≡◌, ◌∙◌, suc, zero, List, [], ◌∷◌, map, Bool, Option, None, Some, true, false, ◌&&◌, ◌||◌, is_none, refl, sym, ap, subst, arith, Contains}
 use Rattle.std.specs.List.{list_any}
 use Rattle.std.specs.Cmp.{unsigned_Decides}
 use Rattle.std.proofs.lemmas.Map.Views.{Contains-from_any}
+use Rattle.hir_base.specs.declared.ast_id.BlockId.{BlockId}
 use Rattle.hir_base.specs.declared.ids.Crate.{Crate}
+use Rattle.hir_base.specs.declared.ids.MapId.{MapId}
 use Rattle.hir_scope.specs.ModuleTree.{same_crate}
-use Rattle.hir_def_map.specs.Among.{among, among_agrees}
+use Rattle.hir_def_map.specs.Among.{among, among_agrees, is_of_some}
 use Rattle.hir_def_map.specs.Named.{crate_map}
-use Rattle.hir_def_map.specs.State.{Map, Maps, map_in}
-use Rattle.hir_def_collector.specs.declared.collector.Start.{Start}
+use Rattle.hir_def_map.specs.State.{Maps, Placed}
 use Rattle.hir_def_collector.specs.declared.source_database.Key.{Key}
-use Rattle.hir_def_collector.specs.Workspace.{Workspace, CrateData, TreeLook, behind_in, behind_of, crate_in}
-use Rattle.hir_def_collector.specs.Keys.{Look, of_tree, of_map, of_variants, AgreeOn, map_key}
-use Rattle.hir_def_collector.specs.Start.{root_file, root_key}
+use Rattle.hir_def_collector.specs.Workspace.{TreeLook}
+use Rattle.hir_def_collector.specs.Keys.{Environment, Look, of_tree, of_map, of_variants, absent_tree, look, map_key}
+use Rattle.hir_def_collector.specs.Start.{Beginning, krate_of, root_key, root_tree}
 use Rattle.hir_def_collector.specs.Derivation.{read_by}
 
 -- ---- lists
@@ -33,34 +34,48 @@ mapped_from f (x ∷ xs) y (suc n, below, is) =
 exact_crate : (a b : Crate) → same_crate a b ≡ true → a ≡ b
 exact_crate a b e = λ i. record { 0 = (unsigned_Decides a.0 b.0).0 e i }
 
+-- without holders a map is one of a crate
+is_of_crate : (crates : List Crate) (id : MapId) → is_of_some crates [] id ≡ true → (list_any (same_crate id.krate) crates ≡ true) × (id ≡ crate_map id.krate)
+is_of_crate crates id h = go id.block refl (list_any (same_crate id.krate) crates) refl h
+  where
+    go : (b : Option BlockId) → id.block ≡ b → (l : Bool) → list_any (same_crate id.krate) crates ≡ l → ((is_none b && l) || false) ≡ true
+        → (list_any (same_crate id.krate) crates ≡ true) × (id ≡ crate_map id.krate)
+    go None e true l f = (l, λ i. record { krate = id.krate; block = e i })
+    go None e false l f = absurd (let no : ⊥ = cc in no)
+    go (Some b) e true l f = absurd (let no : ⊥ = cc in no)
+    go (Some b) e false l f = absurd (let no : ⊥ = cc in no)
+
 abbrev seen_tree : Look → TreeLook → TreeLook
 seen_tree (of_tree t) other = t
 seen_tree (of_variants vs) other = other
 seen_tree (of_map m) other = other
 
-abbrev seen_map : Look → Option Map → Option Map
+abbrev seen_map : Look → Option Placed → Option Placed
 seen_map (of_tree t) other = other
 seen_map (of_variants vs) other = other
 seen_map (of_map m) other = m
 
-module _ (start : Start) {keys : List Key} {v w : Workspace} {before finished : Maps} (agrees : AgreeOn keys v before w finished)
-    (root_asked : Contains keys (root_key start)) (maps_asked : (krate : Crate) → Contains (behind_in v start.krate) krate → Contains keys (map_key krate)) where
-  pub same_tree : w.tree start.krate (root_file start) ≡ v.tree start.krate (root_file start)
-  same_tree =
-      let other = v.tree start.krate (root_file start) in
-      ap (λ (l : Look). seen_tree l other) (agrees.same (root_key start) root_asked)
+-- a workspace with its finished maps is like another, where both are spoken of by numbers of their own
+pub record Alike (keys : List Key) (env : Environment) (before : Maps) (other : Environment) (finished : Maps) : Type 0 where
+  pub config : (krate : Crate) → other.workspace.config krate ≡ env.workspace.config krate
+  pub behind : (krate : Crate) → other.workspace.behind krate ≡ env.workspace.behind krate
+  pub same : (key : Key) → Contains keys key → look other.tables other.workspace finished key ≡ look env.tables env.workspace before key
 
-  pub same_crate_data : crate_in w start.krate ≡ crate_in v start.krate
-  same_crate_data = ap (λ (crates : List CrateData). slice_get crates start.krate.0) agrees.crates
+module _ (from : Beginning) {keys : List Key} {env other : Environment} {before finished : Maps} (alike : Alike keys env before other finished)
+    (root_asked : Contains keys (root_key from.start from.tree))
+    (maps_asked : (krate : Crate) → Contains (env.workspace.behind (krate_of from.start)) krate → Contains keys (map_key krate)) where
+  pub same_tree : root_tree other.tables other.workspace from ≡ root_tree env.tables env.workspace from
+  same_tree = ap (λ (l : Look). (seen_tree l absent_tree).tree) (alike.same (root_key from.start from.tree) root_asked)
 
-  same_map : (krate : Crate) → list_any (same_crate krate) (behind_in v start.krate) ≡ true → map_in finished (crate_map krate) ≡ map_in before (crate_map krate)
-  same_map krate h =
-      let behind = behind_in v start.krate in
-      let among : Contains behind krate = Contains-from_any exact_crate krate behind h in
-      ap (λ (l : Look). seen_map l None) (agrees.same (map_key krate) (maps_asked krate among))
+  same_map : (id : MapId) → is_of_some (env.workspace.behind (krate_of from.start)) [] id ≡ true → finished id ≡ before id
+  same_map id h =
+      let behind : List Crate = env.workspace.behind (krate_of from.start) in
+      let own = is_of_crate behind id h in
+      let there : Contains behind id.krate = Contains-from_any exact_crate id.krate behind own.0 in
+      subst (λ (k : MapId). finished k ≡ before k) (sym own.1) (ap (λ (l : Look). seen_map l None) (alike.same (map_key id.krate) (maps_asked id.krate there)))
 
   -- the maps that a run reads are the same
-  pub same_read : read_by w finished start ≡ read_by v before start
+  pub same_read : read_by other.workspace finished from.start ≡ read_by env.workspace before from.start
   same_read =
-      ap (λ (c : Option CrateData). among (behind_of c) finished) same_crate_data
-      ∙ among_agrees (behind_in v start.krate) finished before same_map
+      ap (λ (crates : List Crate). among crates [] finished) (alike.behind (krate_of from.start))
+      ∙ among_agrees (env.workspace.behind (krate_of from.start)) [] finished before same_map

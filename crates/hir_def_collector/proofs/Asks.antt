@@ -11,7 +11,7 @@ use Rattle.hir_def_map.specs.State.{Map, Maps, Variants, module_at, with_declare
 use Rattle.hir_def_collector.specs.declared.collector.site.Site.{Site}
 use Rattle.hir_def_collector.specs.declared.source_database.Key.{Key}
 use Rattle.hir_def_collector.specs.declared.source_database.Key.TheVariants as keys
-use Rattle.hir_def_collector.specs.Workspace.{Workspace}
+use Rattle.hir_def_collector.specs.Keys.{Environment}
 use Rattle.hir_def_collector.specs.State.{State}
 use Rattle.hir_def_collector.specs.ItemIds.{enum_id}
 use Rattle.hir_def_collector.specs.Items.{declared_type, own_visibility}
@@ -72,16 +72,16 @@ caused finished s (takes_import i r t) may p key h = absurd (no_key key h)
 -- ---- steps
 
 -- what was asked for stays
-pub still_asked-Step : {w : Workspace} {finished : Maps} {old new : State} → Step w finished old new → (key : Key) → Contains old.core.asked key → Contains new.core.asked key
+pub still_asked-Step : {env : Environment} {finished : Maps} {old new : State} → Step env finished old new → (key : Key) → Contains old.core.asked key → Contains new.core.asked key
 still_asked-Step {old = old} step key h =
     subst (λ (ks : List Key). Contains ks key) (sym (asked-Step step)) (Contains-append_left old.core.asked (keys_read (reads old step.rule)) key h)
 
-pub still_asked : {w : Workspace} {finished : Maps} {from to : State} → Steps w finished from to → (key : Key) → Contains from.core.asked key → Contains to.core.asked key
+pub still_asked : {env : Environment} {finished : Maps} {from to : State} → Steps env finished from to → (key : Key) → Contains from.core.asked key → Contains to.core.asked key
 still_asked none key p = p
 still_asked (more old new before step) key p = still_asked-Step step key (still_asked before key p)
 
 -- what was asked for in the end was so at first, or is of an enum that a module lists
-pub asked_by : {w : Workspace} {finished : Maps} {from to : State} → IsInRange from → Steps w finished from to → (key : Key) → Contains to.core.asked key
+pub asked_by : {env : Environment} {finished : Maps} {from to : State} → IsInRange from → Steps env finished from to → (key : Key) → Contains to.core.asked key
     → Contains from.core.asked key ⊎ IsOfListed to.core.map key
 asked_by p none key h = inl h
 asked_by {finished = finished} {from = from} p (more old new before step) key h =

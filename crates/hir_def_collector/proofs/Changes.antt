@@ -2,7 +2,7 @@
 use Rattle.std.proofs.Common.{◌≡◌, ◌∙◌, ◌+◌, ◌++◌, ℕ, List, [], ◌∷◌, None, Some, refl, sym, ap, append-nil, append_assoc}
 use Rattle.hir_def_map.specs.State.{Maps}
 use Rattle.hir_def_collector.specs.declared.source_database.Key.{Key}
-use Rattle.hir_def_collector.specs.Workspace.{Workspace}
+use Rattle.hir_def_collector.specs.Keys.{Environment}
 use Rattle.hir_def_collector.specs.State.{State}
 use Rattle.hir_def_collector.specs.Changes.{Change, lists, pushes, makes, gives_variants, begins_paths, reaches, takes, goes_on, act, perform}
 use Rattle.hir_def_collector.specs.Steps.{Step, Steps, none, more, acts, asking, keys_read, reads, with_keys}
@@ -57,7 +57,7 @@ joined_keys : (asked others : List Key) → with_keys asked others ≡ asked ++ 
 joined_keys asked [] = sym (append-nil asked)
 joined_keys asked (key ∷ others) = joined_keys (asked ++ key ∷ []) others ∙ append_assoc asked (key ∷ []) others
 
-module _ {w : Workspace} {finished : Maps} {old new : State} (step : Step w finished old new) where
+module _ {env : Environment} {finished : Maps} {old new : State} (step : Step env finished old new) where
   performed : Keeps (asking old step.rule) (perform (asking old step.rule) (acts finished old step.rule))
   performed = Keeps-perform (acts finished old step.rule) (asking old step.rule)
 
@@ -76,10 +76,10 @@ module _ {w : Workspace} {finished : Maps} {old new : State} (step : Step w fini
   pub asked-Step : new.core.asked ≡ old.core.asked ++ keys_read (reads old step.rule)
   asked-Step = ap (λ (s : State). s.core.asked) step.is ∙ performed.asked ∙ joined_keys old.core.asked (keys_read (reads old step.rule))
 
-pub data-Steps : {w : Workspace} {finished : Maps} {from to : State} → Steps w finished from to → to.core.map.crate_data ≡ from.core.map.crate_data
+pub data-Steps : {env : Environment} {finished : Maps} {from to : State} → Steps env finished from to → to.core.map.crate_data ≡ from.core.map.crate_data
 data-Steps none = refl
 data-Steps (more old new before step) = data-Step step ∙ data-Steps before
 
-pub id-Steps : {w : Workspace} {finished : Maps} {from to : State} → Steps w finished from to → to.core.map.id ≡ from.core.map.id
+pub id-Steps : {env : Environment} {finished : Maps} {from to : State} → Steps env finished from to → to.core.map.id ≡ from.core.map.id
 id-Steps none = refl
 id-Steps (more old new before step) = id-Step step ∙ id-Steps before

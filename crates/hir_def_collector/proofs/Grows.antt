@@ -17,7 +17,7 @@ use Rattle.hir_def_map.specs.declared.nameres.declaration.Declaration.TheVariant
 use Rattle.hir_def_map.specs.declared.nameres.origin.ModuleOrigin.{ModuleOrigin}
 use Rattle.hir_def_collector.specs.declared.collector.declaration.Declaration.{Declaration}
 use Rattle.hir_def_collector.specs.declared.collector.imports.ImportSource.{ImportSource}
-use Rattle.hir_def_collector.specs.Workspace.{Workspace}
+use Rattle.hir_def_collector.specs.Keys.{Environment}
 use Rattle.hir_def_collector.specs.State.{Core, State, counted, with_map}
 use Rattle.hir_def_collector.specs.ItemIds.{module_id}
 use Rattle.hir_def_collector.specs.Imports.{AreAmong, namespaces_of, bound_as, bound_in, pushing}
@@ -118,11 +118,11 @@ Grows-perform [] s = Grows-same s.core.map
 Grows-perform (c ∷ cs) s = Grows-trans (Grows-act s c) (Grows-perform cs (act s c))
 
 -- a step leaves the modules and the bindings
-pub Grows-Step : {w : Workspace} {finished : Maps} {old new : State} → Step w finished old new → Grows old.core.map new.core.map
+pub Grows-Step : {env : Environment} {finished : Maps} {old new : State} → Step env finished old new → Grows old.core.map new.core.map
 Grows-Step {finished = finished} {old = old} step =
     subst (λ (s : State). Grows old.core.map s.core.map) (sym step.is) (Grows-perform (acts finished old step.rule) (asking old step.rule))
 
-pub Grows-Steps : {w : Workspace} {finished : Maps} {from to : State} → Steps w finished from to → Grows from.core.map to.core.map
+pub Grows-Steps : {env : Environment} {finished : Maps} {from to : State} → Steps env finished from to → Grows from.core.map to.core.map
 Grows-Steps {from = from} none = Grows-same from.core.map
 Grows-Steps (more old new before step) = Grows-trans (Grows-Steps before) (Grows-Step step)
 

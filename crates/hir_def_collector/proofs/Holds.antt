@@ -8,15 +8,16 @@ use Rattle.hir_def_map.proofs.NoneOf.{not_first, not_second}
 use Rattle.hir_def_map.specs.State.{Local, Map, Maps, entry_at}
 use Rattle.hir_scope.specs.declared.per_ns.PerNs.{PerNs}
 use Rattle.hir_def_map.specs.Scoping.{Resolution}
-use Rattle.hir_def_collector.specs.declared.collector.Start.{Start}
 use Rattle.hir_def_collector.specs.declared.collector.imports.ReachedImport.{ReachedImport}
 use Rattle.hir_def_collector.specs.declared.collector.imports.Namespaces.{Namespaces}
 use Rattle.hir_def_collector.specs.declared.collector.imports.Taken.{Taken}
 use Rattle.hir_def_collector.specs.declared.collector.site.Site.{Site}
+use Rattle.hir_tables.specs.Tables.{TablesValue}
 use Rattle.hir_def_collector.specs.Workspace.{Workspace}
+use Rattle.hir_def_collector.specs.Keys.{Environment}
 use Rattle.hir_def_collector.specs.State.{State, visits, no_namespaces, nothing_taken, not_taken}
 use Rattle.hir_def_collector.specs.Imports.{AreAmong, namespaces_of, kind_of, name_of, answer_to, kept_by, bound_as, offered_by, after_import, taken_after}
-use Rattle.hir_def_collector.specs.Start.{start_of, root_site, root_tree, tree_visits}
+use Rattle.hir_def_collector.specs.Start.{Beginning, start_of, root_site, root_tree, tree_visits}
 use Rattle.hir_def_collector.specs.Changes.{Change, lists, pushes, makes, gives_variants, begins_paths, reaches, takes, goes_on, act, on_map}
 use Rattle.hir_def_collector.specs.Steps.{Rule, drops_item, passes_over, declares_item, declares_enum, lists_constant, lists_impl, opens_module, enters_block, reaches_imports, reaches_crate, takes_import, May, acts, asking, CanTake, Step, Steps, none, more}
 use Rattle.hir_def_collector.proofs.Lists.{get_left, get_right, get_inside, get_set_same, get_set_other, length_set, length_both, length_mapped, get_same}
@@ -177,14 +178,14 @@ takes_what_is_bound finished s (takes_import i r t) may p h = (tt, (taken_bound 
 
 -- ---- steps
 
-Holds-Step : {w : Workspace} {finished : Maps} {old new : State} → Step w finished old new → IsInRange old → Holds old → Holds new
+Holds-Step : {env : Environment} {finished : Maps} {old new : State} → Step env finished old new → IsInRange old → Holds old → Holds new
 Holds-Step {finished = finished} {old = old} step p h =
     let begun : State = asking old step.rule in
     let first : Holds begun = record { paired = h.paired; bound = λ i t at. same_bound old begun refl refl i t (h.bound i t at) } in
     let done = perform_keeps Holds TakesWhatIsBound Holds-act (acts finished old step.rule) begun first (takes_what_is_bound finished old step.rule step.may p h) in
     subst Holds (sym step.is) (record { paired = done.paired; bound = λ i t at. same_bound _ _ refl refl i t (done.bound i t at) })
 
-pub Holds-Steps : {w : Workspace} {finished : Maps} {from to : State} → Steps w finished from to → IsInRange from → Holds from → Holds to
+pub Holds-Steps : {env : Environment} {finished : Maps} {from to : State} → Steps env finished from to → IsInRange from → Holds from → Holds to
 Holds-Steps none p h = h
 Holds-Steps (more old new before step) p h = Holds-Step step (in_range-Steps before p) (Holds-Steps before p h)
 
@@ -201,8 +202,8 @@ in_range-tree n site tree h = go (is_enabled tree.attributes) refl
     go true e = rw e (in_range-visits n site tree.items h)
     go false e = rw e tt
 
-pub in_range-start : (w : Workspace) (finished : Maps) (start : Start) → IsInRange (start_of w finished start)
-in_range-start w finished start = record { visits = in_range-tree 1 (root_site start) (root_tree w start) (omega arith); imports = tt }
+pub in_range-start : (tables : TablesValue) (w : Workspace) (finished : Maps) (from : Beginning) → IsInRange (start_of tables w finished from)
+in_range-start tables w finished from = record { visits = in_range-tree 1 (root_site from.tree) (root_tree tables w from) (omega arith); imports = tt }
 
-pub Holds-start : (w : Workspace) (finished : Maps) (start : Start) → Holds (start_of w finished start)
-Holds-start w finished start = record { paired = refl; bound = λ i t at. absurd (let no : ⊥ = cc in no) }
+pub Holds-start : (tables : TablesValue) (w : Workspace) (finished : Maps) (from : Beginning) → Holds (start_of tables w finished from)
+Holds-start tables w finished from = record { paired = refl; bound = λ i t at. absurd (let no : ⊥ = cc in no) }

@@ -9,7 +9,7 @@ use Rattle.hir_def_map.specs.State.{Map, Maps, new_module, with_module}
 use Rattle.hir_def_map.proofs.StaysComplete.{length-made}
 use Rattle.hir_def_collector.specs.declared.collector.imports.ReachedImport.{ReachedImport}
 use Rattle.hir_def_collector.specs.declared.collector.site.Site.{Site}
-use Rattle.hir_def_collector.specs.Workspace.{Workspace}
+use Rattle.hir_def_collector.specs.Keys.{Environment}
 use Rattle.hir_def_collector.specs.State.{State, Visit, visits}
 use Rattle.hir_def_collector.specs.ItemIds.{module_id, use_id}
 use Rattle.hir_def_collector.specs.Items.{inline_origin, own_visibility}
@@ -125,11 +125,11 @@ stays_in_range finished s (reaches_imports site head tree rest) may p =
 stays_in_range finished s (reaches_crate site head name alias rest) may p = (left s p _ rest may.next, (tt, ((next_home s p _ rest may.next, tt), (tt, tt))))
 stays_in_range finished s (takes_import i r t) may p = (tt, (tt, tt))
 
-pub in_range-Step : {w : Workspace} {finished : Maps} {old new : State} → Step w finished old new → IsInRange old → IsInRange new
+pub in_range-Step : {env : Environment} {finished : Maps} {old new : State} → Step env finished old new → IsInRange old → IsInRange new
 in_range-Step {finished = finished} {old = old} step p =
     let done = perform_keeps IsInRange StaysInRange in_range-act (acts finished old step.rule) (asking old step.rule) (record { visits = p.visits; imports = p.imports }) (stays_in_range finished old step.rule step.may p) in
     subst IsInRange (sym step.is) (record { visits = done.visits; imports = done.imports })
 
-pub in_range-Steps : {w : Workspace} {finished : Maps} {from to : State} → Steps w finished from to → IsInRange from → IsInRange to
+pub in_range-Steps : {env : Environment} {finished : Maps} {from to : State} → Steps env finished from to → IsInRange from → IsInRange to
 in_range-Steps none p = p
 in_range-Steps (more old new before step) p = in_range-Step step (in_range-Steps before p)

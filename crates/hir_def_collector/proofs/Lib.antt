@@ -21,3 +21,5 @@ pub mod LastVariants
 pub mod WholeEnums
 pub mod Whole
 pub mod Sourced
+pub mod Numbers
+pub mod Meaning

@@ -8,7 +8,7 @@ use Rattle.hir_def_collector.specs.declared.collector.imports.ReachedImport.{Rea
 use Rattle.hir_def_collector.specs.declared.collector.imports.Namespaces.{Namespaces}
 use Rattle.hir_def_collector.specs.declared.collector.imports.Taken.{Taken}
 use Rattle.hir_def_collector.specs.declared.collector.imports.Taking.{Taking}
-use Rattle.hir_def_collector.specs.Workspace.{Workspace}
+use Rattle.hir_def_collector.specs.Keys.{Environment}
 use Rattle.hir_def_collector.specs.State.{Core, State, at_rest, with_map, with_taken, counted}
 use Rattle.hir_def_collector.specs.Imports.{goes_beyond, AreAmong, namespaces_of, answer_to, reached_by, taking_of, taking_at, taken_after, offered_by, name_of, bound_as}
 use Rattle.hir_def_collector.specs.Steps.{Step, none, takes_import}
@@ -100,20 +100,20 @@ due_at {finished} c i taking (Some r) (Some t) e f h =
     let d = due (goes_beyond (namespaces_of (reached_by finished c.local c.map r)) t.namespaces) _ taking h in
     record { r = r; t = t; at = e; before = f; gains = d.0; is = sym d.1 }
 
-same_step : {w : Workspace} {finished : Maps} (c new : Core) (i : ℕ) (taking : Taking) → IsDue finished c i taking
+same_step : {env : Environment} {finished : Maps} (c new : Core) (i : ℕ) (taking : Taking) → IsDue finished c i taking
     → new ≡ counted (with_taken (with_map c (bound_as c.map taking.home taking.name taking.items (Some taking.source))) i taking.taken)
-    → Step w finished (at_rest c) (at_rest new)
+    → Step env finished (at_rest c) (at_rest new)
 same_step c new i taking d is = made (takes_import i d.r d.t) (record { import = d.at; before = d.before; gains = d.gains }) tt (rw (is, d.is) refl)
 
 -- the taking of an import is a step
-pub takes : {w : Workspace} {finished : Maps} (c new : Core) (i : ℕ) (taking : Taking) → taking_at finished c i ≡ Some taking
+pub takes : {env : Environment} {finished : Maps} (c new : Core) (i : ℕ) (taking : Taking) → taking_at finished c i ≡ Some taking
     → new ≡ counted (with_taken (with_map c (bound_as c.map taking.home taking.name taking.items (Some taking.source))) i taking.taken)
-    → Step w finished (at_rest c) (at_rest new)
+    → Step env finished (at_rest c) (at_rest new)
 takes c new i taking h is = same_step c new i taking (due_at c i taking (slice_get c.reached i) (slice_get c.taken i) refl refl h) is
 
 -- where it is due, and as many steps as are counted were taken, one more may be
-pub take_spent : {w : Workspace} {finished : Maps} (c : Core) (i : ℕ) (taking : Taking) → taking_at finished c i ≡ Some taking → STEP_LIMIT ≤ c.count → IsSpent w finished (at_rest c)
-take_spent {w} {finished} c i taking h full =
+pub take_spent : {env : Environment} {finished : Maps} (c : Core) (i : ℕ) (taking : Taking) → taking_at finished c i ≡ Some taking → STEP_LIMIT ≤ c.count → IsSpent env finished (at_rest c)
+take_spent {env} {finished} c i taking h full =
     let d : IsDue finished c i taking = due_at c i taking (slice_get c.reached i) (slice_get c.taken i) refl refl h in
-    let on : Goes w finished (at_rest c) = goes (takes_import i d.r d.t) (record { import = d.at; before = d.before; gains = d.gains }) tt in
+    let on : Goes env finished (at_rest c) = goes (takes_import i d.r d.t) (record { import = d.at; before = d.before; gains = d.gains }) tt in
     record { at = at_rest c; steps = none; next = on.next; step = on.step; full = inl full }

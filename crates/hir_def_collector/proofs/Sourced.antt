@@ -58,12 +58,14 @@ use Rattle.hir_def_collector.specs.ItemIds.{enum_id, module_id, use_id}
 use Rattle.hir_def_collector.specs.Items.{constructor_of, declaration_of, declared_by, declared_by_leaf, declared_struct, declared_type, lesser_in, meet_of, own_visibility, visibility_in}
 use Rattle.hir_def_collector.specs.Preludes.{extern_prelude, joins, prelude_of, with_dependency}
 use Rattle.hir_def_collector.specs.Sources.{IsClearOf}
-use Rattle.hir_def_collector.specs.Start.{root_file, root_map, root_site, root_tree, start_data, start_of}
+use Rattle.hir_def_collector.specs.Start.{Beginning, krate_of, root_map, root_site, root_tree, start_data, start_of}
 use Rattle.hir_def_collector.specs.State.{State, Visit, visits}
 use Rattle.hir_def_collector.specs.Changes.{Change, lists, pushes, makes, gives_variants, begins_paths, reaches, takes, goes_on, act, on_map}
 use Rattle.hir_def_collector.specs.Steps.{Rule, drops_item, passes_over, declares_item, declares_enum, lists_constant, lists_impl, opens_module, enters_block, reaches_imports, reaches_crate, takes_import, May, acts, asking, Step, Steps, none, more, inside_block, inside_module}
 use Rattle.hir_def_collector.specs.Whole.{StandsOnWhole}
-use Rattle.hir_def_collector.specs.Workspace.{Workspace, behind_in, dependencies_in}
+use Rattle.hir_def_collector.specs.Workspace.{Workspace, dependencies_in}
+use Rattle.hir_tables.specs.Tables.{TablesValue}
+use Rattle.hir_def_collector.specs.Keys.{Environment, environment}
 use Rattle.hir_def_collector.proofs.Grows.{Grows, Grows-Step}
 use Rattle.hir_def_collector.proofs.Lists.{none_joined}
 use Rattle.hir_def_collector.proofs.Changes.{AllFine, id-Step, perform_keeps}
@@ -465,18 +467,18 @@ module _ (t : SourceTest) where
           let offered = offers r (import_at (length s.core.map.modules) s.core.reached i r inside.imports may.import) in
           ((offered, none_at (on_reached t) s.core.reached f.reached i r may.import), (tt, tt))
 
-      sourced-Step : (w : Workspace) (new : State) → Step w finished s new → IsSourced t new
-      sourced-Step w new step =
+      sourced-Step : (env : Environment) (new : State) → Step env finished s new → IsSourced t new
+      sourced-Step env new step =
           let first : IsSourced t (asking s step.rule) = record { map = f.map; local = f.local; visits = f.visits; reached = f.reached } in
           let done = perform_keeps (IsSourced t) BringsNone sourced-act (acts finished s step.rule) (asking s step.rule) first (brings_none step.rule step.may) in
           subst (IsSourced t) (sym step.is) (record { map = done.map; local = done.local; visits = done.visits; reached = done.reached })
 
     -- so are all states to which steps lead, as far as the test holds of no module there
-    all_sourced : (w : Workspace) (from to : State) → IsInRange from → NamesWhatIsThere finished from → IsSourced t from → Steps w finished from to → ShowsThere t finished to.core.map → IsSourced t to
-    all_sourced w from to inside names first none shown = first
-    all_sourced w from to inside names first (more old new before last) shown =
+    all_sourced : (env : Environment) (from to : State) → IsInRange from → NamesWhatIsThere finished from → IsSourced t from → Steps env finished from to → ShowsThere t finished to.core.map → IsSourced t to
+    all_sourced env from to inside names first none shown = first
+    all_sourced env from to inside names first (more old new before last) shown =
         let earlier : ShowsThere t finished old.core.map = λ m e. shown m (stays_there finished old.core.map new.core.map (id-Step last) (Grows-Step last) m e) in
-        sourced-Step old (in_range-Steps before inside) (steps_keep paths finished whole w from old inside names before) earlier (all_sourced w from old inside names first before earlier) w new last
+        sourced-Step old (in_range-Steps before inside) (steps_keep paths finished whole env from old inside names before) earlier (all_sourced env from old inside names first before earlier) env new last
 
   -- ---- where a run begins
 
@@ -488,32 +490,34 @@ module _ (t : SourceTest) where
       go true = none_inserted (on_extern_entry t) (slice_cmp nat_cmp) local d.name (crate_root d.krate, None) f refl
       go false = f
 
-  first_sourced : (finished : Maps) (w : Workspace) (start : Start) → t.holder (root_file start) None ≡ false → IsSourced t (start_of w finished start)
-  first_sourced finished w start written =
-      let tree = root_tree w start in
-      let crate_data : CrateData = start_data tree (behind_in w start.krate) start in
-      let one : Map = root_map crate_data start in
-      let local : Local = extern_prelude crate_data [] (dependencies_in w start.krate) in
+  first_sourced : (finished : Maps) (tables : TablesValue) (w : Workspace) (from : Beginning) → t.holder from.tree.file from.tree.block ≡ false → IsSourced t (start_of tables w finished from)
+  first_sourced finished tables w from written =
+      let tree = root_tree tables w from in
+      let krate : Crate = krate_of from.start in
+      let crate_data : CrateData = start_data tree (w.behind krate) from.start in
+      let one : Map = root_map crate_data from.start in
+      let local : Local = extern_prelude crate_data [] (dependencies_in w krate) in
       record {
         map = HoldsNowhereIn-prelude t one (prelude_of finished one local) (record { origins = refl; types = refl; values = refl; macros = refl; legacy = refl; enums = refl; macro_use = refl });
-        local = local_begins crate_data [] (dependencies_in w start.krate) refl;
+        local = local_begins crate_data [] (dependencies_in w krate) refl;
         visits = go (is_enabled tree.attributes) tree.items;
         reached = refl;
       }
     where
-      go : (b : Bool) (is : KeptForest) → list_any (on_site t) (if b then visits (root_site start) is else []) ≡ false
-      go true is = site_visits (root_site start) written is
+      go : (b : Bool) (is : KeptForest) → list_any (on_site t) (if b then visits (root_site from.tree) is else []) ≡ false
+      go true is = site_visits (root_site from.tree) written is
       go false is = refl
 
   -- it ends with a map in which the test holds nowhere
-  pub ends_sourced : PathsAnswerFromSources → PathsLeadToWhatIsThere → (finished : Maps) → AreWhole finished → (w : Workspace) (all : Maps) (start : Start) (answer : CollectedValue)
-      → read_by w all start ≡ finished → StandsOnWhole w finished start → Ends w all start answer → IsClearOf t finished start answer.map
+  pub ends_sourced : PathsAnswerFromSources → PathsLeadToWhatIsThere → (finished : Maps) → AreWhole finished → (tables : TablesValue) (w : Workspace) (all : Maps) (from : Beginning) (answer : CollectedValue)
+      → read_by w all from.start ≡ finished → StandsOnWhole w finished from.start → Ends tables w all from answer → IsClearOf t finished from.tree answer.map
       → HoldsNowhereIn t answer.map × HoldsOfNoExtern t answer.local
-  ends_sourced answers paths finished whole w all start answer same stands e clear =
-      let from : State = begin_of w all start in
-      let names : NamesWhatIsThere finished from = subst (λ (x : Maps). NamesWhatIsThere finished (start_of w x start)) (sym same) (begins paths finished whole w start stands) in
-      let first : IsSourced t from = first_sourced (read_by w all start) w start clear.written in
-      let derived : Steps w finished from e.end = subst (λ (x : Maps). Steps w x from e.end) same e.derived in
-      let shown : ShowsThere t finished e.end.core.map = subst (λ (m : Map). ShowsThere t finished m) e.map_is clear.shown in
-      let end : IsSourced t e.end = all_sourced answers paths finished whole clear.read w from e.end (in_range-start w (read_by w all start) start) names first derived shown in
+  ends_sourced answers paths finished whole tables w all from answer same stands e clear =
+      let env : Environment = environment tables w in
+      let begun : State = begin_of tables w all from in
+      let names : NamesWhatIsThere finished begun = subst (λ (x : Maps). NamesWhatIsThere finished (start_of tables w x from)) (sym same) (begins paths finished whole tables w from stands) in
+      let first : IsSourced t begun = first_sourced (read_by w all from.start) tables w from clear.written in
+      let derived : Steps env finished begun e.last = subst (λ (x : Maps). Steps env x begun e.last) same e.derived in
+      let shown : ShowsThere t finished e.last.core.map = subst (λ (m : Map). ShowsThere t finished m) e.map_is clear.shown in
+      let end : IsSourced t e.last = all_sourced answers paths finished whole clear.read env begun e.last (in_range-start tables w (read_by w all from.start) from) names first derived shown in
       (subst (HoldsNowhereIn t) (sym e.map_is) end.map, subst (HoldsOfNoExtern t) (sym e.local_is) end.local)

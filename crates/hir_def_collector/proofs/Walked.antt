@@ -11,13 +11,14 @@ use Rattle.hir_item_tree.specs.Rows.{Content, numbers_of, items_at, item_of, and
 use Rattle.hir_item_tree.specs.declared.rows.ModItemId.{ModItemId}
 use Rattle.hir_base.specs.declared.ids.Crate.{Crate}
 use Rattle.hir_def_map.specs.State.{Maps}
+use Rattle.hir_item_tree.specs.declared.tree_id.TreeId.{TreeId}
 use Rattle.hir_def_collector.specs.declared.collector.Start.{Start}
 use Rattle.hir_def_collector.specs.declared.source_database.Dependency.{Dependency}
 use Rattle.hir_def_collector.specs.declared.collector.site.Site.{Site}
-use Rattle.hir_def_collector.specs.Workspace.{Workspace}
+use Rattle.hir_def_collector.specs.Keys.{Environment, absent_tree}
 use Rattle.hir_def_collector.specs.State.{Visit, State, Core, at_rest, joined, visits, counted}
 use Rattle.hir_def_collector.specs.Items.{is_passed_over}
-use Rattle.hir_def_collector.specs.Start.{core_of, root_site, root_tree, start_by, tree_visits}
+use Rattle.hir_def_collector.specs.Start.{core_of, root_site, start_by, tree_visits}
 use Rattle.hir_def_collector.specs.Steps.{Steps, none, drops_item, passes_over, visit}
 use Rattle.hir_def_collector.specs.TreeReads.{visits_at, above}
 use Rattle.hir_def_collector.specs.Derivation.{IsFull, IsSpent}
@@ -28,9 +29,19 @@ use Rattle.hir_def_collector.proofs.Made.{Goes, made}
 use Rattle.hir_def_collector.proofs.Grows.{Grows-Step, Grows-Steps}
 use Rattle.hir_def_collector.proofs.Progress.{goes_next}
 
--- a workspace without crates and sources
-abbrev pub no_workspace : Workspace
-no_workspace = record { crates = []; tree = λ krate file. record { present = false; tree = empty_tree }; variants = λ id. None }
+-- nothing is anywhere
+abbrev pub nowhere : Environment
+nowhere = record {
+  tables = record { files = []; blocks = []; entries = []; calls = [] };
+  workspace = record {
+    crates = [];
+    config = λ krate. None;
+    behind = λ krate. [];
+    tree = λ krate source. absent_tree;
+    side = λ krate source node. None;
+    entry = λ key. record { present = false; error = None; inner = [] };
+  };
+}
 
 -- ---- numbers
 
@@ -90,42 +101,42 @@ module _ (tree : Tree) (site : Site) where
       drop_past (x ∷ xs) zero h = absurd (omega arith)
       drop_past (x ∷ xs) (suc i) h = drop_past xs i (omega arith)
 
-  module _ (w : Workspace) (finished : Maps) (ids : List ModItemId) (old : Core) where
+  module _ (env : Environment) (finished : Maps) (ids : List ModItemId) (old : Core) where
     -- steps through those before a place
     pub record WalksTo (c : Core) (i : ℕ) : Type 0 where
-      pub steps : (rest : List Visit) → Steps w finished (joined old (visits_at tree site (numbers_of ids) ++ rest)) (joined c (visits_at tree site (numbers_of (drop i ids)) ++ rest))
+      pub steps : (rest : List Visit) → Steps env finished (joined old (visits_at tree site (numbers_of ids) ++ rest)) (joined c (visits_at tree site (numbers_of (drop i ids)) ++ rest))
 
     pub WalksTo-none : WalksTo old 0
     WalksTo-none = record { steps = λ rest. none }
 
     steps_to : (c : Core) (i : ℕ) (x : ModItemId) → i < length ids → x ≡ get_or ids i x → WalksTo c i → (rest : List Visit)
-        → Steps w finished (joined old (visits_at tree site (numbers_of ids) ++ rest)) (joined c (visits_at tree site (x.0 ∷ []) ++ (visits_at tree site (numbers_of (drop (i + 1) ids)) ++ rest)))
+        → Steps env finished (joined old (visits_at tree site (numbers_of ids) ++ rest)) (joined c (visits_at tree site (x.0 ∷ []) ++ (visits_at tree site (numbers_of (drop (i + 1) ids)) ++ rest)))
     steps_to c i x h e before rest =
-        subst (λ (agenda : List Visit). Steps w finished (joined old (visits_at tree site (numbers_of ids) ++ rest)) (joined c agenda)) (left_next ids i x rest h e) (before.steps rest)
+        subst (λ (agenda : List Visit). Steps env finished (joined old (visits_at tree site (numbers_of ids) ++ rest)) (joined c agenda)) (left_next ids i x rest h e) (before.steps rest)
 
-    pub WalksTo-next : (c d : Core) (i : ℕ) (x : ModItemId) → i < length ids → x ≡ get_or ids i x → WalksTo c i → Walks w finished c d (visits_at tree site (x.0 ∷ [])) → WalksTo d (i + 1)
+    pub WalksTo-next : (c d : Core) (i : ℕ) (x : ModItemId) → i < length ids → x ≡ get_or ids i x → WalksTo c i → Walks env finished c d (visits_at tree site (x.0 ∷ [])) → WalksTo d (i + 1)
     WalksTo-next c d i x h e before step = record {
       steps = λ rest. Steps-append (steps_to c i x h e before rest) (step.steps (visits_at tree site (numbers_of (drop (i + 1) ids)) ++ rest));
     }
 
-    pub Walks-all : (c : Core) (i : ℕ) → length ids ≤ i → WalksTo c i → Walks w finished old c (visits_at tree site (numbers_of ids))
+    pub Walks-all : (c : Core) (i : ℕ) → length ids ≤ i → WalksTo c i → Walks env finished old c (visits_at tree site (numbers_of ids))
     Walks-all c i h before = record {
       steps = λ rest.
-          subst (λ (vs : List Visit). Steps w finished (joined old (visits_at tree site (numbers_of ids) ++ rest)) (joined c (vs ++ rest))) (left_past ids i h) (before.steps rest);
+          subst (λ (vs : List Visit). Steps env finished (joined old (visits_at tree site (numbers_of ids) ++ rest)) (joined c (vs ++ rest))) (left_past ids i h) (before.steps rest);
     }
 
-    pub WalksTooFar-next : (c : Core) (i : ℕ) (x : ModItemId) → i < length ids → x ≡ get_or ids i x → WalksTo c i → WalksTooFar w finished c (visits_at tree site (x.0 ∷ []))
-        → WalksTooFar w finished old (visits_at tree site (numbers_of ids))
+    pub WalksTooFar-next : (c : Core) (i : ℕ) (x : ModItemId) → i < length ids → x ≡ get_or ids i x → WalksTo c i → WalksTooFar env finished c (visits_at tree site (x.0 ∷ []))
+        → WalksTooFar env finished old (visits_at tree site (numbers_of ids))
     WalksTooFar-next c i x h e before far = record {
       spent = λ rest. spent_after (steps_to c i x h e before rest) (far.spent (visits_at tree site (numbers_of (drop (i + 1) ids)) ++ rest));
     }
 
 -- steps take no module away
-pub longer_after : {w : Workspace} {finished : Maps} (old new : Core) (vs : List Visit) → Walks w finished old new vs → length old.map.modules ≤ length new.map.modules
+pub longer_after : {env : Environment} {finished : Maps} (old new : Core) (vs : List Visit) → Walks env finished old new vs → length old.map.modules ≤ length new.map.modules
 longer_after old new vs walks = (Grows-Steps (walks.steps [])).longer
 
 -- nor does one step
-pub still_there : {w : Workspace} {finished : Maps} (old new : Core) (v : Visit) (inside : List Visit) (n : ℕ) → Handles w finished old new v inside → n < length old.map.modules → n < length new.map.modules
+pub still_there : {env : Environment} {finished : Maps} (old new : Core) (v : Visit) (inside : List Visit) (n : ℕ) → Handles env finished old new v inside → n < length old.map.modules → n < length new.map.modules
 still_there old new v inside n handles h =
     let longer : length old.map.modules ≤ length new.map.modules = (Grows-Step (handles.step [])).longer in
     omega arith
@@ -152,46 +163,46 @@ module _ (tree : Tree) (site : Site) (n : ℕ) (h : Head) (c : Content) where
       ap (λ (o : Option KeptItem). visits site (and_found o no_items)) i.1 ∙ ap (λ (x : KeptItem). visit site x ∷ []) (sym whole)
 
 -- a step handles the item, and then those inside are walked
-pub Walks-first : {w : Workspace} {finished : Maps} (old mid new : Core) (v : Visit) (vs inside : List Visit) → vs ≡ v ∷ [] → Handles w finished old mid v inside → Walks w finished mid new inside → Walks w finished old new vs
-Walks-first {w} {finished} old mid new v vs inside e handles walks = record {
+pub Walks-first : {env : Environment} {finished : Maps} (old mid new : Core) (v : Visit) (vs inside : List Visit) → vs ≡ v ∷ [] → Handles env finished old mid v inside → Walks env finished mid new inside → Walks env finished old new vs
+Walks-first {env} {finished} old mid new v vs inside e handles walks = record {
   steps = λ rest.
-      subst (λ (us : List Visit). Steps w finished (joined old (us ++ rest)) (joined new rest)) (sym e)
+      subst (λ (us : List Visit). Steps env finished (joined old (us ++ rest)) (joined new rest)) (sym e)
       (Steps-first (handles.step rest) (walks.steps rest));
 }
 
 -- steps through those inside lead too far
-pub WalksTooFar-inside : {w : Workspace} {finished : Maps} (old mid : Core) (v : Visit) (vs inside : List Visit) → vs ≡ v ∷ [] → Handles w finished old mid v inside → WalksTooFar w finished mid inside → WalksTooFar w finished old vs
-WalksTooFar-inside {w} {finished} old mid v vs inside e handles far = record {
+pub WalksTooFar-inside : {env : Environment} {finished : Maps} (old mid : Core) (v : Visit) (vs inside : List Visit) → vs ≡ v ∷ [] → Handles env finished old mid v inside → WalksTooFar env finished mid inside → WalksTooFar env finished old vs
+WalksTooFar-inside {env} {finished} old mid v vs inside e handles far = record {
   spent = λ rest.
-      subst (λ (us : List Visit). IsSpent w finished (joined old (us ++ rest))) (sym e)
+      subst (λ (us : List Visit). IsSpent env finished (joined old (us ++ rest))) (sym e)
       (spent_after (Steps-one (handles.step rest)) (far.spent rest));
 }
 
 -- as many as are counted were taken already, and the item has its rule
-pub WalksTooFar-here : {w : Workspace} {finished : Maps} (tree : Tree) (site : Site) (n : ℕ) (old : Core) → n < length (all_items tree.items) → IsFull old.count old.map
-    → WalksTooFar w finished old (visits_at tree site (n ∷ []))
-WalksTooFar-here {w} {finished} tree site n old there full =
+pub WalksTooFar-here : {env : Environment} {finished : Maps} (tree : Tree) (site : Site) (n : ℕ) (old : Core) → n < length (all_items tree.items) → IsFull old.count old.map
+    → WalksTooFar env finished old (visits_at tree site (n ∷ []))
+WalksTooFar-here {env} {finished} tree site n old there full =
     let i = get_there (all_items tree.items) n there in
     let one : visits_at tree site (n ∷ []) ≡ visit site i.0 ∷ [] = ap (λ (o : Option KeptItem). visits site (and_found o no_items)) i.1 in
     record {
       spent = λ rest.
           let here : State = joined old (visit site i.0 ∷ rest) in
-          let on : Goes w finished here = goes_next w finished here site rest i.0 refl in
-          let spent : IsSpent w finished here = record { at = here; steps = none; next = on.next; step = on.step; full = full } in
-          subst (λ (us : List Visit). IsSpent w finished (joined old (us ++ rest))) (sym one) spent;
+          let on : Goes env finished here = goes_next env finished here site rest i.0 refl in
+          let spent : IsSpent env finished here = record { at = here; steps = none; next = on.next; step = on.step; full = full } in
+          subst (λ (us : List Visit). IsSpent env finished (joined old (us ++ rest))) (sym one) spent;
     }
 
 -- an item of which the rules don't speak yet is passed over
-pub passed : {w : Workspace} {finished : Maps} (site : Site) (h : Head) (l : Leaf) (old new : Core) → is_enabled h.attributes ≡ true → is_passed_over l ≡ true → new ≡ counted old
-    → Handles w finished old new (visit site (leaf h l)) []
+pub passed : {env : Environment} {finished : Maps} (site : Site) (h : Head) (l : Leaf) (old new : Core) → is_enabled h.attributes ≡ true → is_passed_over l ≡ true → new ≡ counted old
+    → Handles env finished old new (visit site (leaf h l)) []
 passed site h l old new enabled over is = record {
   step = λ rest. made (passes_over site h l rest) (record { here = record { next = refl; enabled = enabled }; passed = over }) tt (rw is refl);
 }
 
 -- a disabled item is dropped
-pub Walks-dropped : {w : Workspace} {finished : Maps} (tree : Tree) (site : Site) (n : ℕ) (h : Head) (old new : Core) → n < length (all_items tree.items) → IfSome (slice_get (all_items tree.items) n) (λ i. h ≡ item_head i)
-    → is_enabled h.attributes ≡ false → new ≡ counted old → Walks w finished old new (visits_at tree site (n ∷ []))
-Walks-dropped {w} {finished} tree site n h old new there head disabled is =
+pub Walks-dropped : {env : Environment} {finished : Maps} (tree : Tree) (site : Site) (n : ℕ) (h : Head) (old new : Core) → n < length (all_items tree.items) → IfSome (slice_get (all_items tree.items) n) (λ i. h ≡ item_head i)
+    → is_enabled h.attributes ≡ false → new ≡ counted old → Walks env finished old new (visits_at tree site (n ∷ []))
+Walks-dropped {env} {finished} tree site n h old new there head disabled is =
     let items = all_items tree.items in
     let i = get_there items n there in
     let same_head : h ≡ item_head i.0 = found (slice_get items n) i.0 (λ i. h ≡ item_head i) i.1 head in
@@ -199,7 +210,7 @@ Walks-dropped {w} {finished} tree site n h old new there head disabled is =
     let one : visits_at tree site (n ∷ []) ≡ visit site i.0 ∷ [] = ap (λ (o : Option KeptItem). visits site (and_found o no_items)) i.1 in
     record {
       steps = λ rest.
-          subst (λ (us : List Visit). Steps w finished (joined old (us ++ rest)) (joined new rest)) (sym one)
+          subst (λ (us : List Visit). Steps env finished (joined old (us ++ rest)) (joined new rest)) (sym one)
           (Steps-one (made (drops_item (visit site i.0) rest) (record { next = refl; disabled = off }) tt (rw is refl)));
     }
 
@@ -211,25 +222,25 @@ disabled_visits site tree e = rw e refl
 enabled_visits : (site : Site) (tree : Tree) → is_enabled tree.attributes ≡ true → tree_visits site tree ≡ visits site tree.items
 enabled_visits site tree e = rw e refl
 
-module _ (w : Workspace) (finished : Maps) (site : Site) (tree : Tree) (old : Core) where
+module _ (env : Environment) (finished : Maps) (site : Site) (tree : Tree) (old : Core) where
   -- of a tree that is disabled at its top nothing is visited
-  pub walks_disabled : is_enabled tree.attributes ≡ false → Steps w finished (joined old (tree_visits site tree)) (at_rest old)
-  walks_disabled disabled = subst (λ (vs : List Visit). Steps w finished (joined old vs) (at_rest old)) (sym (disabled_visits site tree disabled)) none
+  pub walks_disabled : is_enabled tree.attributes ≡ false → Steps env finished (joined old (tree_visits site tree)) (at_rest old)
+  walks_disabled disabled = subst (λ (vs : List Visit). Steps env finished (joined old vs) (at_rest old)) (sym (disabled_visits site tree disabled)) none
 
   -- of another its items are
   module _ (ids : List ModItemId) (enabled : is_enabled tree.attributes ≡ true) (all : items_at (all_items tree.items) (numbers_of ids) ≡ tree.items) where
     present_visits : visits_at tree site (numbers_of ids) ++ [] ≡ tree_visits site tree
     present_visits = append-nil (visits_at tree site (numbers_of ids)) ∙ ap (visits site) all ∙ sym (enabled_visits site tree enabled)
 
-    pub walks_present : (new : Core) → Walks w finished old new (visits_at tree site (numbers_of ids)) → Steps w finished (joined old (tree_visits site tree)) (at_rest new)
-    walks_present new walks = subst (λ (vs : List Visit). Steps w finished (joined old vs) (at_rest new)) present_visits (walks.steps [])
+    pub walks_present : (new : Core) → Walks env finished old new (visits_at tree site (numbers_of ids)) → Steps env finished (joined old (tree_visits site tree)) (at_rest new)
+    walks_present new walks = subst (λ (vs : List Visit). Steps env finished (joined old vs) (at_rest new)) present_visits (walks.steps [])
 
-    pub spent_present : WalksTooFar w finished old (visits_at tree site (numbers_of ids)) → IsSpent w finished (joined old (tree_visits site tree))
-    spent_present far = subst (λ (vs : List Visit). IsSpent w finished (joined old vs)) present_visits (far.spent [])
+    pub spent_present : WalksTooFar env finished old (visits_at tree site (numbers_of ids)) → IsSpent env finished (joined old (tree_visits site tree))
+    spent_present far = subst (λ (vs : List Visit). IsSpent env finished (joined old vs)) present_visits (far.spent [])
 
--- a run whose root file has this tree begins so
-pub began : (w : Workspace) (finished : Maps) (start : Start) (dependencies : List Dependency) (behind : List Crate) (tree : Tree) (run : Core) → run ≡ core_of finished tree dependencies behind start
-    → tree ≡ root_tree w start → joined run (tree_visits (root_site start) tree) ≡ start_by finished (root_tree w start) dependencies behind start
-began w finished start dependencies behind tree run is seen =
-    ap (λ (c : Core). joined c (tree_visits (root_site start) tree)) is
-    ∙ ap (λ (t : Tree). start_by finished t dependencies behind start) seen
+-- a run over this tree begins so
+pub began : (finished : Maps) (start : Start) (id : TreeId) (dependencies : List Dependency) (behind : List Crate) (tree found : Tree) (run : Core)
+    → run ≡ core_of finished found dependencies behind start id → found ≡ tree → joined run (tree_visits (root_site id) found) ≡ start_by finished tree dependencies behind start id
+began finished start id dependencies behind tree found run is seen =
+    ap (λ (c : Core). joined c (tree_visits (root_site id) found)) is
+    ∙ ap (λ (t : Tree). start_by finished t dependencies behind start id) seen

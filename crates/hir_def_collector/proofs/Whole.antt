@@ -53,7 +53,9 @@ use Rattle.hir_def_collector.specs.declared.collector.imports.ImportSource.TheVa
 use Rattle.hir_def_collector.specs.declared.collector.imports.ReachedImport.{ReachedImport}
 use Rattle.hir_def_collector.specs.declared.collector.site.Site.{Site}
 use Rattle.hir_def_collector.specs.declared.source_database.Dependency.{Dependency}
-use Rattle.hir_def_collector.specs.Workspace.{Workspace, behind_in, dependencies_in}
+use Rattle.hir_def_collector.specs.Workspace.{Workspace, dependencies_in}
+use Rattle.hir_tables.specs.Tables.{TablesValue}
+use Rattle.hir_def_collector.specs.Keys.{Environment, environment}
 use Rattle.hir_def_collector.specs.State.{State, Visit}
 use Rattle.hir_def_collector.specs.ItemIds.{enum_id, module_id, use_id}
 use Rattle.hir_def_collector.specs.Items.{constructor_of, declaration_of, declared_by, declared_by_leaf, declared_module, declared_struct, declared_type, inline_origin, own_visibility, visibility_in}
@@ -61,7 +63,7 @@ use Rattle.hir_def_collector.specs.Enums.{variants_of}
 use Rattle.hir_def_collector.specs.Imports.{answer_by_kind, answer_by_source, answer_in, answer_to, brought, brought_type, crate_import, crate_named, dependency_named, extern_by, is_of_extern_crate, is_one_name, kept_by_kind, kind_of, name_of, offered_by, open_items, pushing, reached_import}
 use Rattle.hir_def_collector.specs.Changes.{Change, lists, pushes, makes, gives_variants, begins_paths, reaches, takes, goes_on, act, on_map}
 use Rattle.hir_def_collector.specs.Preludes.{by_prelude, extern_prelude, joins, module_by, module_named, module_of, prelude_of, prelude_path, with_dependency}
-use Rattle.hir_def_collector.specs.Start.{root_map, root_tree, start_data, start_of}
+use Rattle.hir_def_collector.specs.Start.{Beginning, krate_of, origin_of, root_map, root_tree, start_data, start_of}
 use Rattle.hir_def_collector.specs.Steps.{Rule, drops_item, passes_over, declares_item, declares_enum, lists_constant, lists_impl, opens_module, enters_block, reaches_imports, reaches_crate, takes_import, May, acts, asking, Step, Steps, none, more}
 use Rattle.hir_def_collector.specs.Derivation.{CollectedValue, Ends, begin_of, read_by}
 use Rattle.hir_def_collector.specs.Whole.{StandsOnWhole}
@@ -294,8 +296,8 @@ module _ (paths : PathsLeadToWhatIsThere) (finished : Maps) (whole : AreWhole fi
     -- the root of its own crate is there, and of each crate on which it depends
     own_there : is_missing (beside finished here) (named.Module (crate_root here.id.krate)) ≡ false
     own_there =
-        let own : here.id ≡ crate_map here.id.krate = λ i. record { krate = here.id.krate; block = f.names.of_crate i } in
-        subst (λ (id : MapId). is_missing (beside finished here) (named.Module (root_of id)) ≡ false) own (ap not (module_there finished here 0 f.names.root))
+        let closed = IsClosed-beside finished here f.apart whole f.names in
+        ap not (closed.roots (crate_map here.id.krate) (closed.crates (root_of here.id) (module_there finished here 0 f.names.root)))
 
     dependency_there : (ds : List Dependency) → list_any (λ (d : Dependency). test_crate (is_missing finished) d.krate) ds ≡ false → (name : List ℕ)
         → test_of (is_missing (beside finished here)) (root_named (dependency_named ds name)) ≡ false
@@ -350,16 +352,16 @@ module _ (paths : PathsLeadToWhatIsThere) (finished : Maps) (whole : AreWhole fi
         let there = none_at (test_import (is_missing (beside finished here))) s.core.reached f.crates i r may.import in
         (offered_there r (import_at count s.core.reached i r inside.imports may.import) there, (tt, tt))
 
-  names-Step : (w : Workspace) (old new : State) → IsInRange old → NamesWhatIsThere finished old → Step w finished old new → NamesWhatIsThere finished new
-  names-Step w old new inside f step =
+  names-Step : (env : Environment) (old new : State) → IsInRange old → NamesWhatIsThere finished old → Step env finished old new → NamesWhatIsThere finished new
+  names-Step env old new inside f step =
       let first : NamesWhatIsThere finished (asking old step.rule) = record { apart = f.apart; names = f.names; begins = f.begins; crates = f.crates; dependencies = f.dependencies } in
       let done = perform_keeps (NamesWhatIsThere finished) (BringsWhatIsThere finished) (names-act finished) (acts finished old step.rule) (asking old step.rule) first (brings_what_is_there old inside f step.rule step.may) in
       subst (NamesWhatIsThere finished) (sym step.is) (record { apart = done.apart; names = done.names; begins = done.begins; crates = done.crates; dependencies = done.dependencies })
 
   -- steps lead from a state that names only what is there to such states
-  pub steps_keep : (w : Workspace) (from to : State) → IsInRange from → NamesWhatIsThere finished from → Steps w finished from to → NamesWhatIsThere finished to
-  steps_keep w from to inside f none = f
-  steps_keep w from to inside f (more old new before last) = names-Step w old new (in_range-Steps before inside) (steps_keep w from old inside f before) last
+  pub steps_keep : (env : Environment) (from to : State) → IsInRange from → NamesWhatIsThere finished from → Steps env finished from to → NamesWhatIsThere finished to
+  steps_keep env from to inside f none = f
+  steps_keep env from to inside f (more old new before last) = names-Step env old new (in_range-Steps before inside) (steps_keep env from old inside f before) last
 
 -- ---- where a run begins
 
@@ -370,8 +372,9 @@ module _ (finished : Maps) (crate_data : CrateData) (start : Start) where
 
   root_names : finished root.id ≡ None → list_any (test_crate (is_missing finished)) crate_data.dependencies ≡ false → NamesOnly (beside finished root) root
   root_names apart below = record {
-    of_crate = refl;
-    unheld = refl;
+    own_crate = refl;
+    held = refl;
+    outside = refl;
     root = omega arith;
     in_order = λ at m e. first at m e;
     modules = refl;
@@ -381,7 +384,7 @@ module _ (finished : Maps) (crate_data : CrateData) (start : Start) where
   }
     where
       first : (at : ℕ) (m : ModuleValue) → slice_get root.modules at ≡ Some m → IsBefore root.id at m.parent
-      first zero m e = let same : new_module (origins.CrateRoot start.root) visibilities.Public None ≡ m = cc in subst (λ (x : ModuleValue). IsBefore root.id 0 x.parent) same tt
+      first zero m e = let same : new_module (origin_of start) visibilities.Public None ≡ m = cc in subst (λ (x : ModuleValue). IsBefore root.id 0 x.parent) same tt
       first (suc at) m e = absurd cc
 
   -- dependencies whose maps are there
@@ -431,14 +434,16 @@ module _ (paths : PathsLeadToWhatIsThere) (finished : Maps) (whole : AreWhole fi
     prelude_there = by_core map.crate_data.no_core
 
   -- a run begins with what is there
-  pub begins : (w : Workspace) (start : Start) → StandsOnWhole w finished start → NamesWhatIsThere finished (start_of w finished start)
-  begins w start stands =
-      let crate_data : CrateData = start_data (root_tree w start) (behind_in w start.krate) start in
+  pub begins : (tables : TablesValue) (w : Workspace) (from : Beginning) → StandsOnWhole w finished from.start → NamesWhatIsThere finished (start_of tables w finished from)
+  begins tables w from stands =
+      let start : Start = from.start in
+      let krate : Crate = krate_of start in
+      let crate_data : CrateData = start_data (root_tree tables w from) (w.behind krate) start in
       let one : Map = root_map crate_data start in
-      let local : Local = extern_prelude crate_data [] (dependencies_in w start.krate) in
+      let local : Local = extern_prelude crate_data [] (dependencies_in w krate) in
       let names : NamesOnly (beside finished one) one = root_names finished crate_data start stands.apart stands.behind in
       let local_there : BeginsOnly (beside finished one) local =
-      BeginsOnly-more finished (beside finished one) (Extends-beside finished one stands.apart) local (begins_there finished crate_data start whole [] refl (dependencies_in w start.krate) stands.direct) in
+      BeginsOnly-more finished (beside finished one) (Extends-beside finished one stands.apart) local (begins_there finished crate_data start whole [] refl (dependencies_in w krate) stands.direct) in
       let prelude = prelude_of finished one local in
       let two : Map = with_prelude one prelude in
       record {
@@ -450,12 +455,14 @@ module _ (paths : PathsLeadToWhatIsThere) (finished : Maps) (whole : AreWhole fi
       }
 
   -- it ends with a map that is complete beside what it read
-  pub ends_whole : (w : Workspace) (all : Maps) (start : Start) (answer : CollectedValue) → read_by w all start ≡ finished → StandsOnWhole w finished start → Ends w all start answer
+  pub ends_whole : (tables : TablesValue) (w : Workspace) (all : Maps) (from : Beginning) (answer : CollectedValue)
+      → read_by w all from.start ≡ finished → StandsOnWhole w finished from.start → Ends tables w all from answer
       → NamesOnly (beside finished answer.map) answer.map × BeginsOnly (beside finished answer.map) answer.local
-  ends_whole w all start answer same stands e =
-      let from : NamesWhatIsThere finished (begin_of w all start) = subst (λ (x : Maps). NamesWhatIsThere finished (start_of w x start)) (sym same) (begins w start stands) in
-      let derived : Steps w finished (begin_of w all start) e.end = subst (λ (x : Maps). Steps w x (begin_of w all start) e.end) same e.derived in
-      let end : NamesWhatIsThere finished e.end = steps_keep paths finished whole w (begin_of w all start) e.end (in_range-start w (read_by w all start) start) from derived in (
+  ends_whole tables w all from answer same stands e =
+      let env : Environment = environment tables w in
+      let first : NamesWhatIsThere finished (begin_of tables w all from) = subst (λ (x : Maps). NamesWhatIsThere finished (start_of tables w x from)) (sym same) (begins tables w from stands) in
+      let derived : Steps env finished (begin_of tables w all from) e.last = subst (λ (x : Maps). Steps env x (begin_of tables w all from) e.last) same e.derived in
+      let end : NamesWhatIsThere finished e.last = steps_keep paths finished whole env (begin_of tables w all from) e.last (in_range-start tables w (read_by w all from.start) from) first derived in (
         subst (λ (m : Map). NamesOnly (beside finished m) m) (sym e.map_is) end.names,
-        subst (λ (l : Local). BeginsOnly (beside finished answer.map) l) (sym e.local_is) (subst (λ (m : Map). BeginsOnly (beside finished m) e.end.core.local) (sym e.map_is) end.begins),
+        subst (λ (l : Local). BeginsOnly (beside finished answer.map) l) (sym e.local_is) (subst (λ (m : Map). BeginsOnly (beside finished m) e.last.core.local) (sym e.map_is) end.begins),
       )

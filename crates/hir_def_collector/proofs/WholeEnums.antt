@@ -74,8 +74,9 @@ module _ (finished : Maps) (map : Map) (id : EnumId) (variants : Variants) where
   NamesOnly-enum f =
       let more : NamesOnly (beside finished grown) map = NamesOnly-more (beside finished map) (beside finished grown) Extends-enum map f in
       record {
-        of_crate = more.of_crate;
-        unheld = more.unheld;
+        own_crate = more.own_crate;
+        held = more.held;
+        outside = more.outside;
         root = more.root;
         in_order = more.in_order;
         modules = more.modules;

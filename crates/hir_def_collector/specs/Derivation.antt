@@ -2,17 +2,19 @@
 use Rattle.std.specs.Prelude.{◌≡◌, ◌≤◌, ◌⊎◌, ℕ, Bool, false, List, [], ◌∷◌, ◌++◌, length, Option, None, Some, slice_get, Contains, cond}
 use Rattle.hir_scope.specs.declared.imports.ImportOrExternCrate.{ImportOrExternCrate}
 use Rattle.hir_def_map.specs.Among.{among}
-use Rattle.hir_def_map.specs.State.{Local, Map, Maps, crate_map, entry_at}
+use Rattle.hir_def_map.specs.State.{Local, Map, Maps, entry_at}
+use Rattle.hir_tables.specs.Tables.{TablesValue}
+use Rattle.hir_def_collector.specs.declared.collector.collected.Collected.{Collected}
 use Rattle.hir_def_collector.specs.declared.collector.Start.{Start}
 use Rattle.hir_def_collector.specs.declared.collector.imports.ReachedImport.{ReachedImport}
 use Rattle.hir_def_collector.specs.declared.collector.imports.Taken.{Taken}
 use Rattle.hir_def_collector.specs.declared.collector.TheConstants.{STEP_LIMIT}
 use Rattle.hir_def_collector.specs.declared.source_database.Key.{Key}
-use Rattle.hir_def_collector.specs.Workspace.{Workspace, behind_in}
-use Rattle.hir_def_collector.specs.Keys.{map_keys}
+use Rattle.hir_def_collector.specs.Workspace.{Workspace}
+use Rattle.hir_def_collector.specs.Keys.{Environment, environment, map_keys}
 use Rattle.hir_def_collector.specs.State.{State}
 use Rattle.hir_def_collector.specs.Imports.{reached_by, kept_by_kind, kind_of, namespaces_of, AreAmong, is_empty, name_of, way_of}
-use Rattle.hir_def_collector.specs.Start.{start_of}
+use Rattle.hir_def_collector.specs.Start.{Beginning, id_of, krate_of, start_of}
 use Rattle.hir_def_collector.specs.Steps.{Step, Steps}
 use Rattle.hir_def_collector.specs.Causes.{HasCause}
 
@@ -46,50 +48,55 @@ pub record CollectedValue : Type 0 where
   pub local : Local
   -- the imports that reached nothing, in the order in which they were come upon
   pub leftover : List ImportOrExternCrate
-  -- the keys that were asked for, those of finished maps aside
+  -- whether rounds of calls were cut off
+  pub round_limit_met : Bool
+  -- the keys that were asked for
   pub asked : List Key
 
--- all keys that were asked for: the map of each crate on which the map's crate stands is one
-abbrev pub keys_of : CollectedValue → List Key
-keys_of c = c.asked ++ map_keys c.map.crate_data.dependencies
+-- the plain value of what a run answers
+abbrev pub collected_view : Collected → CollectedValue
+collected_view c = record { map = c.map; local = c.local; leftover = c.leftover.items; round_limit_met = c.round_limit_met; asked = c.asked }
 
 -- the finished maps that a run reads: those of the crates on which its crate stands
 abbrev pub read_by : Workspace → Maps → Start → Maps
-read_by w finished start = among (behind_in w start.krate) finished
+read_by w finished start = among (w.behind (krate_of start)) [] finished
 
 -- the start of a run beside finished maps
-abbrev pub begin_of : Workspace → Maps → Start → State
-begin_of w finished start = start_of w (read_by w finished start) start
+abbrev pub begin_of : TablesValue → Workspace → Maps → Beginning → State
+begin_of tables w finished from = start_of tables w (read_by w finished from.start) from
 
 -- a derivation from the start over this workspace, beside these finished maps, ends in the answer
-pub record Ends (w : Workspace) (finished : Maps) (start : Start) (answer : CollectedValue) : Type 0 where
-  pub end : State
-  pub derived : Steps w (read_by w finished start) (begin_of w finished start) end
-  pub visited : end.agenda ≡ []
-  pub settled : (i : ℕ) → IsSettled (read_by w finished start) end i
-  pub binds : (i : ℕ) → BindsWhatItReaches (read_by w finished start) end i
-  -- it is the map of the start's crate
-  pub own : answer.map.id ≡ crate_map start.krate
-  pub map_is : answer.map ≡ end.core.map
-  pub local_is : answer.local ≡ end.core.local
-  pub leftover_is : answer.leftover ≡ leftover_among end.core.reached end.core.taken
-  pub asked_is : answer.asked ≡ end.core.asked
-  -- the map stands on the crates on which its crate does, so each of their maps was asked for
-  pub behind_is : answer.map.crate_data.dependencies ≡ behind_in w start.krate
-  pub caused : (key : Key) → Contains (keys_of answer) key → HasCause w start end key
+pub record Ends (tables : TablesValue) (w : Workspace) (finished : Maps) (from : Beginning) (answer : CollectedValue) : Type 0 where
+  pub last : State
+  pub derived : Steps (environment tables w) (read_by w finished from.start) (begin_of tables w finished from) last
+  pub visited : last.agenda ≡ []
+  -- unless rounds were cut off, no step is left
+  pub settled : answer.round_limit_met ≡ false → (i : ℕ) → IsSettled (read_by w finished from.start) last i
+  pub binds : answer.round_limit_met ≡ false → (i : ℕ) → BindsWhatItReaches (read_by w finished from.start) last i
+  -- nothing is called yet, so there are no rounds
+  pub unlimited : answer.round_limit_met ≡ false
+  -- it is the map of the start
+  pub own : answer.map.id ≡ id_of from.start
+  pub map_is : answer.map ≡ last.core.map
+  pub local_is : answer.local ≡ last.core.local
+  pub leftover_is : answer.leftover ≡ leftover_among last.core.reached last.core.taken
+  -- what the steps asked for, and the map of each crate on which the run's crate stands
+  pub asked_is : answer.asked ≡ last.core.asked ++ map_keys (w.behind (krate_of from.start))
+  pub behind_is : answer.map.crate_data.dependencies ≡ w.behind (krate_of from.start)
+  pub caused : (key : Key) → Contains answer.asked key → HasCause w from last key
 
 -- as many steps or modules as are counted
 abbrev pub IsFull : ℕ → Map → Type 0
 IsFull count m = (STEP_LIMIT ≤ count) ⊎ (STEP_LIMIT ≤ length m.modules)
 
 -- steps lead on from here to as many as are counted, and one more may be taken there
-pub record IsSpent (w : Workspace) (finished : Maps) (from : State) : Type 0 where
+pub record IsSpent (env : Environment) (finished : Maps) (from : State) : Type 0 where
   pub at : State
-  pub steps : Steps w finished from at
+  pub steps : Steps env finished from at
   pub next : State
-  pub step : Step w finished at next
+  pub step : Step env finished at next
   pub full : IsFull at.core.count at.core.map
 
 -- so they do from the start of a run
-abbrev pub IsOverlong : Workspace → Maps → Start → Type 0
-IsOverlong w finished start = IsSpent w (read_by w finished start) (begin_of w finished start)
+abbrev pub IsOverlong : TablesValue → Workspace → Maps → Beginning → Type 0
+IsOverlong tables w finished from = IsSpent (environment tables w) (read_by w finished from.start) (begin_of tables w finished from)

@@ -1,29 +1,87 @@
 -- What a run may ask for, and when two workspaces with their finished maps answer alike.
-use Rattle.std.specs.Prelude.{◌≡◌, List, map, Option, Contains}
+use Rattle.std.specs.Prelude.{◌≡◌, ⊤, false, List, map, Option, None, Some, Contains, IsSome}
+use Rattle.std.specs.Option.{option_and_then}
+use Rattle.hir_base.specs.declared.ast_id.AstKind.TheVariants as kinds
 use Rattle.hir_base.specs.declared.ids.Crate.{Crate}
+use Rattle.hir_base.specs.declared.ids.EnumId.{EnumId}
+use Rattle.hir_item_tree.specs.ItemTree.{empty_tree}
+use Rattle.hir_item_tree.specs.SideLists.{SideEntry, entry_variants}
+use Rattle.hir_item_tree.specs.SyntaxIds.{node_id}
+use Rattle.hir_item_tree.specs.declared.check.NodeId.{NodeId}
 use Rattle.hir_item_tree.specs.declared.side_lists.VariantItem.{VariantItem}
+use Rattle.hir_item_tree.specs.declared.tree_id.TreeId.{TreeId}
+use Rattle.hir_item_tree.specs.declared.tree_id.TreeKey.{TreeKey}
+use Rattle.hir_tables.specs.SourcePlaces.{SourcePlaceValue}
+use Rattle.hir_tables.specs.Tables.{TablesValue, source_of}
 use Rattle.hir_def_map.specs.Named.{crate_map}
-use Rattle.hir_def_map.specs.State.{Map as DefMap, Maps, map_in}
+use Rattle.hir_def_map.specs.State.{Maps, Placed}
 use Rattle.hir_def_collector.specs.declared.source_database.Key.{Key}
 use Rattle.hir_def_collector.specs.declared.source_database.Key.TheVariants.{Tree, Variants, Map}
 use Rattle.hir_def_collector.specs.Workspace.{Workspace, TreeLook}
+
+-- a workspace, and what the numbers mean by which a run speaks of it
+pub record Environment : Type 0 where
+  pub tables : TablesValue
+  pub workspace : Workspace
+
+abbrev pub environment : TablesValue → Workspace → Environment
+environment tables w = record { tables = tables; workspace = w }
+
+-- ---- what is there
+
+-- a source that isn't there
+abbrev pub absent_tree : TreeLook
+absent_tree = record { present = false; tree = empty_tree }
+
+-- a source under a crate; where a number means nothing, none is there
+abbrev pub tree_of_source : Workspace → Crate → Option SourcePlaceValue → TreeLook
+tree_of_source w krate None = absent_tree
+tree_of_source w krate (Some source) = w.tree krate source
+
+abbrev pub tree_at : TablesValue → Workspace → TreeKey → TreeLook
+tree_at tables w key = tree_of_source w key.krate (source_of tables key.id)
+
+-- what is kept beside a node of a tree under a crate
+abbrev pub side_at : TablesValue → Workspace → TreeKey → NodeId → Option SideEntry
+side_at tables w key node = option_and_then (λ source. w.side key.krate source node) (source_of tables key.id)
+
+-- the tree that writes an enum
+abbrev pub enum_tree : EnumId → TreeId
+enum_tree id = record { file = id.loc.file_id; block = id.loc.block }
+
+abbrev pub enum_key : EnumId → TreeKey
+enum_key id = record { krate = id.loc.container.map.krate; id = enum_tree id }
+
+-- the variants of an enum, but for disabled ones
+abbrev pub variants_at : TablesValue → Workspace → EnumId → Option (List VariantItem)
+variants_at tables w id = option_and_then entry_variants (side_at tables w (enum_key id) (node_id kinds.Enum id.loc.id))
+
+-- ---- keys
 
 -- what is seen at a key
 pub data Look : Type 0 where
   of_tree : TreeLook → Look
   of_variants : Option (List VariantItem) → Look
-  of_map : Option DefMap → Look
+  of_map : Option Placed → Look
 
 -- what is there at a key; that it is absent is an answer too
-abbrev pub look : Workspace → Maps → Key → Look
-look w finished (Tree krate file) = of_tree (w.tree krate file)
-look w finished (Variants id) = of_variants (w.variants id)
-look w finished (Map id) = of_map (map_in finished id)
+abbrev pub look : TablesValue → Workspace → Maps → Key → Look
+look tables w finished (Tree key) = of_tree (tree_at tables w key)
+look tables w finished (Variants id) = of_variants (variants_at tables w id)
+look tables w finished (Map id) = of_map (finished id)
 
--- two workspaces have the same crates, and beside their finished maps the same at each of the keys
-pub record AgreeOn (keys : List Key) (v : Workspace) (before : Maps) (w : Workspace) (finished : Maps) : Type 0 where
+-- the numbers in a key mean something
+abbrev pub HasMeaning : TablesValue → Key → Type 0
+HasMeaning tables (Tree key) = IsSome (source_of tables key.id)
+HasMeaning tables (Variants id) = IsSome (source_of tables (enum_tree id))
+HasMeaning tables (Map id) = ⊤
+
+-- two workspaces have the same crates, handed in alike, and beside their finished maps the same at each of the keys
+pub record AgreeOn (tables : TablesValue) (keys : List Key) (v : Workspace) (before : Maps) (w : Workspace) (finished : Maps) : Type 0 where
   pub crates : w.crates ≡ v.crates
-  pub same : (key : Key) → Contains keys key → look w finished key ≡ look v before key
+  pub config : (krate : Crate) → w.config krate ≡ v.config krate
+  pub behind : (krate : Crate) → w.behind krate ≡ v.behind krate
+  pub same : (key : Key) → Contains keys key → look tables w finished key ≡ look tables v before key
 
 -- the key of a crate's map
 abbrev pub map_key : Crate → Key

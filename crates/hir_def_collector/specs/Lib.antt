@@ -1,6 +1,7 @@
 -- ---- what is handed in, and what a run may ask for
 pub mod Workspace
 pub mod Keys
+pub mod Asked
 -- ---- where a run stands, and where it begins
 pub mod State
 pub mod CrateTop
@@ -18,6 +19,7 @@ pub mod Steps
 -- ---- what a run comes to
 pub mod Derivation
 pub mod Causes
+pub mod Growth
 pub mod Whole
 pub mod Sources
 -- ---- words of private code

@@ -19,8 +19,7 @@ use Rattle.hir_def_collector.specs.declared.collector.imports.Taken.{Taken}
 use Rattle.hir_def_collector.specs.declared.collector.site.Site.{Site}
 use Rattle.hir_def_collector.specs.declared.source_database.Key.{Key}
 use Rattle.hir_def_collector.specs.declared.source_database.Key.TheVariants as keys
-use Rattle.hir_def_collector.specs.Workspace.{Workspace}
-use Rattle.hir_def_collector.specs.Keys.{Look, of_variants, look}
+use Rattle.hir_def_collector.specs.Keys.{Environment, Look, of_variants, look}
 use Rattle.hir_def_collector.specs.State.{Visit, State, visits, ticked}
 use Rattle.hir_def_collector.specs.ItemIds.{const_id, enum_id, impl_id, extern_block_id, extern_crate_id, use_id}
 use Rattle.hir_def_collector.specs.Items.{declaration_of, declared_module, inline_origin, is_passed_over, own_visibility, type_declaration}
@@ -179,10 +178,10 @@ acts finished s (takes_import i r t) =
 abbrev pub keys_read : List Reading → List Key
 keys_read readings = list_map (λ (r : Reading). r.key) readings
 
--- the workspace, with finished maps, has that there
-abbrev pub Sees : Workspace → Maps → List Reading → Type 0
-Sees w finished [] = Unit {0}
-Sees w finished (r ∷ rs) = (look w finished r.key ≡ r.there) × Sees w finished rs
+-- that is what is there, beside finished maps
+abbrev pub Sees : Environment → Maps → List Reading → Type 0
+Sees env finished [] = Unit {0}
+Sees env finished (r ∷ rs) = (look env.tables env.workspace finished r.key ≡ r.there) × Sees env finished rs
 
 -- keys and others, one after another
 abbrev pub with_keys : List Key → List Key → List Key
@@ -198,13 +197,13 @@ abbrev pub after : Maps → State → Rule → State
 after finished s r = ticked (perform (asking s r) (acts finished s r))
 
 -- one step, beside finished maps
-pub record Step (w : Workspace) (finished : Maps) (old new : State) : Type 0 where
+pub record Step (env : Environment) (finished : Maps) (old new : State) : Type 0 where
   pub rule : Rule
   pub may : May finished old rule
-  pub sees : Sees w finished (reads old rule)
+  pub sees : Sees env finished (reads old rule)
   pub is : new ≡ after finished old rule
 
 -- steps one after another
-pub data Steps (w : Workspace) (finished : Maps) (from : State) : State → Type 0 where
-  none : Steps w finished from from
-  more : (old new : State) → Steps w finished from old → Step w finished old new → Steps w finished from new
+pub data Steps (env : Environment) (finished : Maps) (from : State) : State → Type 0 where
+  none : Steps env finished from from
+  more : (old new : State) → Steps env finished from old → Step env finished old new → Steps env finished from new

@@ -1,50 +1,62 @@
--- What is handed in: the crates, and what each of their files keeps.
-use Rattle.std.specs.Prelude.{Bool, List, [], Option, None, Some, slice_get}
-use Rattle.hir_base.specs.declared.ast_id.EditionedFileId.{EditionedFileId}
-use Rattle.hir_base.specs.declared.ast_id.HirFileId.{HirFileId}
+-- What is handed in: the crates, and what each of their sources keeps.
+use Rattle.std.specs.Prelude.{ℕ, Bool, List, [], Option, None, Some, slice_get}
+use Rattle.hir_base.specs.ModPath.{Path}
+use Rattle.hir_base.specs.declared.cfg.CfgAtom.{CfgAtom}
+use Rattle.hir_base.specs.declared.edition.Edition.{Edition}
 use Rattle.hir_base.specs.declared.ids.Crate.{Crate}
-use Rattle.hir_base.specs.declared.ids.EnumId.{EnumId}
+use Rattle.hir_item_tree.specs.Attributes.{Attributes, attributes_view}
 use Rattle.hir_item_tree.specs.ItemTree.{Tree}
-use Rattle.hir_item_tree.specs.declared.side_lists.VariantItem.{VariantItem}
+use Rattle.hir_item_tree.specs.SideLists.{SideEntry}
+use Rattle.hir_item_tree.specs.declared.check.NodeId.{NodeId}
+use Rattle.hir_tables.specs.SourcePlaces.{ExpansionValue, SourcePlaceValue}
+use Rattle.hir_def_collector.specs.declared.source_database.Config.{Config}
+use Rattle.hir_def_collector.specs.declared.source_database.CrateRoot.{CrateRoot}
 use Rattle.hir_def_collector.specs.declared.source_database.Dependency.{Dependency}
 
--- a crate's own data
-pub record CrateData : Type 0 where
-  -- its root file, in the crate's edition
-  pub root : EditionedFileId
+-- what a crate was handed in with, its root aside
+pub record ConfigValue : Type 0 where
+  pub edition : Edition
+  -- the attributes in front of those of its root
+  pub attributes : Attributes
   -- the crates that it depends on, in the order in which they were handed in
   pub dependencies : List Dependency
-  -- the crates on which it stands, directly or through others, by number
-  pub behind : List Crate
-  pub is_proc_macro : Bool
+  -- the options that are set
+  pub options : List CfgAtom
+
+-- the plain value of that
+abbrev pub config_view : Config → ConfigValue
+config_view c = record { edition = c.edition; attributes = attributes_view c.attributes.items; dependencies = c.dependencies.items; options = c.options }
 
 -- a source under a crate: whether it is there, and what is kept of it; one that is absent keeps no items
 pub record TreeLook : Type 0 where
   pub present : Bool
   pub tree : Tree
 
--- the crates by number, the sources under each crate, and the variants of each enum, but for disabled ones
+-- an expansion: whether it is there, the error beside it, and the paths that its macro asks to have resolved first
+pub record EntryLook : Type 0 where
+  pub present : Bool
+  pub error : Option (List ℕ)
+  pub inner : List Path
+
+-- the crates by number; under each crate what is kept of a source and beside its nodes; expansions
 pub record Workspace : Type 0 where
-  pub crates : List CrateData
-  pub tree : Crate → HirFileId → TreeLook
-  pub variants : EnumId → Option (List VariantItem)
+  pub crates : List CrateRoot
+  -- none of a crate that isn't there
+  pub config : Crate → Option ConfigValue
+  -- the crates on which a crate stands, directly or through others, by number
+  pub behind : Crate → List Crate
+  pub tree : Crate → SourcePlaceValue → TreeLook
+  pub side : Crate → SourcePlaceValue → NodeId → Option SideEntry
+  pub entry : ExpansionValue → EntryLook
 
 -- the crate of a number
-abbrev pub crate_in : Workspace → Crate → Option CrateData
+abbrev pub crate_in : Workspace → Crate → Option CrateRoot
 crate_in w krate = slice_get w.crates krate.0
 
 -- what a crate depends on; nothing where it isn't there
-abbrev pub dependencies_of : Option CrateData → List Dependency
+abbrev pub dependencies_of : Option ConfigValue → List Dependency
 dependencies_of None = []
 dependencies_of (Some c) = c.dependencies
 
 abbrev pub dependencies_in : Workspace → Crate → List Dependency
-dependencies_in w krate = dependencies_of (crate_in w krate)
-
--- the crates on which a crate stands; none where it isn't there
-abbrev pub behind_of : Option CrateData → List Crate
-behind_of None = []
-behind_of (Some c) = c.behind
-
-abbrev pub behind_in : Workspace → Crate → List Crate
-behind_in w krate = behind_of (crate_in w krate)
+dependencies_in w krate = dependencies_of (w.config krate)

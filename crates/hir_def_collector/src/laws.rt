@@ -1,5 +1,6 @@
 //! What holds of every run. The functions do nothing: their contracts are the laws.
 ghost use Rattle.hir_def_collector.specs.Enums.{LastVariantPrevails};
+ghost use Rattle.hir_def_collector.specs.Growth.{AnswersStand, AskedKeysHaveMeaning, LooksStand};
 ghost use Rattle.hir_def_collector.specs.Sources.{RunsBindFromSources};
 ghost use Rattle.hir_def_collector.specs.Whole.{RunsNameWhatIsThere};
 
@@ -17,11 +18,18 @@ pub fn runs_name_what_is_there()
     paths_lead_to_what_is_there();
 }
 
-/// A run binds only what its root file writes outside of blocks, and what the maps beside it bind, seen from modules
-/// that are there.
+/// A run binds only what its tree writes, and what the maps beside it bind, seen from modules that are there.
 pub fn runs_bind_from_sources()
     ensures sources { RunsBindFromSources }
 {
     paths_lead_to_what_is_there();
     paths_answer_from_sources();
 }
+
+/// What a run comes to stays as tables grow, where the number of its tree means something; so does what is seen at each
+/// key that it asked for.
+pub fn answers_stand_as_tables_grow()
+    ensures looks { LooksStand }
+    ensures meaning { AskedKeysHaveMeaning }
+    ensures answers { AnswersStand }
+{}

@@ -1,18 +1,21 @@
 //! What a run lists, leaves over and asks for. What the names of its modules stand for are sessions of `hir_session_rows`.
-use hir_base::ast_id::{EditionedFileId, FileId, HirFileId};
+use hir_base::ast_id::{EditionedFileId, FileId, HirFileId, SyntaxId};
 use hir_base::cfg_options::CfgOptions;
 use hir_base::edition::Edition;
-use hir_base::ids::{Crate, EnumId, ItemContainerId, ModuleDefId};
+use hir_base::file_path::FilePath;
+use hir_base::ids::{Crate, ItemContainerId, MapId, ModuleDefId};
 use hir_base::name::Name;
 use hir_def_collector::collector::collected::Collected;
 use hir_def_collector::collector::{Start, collect_defs};
-use hir_def_collector::source_database::{CrateData, Dependency, SourceDatabase};
+use hir_def_collector::source_database::{Config, CrateRoot, Dependency, Key, SourceDatabase};
 use hir_def_map::nameres::DefMap;
 use hir_def_map::world::World;
 use hir_item_tree::item_tree::{ItemTree, source_tree};
 use hir_item_tree::side_lists::VariantItem;
 use hir_item_tree::source::Source;
+use hir_item_tree::tree_id::TreeId;
 use hir_scope::per_ns::PerNs;
+use hir_tables::{SourcePlace, Tables};
 use hir_wire::{Command, Edit, read_command};
 use std::alloc::{AllocError, Global};
 use std::collections::BTreeSet;
@@ -20,33 +23,52 @@ use std::process::Abort;
 use std::rc::Rc;
 use std::test::Fail;
 
-/// Crates by number, and the source of each crate's root.
+/// Crates by number, what each was handed in with, on which crates it stands, and the source of its root.
 #[derive(Drop)]
 struct Crates {
-    crates: Vec<CrateData>,
+    crates: Vec<CrateRoot>,
+    configs: Vec<Config>,
+    behind: Vec<Rc<BTreeSet<Crate>>>,
     roots: Vec<Source>,
 }
 
 impl SourceDatabase for Crates {
-    ghost use Rattle.std.specs.Prelude.{None, option_map, slice_get, false, true, unwrap_or};
+    ghost use Rattle.std.specs.Prelude.{None, option_map, slice_get, false, true, unwrap_or, []};
     ghost use Rattle.hir_item_tree.specs.Attributes.{no_attributes};
     ghost use Rattle.hir_item_tree.specs.ItemTree.{tree_of};
     ghost use Rattle.hir_item_tree.specs.Source.{broken, source_view};
+    ghost use Rattle.hir_def_collector.specs.Workspace.{config_view};
 
     ghost workspace = { λ d. record {
       crates = d.crates.items;
-      tree = λ krate file. record {
+      config = λ krate. option_map config_view (slice_get d.configs.items krate.0);
+      behind = λ krate. unwrap_or (option_map (λ crates. crates.value.keys) (slice_get d.behind.items krate.0)) [];
+      tree = λ krate source. record {
         present = true;
         tree = tree_of (λ _. false) no_attributes (unwrap_or (option_map source_view (slice_get d.roots.items krate.0)) broken);
       };
-      variants = λ id. None;
+      side = λ krate source node. None;
+      entry = λ key. record { present = false; error = None; inner = [] };
     } };
 
-    fn krate(&self, krate: Crate) -> Option<&CrateData> {
+    fn krate(&self, krate: Crate) -> Option<&CrateRoot> {
         self.crates.get(krate.0 as usize)
     }
 
-    fn tree(&self, alloc: Global, krate: Crate, _file: HirFileId) -> Result<ItemTree, AllocError> {
+    fn config(&self, krate: Crate) -> Option<&Config> {
+        self.configs.get(krate.0 as usize)
+    }
+
+    fn behind(&self, krate: Crate) -> Option<&Rc<BTreeSet<Crate>>> {
+        self.behind.get(krate.0 as usize)
+    }
+
+    fn tree(
+        &self,
+        alloc: Global,
+        krate: Crate,
+        _source: SourcePlace<'_>,
+    ) -> Result<ItemTree, AllocError> {
         let front = Vec::new(alloc);
         let options = CfgOptions::new(alloc);
         match self.roots.get(krate.0 as usize) {
@@ -55,14 +77,16 @@ impl SourceDatabase for Crates {
         }
     }
 
-    fn present(&self, _krate: Crate, _file: HirFileId) -> bool {
+    fn present(&self, _krate: Crate, _source: SourcePlace<'_>) -> bool {
         true
     }
 
     fn variants(
         &self,
         _alloc: Global,
-        _id: EnumId,
+        _krate: Crate,
+        _source: SourcePlace<'_>,
+        _id: SyntaxId,
     ) -> Result<Option<Vec<VariantItem>>, AllocError> {
         Ok(None)
     }
@@ -146,7 +170,7 @@ fn root(number: u32) -> EditionedFileId {
 }
 
 fn start(number: u32) -> Start {
-    Start {
+    Start::Crate {
         krate: Crate(number),
         root: root(number),
     }
@@ -173,20 +197,51 @@ fn dependencies(alloc: Global, is_prelude: bool) -> Result<Vec<Dependency>, Fail
     Ok(vec![in alloc; dependency]?)
 }
 
-fn upper_data(alloc: Global, is_prelude: bool) -> Result<CrateData, Fail> {
-    let behind = the_lower(alloc)?;
-    let dependencies = dependencies(alloc, is_prelude)?;
-    Ok(CrateData::new(root(1), dependencies, behind, false))
+fn config(alloc: Global, dependencies: Vec<Dependency>) -> Config {
+    Config {
+        edition: Edition::Edition2021,
+        attributes: Vec::new(alloc),
+        dependencies,
+        options: CfgOptions::new(alloc),
+    }
 }
 
-fn lower_data(alloc: Global) -> Result<CrateData, Fail> {
-    Ok(CrateData::new(root(0), Vec::new(alloc), no_crates(alloc)?, false))
+fn lower_config(alloc: Global) -> Config {
+    config(alloc, Vec::new(alloc))
 }
 
-fn data_of_both(alloc: Global, is_prelude: bool) -> Result<Vec<CrateData>, Fail> {
-    let mut crates = vec![in alloc; lower_data(alloc)?]?;
-    crates.push(upper_data(alloc, is_prelude)?)?;
+fn configs_of_both(alloc: Global, is_prelude: bool) -> Result<Vec<Config>, Fail> {
+    let mut configs = vec![in alloc; lower_config(alloc)]?;
+    configs.push(config(alloc, dependencies(alloc, is_prelude)?))?;
+    Ok(configs)
+}
+
+fn behind_both(alloc: Global) -> Result<Vec<Rc<BTreeSet<Crate>>>, Fail> {
+    let mut behind = vec![in alloc; no_crates(alloc)?]?;
+    behind.push(the_lower(alloc)?)?;
+    Ok(behind)
+}
+
+/// A crate with its root at this path.
+fn crate_at(alloc: Global, path: &str) -> Result<CrateRoot, Fail> {
+    Ok(CrateRoot {
+        root: FilePath::parse(alloc, path)?,
+        is_proc_macro: false,
+    })
+}
+
+fn crates_of_both(alloc: Global) -> Result<Vec<CrateRoot>, Fail> {
+    let mut crates = vec![in alloc; crate_at(alloc, "a.rs")?]?;
+    crates.push(crate_at(alloc, "b.rs")?)?;
     Ok(crates)
+}
+
+/// The numbers of both root files.
+fn files_of_both(alloc: Global) -> Result<Tables, Fail> {
+    let mut tables = Tables::new(alloc);
+    tables.intern_file(FilePath::parse(alloc, "a.rs")?)?;
+    tables.intern_file(FilePath::parse(alloc, "b.rs")?)?;
+    Ok(tables)
 }
 
 fn roots_of_both(alloc: Global, lower: &str, upper: &str) -> Result<Vec<Source>, Fail> {
@@ -197,24 +252,33 @@ fn roots_of_both(alloc: Global, lower: &str, upper: &str) -> Result<Vec<Source>,
 
 /// Crate 0, and crate 1, which depends on it under the name `core`.
 fn two_crates(alloc: Global, lower: &str, upper: &str, is_prelude: bool) -> Result<Crates, Fail> {
-    let crates = data_of_both(alloc, is_prelude)?;
-    let roots = roots_of_both(alloc, lower, upper)?;
-    Ok(Crates { crates, roots })
+    Ok(Crates {
+        crates: crates_of_both(alloc)?,
+        configs: configs_of_both(alloc, is_prelude)?,
+        behind: behind_both(alloc)?,
+        roots: roots_of_both(alloc, lower, upper)?,
+    })
 }
 
 /// What the lower crate comes to by itself, in a world.
 fn world_of(alloc: Global, lower: Collected) -> Result<World, Fail> {
     let mut world = World::new(alloc);
-    let (map, local, _, _) = lower.into_parts();
-    if world.insert(map, local).is_ok() {
+    if world.insert(lower.map, lower.local).is_ok() {
         Ok(world)
     } else {
         Err("a map that names nothing else")?
     }
 }
 
+/// What a crate comes to beside the maps of a world.
+fn collected_of(alloc: Global, db: &Crates, world: &World, number: u32) -> Result<Collected, Fail> {
+    let mut tables = files_of_both(alloc)?;
+    let tree = TreeId::new(HirFileId::File(root(number)), None);
+    Ok(collect_defs(alloc, db, world, &mut tables, start(number), tree, None)?)
+}
+
 fn lower_collected(alloc: Global, db: &Crates) -> Result<Collected, Fail> {
-    Ok(collect_defs(alloc, db, &World::new(alloc), start(0))?)
+    collected_of(alloc, db, &World::new(alloc), 0)
 }
 
 fn lower_world(alloc: Global, db: &Crates) -> Result<World, Fail> {
@@ -224,7 +288,7 @@ fn lower_world(alloc: Global, db: &Crates) -> Result<World, Fail> {
 /// What the upper crate comes to beside the lower one.
 fn upper_collected(alloc: Global, db: &Crates) -> Result<Collected, Fail> {
     let world = lower_world(alloc, db)?;
-    Ok(collect_defs(alloc, db, &world, start(1))?)
+    collected_of(alloc, db, &world, 1)
 }
 
 fn collected(alloc: Global, lower: &str, upper: &str, is_prelude: bool) -> Result<Collected, Fail> {
@@ -254,9 +318,10 @@ const ROWS: [Row; 6] = [
 
 fn counts(rt: &impl Abort, found: &Collected, row: &Row) {
     let (label, _, _, _, leftover, asked) = *row;
-    assert_eq!(rt; found.leftover().len(), leftover, "{label}");
-    assert_eq!(rt; found.asked().len(), asked, "{label}");
-    assert_eq!(rt; found.map().crate_data().dependencies().len(), 1, "{label}");
+    assert_eq!(rt; found.leftover.len(), leftover, "{label}");
+    assert_eq!(rt; found.asked.own().len(), asked, "{label}");
+    assert_eq!(rt; found.map.crate_data().dependencies().len(), 1, "{label}");
+    assert!(rt; !found.round_limit_met, "{label}");
 }
 
 fn finds(rt: &impl Abort, alloc: Global, row: &Row) -> Result<(), Fail> {
@@ -294,9 +359,12 @@ const ITEMS: &str = r#"{"do":"set file","file":"lib.rs","unit":{"nodes":[
 {"kind":"Impl","id":[0,0],"trait":true,"items":[],"vis":"pub"}]}}"#;
 
 fn one_crate(alloc: Global) -> Result<Crates, Fail> {
-    let crates = vec![in alloc; lower_data(alloc)?]?;
-    let roots = vec![in alloc; source(alloc, ITEMS)?]?;
-    Ok(Crates { crates, roots })
+    Ok(Crates {
+        crates: vec![in alloc; crate_at(alloc, "a.rs")?]?,
+        configs: vec![in alloc; lower_config(alloc)]?,
+        behind: vec![in alloc; no_crates(alloc)?]?,
+        roots: vec![in alloc; source(alloc, ITEMS)?]?,
+    })
 }
 
 fn items(alloc: Global) -> Result<Collected, Fail> {
@@ -336,10 +404,10 @@ fn container_of_ext(rt: &impl Abort, alloc: Global, map: &DefMap) -> Result<(), 
 }
 
 fn lists_of(rt: &impl Abort, alloc: Global, found: &Collected) -> Result<(), Fail> {
-    items_of_root(rt, found.map())?;
-    assert_eq!(rt; found.leftover().len(), 1);
-    assert_eq!(rt; found.asked().len(), 1);
-    container_of_ext(rt, alloc, found.map())
+    items_of_root(rt, &found.map)?;
+    assert_eq!(rt; found.leftover.len(), 1);
+    assert_eq!(rt; found.asked.own().len(), 1);
+    container_of_ext(rt, alloc, &found.map)
 }
 
 /// Each item is listed in its module, and a function of an extern block has that block as its container; the glob is left
@@ -354,7 +422,7 @@ fn lists(rt: HostRuntime) -> Result<(), Fail> {
 #[test]
 fn imported_through_a_builtin(rt: HostRuntime) -> Result<(), Fail> {
     let found = collected(rt.alloc(), TWO_THINGS, THROUGH_A_BUILTIN, true)?;
-    is_builtin(&rt, rt.alloc(), found.map())
+    is_builtin(&rt, rt.alloc(), &found.map)
 }
 
 fn is_builtin(rt: &impl Abort, alloc: Global, map: &DefMap) -> Result<(), Fail> {
@@ -363,5 +431,22 @@ fn is_builtin(rt: &impl Abort, alloc: Global, map: &DefMap) -> Result<(), Fail> 
         ModuleDefId::BuiltinType(_)
     );
     assert!(rt; of_builtin);
+    Ok(())
+}
+
+/// The keys that a run asked for: those of its steps, and then the map of the crate on which it stands.
+#[test]
+fn asked_one_after_another(rt: HostRuntime) -> Result<(), Fail> {
+    let found = collected(rt.alloc(), LOWER, ENUMS, false)?;
+    walks_all(&rt, &found)
+}
+
+fn walks_all(rt: &impl Abort, found: &Collected) -> Result<(), Fail> {
+    let mut keys = found.asked.iter();
+    for key in found.asked.own() {
+        assert!(rt; keys.next() == Some(*key));
+    }
+    assert!(rt; keys.next() == Some(Key::Map(MapId::of_crate(Crate(0)))));
+    assert!(rt; keys.next().is_none());
     Ok(())
 }

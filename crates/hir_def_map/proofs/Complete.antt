@@ -1,12 +1,14 @@
--- A crate's map that names only what is there.
+-- A map that names only what is there.
 use Rattle.std.specs.Prelude.{◌≡◌, ◌≢◌, Bool, true, false, not, ◌||◌, Option, None, Some, option_map, ℕ, List, map as list_map, slice_get, option_and_then, zero, suc, ◌<◌, ◌≤◌, [], ◌∷◌, length, ◌&&◌, is_some, cond}
 use Rattle.std.specs.BTreeMap.{is_at}
 use Rattle.std.specs.Cmp.Lexicographic.{slice_cmp}
+use Rattle.std.specs.Cmp.{first_so, second_so}
 use Rattle.std.specs.List.{list_any, list_all, All}
 use Rattle.std.specs.Map.{lookup}
 use Rattle.std.specs.Ordering.{nat_cmp}
 use Rattle.std.proofs.Common.{ap, refl, ◌∙◌, subst, sym, arith}
 use Rattle.std.proofs.lemmas.List.{length-map}
+use Rattle.std.proofs.lemmas.List.Elements.{All-cons, All-nil}
 use Rattle.std.proofs.lemmas.Option.{slice_get-map}
 use mathlib.Core.Bool.{true≢false}
 use Rattle.hir_base.specs.declared.ast_id.BlockId.{BlockId}
@@ -17,13 +19,13 @@ use Rattle.hir_base.specs.declared.ids.ModuleId.{ModuleId}
 use Rattle.hir_scope.specs.ModuleTree.{same_crate}
 use Rattle.hir_scope.specs.declared.imports.ImportOrExternCrate.{ImportOrExternCrate}
 use Rattle.hir_scope.specs.PerNs.{Item}
-use Rattle.hir_def_map.specs.Beside.{same_id, exact_crate}
+use Rattle.hir_def_map.specs.Beside.{same_id, exact_crate, frame_holders}
 use Rattle.hir_def_map.specs.Chains.{ends_from, ends_within, leads_to_root, number_in, own_frame, parent_number, frame_of, frames_of, holders_in, holders_of_frame}
 use Rattle.hir_def_map.specs.Closed.{AreThere, IsClosed, MapIsThere, ModuleIsThere, TypeIsThere}
-use Rattle.hir_def_map.specs.Complete.{NamesOnly, BeginsOnly, Extends, AreWhole}
+use Rattle.hir_def_map.specs.Complete.{NamesOnly, BeginsOnly, Extends, AreWhole, is_held_outside}
 use Rattle.hir_def_map.specs.Named.{is_missing, is_there, named_by, names_in_module, prelude_named, test_child, test_crate, test_extern, test_of, test_type, all_below, has_its_parents, is_parent_in, each_leads_to_root, is_complete, is_holder_for, names_own_crate, names_some}
 use Rattle.hir_def_map.specs.Scoping.Start.{is_dependency}
-use Rattle.hir_def_map.specs.State.{Local, Map, Maps, ModuleValue, crate_map, parent_of, module_at, parent_at, IsBefore, IsInOrder, beside, Placed, entry_in, entry_of, map_in, module_in, parent_in, root_of}
+use Rattle.hir_def_map.specs.State.{Local, Map, Maps, ModuleValue, crate_map, parent_of, module_at, parent_at, IsBefore, IsInOrder, beside, Placed, entry_in, entry_of, holders_of, holders_under, map_in, module_in, parent_in, placed_in, root_of}
 use Rattle.hir_def_map.specs.declared.world.named.Named.{Named}
 use Rattle.hir_def_map.proofs.NoneOf.{neither, none_of_less, not_first, not_second, none_at, none_found}
 use Rattle.hir_base.specs.contracts.ids.MapIdPartialEq.TheImpl as map_id
@@ -53,11 +55,27 @@ module _ (one other : Maps) (more : Extends one other) where
       (none_of_less (test_child (is_missing one)) (test_child (is_missing other)) (λ x f. none_missing (named.Module x.1) f) m.children (not_first c t rest))
       (none_of_less (test_type (is_missing one)) (test_type (is_missing other)) (λ x f. of_none (named_by x.1.def) f) m.scope.types (not_second c t rest)))
 
+  own_crate : (id : MapId) → names_own_crate (is_missing one) id ≡ false → names_own_crate (is_missing other) id ≡ false
+  own_crate id e = go (is_some id.block) e
+    where
+      go : (b : Bool) → (b && test_crate (is_missing one) id.krate) ≡ false → (b && test_crate (is_missing other) id.krate) ≡ false
+      go true f = none_missing (named.Map (crate_map id.krate)) f
+      go false f = refl
+
+  pub held_there : (id : MapId) (o : Option ModuleId) → is_holder_for one id o ≡ true → is_holder_for other id o ≡ true
+  held_there id None e = refl
+  held_there id (Some h) e = go (same_crate h.map.krate id.krate) e
+    where
+      go : (b : Bool) → (b && is_some (module_in one h)) ≡ true → (b && is_some (module_in other h)) ≡ true
+      go true f = more (named.Module h) f
+      go false f = absurd (true≢false (sym f))
+
   -- a map names only what is there among more maps too
   pub NamesOnly-more : (map : Map) → NamesOnly one map → NamesOnly other map
   NamesOnly-more map f = record {
-    of_crate = f.of_crate;
-    unheld = f.unheld;
+    own_crate = own_crate map.id f.own_crate;
+    held = held_there map.id map.holder f.held;
+    outside = f.outside;
     root = f.root;
     in_order = f.in_order;
     modules = none_of_less (names_in_module (is_missing one)) (names_in_module (is_missing other)) in_module map.modules f.modules;
@@ -133,12 +151,27 @@ module _ (map : Map) (in_order : IsInOrder map) where
       go [] f = refl
       go (m ∷ ms) f = ap (λ (b : Bool). b && list_all (λ (x : ModuleValue). is_parent_in map.id x.parent) ms) (f zero m refl) ∙ go ms (λ k x e. f (suc k) x e)
 
--- a crate's map that names only what is there is complete
+-- what holds a map is there
+holder_there : (maps : Maps) (id : MapId) (o : Option ModuleId) → is_holder_for maps id o ≡ true → test_of (is_missing maps) (option_map named.Module o) ≡ false
+holder_there maps id None e = refl
+holder_there maps id (Some h) e = ap not (second_so (same_crate h.map.krate id.krate) (is_some (module_in maps h)) e)
+
+-- a holder outside of a map is there without it
+pub held_before : (finished : Maps) (map : Map) (o : Option ModuleId) → is_held_outside map.id o ≡ true → is_holder_for (beside finished map) map.id o ≡ true → is_holder_for finished map.id o ≡ true
+held_before finished map None out e = refl
+held_before finished map (Some h) out e = go (map_id.ghosts.eq h.map map.id) out e
+  where
+    go : (b : Bool) → not b ≡ true
+        → (same_crate h.map.krate map.id.krate && is_some (option_and_then (λ (p : Placed). module_at p.map h.index) (cond b (Some (placed_in finished map)) (finished h.map)))) ≡ true
+        → is_holder_for finished map.id (Some h) ≡ true
+    go true f g = absurd (true≢false (sym f))
+    go false f g = g
+
+-- a map that names only what is there is complete
 pub complete : (finished : Maps) (map : Map) (local : Local) → NamesOnly (beside finished map) map → BeginsOnly (beside finished map) local → is_complete finished map local ≡ true
 complete finished map local f begins =
     let maps = beside finished map in
-    let of_block : names_own_crate (is_missing maps) map.id ≡ false = ap (λ o. is_some o && test_crate (is_missing maps) map.id.krate) f.of_crate in
-    let no_holder : test_of (is_missing maps) (option_map named.Module map.holder) ≡ false = ap (λ o. test_of (is_missing maps) (option_map named.Module o)) f.unheld in
+    let holder : test_of (is_missing maps) (option_map named.Module map.holder) ≡ false = holder_there maps map.id map.holder f.held in
     let d = list_any (test_crate (is_missing maps)) map.crate_data.dependencies in
     let e = list_any (test_extern (is_missing maps)) local in
     let h = test_of (is_missing maps) (option_map named.Module map.holder) in
@@ -147,10 +180,10 @@ complete finished map local f begins =
     let nothing_missing : names_some (is_missing maps) map local ≡ false =
     neither (list_any (names_in_module (is_missing maps)) map.modules) (p || (h || (e || (d || o)))) f.modules
     (neither p (h || (e || (d || o))) f.prelude
-    (neither h (e || (d || o)) no_holder
+    (neither h (e || (d || o)) holder
     (neither e (d || o) begins
-    (neither d o f.dependencies of_block)))) in
-    let held : is_holder_for finished map.id map.holder ≡ true = ap (is_holder_for finished map.id) f.unheld in
+    (neither d o f.dependencies f.own_crate)))) in
+    let held : is_holder_for finished map.id map.holder ≡ true = held_before finished map map.holder f.outside f.held in
     let leads : each_leads_to_root map ≡ true = all_lead map f.in_order (length map.modules) (omega arith) in
     rw (leads, parents_inside map f.in_order, held, nothing_missing) refl
 
@@ -216,7 +249,7 @@ module _ (maps : Maps) (whole : AreWhole maps) where
     crates = λ m e. crate_there m (maps m.map) refl e;
     dependencies = λ id c e. depends id c (maps id) refl e;
     parents = closed_parents;
-    holders = λ m. held m (maps m.map) refl;
+    holders = λ m. subst (All (ModuleIsThere maps)) (sym (frame_holders (maps m.map))) (held (holders_of (maps m.map)) m.map (maps m.map) refl refl);
     types = closed_types;
   }
     where
@@ -226,12 +259,15 @@ module _ (maps : Maps) (whole : AreWhole maps) where
           let first : 0 < length placed.map.modules = (whole id placed s).names.root in
           ap (λ (x : Option Placed). is_some (option_and_then (λ (y : Placed). module_at y.map 0) x)) s ∙ is_some_slice_get placed.map.modules first
 
+      at_home : (k : Crate) (b : Option BlockId) → names_own_crate missing (record { krate = k; block = b }) ≡ false → is_some (maps (record { krate = k; block = b })) ≡ true → MapIsThere maps (crate_map k)
+      at_home k None f t = t
+      at_home k (Some b) f t = is_in (named.Map (crate_map k)) f
+
       crate_there : (m : ModuleId) (o : Option Placed) → maps m.map ≡ o → ModuleIsThere maps m → MapIsThere maps (crate_map m.map.krate)
       crate_there m None s e = absurd (true≢false (sym e ∙ ap (λ (x : Option Placed). is_some (option_and_then (λ (y : Placed). module_at y.map m.index) x)) s))
       crate_there m (Some placed) s e =
           let w = whole m.map placed s in
-          let no_block : m.map.block ≡ None = ap (λ (x : MapId). x.block) (sym w.own) ∙ w.names.of_crate in
-          ap (λ (x : Option BlockId). is_some (maps (record { krate = m.map.krate; block = x }))) (sym no_block) ∙ ap (λ (x : Option Placed). is_some x) s
+          at_home m.map.krate m.map.block (subst (λ (x : MapId). names_own_crate missing x ≡ false) w.own w.names.own_crate) (ap (λ (x : Option Placed). is_some x) s)
 
       depends : (id : MapId) (c : Crate) (o : Option Placed) → maps id ≡ o → is_dependency (map_in maps id) c ≡ true → MapIsThere maps (crate_map c)
       depends id c None s e = absurd (true≢false (sym e ∙ ap (λ (x : Option Placed). is_dependency (option_map (λ (y : Placed). y.map) x) c) s))
@@ -239,6 +275,27 @@ module _ (maps : Maps) (whole : AreWhole maps) where
           listed_there placed.map.crate_data.dependencies (whole id placed s).names.dependencies c
           (sym (ap (λ (x : Option Placed). is_dependency (option_map (λ (y : Placed). y.map) x) c) s) ∙ e)
 
-      held : (m : ModuleId) (o : Option Placed) → maps m.map ≡ o → All (ModuleIsThere maps) (holders_in maps m)
-      held m None s = subst (All (ModuleIsThere maps)) (sym (ap (λ (x : Option Placed). holders_of_frame (option_map frame_of x)) s)) (λ k d l. absurd (omega arith))
-      held m (Some placed) s = subst (All (ModuleIsThere maps)) (sym (ap (λ (x : Option Placed). holders_of_frame (option_map frame_of x)) s ∙ (whole m.map placed s).unheld)) (λ k d l. absurd (omega arith))
+      first_there : (k : ModuleId) → is_some (module_in maps k) ≡ true → is_some (maps k.map) ≡ true
+      first_there k e = go (maps k.map) e
+        where
+          go : (o : Option Placed) → is_some (option_and_then (λ (p : Placed). module_at p.map k.index) o) ≡ true → is_some o ≡ true
+          go None f = absurd (true≢false (sym f))
+          go (Some p) f = refl
+
+      held : (hs : List ModuleId) (id : MapId) (o : Option Placed) → maps id ≡ o → holders_of o ≡ hs → All (ModuleIsThere maps) hs
+      held [] id o s e = All-nil (ModuleIsThere maps)
+      held (h ∷ hs) id None s e = absurd cc
+      held (h ∷ hs) id (Some placed) s e =
+          let w = whole id placed s in
+          go placed.map.holder (subst (λ (x : MapId). is_holder_for maps x placed.map.holder ≡ true) w.own w.names.held) (sym w.holders ∙ e) (λ k f. held hs k.map (maps k.map) refl f)
+        where
+          go : (o : Option ModuleId) → is_holder_for maps id o ≡ true → holders_under maps id o ≡ h ∷ hs
+              → ((k : ModuleId) → holders_of (maps k.map) ≡ hs → All (ModuleIsThere maps) hs) → All (ModuleIsThere maps) (h ∷ hs)
+          go None f g rest = absurd cc
+          go (Some k) f g rest =
+              let inside : is_some (module_in maps k) ≡ true = second_so (same_crate k.map.krate id.krate) (is_some (module_in maps k)) f in
+              let near : same_crate k.map.krate id.krate ≡ true = first_so (same_crate k.map.krate id.krate) (is_some (module_in maps k)) f in
+              let under : k ∷ holders_of (maps k.map) ≡ h ∷ hs = (λ i. cond (sym near i && sym (first_there k inside) i) (k ∷ holders_of (maps k.map)) []) ∙ g in
+              let first : k ≡ h = cc in
+              let others : holders_of (maps k.map) ≡ hs = cc in
+              All-cons (ModuleIsThere maps) h hs (subst (ModuleIsThere maps) first inside) (rest k others)

@@ -318,7 +318,7 @@ entry_at-pushed_elsewhere map globs at name other items import k ne =
 
 -- what each module is in stays
 pub frame_of-changed : (map : Map) (holders : List ModuleId) (at : ℕ) (change : ModuleValue → ModuleValue) → ((m : ModuleValue) → (change m).parent ≡ m.parent)
-    → frame_of (record { map = record map { modules = changed_at map.modules at change }; holders = holders }) ≡ frame_of (record { map = map; holders = holders })
+    → frame_of (record { map = record map { modules = changed_at map.modules at change }; local = []; holders = holders }) ≡ frame_of (record { map = map; local = []; holders = holders })
 frame_of-changed map holders at change keeps = λ i. record { id = map.id; parents = go map.modules at i; holders = holders }
   where
     go : (ms : List ModuleValue) (k : ℕ) → list_map (λ (m : ModuleValue). m.parent) (changed_at ms k change) ≡ list_map (λ (m : ModuleValue). m.parent) ms
@@ -328,7 +328,7 @@ frame_of-changed map holders at change keeps = λ i. record { id = map.id; paren
 
 -- where two maps of one id and one holder have one frame, the same lies above each module beside finished maps
 pub frames_of-beside : (finished : Maps) (one other : Map) → one.id ≡ other.id → one.holder ≡ other.holder
-    → ((holders : List ModuleId) → frame_of (record { map = one; holders = holders }) ≡ frame_of (record { map = other; holders = holders }))
+    → ((holders : List ModuleId) → frame_of (record { map = one; local = []; holders = holders }) ≡ frame_of (record { map = other; local = []; holders = holders }))
     → (id : MapId) → frames_of (beside finished one) id ≡ frames_of (beside finished other) id
 unfolding frames_of
 frames_of-beside finished one other same_id same_place same id =
@@ -338,7 +338,7 @@ frames_of-beside finished one other same_id same_place same id =
     held = λ i. holders_or (finished (same_id i)) (holders_under finished (same_id i) (same_place i))
 
     whole : frame_of (placed_in finished one) ≡ frame_of (placed_in finished other)
-    whole = ap (λ (hs : List ModuleId). frame_of (record { map = one; holders = hs })) held ∙ same (placed_in finished other).holders
+    whole = ap (λ (hs : List ModuleId). frame_of (record { map = one; local = []; holders = hs })) held ∙ same (placed_in finished other).holders
 
     on : (b : Bool) → option_map frame_of (cond b (Some (placed_in finished one)) (finished id)) ≡ option_map frame_of (cond b (Some (placed_in finished other)) (finished id))
     on true = ap Some whole

@@ -18,9 +18,9 @@ use Rattle.hir_scope.specs.ModuleTree.{same_crate}
 use Rattle.hir_def_map.specs.declared.world.finished.Finished.{Finished}
 use Rattle.hir_def_map.specs.declared.world.named.Named.{Named}
 use Rattle.hir_def_map.specs.declared.world.named.Named.TheVariants as named
-use Rattle.hir_def_map.specs.State.{Local, Map, Maps, ModuleValue, Placed, beside, holders_of, holders_or, holders_under, module_at, module_in, placed_in, variants_at}
+use Rattle.hir_def_map.specs.State.{Local, Map, Maps, ModuleValue, Placed, beside, holders_of, holders_or, holders_under, module_at, module_in, placed_in, placed_with, variants_at, with_map}
 use Rattle.hir_def_map.specs.Chains.{IsPlaced}
-use Rattle.hir_def_map.specs.Beside.{exact_map, IsPlaced-beside}
+use Rattle.hir_def_map.specs.Beside.{exact_map, IsPlaced-with_map}
 use Rattle.hir_def_map.specs.Named.{each_leads_to_root, has_its_parents, is_complete, is_holder_for, is_missing, is_there, lies_in, map_named, named_by, names_in_module, names_own_crate, names_some, prelude_named, test_child, test_crate, test_extern, test_of, test_type}
 use Rattle.hir_def_map.specs.World.{IsChecked, IsFinished, finished_in, placed_of}
 use Rattle.hir_def_map.specs.Removal.{FallsWith, lists_in, lists_of, names_in, names_of}
@@ -143,7 +143,7 @@ beside_alike A B m k e t = go (map_id.ghosts.eq k m.id) refl
     go true s =
         let here : m.id ≡ k = sym (exact_map k m.id s) in
         let same : A m.id ≡ B m.id = ap A here ∙ e ∙ ap B (sym here) in
-        ap (λ (hs : List ModuleId). Some (record { map = m; holders = hs }))
+        ap (λ (hs : List ModuleId). Some (record { map = m; local = []; holders = hs }))
         (either (A m.id) (ap is_some (ap A here) ∙ t) (holders_under A m.id m.holder) (holders_under B m.id m.holder)
         ∙ ap (λ (o : Option Placed). holders_or o (holders_under B m.id m.holder)) same)
     go false s = e
@@ -293,8 +293,8 @@ module _ (maps maps' : BTreeMap MapId Finished) (f : Finished) (may : may_join (
   unfolding finished_in
   placed_new = ap (λ (o : Option Finished). holders_or (option_map placed_of o) (holders_under before f.map.id f.map.holder)) absent
 
-  -- the finished maps are those that were, and beside them this one
-  pub joined : (id : MapId) → finished_in maps' id ≡ beside before f.map id
+  -- the finished maps are those that were, and this one
+  pub joined : (id : MapId) → finished_in maps' id ≡ with_map before f.map f.local id
   unfolding finished_in
   joined id = ap (option_map placed_of) (updates.0 id) ∙ go (is_at (map_order.ghosts.cmp f.map.id) id) refl
     where
@@ -304,31 +304,31 @@ module _ (maps maps' : BTreeMap MapId Finished) (f : Finished) (may : may_join (
           absurd (true≢false (sym (subst P (sym (exact_map id f.map.id u)) (own_id f.map.id)) ∙ s))
       apart s false u = refl
 
-      go : (b : Bool) → is_at (map_order.ghosts.cmp f.map.id) id ≡ b → option_map placed_of (cond b (Some f) (get map_order.ghosts.cmp maps id)) ≡ beside before f.map id
+      go : (b : Bool) → is_at (map_order.ghosts.cmp f.map.id) id ≡ b → option_map placed_of (cond b (Some f) (get map_order.ghosts.cmp maps id)) ≡ with_map before f.map f.local id
       go true s =
-          ap (λ (hs : List ModuleId). Some (record { map = f.map; holders = hs })) (holders ∙ sym placed_new)
-          ∙ sym (ap (λ (b : Bool). cond b (Some (placed_in before f.map)) (before id)) (equal_id f.map.id id (same_id f.map.id id s)))
-      go false s = sym (ap (λ (b : Bool). cond b (Some (placed_in before f.map)) (before id)) (apart s (map_id.ghosts.eq id f.map.id) refl))
+          ap (λ (hs : List ModuleId). Some (record { map = f.map; local = f.local; holders = hs })) (holders ∙ sym placed_new)
+          ∙ sym (ap (λ (b : Bool). cond b (Some (placed_with before f.map f.local)) (before id)) (equal_id f.map.id id (same_id f.map.id id s)))
+      go false s = sym (ap (λ (b : Bool). cond b (Some (placed_with before f.map f.local)) (before id)) (apart s (map_id.ghosts.eq id f.map.id) refl))
 
   abbrev after : Maps
-  after = beside before f.map
+  after = with_map before f.map f.local
 
   grows : (k : MapId) → IsSameAt before after k
   grows k e = go (map_id.ghosts.eq k f.map.id) refl
     where
-      go : (b : Bool) → map_id.ghosts.eq k f.map.id ≡ b → before k ≡ cond b (Some (placed_in before f.map)) (before k)
+      go : (b : Bool) → map_id.ghosts.eq k f.map.id ≡ b → before k ≡ cond b (Some (placed_with before f.map f.local)) (before k)
       go true s = absurd (true≢false (sym e ∙ ap (λ (x : MapId). is_some (before x)) (exact_map k f.map.id s) ∙ not_there))
       go false s = refl
 
   -- a map that has joined is beside itself what it was
-  twice : (k : MapId) → after k ≡ beside after f.map k
+  twice : (k : MapId) → beside before f.map k ≡ beside after f.map k
   twice k = go (map_id.ghosts.eq k f.map.id)
     where
-      own : after f.map.id ≡ Some (placed_in before f.map)
-      own = ap (λ (b : Bool). cond b (Some (placed_in before f.map)) (before f.map.id)) (equal_id f.map.id f.map.id refl)
+      own : after f.map.id ≡ Some (placed_with before f.map f.local)
+      own = ap (λ (b : Bool). cond b (Some (placed_with before f.map f.local)) (before f.map.id)) (equal_id f.map.id f.map.id refl)
 
-      go : (b : Bool) → cond b (Some (placed_in before f.map)) (before k) ≡ cond b (Some (placed_in after f.map)) (cond b (Some (placed_in before f.map)) (before k))
-      go true = ap (λ (o : Option Placed). Some (record { map = f.map; holders = holders_or o (holders_under after f.map.id f.map.holder) })) (sym own)
+      go : (b : Bool) → cond b (Some (placed_in before f.map)) (before k) ≡ cond b (Some (placed_in after f.map)) (cond b (Some (placed_with before f.map f.local)) (before k))
+      go true = ap (λ (o : Option Placed). Some (record { map = f.map; local = []; holders = holders_or o (holders_under after f.map.id f.map.holder) })) (sym own)
       go false = refl
 
   new_finished : IsFinished after f.map.id f
@@ -382,7 +382,7 @@ module _ (maps maps' : BTreeMap MapId Finished) (f : Finished) (may : may_join (
   still_checked checked =
       let whole : after ≡ finished_in maps' = λ i id. sym (joined id) i in
       record {
-        placed = subst IsPlaced whole (IsPlaced-beside before f.map checked.placed);
+        placed = subst IsPlaced whole (IsPlaced-with_map before f.map f.local checked.placed);
         each = λ id g e. let P : Maps → Type 0 = λ x. IsFinished x id g in subst P whole (each_after checked id g e);
         covered = covered_after checked;
       }
@@ -413,5 +413,5 @@ insert_checked (Err e) maps maps' f id own may holders kept updates err checked 
 
 pub joined_under : (maps maps' : BTreeMap MapId Finished) (f : Finished) (id : MapId) → id ≡ f.map.id
     → may_join (finished_in maps) f.map f.local ≡ true → f.holders.items ≡ holders_under (finished_in maps) f.map.id f.map.holder → IsKeptOf maps f.named f.map f.local
-    → Updates map_order.ghosts.cmp maps maps' id (Some f) → (k : MapId) → finished_in maps' k ≡ beside (finished_in maps) f.map k
+    → Updates map_order.ghosts.cmp maps maps' id (Some f) → (k : MapId) → finished_in maps' k ≡ with_map (finished_in maps) f.map f.local k
 joined_under maps maps' f id own may holders kept updates = let P : MapId → Type 0 = λ x. Updates map_order.ghosts.cmp maps maps' x (Some f) in joined maps maps' f may holders kept (subst P own updates)

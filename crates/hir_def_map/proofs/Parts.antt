@@ -1,64 +1,67 @@
 -- What look-ups find in a part of a world.
-use Rattle.std.proofs.Common.{◌≡◌, refl, ap, ◌∙◌, Bool, true, false, Option, Some, None, cond}
-use Rattle.std.specs.Option.{option_map, option_copied}
+use Rattle.std.proofs.Common.{◌≡◌, refl, ap, sym, ◌∙◌, Bool, true, false, Option, Some, None, cond, List, [], ◌∷◌}
+use Rattle.std.specs.Option.{option_and_then, option_copied}
 use Rattle.std.specs.BTreeSet.{BTreeSet}
 use Rattle.hir_base.specs.declared.ids.Crate.{Crate}
 use Rattle.hir_base.specs.declared.ids.MapId.{MapId}
+use Rattle.hir_base.specs.declared.ids.ModuleId.{ModuleId}
 use Rattle.hir_def_map.specs.declared.world.part.WorldPart.{WorldPart}
-use Rattle.hir_def_map.specs.State.{Map, Maps, Placed, map_in}
-use Rattle.hir_def_map.specs.Chains.{frame_of, frames_of, head_of, holders_of_frame}
-use Rattle.hir_def_map.specs.Among.{among, is_of_some, unheld}
-use Rattle.hir_def_map.specs.Parts.{is_within, limited_to, part_of}
+use Rattle.hir_def_map.specs.State.{Maps, Placed}
+use Rattle.hir_def_map.specs.Among.{among, among-there, is_of_some, are_of_some, with_its_holders}
+use Rattle.hir_def_map.specs.Parts.{are_within, is_within, limited_to, part_of}
 use Rattle.hir_def_map.specs.World.{finished_in}
 
-map_of-unheld : (o : Option Map) → option_map (λ (p : Placed). p.map) (option_map unheld o) ≡ o
-map_of-unheld None = refl
-map_of-unheld (Some m) = refl
+module _ (holders : List ModuleId) (finished : Maps) (id : MapId) where
+  outside : (o : Option (BTreeSet Crate)) → is_within o holders id ≡ false → limited_to o holders finished id ≡ None
+  unfolding among
+  outside None e = absurd cc
+  outside (Some crates) e = ap (λ (b : Bool). cond b (option_and_then (with_its_holders crates.keys holders) (finished id)) None) e
 
-held_by_none : (b : Bool) (o : Option Map) → head_of (holders_of_frame (option_map frame_of (cond b (option_map unheld o) None))) ≡ None
-held_by_none true None = refl
-held_by_none true (Some m) = refl
-held_by_none false o = refl
+  missing : (o : Option (BTreeSet Crate)) → finished id ≡ None → limited_to o holders finished id ≡ None
+  unfolding among
+  missing None e = e
+  missing (Some crates) e = ap (λ (p : Option Placed). cond (is_of_some crates.keys holders id) (option_and_then (with_its_holders crates.keys holders) p) None) e ∙ none (is_of_some crates.keys holders id)
+    where
+      none : (b : Bool) → cond {A = Option Placed} b None None ≡ None
+      none true = refl
+      none false = refl
 
-module _ (part : WorldPart) where
+  within : (o : Option (BTreeSet Crate)) (placed : Placed) → is_within o holders id ≡ true → finished id ≡ Some placed → are_within o holders placed.holders ≡ true
+      → limited_to o holders finished id ≡ Some placed
+  within None placed here there held = there
+  within (Some crates) placed here there held = among-there crates.keys holders finished id placed here there held
+
+  cut : (o : Option (BTreeSet Crate)) (placed : Placed) → is_within o holders id ≡ true → finished id ≡ Some placed → are_within o holders placed.holders ≡ false
+      → limited_to o holders finished id ≡ None
+  unfolding among
+  cut None placed here there held = absurd (all placed.holders held)
+    where
+      all : (hs : List ModuleId) → are_within None holders hs ≡ false → ⊥
+      all [] e = cc
+      all (h ∷ hs) e = all hs e
+  cut (Some crates) placed here there held =
+      (λ i. cond (here i) (option_and_then (with_its_holders crates.keys holders) (there i)) None) ∙ ap (λ (b : Bool). cond b (Some placed) None) held
+
+module _ (part : WorldPart) (id : MapId) where
   abbrev whole : Maps
   whole = finished_in part.world.now.maps
 
-  pub part-within : (id : MapId) → is_within (option_copied part.crates) id ≡ true → map_in (part_of part) id ≡ map_in whole id
-  unfolding part_of among
-  part-within id e = go (option_copied part.crates) e
-    where
-      on : (b : Bool) → b ≡ true → option_map (λ (p : Placed). p.map) (cond b (option_map unheld (map_in whole id)) None) ≡ map_in whole id
-      on true f = map_of-unheld (map_in whole id)
-      on false f = absurd cc
-
-      go : (o : Option (BTreeSet Crate)) → is_within o id ≡ true → map_in (limited_to o whole) id ≡ map_in whole id
-      go None f = refl
-      go (Some crates) f = on (is_of_some crates.keys id) f
-
-  pub part-outside : (id : MapId) → is_within (option_copied part.crates) id ≡ false → map_in (part_of part) id ≡ None
-  unfolding part_of among
-  part-outside id e = go (option_copied part.crates) e
-    where
-      on : (b : Bool) → b ≡ false → option_map (λ (p : Placed). p.map) (cond b (option_map unheld (map_in whole id)) None) ≡ None
-      on true f = absurd cc
-      on false f = refl
-
-      go : (o : Option (BTreeSet Crate)) → is_within o id ≡ false → map_in (limited_to o whole) id ≡ None
-      go None f = absurd cc
-      go (Some crates) f = on (is_of_some crates.keys id) f
-
-  part-all : option_copied part.crates ≡ None → part_of part ≡ whole
+  pub part-outside : is_within (option_copied part.crates) part.holders.now id ≡ false → part_of part id ≡ None
   unfolding part_of
-  part-all e = ap (λ (o : Option (BTreeSet Crate)). limited_to o whole) e
+  part-outside e = outside part.holders.now whole id (option_copied part.crates) e
 
-  pub part-holder : (id : MapId) → option_copied part.crates ≡ None → head_of (holders_of_frame (frames_of (part_of part) id)) ≡ head_of (holders_of_frame (frames_of whole id))
-  part-holder id e = ap (λ (maps : Maps). head_of (holders_of_frame (frames_of maps id))) (part-all e)
+  pub part-missing : finished_in part.world.now.maps id ≡ None → part_of part id ≡ None
+  unfolding part_of
+  part-missing e = missing part.holders.now whole id (option_copied part.crates) e
 
-  pub part-unheld : (id : MapId) (crates : BTreeSet Crate) → option_copied part.crates ≡ Some crates → head_of (holders_of_frame (frames_of (part_of part) id)) ≡ None
-  unfolding part_of among frames_of
-  part-unheld id crates e =
-      ap (λ (o : Option (BTreeSet Crate)). head_of (holders_of_frame (option_map frame_of (limited_to o whole id)))) e
-      ∙ held_by_none (is_of_some crates.keys id) (map_in whole id)
+  pub part-within : (placed : Placed) → is_within (option_copied part.crates) part.holders.now id ≡ true → finished_in part.world.now.maps id ≡ Some placed
+      → are_within (option_copied part.crates) part.holders.now placed.holders ≡ true → part_of part id ≡ Some placed
+  unfolding part_of
+  part-within placed here there held = within part.holders.now whole id (option_copied part.crates) placed here there held
 
-pub ruleset parts = (part-within, part-outside, part-holder, part-unheld)
+  pub part-cut : (placed : Placed) → is_within (option_copied part.crates) part.holders.now id ≡ true → finished_in part.world.now.maps id ≡ Some placed
+      → are_within (option_copied part.crates) part.holders.now placed.holders ≡ false → part_of part id ≡ None
+  unfolding part_of
+  part-cut placed here there held = cut part.holders.now whole id (option_copied part.crates) placed here there held
+
+pub ruleset parts = (part-outside, part-missing, part-within, part-cut)

@@ -1,8 +1,9 @@
 -- Building leaves a map that names only what is there.
-use Rattle.std.specs.Prelude.{◌≡◌, ◌⊎◌, ℕ, zero, suc, ◌<◌, ◌≤◌, ◌+◌, ◌++◌, List, [], ◌∷◌, length, Bool, true, false, ◌||◌, not, is_some, Option, None, Some, cond, slice_get, option_and_then, option_map}
+use Rattle.std.specs.Prelude.{◌≡◌, ◌⊎◌, ℕ, zero, suc, ◌<◌, ◌≤◌, ◌+◌, ◌++◌, List, [], ◌∷◌, length, Bool, true, false, ◌&&◌, ◌||◌, not, is_some, Option, None, Some, cond, slice_get, option_and_then, option_map}
 use Rattle.std.specs.List.{list_any}
 use Rattle.std.specs.Ordering.{nat_cmp}
 use Rattle.std.specs.Cmp.Lexicographic.{slice_cmp}
+use Rattle.std.specs.Cmp.{second_so}
 use Rattle.std.specs.BTreeMap.{is_at}
 use Rattle.std.proofs.Common.{ap, inl, inr, refl, subst, sym, ◌∙◌, arith}
 use mathlib.Core.Bool.{true≢false}
@@ -21,6 +22,7 @@ use Rattle.hir_scope.specs.declared.per_ns.PerNs.{PerNs}
 use Rattle.hir_scope.specs.declared.visibility.Visibility.{Visibility}
 use Rattle.hir_scope.specs.Globs.{GlobNames, Place, has_place}
 use Rattle.hir_scope.specs.ImportRecords.{is_glob}
+use Rattle.hir_scope.specs.ModuleTree.{same_crate}
 use Rattle.hir_scope.specs.Scope.{ScopeValue}
 use Rattle.hir_scope.specs.Entries.{item_at}
 use Rattle.hir_scope.specs.Bindings.{written_items, taken, type_candidate, takes}
@@ -31,13 +33,13 @@ use Rattle.hir_def_map.specs.declared.nameres.origin.ModuleOrigin.{ModuleOrigin}
 use Rattle.hir_def_map.specs.declared.world.named.Named.{Named}
 use Rattle.hir_def_map.specs.declared.world.named.Named.TheVariants as named
 use Rattle.hir_def_map.specs.Declaration.{listed}
-use Rattle.hir_def_map.specs.State.{Local, Map, Maps, ModuleValue, Placed, at_name, beside, changed_at, holders_or, holders_under, module_at, module_in, new_id, new_module, numbered, parent_of, placed_in, place_at, pushed, variants_at, variants_in, with_child, with_module, with_module_scope, with_name, with_prelude, with_scope, IsBefore, IsInOrder}
+use Rattle.hir_def_map.specs.State.{Local, Map, Maps, ModuleValue, Placed, at_name, beside, changed_at, holders_of, holders_or, holders_under, module_at, module_in, new_id, new_module, numbered, parent_of, placed_in, place_at, pushed, variants_at, variants_in, with_child, with_module, with_module_scope, with_name, with_prelude, with_scope, IsBefore, IsInOrder}
 use Rattle.hir_def_map.specs.Beside.{exact_map, same_id}
 use Rattle.hir_def_map.proofs.Grown.{kept, length-changed}
-use Rattle.hir_def_map.specs.Named.{is_missing, is_there, named_by, names_in_module, prelude_named, test_child, test_of, test_type}
+use Rattle.hir_def_map.specs.Named.{is_holder_for, is_missing, is_there, named_by, names_in_module, prelude_named, test_child, test_of, test_type}
 use Rattle.hir_def_map.specs.Closed.{AreThere, IsClosed, LocalIsThere, ModuleIsThere, TypeIsThere}
-use Rattle.hir_def_map.specs.Complete.{AreWhole, BeginsOnly, Extends, IsWhole, NamesOnly}
-use Rattle.hir_def_map.proofs.Complete.{IsClosed-whole, NamesOnly-more, none_missing}
+use Rattle.hir_def_map.specs.Complete.{AreWhole, BeginsOnly, Extends, IsWhole, NamesOnly, is_held_outside}
+use Rattle.hir_def_map.proofs.Complete.{BeginsOnly-more, IsClosed-whole, NamesOnly-more, none_missing}
 use Rattle.hir_def_map.proofs.NoneOf.{neither, none_changed, none_found, none_inserted, none_more, none_of_less, none_with_entry, not_first, not_second}
 
 -- ---- more is there
@@ -137,8 +139,9 @@ module _ (finished : Maps) (map : Map) (at : ℕ) where
       let new : Map = with_scope map at change in
       NamesOnly-more (beside finished map) (beside finished new) (Extends-scope change) new
       (record {
-        of_crate = f.of_crate;
-        unheld = f.unheld;
+        own_crate = f.own_crate;
+        held = f.held;
+        outside = f.outside;
         root = subst (λ (n : ℕ). 0 < n) (sym (length-changed map.modules at (with_module_scope change))) f.root;
         in_order = in_order;
         modules = none_changed (names_in_module (is_missing (beside finished map))) (with_module_scope change) keeps map.modules at f.modules;
@@ -266,8 +269,9 @@ module _ (finished : Maps) (map : Map) (at : ℕ) (here : at < length map.module
   NamesOnly-made f =
       let more = NamesOnly-more (beside finished map) (beside finished grown) Extends-made map f in
       record {
-        of_crate = f.of_crate;
-        unheld = f.unheld;
+        own_crate = more.own_crate;
+        held = more.held;
+        outside = more.outside;
         root = longer older made;
         in_order = in_order;
         modules = none_more (names_in_module (is_missing (beside finished grown))) older made
@@ -308,8 +312,9 @@ NamesOnly-prelude finished map prelude there f =
     let new : Map = with_prelude map prelude in
     let more : Extends (beside finished map) (beside finished new) = Extends-grown finished map new refl (λ k e. e) (λ e t. t) in
     NamesOnly-more (beside finished map) (beside finished new) more new (record {
-      of_crate = f.of_crate;
-      unheld = f.unheld;
+      own_crate = f.own_crate;
+      held = f.held;
+        outside = f.outside;
       root = f.root;
       in_order = f.in_order;
       modules = f.modules;
@@ -319,20 +324,51 @@ NamesOnly-prelude finished map prelude there f =
 
 -- ---- beside finished maps
 
--- a map that names only what is there stands beside maps that do as one of them
-pub AreWhole-beside : (finished : Maps) (map : Map) → finished map.id ≡ None → AreWhole finished → NamesOnly (beside finished map) map → AreWhole (beside finished map)
-AreWhole-beside finished map new whole names id placed e = go (map_id.ghosts.eq id map.id) refl e
-  where
-    unheld : holders_or (finished map.id) (holders_under finished map.id map.holder) ≡ []
-    unheld = ap (λ (o : Option Placed). holders_or o (holders_under finished map.id map.holder)) new ∙ ap (holders_under finished map.id) names.unheld
+module _ (finished : Maps) (map : Map) (new : finished map.id ≡ None) (whole : AreWhole finished) where
+  -- what holds the map outside of it holds it beside itself
+  own_holders : (o : Option ModuleId) → is_held_outside map.id o ≡ true → holders_under finished map.id o ≡ holders_under (beside finished map) map.id o
+  own_holders None out = refl
+  own_holders (Some h) out = go (map_id.ghosts.eq h.map map.id) out
+    where
+      go : (b : Bool) → not b ≡ true → cond (same_crate h.map.krate map.id.krate && is_some (finished h.map)) (h ∷ holders_of (finished h.map)) []
+          ≡ cond (same_crate h.map.krate map.id.krate && is_some (cond b (Some (placed_in finished map)) (finished h.map))) (h ∷ holders_of (cond b (Some (placed_in finished map)) (finished h.map))) []
+      go true f = absurd (true≢false (sym f))
+      go false f = refl
 
-    go : (b : Bool) → map_id.ghosts.eq id map.id ≡ b → cond b (Some (placed_in finished map)) (finished id) ≡ Some placed → IsWhole (beside finished map) id placed
-    go true s f =
-        let same : placed_in finished map ≡ placed = cc in
-        subst (IsWhole (beside finished map) id) same (record { own = sym (exact_map id map.id s); unheld = unheld; names = names })
-    go false s f =
-        let w = whole id placed f in
-        record { own = w.own; unheld = w.unheld; names = NamesOnly-more finished (beside finished map) (Extends-beside finished map new) placed.map w.names }
+  -- what holds another is as it was
+  other_holders : (id : MapId) (o : Option ModuleId) → is_holder_for finished id o ≡ true → holders_under finished id o ≡ holders_under (beside finished map) id o
+  other_holders id None e = refl
+  other_holders id (Some h) e = go (map_id.ghosts.eq h.map map.id) refl
+    where
+      go : (b : Bool) → map_id.ghosts.eq h.map map.id ≡ b → cond (same_crate h.map.krate id.krate && is_some (finished h.map)) (h ∷ holders_of (finished h.map)) []
+          ≡ cond (same_crate h.map.krate id.krate && is_some (cond b (Some (placed_in finished map)) (finished h.map))) (h ∷ holders_of (cond b (Some (placed_in finished map)) (finished h.map))) []
+      go true s =
+          let gone : finished h.map ≡ None = ap finished (exact_map h.map map.id s) ∙ new in
+          absurd (true≢false (sym (second_so (same_crate h.map.krate id.krate) (is_some (module_in finished h)) e) ∙ ap (λ (o : Option Placed). is_some (option_and_then (λ (p : Placed). module_at p.map h.index) o)) gone))
+      go false s = refl
+
+  -- a map that names only what is there stands beside maps that do as one of them
+  pub AreWhole-beside : NamesOnly (beside finished map) map → AreWhole (beside finished map)
+  AreWhole-beside names id placed e = go (map_id.ghosts.eq id map.id) refl e
+    where
+      held : holders_or (finished map.id) (holders_under finished map.id map.holder) ≡ holders_under (beside finished map) map.id map.holder
+      held = ap (λ (o : Option Placed). holders_or o (holders_under finished map.id map.holder)) new ∙ own_holders map.holder names.outside
+
+      go : (b : Bool) → map_id.ghosts.eq id map.id ≡ b → cond b (Some (placed_in finished map)) (finished id) ≡ Some placed → IsWhole (beside finished map) id placed
+      go true s f =
+          let same : placed_in finished map ≡ placed = cc in
+          let this : map.id ≡ id = sym (exact_map id map.id s) in
+          subst (IsWhole (beside finished map) id) same
+          (record { own = this; holders = held ∙ ap (λ (x : MapId). holders_under (beside finished map) x map.holder) this; names = names; begins = refl })
+      go false s f =
+          let w = whole id placed f in
+          let more = Extends-beside finished map new in
+          record {
+            own = w.own;
+            holders = w.holders ∙ other_holders id placed.map.holder (subst (λ (x : MapId). is_holder_for finished x placed.map.holder ≡ true) w.own w.names.held);
+            names = NamesOnly-more finished (beside finished map) more placed.map w.names;
+            begins = BeginsOnly-more finished (beside finished map) more placed.local w.begins;
+          }
 
 -- so all that is named lies among them
 pub IsClosed-beside : (finished : Maps) (map : Map) → finished map.id ≡ None → AreWhole finished → NamesOnly (beside finished map) map → IsClosed (beside finished map)

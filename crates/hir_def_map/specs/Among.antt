@@ -1,51 +1,88 @@
--- Which finished maps may a crate read that stands on these crates?
-use Rattle.std.specs.Prelude.{◌≡◌, ◌&&◌, Bool, true, false, is_none, Option, None, Some, List, [], ◌∷◌, cond, option_map}
-use Rattle.std.specs.List.{list_any}
-use Rattle.std.proofs.Common.{refl, ap}
-use Rattle.hir_base.specs.declared.ast_id.BlockId.{BlockId}
+-- Which finished maps may be read that are of these crates, or hold a block?
+use Rattle.std.specs.Prelude.{◌≡◌, ◌&&◌, ◌||◌, Bool, true, false, is_none, is_some, Option, None, Some, List, [], ◌∷◌, cond, option_and_then, option_map}
+use Rattle.std.specs.Cmp.{first_so, second_so}
+use Rattle.std.specs.List.{list_all, list_any}
+use Rattle.std.proofs.Common.{refl, ap, sym, ◌∙◌}
 use Rattle.hir_base.specs.declared.ids.Crate.{Crate}
 use Rattle.hir_base.specs.declared.ids.MapId.{MapId}
+use Rattle.hir_base.specs.declared.ids.ModuleId.{ModuleId}
+use Rattle.hir_base.specs.contracts.ids.MapIdPartialEq.TheImpl as map_id
 use Rattle.hir_scope.specs.ModuleTree.{same_crate}
-use Rattle.hir_def_map.specs.State.{Map, Maps, Placed, map_in}
+use Rattle.hir_def_map.specs.State.{Local, Map, Maps, Placed, holders_of}
 use Rattle.hir_def_map.specs.Chains.{HolderLeads, IsPlaced, frame_of, frames_of, holders_of_frame}
-use Rattle.hir_def_map.specs.Named.{crate_map}
 
 -- a map by itself
-abbrev pub unheld : Map → Placed
-unheld map = record { map = map; holders = [] }
+abbrev pub unheld : Map → Local → Placed
+unheld map local = record { map = map; local = local; holders = [] }
 
--- whether an id is of the map of one of the crates; that of a block is not
-abbrev pub is_of_some : List Crate → MapId → Bool
-is_of_some crates id = is_none id.block && list_any (same_crate id.krate) crates
+-- whether an id is that of the map of one of the crates, or of a map in which one of the holders lies
+abbrev pub is_of_some : List Crate → List ModuleId → MapId → Bool
+is_of_some crates holders id = (is_none id.block && list_any (same_crate id.krate) crates) || list_any (λ (h : ModuleId). map_id.ghosts.eq h.map id) holders
 
--- of finished maps those of some crates; nothing holds a crate's map
-unfoldable pub among : List Crate → Maps → Maps
-among crates finished id = cond (is_of_some crates id) (option_map unheld (map_in finished id)) None
+-- whether each of some modules lies in such a map
+abbrev pub are_of_some : List Crate → List ModuleId → List ModuleId → Bool
+are_of_some crates holders modules = list_all (λ (h : ModuleId). is_of_some crates holders h.map) modules
 
--- maps that agree at each of the crates are the same among them
-pub among_agrees : (crates : List Crate) (one other : Maps)
-    → ((krate : Crate) → list_any (same_crate krate) crates ≡ true → map_in one (crate_map krate) ≡ map_in other (crate_map krate))
-    → among crates one ≡ among crates other
+-- a map with all that holds it
+abbrev pub with_its_holders : List Crate → List ModuleId → Placed → Option Placed
+with_its_holders crates holders placed = cond (are_of_some crates holders placed.holders) (Some placed) None
+
+-- of finished maps those of some crates and those in which some holders lie, where the maps of all that holds them are too
+unfoldable pub among : List Crate → List ModuleId → Maps → Maps
+among crates holders finished id = cond (is_of_some crates holders id) (option_and_then (with_its_holders crates holders) (finished id)) None
+
+-- maps that agree on each of those are the same among them
+pub among_agrees : (crates : List Crate) (holders : List ModuleId) (one other : Maps)
+    → ((id : MapId) → is_of_some crates holders id ≡ true → one id ≡ other id)
+    → among crates holders one ≡ among crates holders other
 unfolding among
-among_agrees crates one other agree = λ i id. go id.krate id.block i
+among_agrees crates holders one other agree = λ i id. on id (is_of_some crates holders id) refl i
   where
-    at : Maps → Crate → Option BlockId → Option Placed
-    at maps k x = cond (is_none x && list_any (same_crate k) crates) (option_map unheld (map_in maps (record { krate = k; block = x }))) None
+    on : (id : MapId) (b : Bool) → is_of_some crates holders id ≡ b
+        → cond b (option_and_then (with_its_holders crates holders) (one id)) None ≡ cond b (option_and_then (with_its_holders crates holders) (other id)) None
+    on id true s = ap (option_and_then (with_its_holders crates holders)) (agree id s)
+    on id false s = refl
 
-    go : (k : Crate) (x : Option BlockId) → at one k x ≡ at other k x
-    go k (Some x) = refl
-    go k None = on (list_any (same_crate k) crates) refl
-      where
-        on : (b : Bool) → list_any (same_crate k) crates ≡ b → cond b (option_map unheld (map_in one (crate_map k))) None ≡ cond b (option_map unheld (map_in other (crate_map k))) None
-        on true s = ap (option_map unheld) (agree k s)
-        on false s = refl
+-- a map may be read where it is there, and it and all that holds it may be
+pub among-there : (crates : List Crate) (holders : List ModuleId) (finished : Maps) (id : MapId) (placed : Placed)
+    → is_of_some crates holders id ≡ true → finished id ≡ Some placed → are_of_some crates holders placed.holders ≡ true → among crates holders finished id ≡ Some placed
+unfolding among
+among-there crates holders finished id placed here there held =
+    (λ i. cond (here i) (option_and_then (with_its_holders crates holders) (there i)) None) ∙ ap (λ (b : Bool). cond b (Some placed) None) held
+
+-- and only there
+pub among-only : (crates : List Crate) (holders : List ModuleId) (finished : Maps) (id : MapId) (placed : Placed) → among crates holders finished id ≡ Some placed
+    → (is_of_some crates holders id ≡ true) × (finished id ≡ Some placed) × (are_of_some crates holders placed.holders ≡ true)
+unfolding among
+among-only crates holders finished id placed e = go (is_of_some crates holders id) refl (finished id) refl e
+  where
+    within : (p : Placed) (b : Bool) → are_of_some crates holders p.holders ≡ b → cond b (Some p) None ≡ Some placed → (p ≡ placed) × (are_of_some crates holders placed.holders ≡ true)
+    within p true s f = let same : p ≡ placed = cc in (same, ap (λ (x : Placed). are_of_some crates holders x.holders) (sym same) ∙ s)
+    within p false s f = absurd cc
+
+    go : (b : Bool) → is_of_some crates holders id ≡ b → (o : Option Placed) → finished id ≡ o → cond b (option_and_then (with_its_holders crates holders) o) None ≡ Some placed
+        → (is_of_some crates holders id ≡ true) × (finished id ≡ Some placed) × (are_of_some crates holders placed.holders ≡ true)
+    go true s None t f = absurd cc
+    go true s (Some p) t f = let found = within p (are_of_some crates holders p.holders) refl f in (s, t ∙ ap (λ (x : Placed). Some x) found.0, found.1)
+    go false s o t f = absurd cc
 
 -- they are in their places
-pub IsPlaced-among : (crates : List Crate) (finished : Maps) → IsPlaced (among crates finished)
-unfolding among frames_of
-IsPlaced-among crates finished id h hs e = go (is_of_some crates id) (map_in finished id) e
+pub IsPlaced-among : (crates : List Crate) (holders : List ModuleId) (finished : Maps) → IsPlaced finished → IsPlaced (among crates holders finished)
+unfolding frames_of
+IsPlaced-among crates holders finished placed id h hs e = go (among crates holders finished id) refl e
   where
-    go : (b : Bool) (o : Option Map) → holders_of_frame (option_map frame_of (cond b (option_map unheld o) None)) ≡ h ∷ hs → HolderLeads (frames_of (among crates finished)) id h hs
-    go true None f = absurd cc
-    go true (Some map) f = absurd cc
-    go false o f = absurd cc
+    framed : (o : Option Placed) (hs : List ModuleId) → is_some (option_map frame_of o) ≡ true → holders_of_frame (option_map frame_of o) ≡ hs → (p : Placed) × (o ≡ Some p) × (p.holders ≡ hs)
+    framed None hs there f = absurd cc
+    framed (Some p) hs there f = (p, refl, f)
+
+    go : (o : Option Placed) → among crates holders finished id ≡ o → holders_of_frame (option_map frame_of o) ≡ h ∷ hs → HolderLeads (frames_of (among crates holders finished)) id h hs
+    go None s f = absurd cc
+    go (Some p) s f =
+        let only = among-only crates holders finished id p s in
+        let leads = placed id h hs (ap (λ (o : Option Placed). holders_of_frame (option_map frame_of o)) only.1 ∙ f) in
+        let above = framed (finished h.map) hs leads.1 leads.2 in
+        let held : are_of_some crates holders (h ∷ hs) ≡ true = ap (are_of_some crates holders) (sym f) ∙ only.2 in
+        let first : is_of_some crates holders h.map ≡ true = first_so (is_of_some crates holders h.map) (are_of_some crates holders hs) held in
+        let others : are_of_some crates holders above.0.holders ≡ true = ap (are_of_some crates holders) above.2 ∙ second_so (is_of_some crates holders h.map) (are_of_some crates holders hs) held in
+        let found : among crates holders finished h.map ≡ Some above.0 = among-there crates holders finished h.map above.0 first above.1 others in
+        (leads.0, ap (λ (o : Option Placed). is_some (option_map frame_of o)) found, ap (λ (o : Option Placed). holders_of_frame (option_map frame_of o)) found ∙ above.2)

@@ -9,7 +9,7 @@ use Rattle.hir_base.specs.declared.ids.MapId.{MapId}
 use Rattle.hir_base.specs.declared.ids.ModuleId.{ModuleId}
 use Rattle.hir_base.specs.contracts.ids.MapIdPartialEq.TheImpl as map_id
 use Rattle.hir_scope.specs.ModuleTree.{same_crate}
-use Rattle.hir_def_map.specs.State.{Map, Maps, Placed, beside, holders_of, holders_or, holders_under, no_maps, placed_in}
+use Rattle.hir_def_map.specs.State.{Local, Map, Maps, Placed, beside, holders_of, holders_or, holders_under, no_maps, placed_with, with_map}
 use Rattle.hir_def_map.specs.Chains.{frame_of, frames_of, holders_of_frame, HolderLeads, IsPlaced}
 
 -- ---- equal by the tests
@@ -44,7 +44,7 @@ same_id id = go id.block
 
 -- ---- in their places
 
-frame_holders : (o : Option Placed) → holders_of_frame (option_map frame_of o) ≡ holders_of o
+pub frame_holders : (o : Option Placed) → holders_of_frame (option_map frame_of o) ≡ holders_of o
 frame_holders None = refl
 frame_holders (Some p) = refl
 
@@ -52,68 +52,72 @@ there : (o : Option Placed) → is_some (option_map frame_of o) ≡ is_some o
 there None = refl
 there (Some p) = refl
 
-module _ (finished : Maps) (map : Map) where
+module _ (finished : Maps) (map : Map) (local : Local) where
   -- where a map is finished, one of its id is there
-  pub still_there : (id : MapId) → is_some (finished id) ≡ true → is_some (beside finished map id) ≡ true
+  still_there : (id : MapId) → is_some (finished id) ≡ true → is_some (with_map finished map local id) ≡ true
   still_there id e = go (map_id.ghosts.eq id map.id)
     where
-      go : (b : Bool) → is_some (cond b (Some (placed_in finished map)) (finished id)) ≡ true
+      go : (b : Bool) → is_some (cond b (Some (placed_with finished map local)) (finished id)) ≡ true
       go true = refl
       go false = e
 
   -- and has its holders
-  same_holders : (id : MapId) → is_some (finished id) ≡ true → holders_of (beside finished map id) ≡ holders_of (finished id)
+  same_holders : (id : MapId) → is_some (finished id) ≡ true → holders_of (with_map finished map local id) ≡ holders_of (finished id)
   same_holders id e = go (map_id.ghosts.eq id map.id) refl
     where
       own : (o : Option Placed) → is_some o ≡ true → holders_or o (holders_under finished map.id map.holder) ≡ holders_of o
       own None f = absurd cc
       own (Some p) f = refl
 
-      go : (b : Bool) → map_id.ghosts.eq id map.id ≡ b → holders_of (cond b (Some (placed_in finished map)) (finished id)) ≡ holders_of (finished id)
+      go : (b : Bool) → map_id.ghosts.eq id map.id ≡ b → holders_of (cond b (Some (placed_with finished map local)) (finished id)) ≡ holders_of (finished id)
       go true s =
           let same : finished map.id ≡ finished id = ap finished (sym (exact_map id map.id s)) in
           own (finished map.id) (ap is_some same ∙ e) ∙ ap holders_of same
       go false s = refl
 
-  leads_beside : (id : MapId) (h : ModuleId) (hs : List ModuleId) → HolderLeads (frames_of finished) id h hs → HolderLeads (frames_of (beside finished map)) id h hs
+  leads_beside : (id : MapId) (h : ModuleId) (hs : List ModuleId) → HolderLeads (frames_of finished) id h hs → HolderLeads (frames_of (with_map finished map local)) id h hs
   unfolding frames_of
   leads_beside id h hs l =
       let is_there : is_some (finished h.map) ≡ true = sym (there (finished h.map)) ∙ l.1 in (
         l.0,
-        there (beside finished map h.map) ∙ still_there h.map is_there,
-        frame_holders (beside finished map h.map) ∙ same_holders h.map is_there ∙ sym (frame_holders (finished h.map)) ∙ l.2,
+        there (with_map finished map local h.map) ∙ still_there h.map is_there,
+        frame_holders (with_map finished map local h.map) ∙ same_holders h.map is_there ∙ sym (frame_holders (finished h.map)) ∙ l.2,
       )
 
-  under : (id : MapId) → id ≡ map.id → (o : Option ModuleId) (h : ModuleId) (hs : List ModuleId) → holders_under finished map.id o ≡ h ∷ hs → HolderLeads (frames_of (beside finished map)) id h hs
+  under : (id : MapId) → id ≡ map.id → (o : Option ModuleId) (h : ModuleId) (hs : List ModuleId) → holders_under finished map.id o ≡ h ∷ hs → HolderLeads (frames_of (with_map finished map local)) id h hs
   unfolding frames_of
   under id e None h hs f = absurd cc
   under id e (Some k) h hs f = go (same_crate k.map.krate map.id.krate) refl (is_some (finished k.map)) refl f
     where
       go : (b : Bool) → same_crate k.map.krate map.id.krate ≡ b → (c : Bool) → is_some (finished k.map) ≡ c
-          → cond (b && c) (k ∷ holders_of (finished k.map)) [] ≡ h ∷ hs → HolderLeads (frames_of (beside finished map)) id h hs
+          → cond (b && c) (k ∷ holders_of (finished k.map)) [] ≡ h ∷ hs → HolderLeads (frames_of (with_map finished map local)) id h hs
       go false s c t f = absurd cc
       go true s false t f = absurd cc
       go true s true t f =
           let first : k ≡ h = cc in
           let left : holders_of (finished k.map) ≡ hs = cc in
-          subst (λ (x : ModuleId). HolderLeads (frames_of (beside finished map)) id x hs) first (
+          subst (λ (x : ModuleId). HolderLeads (frames_of (with_map finished map local)) id x hs) first (
             exact_crate k.map.krate map.id.krate s ∙ ap (λ (x : MapId). x.krate) (sym e),
-            there (beside finished map k.map) ∙ still_there k.map t,
-            frame_holders (beside finished map k.map) ∙ same_holders k.map t ∙ left,
+            there (with_map finished map local k.map) ∙ still_there k.map t,
+            frame_holders (with_map finished map local k.map) ∙ same_holders k.map t ∙ left,
           )
 
-  -- a map beside finished ones that are in their places is in its own
-  pub IsPlaced-beside : IsPlaced finished → IsPlaced (beside finished map)
+  -- a map that joins finished ones that are in their places is in its own
+  pub IsPlaced-with_map : IsPlaced finished → IsPlaced (with_map finished map local)
   unfolding frames_of
-  IsPlaced-beside placed id h hs e = go (map_id.ghosts.eq id map.id) refl e
+  IsPlaced-with_map placed id h hs e = go (map_id.ghosts.eq id map.id) refl e
     where
-      own : id ≡ map.id → (o : Option Placed) → finished map.id ≡ o → holders_or o (holders_under finished map.id map.holder) ≡ h ∷ hs → HolderLeads (frames_of (beside finished map)) id h hs
+      own : id ≡ map.id → (o : Option Placed) → finished map.id ≡ o → holders_or o (holders_under finished map.id map.holder) ≡ h ∷ hs → HolderLeads (frames_of (with_map finished map local)) id h hs
       own same None s f = under id same map.holder h hs f
       own same (Some p) s f = leads_beside id h hs (placed id h hs (frame_holders (finished id) ∙ ap (λ (x : MapId). holders_of (finished x)) same ∙ ap holders_of s ∙ f))
 
-      go : (b : Bool) → map_id.ghosts.eq id map.id ≡ b → holders_of_frame (option_map frame_of (cond b (Some (placed_in finished map)) (finished id))) ≡ h ∷ hs → HolderLeads (frames_of (beside finished map)) id h hs
+      go : (b : Bool) → map_id.ghosts.eq id map.id ≡ b → holders_of_frame (option_map frame_of (cond b (Some (placed_with finished map local)) (finished id))) ≡ h ∷ hs → HolderLeads (frames_of (with_map finished map local)) id h hs
       go true s f = own (exact_map id map.id s) (finished map.id) refl f
       go false s f = leads_beside id h hs (placed id h hs f)
+
+-- so is one beside them
+pub IsPlaced-beside : (finished : Maps) (map : Map) → IsPlaced finished → IsPlaced (beside finished map)
+IsPlaced-beside finished map placed = IsPlaced-with_map finished map [] placed
 
 pub IsPlaced-no_maps : IsPlaced no_maps
 unfolding frames_of

@@ -20,7 +20,7 @@ frame_of placed = record {
 
 -- the frame of a map by itself
 abbrev pub own_frame : Map → Frame
-own_frame map = frame_of (record { map = map; holders = [] })
+own_frame map = frame_of (record { map = map; local = []; holders = [] })
 
 abbrev pub Frames : Type 0
 Frames = MapId → Option Frame

@@ -1,15 +1,25 @@
 -- When does a map name only what is there?
-use Rattle.std.specs.Prelude.{◌≡◌, ◌<◌, length, false, None, [], Some, true}
+use Rattle.std.specs.Prelude.{◌≡◌, ◌<◌, Bool, Option, None, Some, length, not, false, true}
 use Rattle.std.specs.List.{list_any}
 use Rattle.hir_base.specs.declared.ids.MapId.{MapId}
-use Rattle.hir_def_map.specs.Named.{is_missing, names_in_module, prelude_named, test_crate, test_of, test_extern, is_there}
-use Rattle.hir_def_map.specs.State.{Map, Maps, IsInOrder, Local, Placed}
+use Rattle.hir_base.specs.declared.ids.ModuleId.{ModuleId}
+use Rattle.hir_base.specs.contracts.ids.MapIdPartialEq.TheImpl as map_id
+use Rattle.hir_def_map.specs.Named.{is_holder_for, is_missing, names_in_module, names_own_crate, prelude_named, test_crate, test_of, test_extern, is_there}
+use Rattle.hir_def_map.specs.State.{Map, Maps, IsInOrder, Local, Placed, holders_under}
 use Rattle.hir_def_map.specs.declared.world.named.Named.{Named}
 
--- a crate's map whose modules come after their parents, all that it names being among the maps
+-- whether a holder, if there is one, lies outside of the map of an id
+abbrev pub is_held_outside : MapId → Option ModuleId → Bool
+is_held_outside id None = true
+is_held_outside id (Some h) = not (map_id.ghosts.eq h.map id)
+
+-- a map whose modules come after their parents, all that it names being among the maps
 pub record NamesOnly (maps : Maps) (map : Map) : Type 0 where
-  pub of_crate : map.id.block ≡ None
-  pub unheld : map.holder ≡ None
+  -- so is its crate's map, where it is a block's
+  pub own_crate : names_own_crate (is_missing maps) map.id ≡ false
+  -- and what holds its block, in a map of the crate that isn't its own
+  pub held : is_holder_for maps map.id map.holder ≡ true
+  pub outside : is_held_outside map.id map.holder ≡ true
   pub root : 0 < length map.modules
   pub in_order : IsInOrder map
   pub modules : list_any (names_in_module (is_missing maps)) map.modules ≡ false
@@ -20,11 +30,12 @@ pub record NamesOnly (maps : Maps) (map : Map) : Type 0 where
 abbrev pub BeginsOnly : Maps → Local → Type 0
 BeginsOnly maps local = list_any (test_extern (is_missing maps)) local ≡ false
 
--- a map in its place is a crate's, and names only what is there
+-- a map in its place names only what is there
 pub record IsWhole (maps : Maps) (id : MapId) (placed : Placed) : Type 0 where
   pub own : placed.map.id ≡ id
-  pub unheld : placed.holders ≡ []
+  pub holders : placed.holders ≡ holders_under maps id placed.map.holder
   pub names : NamesOnly maps placed.map
+  pub begins : BeginsOnly maps placed.local
 
 -- each of the maps does
 abbrev pub AreWhole : Maps → Type 0

@@ -159,9 +159,11 @@ variants_at map id = lookup (is_at (enum_order.ghosts.cmp id)) map.enums
 
 -- ---- several maps, seen through one look-up
 
--- a map and the modules that hold it: that of its block, that of this one's block, and so on; none holds a crate's map
+-- a map, what its paths may begin with, and the modules that hold it: that of its block, that of this one's block, and so on; none holds a crate's map
 pub record Placed : Type 0 where
   pub map : Map
+  -- nothing while it is being built
+  pub local : Local
   pub holders : List ModuleId
 
 -- the maps that can be asked: finished ones, and one that may still be being built
@@ -183,13 +185,21 @@ abbrev pub holders_or : Option Placed → List ModuleId → List ModuleId
 holders_or None holders = holders
 holders_or (Some placed) holders = placed.holders
 
--- a map in its place among finished ones: in that of the finished map of its id, where there is one
+-- a map in its place among finished ones, in that of the finished map of its id, where there is one, with what its paths may begin with
+abbrev pub placed_with : Maps → Map → Local → Placed
+placed_with finished map local = record { map = map; local = local; holders = holders_or (finished map.id) (holders_under finished map.id map.holder) }
+
+-- so is one that may still be being built
 abbrev pub placed_in : Maps → Map → Placed
-placed_in finished map = record { map = map; holders = holders_or (finished map.id) (holders_under finished map.id map.holder) }
+placed_in finished map = placed_with finished map []
 
 -- finished maps, and beside them one that may still be being built, which comes before a finished one of its id
 abbrev pub beside : Maps → Map → Maps
 beside finished map id = cond (map_id.ghosts.eq id map.id) (Some (placed_in finished map)) (finished id)
+
+-- finished maps once one more is finished
+abbrev pub with_map : Maps → Map → Local → Maps
+with_map finished map local id = cond (map_id.ghosts.eq id map.id) (Some (placed_with finished map local)) (finished id)
 
 -- no map
 abbrev pub no_maps : Maps

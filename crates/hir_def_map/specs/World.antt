@@ -13,7 +13,7 @@ use Rattle.hir_def_map.specs.Removal.{FallsWith, lists_in, names_in, names_of}
 use Rattle.hir_def_map.specs.Chains.{IsPlaced, frame_of, frames_of, holders_of_frame}
 
 abbrev pub placed_of : Finished → Placed
-placed_of finished = record { map = finished.map; holders = finished.holders.items }
+placed_of finished = record { map = finished.map; local = finished.local; holders = finished.holders.items }
 
 -- finished maps by their ids
 unfoldable pub finished_in : BTreeMap MapId Finished → Maps

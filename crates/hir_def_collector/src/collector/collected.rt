@@ -1,85 +1,110 @@
 //! What a run answers.
-ghost use Rattle.std.specs.Prelude.{◌≡◌};
+ghost use Rattle.std.specs.Prelude.{◌≡◌, ◌++◌, List};
+ghost use Rattle.std.specs.Iterator.{YieldsFirst, item_count};
+ghost use Rattle.hir_def_collector.specs.Asked.{IsOwnPart};
+ghost use Rattle.hir_def_collector.specs.Keys.{map_keys};
 
 use crate::source_database::Key;
+use hir_base::ids::{Crate, MapId};
 use hir_def_map::nameres::DefMap;
 use hir_def_map::nameres::local_def_map::LocalDefMap;
 use hir_scope::imports::ImportOrExternCrate;
+use std::collections::BTreeSet;
+use std::collections::btree_set;
 use std::marker::Model;
+use std::rc::Rc;
 
-/// What the names of a crate's modules stand for, the crates that its paths may begin with, the imports that reached
-/// nothing, and what was asked for.
+/// What the names of a map's modules stand for.
 #[derive(Drop)]
 pub struct Collected {
-    map: DefMap,
-    local: LocalDefMap,
-    leftover: Vec<ImportOrExternCrate>,
-    asked: Vec<Key>,
+    /// The modules, and what each binds.
+    pub map: DefMap,
+    /// The crates that paths may begin with.
+    pub local: LocalDefMap,
+    /// The imports that reached nothing, in the order in which they were come upon.
+    pub leftover: Vec<ImportOrExternCrate>,
+    /// Whether rounds of calls were cut off: `false` as long as nothing is called.
+    pub round_limit_met: bool,
+    /// What was asked for.
+    pub asked: Asked,
 }
 
-impl Model for Collected {
-    ghost use Rattle.hir_def_collector.specs.CollectedCodes.{coded_collected};
-    ghost use Rattle.hir_def_collector.specs.Derivation.{CollectedValue};
-
-    ghost Value = { CollectedValue };
-
-    ghost coded = { coded_collected };
-
-    ghost view = { λ c. record { map = c.map; local = c.local; leftover = c.leftover.items; asked = c.asked.items } };
+/// The keys that a run asked for: those of its steps, and the map of each crate on which its crate stands. The latter
+/// are shared with the crate's data, so that a chain of crates doesn't keep a key for each pair.
+#[derive(Drop)]
+pub struct Asked {
+    own: Vec<Key>,
+    behind: Rc<BTreeSet<Crate>>,
 }
 
-impl Collected {
-    pub fn new(
-        map: DefMap,
-        local: LocalDefMap,
-        leftover: Vec<ImportOrExternCrate>,
-        asked: Vec<Key>,
-    ) -> Collected
-        ensures value { result ≡ record { map = map; local = local; leftover = leftover.items; asked = asked.items } }
+impl Model for Asked {
+    ghost use Rattle.std.specs.Prelude.{List, ◌++◌};
+    ghost use Rattle.hir_def_collector.specs.declared.source_database.Key.{Key};
+    ghost use Rattle.hir_def_collector.specs.Keys.{map_keys};
+
+    ghost Value = { List Key };
+
+    ghost view = { λ a. a.own.items ++ map_keys a.behind.value.keys };
+}
+
+impl Asked {
+    /// The keys of steps, and the maps of these crates.
+    pub fn new(own: Vec<Key>, behind: Rc<BTreeSet<Crate>>) -> Asked
+        ensures value { result ≡ own.items ++ map_keys behind.value.keys }
     {
-        Collected {
-            map,
-            local,
-            leftover,
-            asked,
+        Asked { own, behind }
+    }
+
+    /// The keys of the steps: all but those maps.
+    pub fn own(&self) -> &[Key]
+        ensures value { IsOwnPart result.now self.now }
+    {
+        self.own.as_slice()
+    }
+
+    /// The keys, those of steps first.
+    pub fn iter(&self) -> AskedKeys<'_>
+        ensures value { result ≡ self.now }
+    {
+        AskedKeys {
+            own: self.own.as_slice(),
+            behind: self.behind.iter(),
         }
     }
+}
 
-    /// The modules of the crate, and what their names stand for.
-    pub fn map(&self) -> &DefMap
-        ensures value { result.now ≡ self.now.map }
-    {
-        &self.map
-    }
+/// The keys that a run asked for, one after another; see `Asked::iter`.
+#[derive(Drop)]
+pub struct AskedKeys<'a> {
+    own: &'a [Key],
+    behind: btree_set::Iter<'a, Crate>,
+}
 
-    /// The crates that paths of the crate may begin with.
-    pub fn local(&self) -> &LocalDefMap
-        ensures value { result.now ≡ self.now.local }
-    {
-        &self.local
-    }
+impl<'a> Model for AskedKeys<'a> {
+    ghost use Rattle.std.specs.Prelude.{List, ◌++◌};
+    ghost use Rattle.hir_def_collector.specs.declared.source_database.Key.{Key};
+    ghost use Rattle.hir_def_collector.specs.Keys.{map_keys};
 
-    /// The imports that reached nothing, in the order in which they were come upon.
-    pub fn leftover(&self) -> &[ImportOrExternCrate]
-        ensures value { result.now ≡ self.now.leftover }
-    {
-        self.leftover.as_slice()
-    }
+    ghost Value = { List Key };
 
-    /// The keys that were asked for, but the map of each crate on which the map's crate stands, which was too.
-    pub fn asked(&self) -> &[Key]
-        ensures value { result.now ≡ self.now.asked }
-    {
-        self.asked.as_slice()
-    }
+    ghost view = { λ k. k.own.now ++ map_keys k.behind };
+}
 
-    /// The map, the crates that paths may begin with, the imports that reached nothing, and the keys as `asked` has them.
-    pub fn into_parts(self) -> (DefMap, LocalDefMap, Vec<ImportOrExternCrate>, Vec<Key>)
-        ensures map { result.0 ≡ self.map }
-        ensures local { result.1 ≡ self.local }
-        ensures leftover { result.2.items ≡ self.leftover }
-        ensures asked { result.3.items ≡ self.asked }
-    {
-        (self.map, self.local, self.leftover, self.asked)
+impl<'a> Iterator for AskedKeys<'a> {
+    type Item = Key;
+
+    ghost next_gives = { YieldsFirst (λ (left : List _). left) };
+
+    ghost remaining = { item_count (λ (left : List _). left) };
+
+    fn next(&mut self) -> Option<Key> {
+        if let [key, others @ ..] = self.own {
+            self.own = others;
+            return Some(*key);
+        }
+        match self.behind.next() {
+            Some(krate) => Some(Key::Map(MapId::of_crate(*krate))),
+            None => None,
+        }
     }
 }

@@ -3,7 +3,7 @@ ghost use Rattle.std.specs.Prelude.{◌≡◌, ◌≤◌, true, [], map, OnOk};
 ghost use Rattle.hir_item_tree.specs.Collected.{is_enabled};
 ghost use Rattle.hir_item_tree.specs.KeptForest.{leaf, function, structure, union_structure, constant, static_item, trait_item, type_alias};
 ghost use Rattle.hir_def_map.specs.Parts.{part_of};
-ghost use Rattle.hir_def_collector.specs.Workspace.{Workspace};
+ghost use Rattle.hir_def_collector.specs.Keys.{Environment};
 ghost use Rattle.hir_def_collector.specs.State.{with_map, counted};
 ghost use Rattle.hir_def_collector.specs.ItemIds.{module_id};
 ghost use Rattle.hir_def_collector.specs.Items.{constructor_of, declared_struct, meet_of, own_visibility, type_declaration, value_declaration, visibility_in};
@@ -95,7 +95,7 @@ pub fn declare_function(
     name: &Name,
 ) -> Result<(), CollectError>
     requires enabled { is_enabled (head_of head).attributes ≡ true }
-    ensures ok { OnOk result ((w : Workspace) → Handles w (part_of world.entry) run.old run.new (visit site (leaf (head_of head.entry) (function name.now))) []) }
+    ensures ok { OnOk result ((env : Environment) → Handles env (part_of world.entry) run.old run.new (visit site (leaf (head_of head.entry) (function name.now))) []) }
     ensures many { result ≡ Err CollectError.TooMany → STEP_LIMIT ≤ run.old.count }
 {
     let def = ModuleDefId::FunctionId(FunctionId {
@@ -119,7 +119,7 @@ pub fn declare_const(
     name: &Name,
 ) -> Result<(), CollectError>
     requires enabled { is_enabled (head_of head).attributes ≡ true }
-    ensures ok { OnOk result ((w : Workspace) → Handles w (part_of world.entry) run.old run.new (visit site (leaf (head_of head.entry) (constant (Some name.now)))) []) }
+    ensures ok { OnOk result ((env : Environment) → Handles env (part_of world.entry) run.old run.new (visit site (leaf (head_of head.entry) (constant (Some name.now)))) []) }
     ensures many { result ≡ Err CollectError.TooMany → STEP_LIMIT ≤ run.old.count }
 {
     let def = ModuleDefId::ConstId(ConstId {
@@ -143,7 +143,7 @@ pub fn declare_static(
     name: &Name,
 ) -> Result<(), CollectError>
     requires enabled { is_enabled (head_of head).attributes ≡ true }
-    ensures ok { OnOk result ((w : Workspace) → Handles w (part_of world.entry) run.old run.new (visit site (leaf (head_of head.entry) (static_item name.now))) []) }
+    ensures ok { OnOk result ((env : Environment) → Handles env (part_of world.entry) run.old run.new (visit site (leaf (head_of head.entry) (static_item name.now))) []) }
     ensures many { result ≡ Err CollectError.TooMany → STEP_LIMIT ≤ run.old.count }
 {
     let def = ModuleDefId::StaticId(StaticId {
@@ -167,7 +167,7 @@ pub fn declare_type_alias(
     name: &Name,
 ) -> Result<(), CollectError>
     requires enabled { is_enabled (head_of head).attributes ≡ true }
-    ensures ok { OnOk result ((w : Workspace) → Handles w (part_of world.entry) run.old run.new (visit site (leaf (head_of head.entry) (type_alias name.now))) []) }
+    ensures ok { OnOk result ((env : Environment) → Handles env (part_of world.entry) run.old run.new (visit site (leaf (head_of head.entry) (type_alias name.now))) []) }
     ensures many { result ≡ Err CollectError.TooMany → STEP_LIMIT ≤ run.old.count }
 {
     let def = ModuleDefId::TypeAliasId(TypeAliasId {
@@ -191,7 +191,7 @@ pub fn declare_trait(
     name: &Name,
 ) -> Result<(), CollectError>
     requires enabled { is_enabled (head_of head).attributes ≡ true }
-    ensures ok { OnOk result ((w : Workspace) → Handles w (part_of world.entry) run.old run.new (visit site (leaf (head_of head.entry) (trait_item name.now))) []) }
+    ensures ok { OnOk result ((env : Environment) → Handles env (part_of world.entry) run.old run.new (visit site (leaf (head_of head.entry) (trait_item name.now))) []) }
     ensures many { result ≡ Err CollectError.TooMany → STEP_LIMIT ≤ run.old.count }
 {
     let def = ModuleDefId::TraitId(TraitId {
@@ -215,7 +215,7 @@ pub fn declare_union(
     name: &Name,
 ) -> Result<(), CollectError>
     requires enabled { is_enabled (head_of head).attributes ≡ true }
-    ensures ok { OnOk result ((w : Workspace) (fields : _) → Handles w (part_of world.entry) run.old run.new (visit site (leaf (head_of head.entry) (union_structure name.now fields))) []) }
+    ensures ok { OnOk result ((env : Environment) (fields : _) → Handles env (part_of world.entry) run.old run.new (visit site (leaf (head_of head.entry) (union_structure name.now fields))) []) }
     ensures many { result ≡ Err CollectError.TooMany → STEP_LIMIT ≤ run.old.count }
 {
     let def = ModuleDefId::AdtId(AdtId::UnionId(UnionId {
@@ -303,7 +303,7 @@ pub fn declare_struct(
     item: Struct<'_>,
 ) -> Result<(), CollectError>
     requires enabled { is_enabled (head_of head).attributes ≡ true }
-    ensures ok { OnOk result ((w : Workspace) → Handles w (part_of world.entry) run.old run.new (visit site (leaf (head_of head.entry) (structure item.entry.name.now item.entry.shape item.entry.fields.now))) []) }
+    ensures ok { OnOk result ((env : Environment) → Handles env (part_of world.entry) run.old run.new (visit site (leaf (head_of head.entry) (structure item.entry.name.now item.entry.shape item.entry.fields.now))) []) }
     ensures many { result ≡ Err CollectError.TooMany → STEP_LIMIT ≤ run.old.count }
 {
     let at = run.module_id(site.home);

@@ -3,6 +3,7 @@ ghost use Rattle.std.specs.Prelude.{◌≡◌, ◌≤◌, true, [], OnOk, IfOk, 
 ghost use Rattle.hir_item_tree.specs.Collected.{is_enabled};
 ghost use Rattle.hir_item_tree.specs.KeptForest.{leaf, enumeration};
 ghost use Rattle.hir_def_map.specs.Parts.{part_of};
+ghost use Rattle.hir_def_collector.specs.Keys.{environment};
 ghost use Rattle.hir_def_collector.specs.Enums.{variant_of, variants_by_name, variants_of};
 ghost use Rattle.hir_def_collector.specs.TreeReads.{head_of};
 ghost use Rattle.hir_def_collector.specs.Steps.{visit};
@@ -13,6 +14,7 @@ use crate::collector::declare::declare;
 use crate::collector::run::Run;
 use crate::collector::site::{ItemHead, Site};
 use crate::collector::{CollectError, STEP_LIMIT};
+use crate::collector::sources::variants_at;
 use crate::source_database::SourceDatabase;
 use hir_base::ids::{AdtId, EnumId, EnumVariantId, ItemLoc, ModuleDefId};
 use hir_base::name::Name;
@@ -20,6 +22,7 @@ use hir_def_map::nameres::enum_variants::{EnumVariant, EnumVariants};
 use hir_def_map::world::part::WorldPart;
 use hir_item_tree::side_lists::VariantItem;
 use hir_scope::per_ns::PerNs;
+use hir_tables::Tables;
 use std::alloc::{AllocError, Global};
 
 /// A variant of an enum.
@@ -67,12 +70,13 @@ pub fn declare_enum<D: SourceDatabase>(
     run: &mut Run,
     db: &D,
     world: WorldPart<'_>,
+    locations: &Tables,
     site: Site,
     head: ItemHead<'_>,
     name: &Name,
 ) -> Result<(), CollectError>
     requires enabled { is_enabled (head_of head).attributes ≡ true }
-    ensures ok { OnOk result (Handles (D.workspace db.now) (part_of world.entry) run.old run.new (visit site (leaf (head_of head.entry) (enumeration name.now))) []) }
+    ensures ok { OnOk result (Handles (environment locations.now (D.workspace db.now)) (part_of world.entry) run.old run.new (visit site (leaf (head_of head.entry) (enumeration name.now))) []) }
     ensures many { result ≡ Err CollectError.TooMany → STEP_LIMIT ≤ run.old.count }
 {
     let id = EnumId {
@@ -84,7 +88,7 @@ pub fn declare_enum<D: SourceDatabase>(
         },
     };
     let vis = run.visibility(world, site, head);
-    let found = db.variants(run.allocator(), id)?;
+    let found = variants_at(run.allocator(), db, locations, id)?;
     let variants = variants_of(run.allocator(), id, found)?;
     run.add_enum(id, variants)?;
     let def = ModuleDefId::AdtId(AdtId::EnumId(id));

@@ -5,7 +5,7 @@ ghost use Rattle.hir_item_tree.specs.Imports.{imports_of};
 ghost use Rattle.hir_item_tree.specs.KeptForest.{extern_crate, leaf, import};
 ghost use Rattle.hir_item_tree.specs.UseTree.{use_tree_view};
 ghost use Rattle.hir_def_map.specs.State.{Maps};
-ghost use Rattle.hir_def_collector.specs.Workspace.{Workspace};
+ghost use Rattle.hir_def_collector.specs.Keys.{Environment};
 ghost use Rattle.hir_def_collector.specs.State.{counted, with_imports, with_local};
 ghost use Rattle.hir_def_collector.specs.Imports.{crate_import, extern_after, path_of_crate, reached_import};
 ghost use Rattle.hir_def_collector.specs.ItemIds.{extern_crate_id};
@@ -93,7 +93,7 @@ pub fn reach_use(
     tree: &UseTree,
 ) -> Result<(), CollectError>
     requires enabled { is_enabled (head_of head).attributes ≡ true }
-    ensures ok { OnOk result ((w : Workspace) (finished : Maps) → Handles w finished run.old run.new (visit site (leaf (head_of head.entry) (import (use_tree_view tree.now)))) []) }
+    ensures ok { OnOk result ((env : Environment) (finished : Maps) → Handles env finished run.old run.new (visit site (leaf (head_of head.entry) (import (use_tree_view tree.now)))) []) }
     ensures many { result ≡ Err CollectError.TooMany → STEP_LIMIT ≤ run.old.count }
 {
     let use_ = UseId {
@@ -172,7 +172,7 @@ pub fn reach_extern_crate(
     alias: &Option<ImportAlias>,
 ) -> Result<(), CollectError>
     requires enabled { is_enabled (head_of head).attributes ≡ true }
-    ensures ok { OnOk result ((w : Workspace) (finished : Maps) → Handles w finished run.old run.new (visit site (leaf (head_of head.entry) (extern_crate name.now alias.now))) []) }
+    ensures ok { OnOk result ((env : Environment) (finished : Maps) → Handles env finished run.old run.new (visit site (leaf (head_of head.entry) (extern_crate name.now alias.now))) []) }
     ensures many { result ≡ Err CollectError.TooMany → STEP_LIMIT ≤ run.old.count }
 {
     let id = ExternCrateId {

@@ -1,6 +1,6 @@
 //! Where a run stands, and what each change leaves.
 ghost use Rattle.std.specs.Prelude.{◌≡◌, ◌<◌, ◌≤◌, length, OnOk, IfOk};
-ghost use Rattle.std.specs.Prelude.{◌∷◌, [], Some};
+ghost use Rattle.std.specs.Prelude.{◌∷◌, ◌++◌, [], Some, false};
 ghost use Rattle.hir_def_map.specs.State.{with_enum, with_module, new_id, new_module, with_declared, with_use, with_impl, with_extern_block, with_extern_crate, with_unnamed_const};
 ghost use Rattle.hir_def_map.specs.Parts.{part_of};
 ghost use Rattle.hir_def_collector.specs.State.{with_local, with_asked, with_map, with_imports, with_taken, counted};
@@ -9,9 +9,10 @@ ghost use Rattle.hir_def_collector.specs.Items.{own_visibility, visibility_in};
 ghost use Rattle.hir_def_collector.specs.TreeReads.{head_of};
 ghost use Rattle.hir_def_collector.specs.Imports.{answer_to, bound_as, bound_in, crate_named, dependency_named, extern_after, pushing, taking_at};
 ghost use Rattle.hir_def_collector.specs.Start.{core_by};
-ghost use Rattle.hir_def_collector.specs.Derivation.{leftover_among};
+ghost use Rattle.hir_def_collector.specs.Keys.{map_keys};
+ghost use Rattle.hir_def_collector.specs.Derivation.{collected_view, leftover_among};
 
-use crate::collector::collected::Collected;
+use crate::collector::collected::{Asked, Collected};
 use crate::collector::imports::{
     ImportSource, Namespaces, ReachedImport, Taken, Taking, answer, answer_of_crate, imported,
     is_one_name, kept,
@@ -21,7 +22,6 @@ use crate::collector::preludes::prelude;
 use crate::collector::site::{ItemHead, Site};
 use crate::collector::{CollectError, STEP_LIMIT, Start};
 use crate::source_database::{Dependency, Key};
-use hir_base::ast_id::HirFileId;
 use hir_base::ids::{
     ConstId, Crate, EnumId, ExternBlockId, ExternCrateId, ImplId, ItemContainerId, MapId,
     ModuleDefId, ModuleId, UseId,
@@ -38,12 +38,15 @@ use hir_def_map::nameres::path_resolution::{ReachedFixedPoint, ResolvePathResult
 use hir_def_map::world::part::WorldPart;
 use hir_item_tree::raw_visibility::RawVisibility;
 use hir_item_tree::shape::{ExternCrateName, ImportKind};
+use hir_item_tree::tree_id::{TreeId, TreeKey};
 use hir_scope::glob_imports::PerNsGlobImports;
 use hir_scope::imports::ImportOrExternCrate;
 use hir_scope::per_ns::PerNs;
 use hir_scope::visibility::Visibility;
 use std::alloc::{AllocError, Global};
+use std::collections::BTreeSet;
 use std::marker::Model;
+use std::rc::Rc;
 
 /// Where a run stands, what it has still to visit aside.
 #[derive(Drop)]
@@ -106,18 +109,17 @@ impl Run {
         local: LocalDefMap,
         dependencies: Vec<Dependency>,
         start: Start,
+        tree: TreeId,
     ) -> Result<Run, AllocError>
-        ensures value { IfOk result (λ run. run ≡ core_by (part_of world.entry) crate_data local dependencies.items start) }
+        ensures value { IfOk result (λ run. run ≡ core_by (part_of world.entry) crate_data local dependencies.items start tree) }
     {
-        let origin = ModuleOrigin::CrateRoot {
-            definition: start.root,
-        };
-        let root = ModuleData::new(alloc, origin, Visibility::Public, None);
-        let mut map = DefMap::empty(alloc, start.krate, crate_data, root, None)?;
+        let krate = start.krate();
+        let root = ModuleData::new(alloc, start.origin(), Visibility::Public, None);
+        let mut map = DefMap::empty(alloc, krate, crate_data, root, None)?;
         let found = prelude(alloc, world, &map, &local)?;
         map.set_prelude(found);
         let mut asked = Vec::new(alloc);
-        asked.push(Key::Tree(start.krate, HirFileId::File(start.root)))?;
+        asked.push(Key::Tree(TreeKey { krate, id: tree }))?;
         Ok(Run {
             map,
             local,
@@ -436,9 +438,19 @@ impl Run {
     }
 
     /// What a run comes to.
-    pub fn finish(self, leftover: Vec<ImportOrExternCrate>) -> Collected
-        ensures value { result ≡ record { map = self.map; local = self.local; leftover = leftover.items; asked = self.asked } }
+    pub fn finish(
+        self,
+        leftover: Vec<ImportOrExternCrate>,
+        behind: Rc<BTreeSet<Crate>>,
+    ) -> Collected
+        ensures value { collected_view result ≡ record { map = self.map; local = self.local; leftover = leftover.items; round_limit_met = false; asked = self.asked ++ map_keys behind.value.keys } }
     {
-        Collected::new(self.map, self.local, leftover, self.asked)
+        Collected {
+            map: self.map,
+            local: self.local,
+            leftover,
+            round_limit_met: false,
+            asked: Asked::new(self.asked, behind),
+        }
     }
 }

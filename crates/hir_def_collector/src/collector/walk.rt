@@ -7,7 +7,7 @@ ghost use Rattle.hir_item_tree.specs.Kinds.{kind_content};
 ghost use Rattle.hir_item_tree.specs.Rows.{held_numbers, item_of, items_at, numbers_of};
 ghost use Rattle.hir_def_map.specs.State.{Maps};
 ghost use Rattle.hir_def_map.specs.Parts.{part_of};
-ghost use Rattle.hir_def_collector.specs.Workspace.{Workspace};
+ghost use Rattle.hir_def_collector.specs.Keys.{Environment, environment};
 ghost use Rattle.hir_def_collector.specs.State.{visits};
 ghost use Rattle.hir_def_collector.specs.Steps.{visit};
 ghost use Rattle.hir_def_collector.specs.TreeReads.{head_of, visits_at};
@@ -34,6 +34,7 @@ use hir_item_tree::item_tree::ItemTree;
 use hir_item_tree::kinds::{Mod, ModItemKind, ModKind};
 use hir_item_tree::rows::ModItemId;
 use hir_scope::per_ns::PerNs;
+use hir_tables::Tables;
 
 /// Items of a tree that are visited next, and where they are written.
 #[derive(Clone, Copy)]
@@ -45,7 +46,7 @@ struct Inside<'a> {
 /// Lists a constant that has no name.
 fn list_const(run: &mut Run, site: Site, head: ItemHead<'_>) -> Result<(), CollectError>
     requires enabled { is_enabled (head_of head).attributes ≡ true }
-    ensures ok { OnOk result ((w : Workspace) (finished : Maps) → Handles w finished run.old run.new (visit site (leaf (head_of head.entry) (constant None))) []) }
+    ensures ok { OnOk result ((env : Environment) (finished : Maps) → Handles env finished run.old run.new (visit site (leaf (head_of head.entry) (constant None))) []) }
     ensures many { result ≡ Err CollectError.TooMany → STEP_LIMIT ≤ run.old.count }
 {
     let id = ConstId {
@@ -70,7 +71,7 @@ fn visit_const(
     name: &Option<Name>,
 ) -> Result<(), CollectError>
     requires enabled { is_enabled (head_of head).attributes ≡ true }
-    ensures ok { OnOk result ((w : Workspace) → Handles w (part_of world.entry) run.old run.new (visit site (leaf (head_of head.entry) (constant name.now))) []) }
+    ensures ok { OnOk result ((env : Environment) → Handles env (part_of world.entry) run.old run.new (visit site (leaf (head_of head.entry) (constant name.now))) []) }
     ensures many { result ≡ Err CollectError.TooMany → STEP_LIMIT ≤ run.old.count }
 {
     match name {
@@ -88,7 +89,7 @@ fn list_impl(
     of_trait: bool,
 ) -> Result<(), CollectError>
     requires enabled { is_enabled (head_of head).attributes ≡ true }
-    ensures ok { OnOk result ((w : Workspace) (finished : Maps) → Handles w finished run.old run.new (visit site (leaf (head_of head.entry) (implementation of_trait))) []) }
+    ensures ok { OnOk result ((env : Environment) (finished : Maps) → Handles env finished run.old run.new (visit site (leaf (head_of head.entry) (implementation of_trait))) []) }
     ensures many { result ≡ Err CollectError.TooMany → STEP_LIMIT ≤ run.old.count }
 {
     let id = ImplId {
@@ -114,7 +115,7 @@ fn open(
 ) -> Result<Site, CollectError>
     requires in_range { site.home < length run.old.map.modules }
     requires enabled { is_enabled (head_of head).attributes ≡ true }
-    ensures ok { IfOk result (λ inside. (w : Workspace) (items : KeptForest) → Handles w (part_of world.entry) run.old run.new
+    ensures ok { IfOk result (λ inside. (env : Environment) (items : KeptForest) → Handles env (part_of world.entry) run.old run.new
         (visit site (holder (head_of head.entry) (inline_module name.now) items)) (visits inside items)) }
     ensures in_range { IfOk result (λ inside. inside.home < length run.new.map.modules) }
     ensures many { result ≡ Err CollectError.TooMany → IsFull run.old.count run.old.map }
@@ -148,7 +149,7 @@ fn open(
 fn enter(run: &mut Run, site: Site, head: ItemHead<'_>) -> Result<Site, CollectError>
     requires in_range { site.home < length run.old.map.modules }
     requires enabled { is_enabled (head_of head).attributes ≡ true }
-    ensures ok { IfOk result (λ inside. (w : Workspace) (finished : Maps) (items : KeptForest) → Handles w finished run.old run.new
+    ensures ok { IfOk result (λ inside. (env : Environment) (finished : Maps) (items : KeptForest) → Handles env finished run.old run.new
         (visit site (holder (head_of head.entry) extern_block items)) (visits inside items)) }
     ensures in_range { IfOk result (λ inside. inside.home < length run.new.map.modules) }
     ensures many { result ≡ Err CollectError.TooMany → STEP_LIMIT ≤ run.old.count }
@@ -180,7 +181,7 @@ fn visit_mod<'a>(
 ) -> Result<Inside<'a>, CollectError>
     requires in_range { site.home < length run.old.map.modules }
     requires enabled { is_enabled (head_of head).attributes ≡ true }
-    ensures ok { IfOk result (λ inside. (w : Workspace) (items : List KeptItem) → Handles w (part_of world.entry) run.old run.new
+    ensures ok { IfOk result (λ inside. (env : Environment) (items : List KeptItem) → Handles env (part_of world.entry) run.old run.new
         (visit site (item_of items (head_of head.entry) (kind_content (ModItemKind.Mod item.entry))))
         (visits inside.site (items_at items (numbers_of inside.ids.now)))) }
     ensures numbers { IfOk result (λ inside. numbers_of inside.ids.now ≡ held_numbers (kind_content (ModItemKind.Mod item.entry))) }
@@ -204,13 +205,14 @@ fn visit_item<'a, D: SourceDatabase>(
     run: &mut Run,
     db: &D,
     world: WorldPart<'_>,
+    locations: &Tables,
     site: Site,
     head: ItemHead<'_>,
     item: ModItemKind<'a>,
 ) -> Result<Inside<'a>, CollectError>
     requires in_range { site.home < length run.old.map.modules }
     requires enabled { is_enabled (head_of head).attributes ≡ true }
-    ensures ok { IfOk result (λ inside. (items : List KeptItem) → Handles (D.workspace db.now) (part_of world.entry) run.old run.new
+    ensures ok { IfOk result (λ inside. (items : List KeptItem) → Handles (environment locations.now (D.workspace db.now)) (part_of world.entry) run.old run.new
         (visit site (item_of items (head_of head.entry) (kind_content item.entry)))
         (visits inside.site (items_at items (numbers_of inside.ids.now)))) }
     ensures numbers { IfOk result (λ inside. numbers_of inside.ids.now ≡ held_numbers (kind_content item.entry)) }
@@ -244,7 +246,7 @@ fn visit_item<'a, D: SourceDatabase>(
             Ok(nothing)
         }
         ModItemKind::Enum(item) => {
-            declare_enum(run, db, world, site, head, item.name)?;
+            declare_enum(run, db, world, locations, site, head, item.name)?;
             Ok(nothing)
         }
         ModItemKind::Const(item) => {
@@ -284,22 +286,23 @@ fn walk_item<D: SourceDatabase>(
     run: &mut Run,
     db: &D,
     world: WorldPart<'_>,
+    locations: &Tables,
     tree: &ItemTree,
     site: Site,
     id: ModItemId,
 ) -> Result<(), CollectError>
     requires in_range { site.home < length run.old.map.modules }
     requires there { id.0 < length (all_items tree.now.items) }
-    ensures ok { OnOk result (Walks (D.workspace db.now) (part_of world.entry) run.old run.new (visits_at tree.now site (id.0 ∷ []))) }
-    ensures many { result ≡ Err CollectError.TooMany → WalksTooFar (D.workspace db.now) (part_of world.entry) run.old (visits_at tree.now site (id.0 ∷ [])) }
+    ensures ok { OnOk result (Walks (environment locations.now (D.workspace db.now)) (part_of world.entry) run.old run.new (visits_at tree.now site (id.0 ∷ []))) }
+    ensures many { result ≡ Err CollectError.TooMany → WalksTooFar (environment locations.now (D.workspace db.now)) (part_of world.entry) run.old (visits_at tree.now site (id.0 ∷ [])) }
 {
     let head = head_at(tree, id);
     if !head.attrs.is_enabled() {
         run.tick()?;
         return Ok(());
     }
-    let inside = visit_item(run, db, world, site, head, tree.index(id))?;
-    walk_all(run, db, world, tree, inside.site, inside.ids)?;
+    let inside = visit_item(run, db, world, locations, site, head, tree.index(id))?;
+    walk_all(run, db, world, locations, tree, inside.site, inside.ids)?;
     Ok(())
 }
 
@@ -309,17 +312,18 @@ pub fn walk_all<D: SourceDatabase>(
     run: &mut Run,
     db: &D,
     world: WorldPart<'_>,
+    locations: &Tables,
     tree: &ItemTree,
     site: Site,
     ids: &[ModItemId],
 ) -> Result<(), CollectError>
     requires in_range { site.home < length run.old.map.modules }
     requires there { All (λ n. n < length (all_items tree.now.items)) (numbers_of ids.now) }
-    ensures ok { OnOk result (Walks (D.workspace db.now) (part_of world.entry) run.old run.new (visits_at tree.now site (numbers_of ids.now))) }
-    ensures many { result ≡ Err CollectError.TooMany → WalksTooFar (D.workspace db.now) (part_of world.entry) run.old (visits_at tree.now site (numbers_of ids.now)) }
+    ensures ok { OnOk result (Walks (environment locations.now (D.workspace db.now)) (part_of world.entry) run.old run.new (visits_at tree.now site (numbers_of ids.now))) }
+    ensures many { result ≡ Err CollectError.TooMany → WalksTooFar (environment locations.now (D.workspace db.now)) (part_of world.entry) run.old (visits_at tree.now site (numbers_of ids.now)) }
 {
     for id in ids {
-        walk_item(run, db, world, tree, site, *id)?;
+        walk_item(run, db, world, locations, tree, site, *id)?;
     }
     Ok(())
 }

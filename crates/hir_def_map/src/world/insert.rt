@@ -4,7 +4,7 @@ ghost use Rattle.std.specs.Vec.{vec_capacity};
 ghost use Rattle.std.specs.BTreeMap.{btree_map_len, get, is_at, IsUnchanged, Updates};
 ghost use Rattle.hir_base.specs.contracts.ids.MapIdOrd.TheImpl as map_order;
 ghost use Rattle.hir_base.specs.declared.ids.MapId.{MapId};
-ghost use Rattle.hir_def_map.specs.State.{beside, holders_under};
+ghost use Rattle.hir_def_map.specs.State.{holders_under, with_map};
 ghost use Rattle.hir_def_map.specs.Dependents.{HasRoom, IsEntered, IsIndexed};
 ghost use Rattle.hir_def_map.specs.Inserted.{may_join, Inserts};
 ghost use Rattle.hir_def_map.specs.Kept.{IsKeptOf};
@@ -153,7 +153,7 @@ impl World {
     /// Adds a finished map, if none has its id and all that it names is there.
     pub fn insert(&mut self, map: DefMap, local: LocalDefMap) -> Result<(), Refused>
         ensures answer { Inserts (may_join (finished_in self.old.maps) map local) map local result }
-        ensures maps { OnOk result ((id : MapId) → finished_in self.new.maps id ≡ beside (finished_in self.old.maps) map id) }
+        ensures maps { OnOk result ((id : MapId) → finished_in self.new.maps id ≡ with_map (finished_in self.old.maps) map local id) }
         ensures locals { OnOk result ((id : MapId) → local_in self.new.maps id
             ≡ cond (is_at (map_order.ghosts.cmp map.id) id) (Some local) (local_in self.old.maps id)) }
         ensures err { OnErr result (IsUnchanged self.old.maps self.new.maps) }

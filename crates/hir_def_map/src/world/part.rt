@@ -1,22 +1,30 @@
 //! A part of a world.
 ghost use Rattle.std.specs.Prelude.{◌≡◌, option_copied, option_map};
+ghost use Rattle.std.specs.List.{list_any};
+ghost use Rattle.hir_base.specs.contracts.ids.MapIdPartialEq.TheImpl as map_id;
 ghost use Rattle.hir_def_map.specs.Among.{among};
 ghost use Rattle.hir_def_map.specs.Chains.{frames_of, head_of, holders_of_frame};
-ghost use Rattle.hir_def_map.specs.Parts.{is_within, part_of};
-ghost use Rattle.hir_def_map.specs.State.{map_in};
-ghost use Rattle.hir_def_map.specs.World.{finished_in};
+ghost use Rattle.hir_def_map.specs.Parts.{are_within, is_within, part_of};
+ghost use Rattle.hir_def_map.specs.State.{Placed, map_in};
+ghost use Rattle.hir_def_map.specs.World.{finished_in, placed_of};
 
 use crate::nameres::DefMap;
+use crate::nameres::local_def_map::LocalDefMap;
 use crate::world::World;
+use crate::world::finished::Finished;
 use hir_base::ids::{Crate, MapId, ModuleId};
 use std::collections::BTreeSet;
 
-/// The maps of a world that may be read: all, or those of some crates.
+/// The maps of a world that may be read: all, or those of some crates and those in which some modules lie that hold a
+/// block.
+///
+/// A map may be read only if the maps of all that holds it may be read too.
 #[derive(Clone, Copy)]
 pub struct WorldPart<'a> {
     world: &'a World,
     /// Without it all maps may be read.
     crates: Option<&'a BTreeSet<Crate>>,
+    holders: &'a [ModuleId],
 }
 
 impl<'a> WorldPart<'a> {
@@ -28,49 +36,115 @@ impl<'a> WorldPart<'a> {
         WorldPart {
             world,
             crates: None,
+            holders: &[],
         }
     }
 
-    /// The maps of some crates, those of their blocks not among them.
+    /// The maps of some crates, those of their blocks not among them, and the maps in which some modules lie.
+    ///
+    /// What a crate reads has no holders. A block reads also the module that holds it, the one that holds that one's
+    /// block, and so on.
     #[tactic(auto, unfolding(crate::specs::Parts::part_of))]
-    pub fn among(world: &'a World, crates: &'a BTreeSet<Crate>) -> WorldPart<'a>
-        ensures value { part_of result ≡ among crates.now.keys (finished_in world.now.maps) }
+    pub fn among(
+        world: &'a World,
+        crates: &'a BTreeSet<Crate>,
+        holders: &'a [ModuleId],
+    ) -> WorldPart<'a>
+        ensures value { part_of result ≡ among crates.now.keys holders.now (finished_in world.now.maps) }
     {
         WorldPart {
             world,
             crates: Some(crates),
+            holders,
         }
     }
 
+    /// Whether one of the holders lies in a map.
+    fn has_holder_in(&self, id: MapId) -> bool
+        ensures value { result ≡ list_any (λ (h : ModuleId). map_id.ghosts.eq h.map id) self.now.holders.now }
+    {
+        let mut left = self.holders;
+        'next: while let [holder, others @ ..] = left {
+            if holder.map == id {
+                return true;
+            }
+            left = others;
+        }
+        false
+    }
+
     fn is_within(&self, id: MapId) -> bool
-        ensures value { result ≡ is_within (option_copied self.now.crates) id }
+        ensures value { result ≡ is_within (option_copied self.now.crates) self.now.holders.now id }
     {
         match self.crates {
-            Some(crates) => id.block.is_none() && crates.contains(&id.krate),
+            Some(crates) => {
+                (id.block.is_none() && crates.contains(&id.krate)) || self.has_holder_in(id)
+            }
             None => true,
         }
     }
 
+    fn are_within(&self, modules: &[ModuleId]) -> bool
+        ensures value { result ≡ are_within (option_copied self.now.crates) self.now.holders.now modules.now }
+    {
+        let mut left = modules;
+        'next: while let [module, others @ ..] = left {
+            if !self.is_within(module.map) {
+                return false;
+            }
+            left = others;
+        }
+        true
+    }
+
+    /// The finished map of an id, where it is there and may be read with all that holds it.
+    #[tactic(auto, using(crate::proofs::Parts::parts), unfolding(crate::specs::World::finished_in))]
+    fn finished(&self, id: MapId) -> Option<&'a Finished>
+        ensures value { option_map placed_of (option_copied result) ≡ part_of self.now id }
+    {
+        if !self.is_within(id) {
+            return None;
+        }
+        match self.world.maps.get(&id) {
+            Some(finished) => {
+                if self.are_within(finished.holders.as_slice()) {
+                    Some(finished)
+                } else {
+                    None
+                }
+            }
+            None => None,
+        }
+    }
+
     /// The map of an id, where it is there and may be read.
-    #[tactic(auto, using(crate::proofs::Parts::parts))]
     pub fn map(&self, id: MapId) -> Option<&'a DefMap>
         ensures value { option_map (λ m. m.now) result ≡ map_in (part_of self.now) id }
     {
-        if self.is_within(id) {
-            self.world.map(id)
-        } else {
-            None
+        match self.finished(id) {
+            Some(finished) => Some(&finished.map),
+            None => None,
+        }
+    }
+
+    /// The crates that the paths of a map may begin with, where it is there and may be read.
+    pub fn local(&self, id: MapId) -> Option<&'a LocalDefMap>
+        ensures value { option_map (λ l. l.now) result ≡ option_map (λ (p : Placed). p.local) (part_of self.now id) }
+    {
+        match self.finished(id) {
+            Some(finished) => Some(&finished.local),
+            None => None,
         }
     }
 
     /// The module that holds the block of a map.
-    #[tactic(auto, using(crate::proofs::Parts::parts))]
+    #[tactic(auto, unfolding(crate::specs::Chains::frames_of))]
     pub fn holder(&self, id: MapId) -> Option<ModuleId>
         ensures value { result ≡ head_of (holders_of_frame (frames_of (part_of self.now) id)) }
     {
-        match self.crates {
-            Some(_) => None,
-            None => self.world.holder(id),
+        match self.finished(id) {
+            Some(finished) => finished.holders.first().copied(),
+            None => None,
         }
     }
 }

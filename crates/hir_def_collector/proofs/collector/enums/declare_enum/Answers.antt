@@ -1,7 +1,7 @@
 use Rattle.std.proofs.Common.{◌≡◌, List, Option, option_map, refl, sym, ap, ◌∙◌}
 use Rattle.hir_item_tree.specs.declared.side_lists.VariantItem.{VariantItem}
 use Rattle.hir_def_collector.specs.ItemIds.{enum_id}
-use Rattle.hir_def_collector.specs.Keys.{Look, of_variants, look}
+use Rattle.hir_def_collector.specs.Keys.{variants_at}
 use Rattle.hir_def_collector.specs.TreeReads.{head_of}
 use Rattle.hir_def_collector.specs.Steps.{declares_enum}
 use Rattle.hir_def_collector.proofs.Made.{made}
@@ -9,8 +9,7 @@ use Rattle.hir_def_collector.proofs.collector.enums.declare_enum.Goals as goal
 
 pub returns-clause-ok : goal.returns-clause-ok
 returns-clause-ok g c =
-    let w = g.D.SourceDatabase.workspace c.args.db.now in
-    let seen : Option (List VariantItem) = w.variants (enum_id c.args.run.now.map c.args.site c.args.head.id) in
+    let seen : Option (List VariantItem) = variants_at c.args.locations.now (g.D.SourceDatabase.workspace c.args.db.now) (enum_id c.args.run.now.map c.args.site c.args.head.id) in
     record {
       step = λ rest.
           made (declares_enum c.args.site (head_of c.args.head) c.args.name.now seen rest) (record { next = refl; enabled = c.requires.enabled }) (refl, tt)

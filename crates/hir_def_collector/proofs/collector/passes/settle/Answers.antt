@@ -9,19 +9,19 @@ use Rattle.hir_def_collector.proofs.Walked.{no_workspace}
 use Rattle.hir_def_collector.proofs.collector.passes.settle.Goals as goal
 
 pub loop-init : goal.loop-init
-loop-init c = (λ w. none, subst (λ (n : ℕ). n ≤ STEP_LIMIT) c.count.ensures.value c.count.ensures.small)
+loop-init c = (λ env. none, subst (λ (n : ℕ). n ≤ STEP_LIMIT) c.count.ensures.value c.count.ensures.small)
 
 pub loop-preserved : goal.loop-preserved
-loop-preserved c = (λ w. Steps-append (c.loop.invariant.0 w) (c.in_ok-pass.ensures.ok w).steps, c.in_ok-pass.ensures.small)
+loop-preserved c = (λ env. Steps-append (c.loop.invariant.0 env) (c.in_ok-pass.ensures.ok env).steps, c.in_ok-pass.ensures.small)
 
 pub returns-in_err-pass-clause-many : goal.returns-in_err-pass-clause-many
-returns-in_err-pass-clause-many c h = λ w. spent_after (c.loop.invariant.0 w) (c.in_err-pass.ensures.many (search rules) w)
+returns-in_err-pass-clause-many c h = λ env. spent_after (c.loop.invariant.0 env) (c.in_err-pass.ensures.many (search rules) env)
 
 pub loop-smaller : goal.loop-smaller
 loop-smaller c = omega (arith, (c.in_ok-pass.ensures.ok no_workspace).rises c.if-branch.true, c.in_ok-pass.ensures.small, c.loop.invariant.1)
 
 pub returns-clause-derived : goal.returns-clause-derived
-returns-clause-derived c = λ w. Steps-append (c.loop.invariant.0 w) (c.in_ok-pass.ensures.ok w).steps
+returns-clause-derived c = λ env. Steps-append (c.loop.invariant.0 env) (c.in_ok-pass.ensures.ok env).steps
 
 pub returns-clause-settled : goal.returns-clause-settled
 returns-clause-settled c =

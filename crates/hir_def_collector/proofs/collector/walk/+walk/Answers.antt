@@ -3,12 +3,13 @@ use Rattle.hir_item_tree.specs.KeptForest.{all_items}
 use Rattle.hir_item_tree.specs.Kinds.{kind_content}
 use Rattle.hir_item_tree.specs.Rows.{numbers_of, held_numbers}
 use Rattle.hir_def_map.specs.Parts.{part_of}
+use Rattle.hir_def_collector.specs.Keys.{environment}
 use Rattle.hir_def_collector.specs.TreeReads.{head_of, visits_at, above}
 use Rattle.hir_def_collector.proofs.Walked.{at_place, above_least, above_each, at_each, All-same_numbers, All-below, WalksTo-none, WalksTo-next, Walks-all, WalksTooFar-next, WalksTooFar-here, WalksTooFar-inside, Walks-first, Walks-dropped, visits_one, longer_after}
 use Rattle.hir_def_collector.proofs.collector.walk.+walk.Goals as goal
 
 pub walk_all-loop-id-init : goal.walk_all-loop-id-init
-walk_all-loop-id-init g t c = record { walked = WalksTo-none c.args.tree.now c.args.site (g.D.SourceDatabase.workspace c.args.db.now) (part_of c.args.world) c.args.ids.now c.args.run.now; in_range = c.requires.in_range }
+walk_all-loop-id-init g t c = record { walked = WalksTo-none c.args.tree.now c.args.site (environment c.args.locations.now (g.D.SourceDatabase.workspace c.args.db.now)) (part_of c.args.world) c.args.ids.now c.args.run.now; in_range = c.requires.in_range }
 
 pub walk_all-walk_item-requires : goal.walk_all-walk_item-requires
 walk_all-walk_item-requires g t c =
@@ -28,7 +29,7 @@ walk_all-loop-id-preserved g t c =
     let within : i < length ids = c.loop-id-test.true in
     let longer = longer_after c.loop-id.run c.walk_item.new.run _ c.in_ok-walk_item.ensures.ok in
     record {
-      walked = WalksTo-next c.args.tree.now c.args.site (g.D.SourceDatabase.workspace c.args.db.now) (part_of c.args.world) ids c.args.run.now c.loop-id.run c.walk_item.new.run i _ within (at_place ids i (record { 0 = 0 }) within) c.loop-id.invariant.walked c.in_ok-walk_item.ensures.ok;
+      walked = WalksTo-next c.args.tree.now c.args.site (environment c.args.locations.now (g.D.SourceDatabase.workspace c.args.db.now)) (part_of c.args.world) ids c.args.run.now c.loop-id.run c.walk_item.new.run i _ within (at_place ids i (record { 0 = 0 }) within) c.loop-id.invariant.walked c.in_ok-walk_item.ensures.ok;
       in_range = omega (arith, longer, c.loop-id.invariant.in_range);
     }
 
@@ -37,10 +38,10 @@ walk_all-returns-in_err-walk_item-clause-many g t c h =
     let ids = c.args.ids.now in
     let i = c.loop-id.id-index in
     let within : i < length ids = c.loop-id-test.true in
-    WalksTooFar-next c.args.tree.now c.args.site (g.D.SourceDatabase.workspace c.args.db.now) (part_of c.args.world) ids c.args.run.now c.loop-id.run i _ within (at_place ids i (record { 0 = 0 }) within) c.loop-id.invariant.walked (c.in_err-walk_item.ensures.many (search rules))
+    WalksTooFar-next c.args.tree.now c.args.site (environment c.args.locations.now (g.D.SourceDatabase.workspace c.args.db.now)) (part_of c.args.world) ids c.args.run.now c.loop-id.run i _ within (at_place ids i (record { 0 = 0 }) within) c.loop-id.invariant.walked (c.in_err-walk_item.ensures.many (search rules))
 
 pub walk_all-returns-clause-ok : goal.walk_all-returns-clause-ok
-walk_all-returns-clause-ok g t c = Walks-all c.args.tree.now c.args.site (g.D.SourceDatabase.workspace c.args.db.now) (part_of c.args.world) c.args.ids.now c.args.run.now c.loop-id.run c.loop-id.id-index c.loop-id-test.false c.loop-id.invariant.walked
+walk_all-returns-clause-ok g t c = Walks-all c.args.tree.now c.args.site (environment c.args.locations.now (g.D.SourceDatabase.workspace c.args.db.now)) (part_of c.args.world) c.args.ids.now c.args.run.now c.loop-id.run c.loop-id.id-index c.loop-id-test.false c.loop-id.invariant.walked
 
 pub walk_item-returns-in_err-tick-clause-many : goal.walk_item-returns-in_err-tick-clause-many
 walk_item-returns-in_err-tick-clause-many g t c h = WalksTooFar-here c.args.tree.now c.args.site c.args.id.0 c.args.run.now c.requires.there (inl (c.in_err-tick.ensures.many (search rules)))

@@ -9,7 +9,7 @@ use Rattle.hir_def_collector.proofs.Grows.{longer_by_block}
 use Rattle.hir_def_collector.proofs.collector.walk.enter.Goals as goal
 
 pub returns-clause-ok : goal.returns-clause-ok
-returns-clause-ok c = λ w finished items. record {
+returns-clause-ok c = λ env finished items. record {
   step = λ rest.
       made (enters_block c.args.site (head_of c.args.head) items rest) (record { next = refl; enabled = c.requires.enabled }) tt
       (rw (c.in_ok-tick.ensures.ok, c.in_ok-list_extern_block.ensures.ok, c.module_id.ensures.value) refl);

@@ -14,7 +14,7 @@ use Rattle.hir_def_collector.proofs.collector.walk.open.Goals as goal
 
 -- the run has the module, listed and bound
 pub returns-clause-ok : goal.returns-clause-ok
-returns-clause-ok c = λ w items.
+returns-clause-ok c = λ env items.
     let m : Map = c.args.run.now.map in
     let at : ℕ = c.args.site.home in
     let vis : Visibility = own_visibility (part_of c.args.world) c.args.run.now.local m c.args.site (head_of c.args.head) in
