@@ -13,9 +13,10 @@ use Rattle.hir_def_map.specs.declared.world.named.Named.{Named}
 use Rattle.hir_def_map.specs.declared.world.named.Named.TheVariants as named
 use Rattle.hir_def_map.specs.Among.{among, among-only}
 use Rattle.hir_def_map.specs.Beside.{exact_map}
-use Rattle.hir_def_map.specs.Complete.{BeginsOnly, Extends, NamesOnly}
-use Rattle.hir_def_map.specs.Named.{is_complete, is_missing, is_there, lies_in, map_named, names_map, names_some}
-use Rattle.hir_def_map.specs.State.{Local, Map, Maps, Placed, beside, module_at, placed_in, variants_at}
+use Rattle.hir_scope.specs.ModuleTree.{same_crate}
+use Rattle.hir_def_map.specs.Complete.{BeginsOnly, Extends, NamesOnly, is_held_outside}
+use Rattle.hir_def_map.specs.Named.{is_complete, is_holder_for, is_missing, is_there, lies_in, map_named, names_map, names_some}
+use Rattle.hir_def_map.specs.State.{Local, Map, Maps, Placed, beside, module_at, module_in, placed_in, variants_at}
 use Rattle.hir_def_map.proofs.Complete.{BeginsOnly-more, NamesOnly-more, complete}
 use Rattle.hir_def_map.proofs.Joined.{finds_some, nothing_missing, own_id, same_id, there_in}
 
@@ -96,3 +97,16 @@ module _ (crates : List Crate) (holders : List ModuleId) (finished : Maps) where
     pub names_among : (local : Local) → NamesOnly (beside (among crates holders finished) map) map → BeginsOnly (beside (among crates holders finished) map) local
         → (id : MapId) → names_map map local id ≡ true → is_some (among crates holders finished id) ≡ true
     names_among local names begins id e = names_finished (among crates holders finished) map local (complete (among crates holders finished) map local names begins) id e
+
+-- ---- what holds a block that has no map yet
+
+-- it lies in another map
+pub held_outside : (finished : Maps) (id : MapId) (o : Option ModuleId) → finished id ≡ None → is_holder_for finished id o ≡ true → is_held_outside id o ≡ true
+held_outside finished id None new e = refl
+held_outside finished id (Some h) new e = go (map_id.ghosts.eq h.map id) refl
+  where
+    go : (b : Bool) → map_id.ghosts.eq h.map id ≡ b → not b ≡ true
+    go true s =
+        let gone : finished h.map ≡ None = ap finished (exact_map h.map id s) ∙ new in
+        absurd (true≢false (sym (second_so (same_crate h.map.krate id.krate) (is_some (module_in finished h)) e) ∙ ap (λ (o : Option Placed). is_some (option_and_then (λ (p : Placed). module_at p.map h.index) o)) gone))
+    go false s = refl
