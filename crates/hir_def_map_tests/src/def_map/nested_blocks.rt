@@ -11,8 +11,10 @@ use hir_def_map::nameres::local_def_map::LocalDefMap;
 use hir_def_map::nameres::path_resolution::BuiltinShadowMode;
 use hir_def_map::nameres::{BlockInfo, DefMap};
 use hir_def_map::world::World;
+use hir_def_map::world::part::WorldPart;
 use hir_scope::per_ns::PerNs;
 use std::alloc::Global;
+use std::collections::BTreeSet;
 use std::process::Abort;
 use std::test::Fail;
 
@@ -327,4 +329,53 @@ fn nested_blocks(rt: HostRuntime) -> Result<(), Fail> {
     lead(&rt, rt.alloc(), &world, &local, &BELOW_A_MODULE)?;
     lead(&rt, rt.alloc(), &world, &local, &IN_THE_LOWEST)?;
     lead(&rt, rt.alloc(), &world, &local, &FROM_OUTSIDE)
+}
+
+/// Whether the lowest block may read a map.
+const READ_BY_THE_LOWEST: [(MapId, bool); 6] = [
+    (LIBRARY, true),
+    (KRATE, true),
+    (OUTER, true),
+    (BELOW, true),
+    (INNER, false),
+    (LOWEST, false),
+];
+
+/// Whether a map may be read beside the library's, where the block below may be, but not the outer one that holds it.
+const READ_WITHOUT_THE_OUTER: [(MapId, bool); 4] = [
+    (LIBRARY, true),
+    (KRATE, false),
+    (OUTER, false),
+    (BELOW, false),
+];
+
+/// Asserts which maps a part of a world has.
+fn reads(rt: &impl Abort, part: WorldPart<'_>, expected: &[(MapId, bool)]) {
+    for (id, there) in expected {
+        assert_eq!(rt; part.map(*id).is_some(), *there);
+    }
+}
+
+/// A block reads its crate, those on which that stands, and what holds it.
+#[test]
+fn parts_with_holders(rt: HostRuntime) -> Result<(), Fail> {
+    let world = world(&rt, rt.alloc())?;
+    let mut crates = BTreeSet::new(rt.alloc());
+    crates.insert(Crate(0))?;
+    let without = [at(BELOW, 0)];
+    reads(
+        &rt,
+        WorldPart::among(&world, &crates, &without),
+        &READ_WITHOUT_THE_OUTER,
+    );
+    crates.insert(Crate(1))?;
+    let holders = [at(BELOW, 0), at(OUTER, 1), at(KRATE, 1)];
+    let part = WorldPart::among(&world, &crates, &holders);
+    reads(&rt, part, &READ_BY_THE_LOWEST);
+    assert_eq!(rt; part.holder(BELOW), Some(at(OUTER, 1)));
+    assert_eq!(rt; part.holder(OUTER), Some(at(KRATE, 1)));
+    assert_eq!(rt; part.holder(KRATE), None);
+    let begun = extern_library(rt.alloc())?;
+    assert!(rt; part.local(KRATE) == Some(&begun));
+    Ok(())
 }
