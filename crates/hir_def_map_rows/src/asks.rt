@@ -6,6 +6,7 @@ use crate::words::{Fault, Setting};
 use hir_base::ids::ModuleId;
 use hir_base::mod_path::ModPath;
 use hir_def_map::{BuiltinShadowMode, MacroSubNs, ResolveMode, ResolvePathResult};
+use hir_scope::glob_imports::PerNsGlobImports;
 use hir_scope::visibility::Visibility;
 use std::alloc::Global;
 use std::fmt::Write;
@@ -237,4 +238,70 @@ pub fn dump_length(
     let page = page(alloc, stage, words)?;
     write!(out, " -> {}", page.len())?;
     Ok(())
+}
+
+/// What a name stands for in a module.
+pub fn entry(alloc: Global, stage: &Stage, words: &[&str], out: &mut String) -> Result<(), Fault> {
+    let [at, name] = words else {
+        return Err(Fault::Bad);
+    };
+    let asker = asker(stage, at)?;
+    let name = words::name(alloc, name)?;
+    write!(
+        out,
+        " ->{}",
+        ItemsText(asker.map.entry(asker.at.index, &name))
+    )?;
+    Ok(())
+}
+
+/// In which namespaces a glob brought what a name of the open map stands for.
+pub fn globs(
+    alloc: Global,
+    globs: &PerNsGlobImports,
+    words: &[&str],
+    out: &mut String,
+) -> Result<(), Fault> {
+    let [at, name] = words else {
+        return Err(Fault::Bad);
+    };
+    let place = (words::module_id(at)?, words::name(alloc, name)?);
+    let types = if globs.contains_type(&place) {
+        " type"
+    } else {
+        ""
+    };
+    let values = if globs.contains_value(&place) {
+        " value"
+    } else {
+        ""
+    };
+    let macros = if globs.contains_macro(&place) {
+        " macro"
+    } else {
+        ""
+    };
+    write!(out, " ->{types}{values}{macros}")?;
+    Ok(())
+}
+
+/// The modules that are asked about in turn, from one outwards.
+pub fn outwards(stage: &Stage, words: &[&str], out: &mut String) -> Result<(), Fault> {
+    let [at] = words else {
+        return Err(Fault::Bad);
+    };
+    let asker = asker(stage, at)?;
+    out.push_str(" ->")?;
+    let refused = asker
+        .map
+        .with_ancestor_maps(asker.world, asker.at, |_, module| {
+            match write!(out, " {}", ModuleText(module)) {
+                Ok(()) => None,
+                Err(_) => Some(Fault::Memory),
+            }
+        });
+    match refused {
+        Some(fault) => Err(fault),
+        None => Ok(()),
+    }
 }

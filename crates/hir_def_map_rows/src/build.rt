@@ -5,8 +5,8 @@ use crate::words::{Fault, find, module_id, node};
 use hir_base::ast_id::{AstId, AstKind, EditionedFileId, FileId, HirFileId, SyntaxId};
 use hir_base::edition::Edition;
 use hir_base::ids::{
-    AdtId, Crate, EnumId, EnumVariantId, FunctionId, ItemContainerId, ItemLoc, MapId, ModuleDefId,
-    ModuleId, StructId,
+    AdtId, Crate, EnumId, EnumVariantId, ExternCrateId, FunctionId, ItemContainerId, ItemLoc,
+    MapId, ModuleDefId, ModuleId, StructId, TraitId, UseId,
 };
 use hir_base::macro_kind::{MacroCallStyles, MacroExpander, MacroId, MacroLoc, MacroRulesId};
 use hir_base::name::Name;
@@ -16,6 +16,7 @@ use hir_def_map::{
 };
 use hir_item_tree::tree_id::TreeId;
 use hir_scope::glob_imports::PerNsGlobImports;
+use hir_scope::imports::{GlobId, ImportId, ImportOrExternCrate};
 use hir_scope::per_ns::PerNs;
 use hir_scope::visibility::Visibility;
 use std::alloc::Global;
@@ -122,7 +123,15 @@ fn makro(container: ModuleId, styles: MacroCallStyles, id: SyntaxId) -> MacroId 
     })
 }
 
-const STYLES: [(&str, MacroCallStyles); 3] = [
+/// The styles of a macro that is called as a function's and as an attribute's.
+const BOTH: MacroCallStyles = MacroCallStyles {
+    fn_like: true,
+    attr: true,
+    derive: false,
+};
+
+const STYLES: [(&str, MacroCallStyles); 4] = [
+    ("both", BOTH),
     ("bang", MacroCallStyles::FN_LIKE),
     ("attr", MacroCallStyles::ATTR),
     ("derive", MacroCallStyles::DERIVE),
@@ -151,6 +160,19 @@ fn choice(at: ModuleId, id: SyntaxId) -> EnumId {
     }
 }
 
+/// A definition in each of its namespaces.
+fn items(
+    at: ModuleId,
+    kind: &str,
+    of: &str,
+    vis: &str,
+    import: Option<ImportOrExternCrate>,
+) -> Result<PerNs, Fault> {
+    let def = definition(at, kind, of)?;
+    let vis = words::visibility(vis)?;
+    Ok(PerNs::from_def(def, vis, Some(vis), import))
+}
+
 fn definition(at: ModuleId, kind: &str, of: &str) -> Result<ModuleDefId, Fault> {
     match kind {
         "mod" => Ok(ModuleDefId::ModuleId(module_id(of)?)),
@@ -164,20 +186,16 @@ fn definition(at: ModuleId, kind: &str, of: &str) -> Result<ModuleDefId, Fault> 
     }
 }
 
-/// Binds a name to a definition in each of its namespaces.
+/// Binds items to a name, and says whether that changed anything.
 fn bind(
     open: &mut Open,
     at: ModuleId,
     name: Name,
-    def: ModuleDefId,
-    vis: Visibility,
-) -> Result<(), Fault> {
-    if !open.map.contains(at) {
-        return Err(Fault::Bad);
-    }
-    let items = PerNs::from_def(def, vis, Some(vis), None);
-    match open.map.push(&mut open.globs, at.index, name, items, None) {
-        Ok(_) => Ok(()),
+    items: PerNs,
+    by: Option<ImportOrExternCrate>,
+) -> Result<bool, Fault> {
+    match open.map.push(&mut open.globs, at.index, name, items, by) {
+        Ok(changed) => Ok(changed),
         Err(_) => Err(Fault::Memory),
     }
 }
@@ -187,9 +205,99 @@ pub fn push(alloc: Global, open: &mut Open, words: &[&str]) -> Result<(), Fault>
         return Err(Fault::Bad);
     };
     let at = module_id(at)?;
-    let def = definition(at, kind, of)?;
-    let vis = words::visibility(vis)?;
-    bind(open, at, words::name(alloc, name)?, def, vis)
+    let items = items(at, kind, of, vis, None)?;
+    bind(open, at, words::name(alloc, name)?, items, None)?;
+    Ok(())
+}
+
+/// What brings a name: an import, a glob or an `extern crate`, by its node.
+fn brought(at: ModuleId, word: &str) -> Result<ImportOrExternCrate, Fault> {
+    let Some((kind, of)) = word.split_once('=') else {
+        return Err(Fault::Bad);
+    };
+    let loc = location(at, node(of)?);
+    match kind {
+        "import" => Ok(ImportOrExternCrate::Import(ImportId {
+            use_: UseId { loc },
+            idx: 0,
+        })),
+        "glob" => Ok(ImportOrExternCrate::Glob(GlobId {
+            use_: UseId { loc },
+            idx: 0,
+        })),
+        "extern" => Ok(ImportOrExternCrate::ExternCrate(ExternCrateId { loc })),
+        _ => Err(Fault::Bad),
+    }
+}
+
+/// What the word of a number among these says that brings a name, if there is such a word.
+fn brought_by(
+    at: ModuleId,
+    words: &[&str],
+    number: usize,
+) -> Result<Option<ImportOrExternCrate>, Fault> {
+    match words.get(number) {
+        Some(word) => Ok(Some(brought(at, word)?)),
+        None => Ok(None),
+    }
+}
+
+/// Binds items to a name as an import does, and says whether that changed anything.
+pub fn update(alloc: Global, open: &mut Open, words: &[&str]) -> Result<bool, Fault> {
+    match words {
+        [at, name, "nothing"] => {
+            let name = words::name(alloc, name)?;
+            bind(open, module_id(at)?, name, PerNs::none(), None)
+        }
+        [at, name, kind, of, vis, by @ ..] => {
+            let at = module_id(at)?;
+            let items = items(at, kind, of, vis, brought_by(at, by, 1)?)?;
+            let by = brought_by(at, by, 0)?;
+            bind(open, at, words::name(alloc, name)?, items, by)
+        }
+        _ => Err(Fault::Bad),
+    }
+}
+
+/// Gives a module a macro in textual scope.
+pub fn textual(alloc: Global, open: &mut Open, words: &[&str]) -> Result<(), Fault> {
+    let [at, name, style, id] = words else {
+        return Err(Fault::Bad);
+    };
+    let at = module_id(at)?;
+    let makro = makro(at, find(&STYLES, style)?, node(id)?);
+    let name = words::name(alloc, name)?;
+    if !open.map.contains(at) {
+        return Err(Fault::Bad);
+    }
+    open.map[at].scope_mut().define_legacy_macro(name, makro)?;
+    Ok(())
+}
+
+fn import_in(brought: Option<ImportOrExternCrate>) -> Option<ImportId> {
+    match brought {
+        Some(ImportOrExternCrate::Import(import)) => Some(import),
+        _ => None,
+    }
+}
+
+/// Gives a module a trait without a name.
+pub fn unnamed_trait(open: &mut Open, words: &[&str]) -> Result<(), Fault> {
+    let [at, id, by @ ..] = words else {
+        return Err(Fault::Bad);
+    };
+    let at = module_id(at)?;
+    let id = TraitId {
+        loc: location(at, node(id)?),
+    };
+    let import = import_in(brought_by(at, by, 0)?);
+    if !open.map.contains(at) {
+        return Err(Fault::Bad);
+    }
+    open.map[at]
+        .scope_mut()
+        .push_unnamed_trait(id, Visibility::Public, import)?;
+    Ok(())
 }
 
 /// Adds a module that is written in its parent.
@@ -228,13 +336,8 @@ fn name_module(
 ) -> Result<ModuleId, Fault> {
     let id = add_module(alloc, &mut open.map, parent, words::name(alloc, word)?)?;
     let name = words::name(alloc, word)?;
-    bind(
-        open,
-        parent,
-        name,
-        ModuleDefId::ModuleId(id),
-        Visibility::Public,
-    )?;
+    let items = PerNs::types(ModuleDefId::ModuleId(id), Visibility::Public, None);
+    bind(open, parent, name, items, None)?;
     Ok(id)
 }
 

@@ -18,6 +18,9 @@ enum Command {
     Module,
     Nest,
     Push,
+    Update,
+    Textual,
+    Trait,
     Variants,
     MacroUse,
     Prelude,
@@ -33,16 +36,22 @@ enum Command {
     Lesser,
     Sees,
     Around,
+    Outwards,
+    Entry,
+    Globs,
     Dump,
     DumpLength,
 }
 
-const COMMANDS: [(&str, Command); 27] = [
+const COMMANDS: [(&str, Command); 33] = [
     ("crate", Command::Crate),
     ("block", Command::Block),
     ("mod", Command::Module),
     ("nest", Command::Nest),
     ("push", Command::Push),
+    ("update", Command::Update),
+    ("textual", Command::Textual),
+    ("trait", Command::Trait),
     ("variants", Command::Variants),
     ("macro_use", Command::MacroUse),
     ("prelude", Command::Prelude),
@@ -63,6 +72,9 @@ const COMMANDS: [(&str, Command); 27] = [
     ("lesser", Command::Lesser),
     ("sees", Command::Sees),
     ("around", Command::Around),
+    ("outwards", Command::Outwards),
+    ("entry", Command::Entry),
+    ("globs", Command::Globs),
     ("dump", Command::Dump),
     ("dump_length", Command::DumpLength),
 ];
@@ -73,12 +85,24 @@ fn fill(alloc: Global, open: &mut Open, command: Command, words: &[&str]) -> Res
         Command::Module => build::module(alloc, open, words),
         Command::Nest => build::nest(alloc, open, words),
         Command::Push => build::push(alloc, open, words),
+        Command::Textual => build::textual(alloc, open, words),
+        Command::Trait => build::unnamed_trait(open, words),
         Command::Variants => build::variants(alloc, open, words),
         Command::MacroUse => build::macro_use(alloc, open, words),
         Command::Prelude => build::prelude(open, words),
         Command::Extern => build::extern_crate(alloc, open, words),
         _ => Err(Fault::Bad),
     }
+}
+
+fn update(alloc: Global, open: &mut Open, words: &[&str], out: &mut String) -> Result<(), Fault> {
+    let changed = build::update(alloc, open, words)?;
+    out.push_str(if changed {
+        " -> changed"
+    } else {
+        " -> unchanged"
+    })?;
+    Ok(())
 }
 
 /// Adds the open map to the world; one that is refused stays open.
@@ -208,6 +232,10 @@ fn change(
         Command::Remove => remove(&mut stage.world, words),
         Command::Crates => add_crates(alloc, &mut stage.world, count(words)?),
         Command::Chain => add_chain(alloc, &mut stage.world, count(words)?),
+        Command::Update => match &mut stage.open {
+            Some(open) => update(alloc, open, words, out),
+            None => Err(Fault::Bad),
+        },
         _ => match &mut stage.open {
             Some(open) => fill(alloc, open, command, words),
             None => Err(Fault::Bad),
@@ -229,6 +257,12 @@ fn ask(
         Command::Lesser => asks::lesser(stage, words, out),
         Command::Sees => asks::sees(stage, words, out),
         Command::Around => asks::around(stage, words, out),
+        Command::Outwards => asks::outwards(stage, words, out),
+        Command::Entry => asks::entry(alloc, stage, words, out),
+        Command::Globs => match &stage.open {
+            Some(open) => asks::globs(alloc, &open.globs, words, out),
+            None => Err(Fault::Bad),
+        },
         Command::Dump => asks::dump(alloc, stage, words, out),
         Command::DumpLength => asks::dump_length(alloc, stage, words, out),
         Command::Maps => maps(&stage.world, words, out),
@@ -249,6 +283,9 @@ fn asks(command: Command) -> bool {
             | Command::Lesser
             | Command::Sees
             | Command::Around
+            | Command::Outwards
+            | Command::Entry
+            | Command::Globs
             | Command::Dump
             | Command::DumpLength
             | Command::Maps

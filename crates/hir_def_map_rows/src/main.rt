@@ -11,6 +11,9 @@
 //! - `nest 255 d` adds so many modules of a name, the first below the root, and each in the one before.
 //! - `push 1:2 S struct 5 pub` binds a name there: a `struct`, `fn`, `enum` or a macro for `bang`, `attr` or `derive` of
 //!   node 5, or a `mod` of an id.
+//! - `update 1:2 S struct 5 pub glob=6 import=7` binds it as glob 6 does, items that import 7 brought, and says whether that
+//!   changed anything; `update 1:2 S nothing` binds nothing. `textual 1:2 m bang 5` gives the module a macro in
+//!   textual scope, and `trait 1:2 5 import=6` a trait without a name.
 //! - `variants 1:2 5 A tuple 6` says that the enum of node 5 there has the variant `A` of node 6.
 //! - `macro_use used bang 0:0 6`, `prelude 0:1` and `extern zero 0:0` fill the preludes of the open map.
 //! - `insert` adds the open map to the world, or leaves it open; `remove 1` removes a map and its dependents.
@@ -25,7 +28,8 @@
 //! - `reached` is what an import leads to, `prefix` what a path leads through, and `local` asks without holders.
 //! - `visibility 1:2 pub(self)` is what a visibility means that is written there, `lesser 1:0 in=1:2 pub` the lesser
 //!   of two in a map, and `sees 1:2 in=1:0` whether the module may see.
-//! - `around 1:2` is the module around another; `dump 1:0` prints a map, and `dump_length` how long that is.
+//! - `entry 1:2 S` is what a name stands for there, and `globs 1:2 S` in which namespaces a glob brought that.
+//! - `around 1:2` is the module around another, `outwards 1.7:0` it and those that hold it; `dump 1:0` prints a map, and `dump_length` how long that is.
 //!
 //! In a path `super*3` is `super::super::super`, and `""` is the empty path. A visibility is `pub`, `crate=1`, `in=1:2`
 //! (of that module, without a word) or `pub-in=1:2`.

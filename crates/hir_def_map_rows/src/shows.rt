@@ -4,6 +4,7 @@ use hir_base::ids::{AdtId, Crate, EnumVariantId, Lookup, MapId, ModuleDefId, Mod
 use hir_base::macro_kind::{MacroId, macro_styles_from_id};
 use hir_def_map::{ReachedFixedPoint, ResolvePathResult, ResolvePathResultPrefixInfo};
 use hir_item_tree::raw_visibility::VisibilityExplicitness;
+use hir_scope::imports::{ImportOrExternCrate, ImportOrGlob};
 use hir_scope::per_ns::PerNs;
 use hir_scope::visibility::Visibility;
 use std::fmt;
@@ -67,7 +68,9 @@ impl Display for VariantText {
 
 fn macro_kind(id: MacroId) -> &'static str {
     let styles = macro_styles_from_id(id);
-    if styles.fn_like {
+    if styles.fn_like && styles.attr {
+        "both"
+    } else if styles.fn_like {
         "bang"
     } else if styles.attr {
         "attr"
@@ -120,20 +123,39 @@ impl Display for VisibilityText {
     }
 }
 
-/// What a name stands for in one namespace, and whether an import brought it.
+/// What brought a name, by its node.
 #[derive(Clone, Copy)]
-struct ItemText(&'static str, ModuleDefId, Visibility, bool);
+struct By(&'static str, SyntaxId);
+
+fn brought(import: Option<ImportOrExternCrate>) -> Option<By> {
+    match import {
+        Some(ImportOrExternCrate::Import(id)) => Some(By("import", id.use_.loc.id)),
+        Some(ImportOrExternCrate::Glob(id)) => Some(By("glob", id.use_.loc.id)),
+        Some(ImportOrExternCrate::ExternCrate(id)) => Some(By("extern", id.loc.id)),
+        None => None,
+    }
+}
+
+fn value_brought(import: Option<ImportOrGlob>) -> Option<By> {
+    match import {
+        Some(ImportOrGlob::Import(id)) => Some(By("import", id.use_.loc.id)),
+        Some(ImportOrGlob::Glob(id)) => Some(By("glob", id.use_.loc.id)),
+        None => None,
+    }
+}
+
+/// What a name stands for in one namespace, and what brought it.
+#[derive(Clone, Copy)]
+struct ItemText(&'static str, ModuleDefId, Visibility, Option<By>);
 
 impl Display for ItemText {
     fn fmt<W: Write>(&self, f: &mut Formatter<W>) -> fmt::Result {
-        let imported = if self.3 { " imported" } else { "" };
-        write!(
-            f,
-            " {} {} {}{imported}",
-            self.0,
-            DefText(self.1),
-            VisibilityText(self.2)
-        )
+        let vis = VisibilityText(self.2);
+        write!(f, " {} {} {vis}", self.0, DefText(self.1))?;
+        match self.3 {
+            Some(By(kind, id)) => write!(f, " {kind}={}", id.hash),
+            None => Ok(()),
+        }
     }
 }
 
@@ -152,27 +174,20 @@ impl Display for ItemsText {
             return f.write_str(" nothing");
         }
         if let Some(item) = types {
-            let imported = item.import.is_some();
-            write!(f, "{}", ItemText("type", item.def, item.vis, imported))?;
+            let by = brought(item.import);
+            write!(f, "{}", ItemText("type", item.def, item.vis, by))?;
         }
         if let Some(item) = values {
             let comma = if types.is_some() { "," } else { "" };
-            let imported = item.import.is_some();
-            write!(
-                f,
-                "{comma}{}",
-                ItemText("value", item.def, item.vis, imported)
-            )?;
+            let by = value_brought(item.import);
+            write!(f, "{comma}{}", ItemText("value", item.def, item.vis, by))?;
         }
         if let Some(item) = macros {
-            let comma = if types.is_some() || values.is_some() {
-                ","
-            } else {
-                ""
-            };
+            let is_first = types.is_none() && values.is_none();
+            let comma = if is_first { "" } else { "," };
             let def = ModuleDefId::MacroId(item.def);
-            let imported = item.import.is_some();
-            write!(f, "{comma}{}", ItemText("macro", def, item.vis, imported))?;
+            let by = brought(item.import);
+            write!(f, "{comma}{}", ItemText("macro", def, item.vis, by))?;
         }
         Ok(())
     }
