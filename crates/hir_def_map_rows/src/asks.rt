@@ -135,7 +135,7 @@ impl Asker<'_> {
     }
 }
 
-fn asker<'a>(stage: &'a Stage, word: &str) -> Result<Asker<'a>, Fault> {
+fn asker_at<'a>(stage: &'a Stage, word: &str) -> Result<Asker<'a>, Fault> {
     match stage.asker(words::module_id(word)?) {
         Some(asker) => Ok(asker),
         None => Err(Fault::Bad),
@@ -152,9 +152,9 @@ pub fn of_path(
     let [at, path, settings @ ..] = words else {
         return Err(Fault::Bad);
     };
-    let asker = asker(stage, at)?;
-    let setting = words::setting(settings)?;
-    let path = words::path(alloc, path)?;
+    let asker = asker_at(stage, at)?;
+    let setting = words::setting_of(settings)?;
+    let path = words::path_of(alloc, path)?;
     asker.answer(asked, &path, setting, out)
 }
 
@@ -167,12 +167,12 @@ fn write_visibility(vis: Option<Visibility>, out: &mut String) -> Result<(), Fau
 }
 
 /// What a visibility means that is written in a module.
-pub fn visibility(stage: &Stage, words: &[&str], out: &mut String) -> Result<(), Fault> {
+pub fn meaning(stage: &Stage, words: &[&str], out: &mut String) -> Result<(), Fault> {
     let [at, raw] = words else {
         return Err(Fault::Bad);
     };
-    let asker = asker(stage, at)?;
-    let raw = words::raw_visibility(raw)?;
+    let asker = asker_at(stage, at)?;
+    let raw = words::written_visibility(raw)?;
     let vis = asker
         .map
         .resolve_visibility(asker.local, asker.world, asker.at, &raw, false);
@@ -183,8 +183,8 @@ pub fn lesser(stage: &Stage, words: &[&str], out: &mut String) -> Result<(), Fau
     let [at, one, other] = words else {
         return Err(Fault::Bad);
     };
-    let asker = asker(stage, at)?;
-    let (one, other) = (words::visibility(one)?, words::visibility(other)?);
+    let asker = asker_at(stage, at)?;
+    let (one, other) = (words::visibility_of(one)?, words::visibility_of(other)?);
     write_visibility(asker.map.lesser(asker.world, one, other), out)
 }
 
@@ -192,10 +192,10 @@ pub fn sees(stage: &Stage, words: &[&str], out: &mut String) -> Result<(), Fault
     let [at, vis] = words else {
         return Err(Fault::Bad);
     };
-    let asker = asker(stage, at)?;
+    let asker = asker_at(stage, at)?;
     let sees = asker
         .map
-        .is_visible(asker.world, words::visibility(vis)?, asker.at);
+        .is_visible(asker.world, words::visibility_of(vis)?, asker.at);
     out.push_str(if sees { " -> yes" } else { " -> no" })?;
     Ok(())
 }
@@ -205,7 +205,7 @@ pub fn around(stage: &Stage, words: &[&str], out: &mut String) -> Result<(), Fau
     let [at] = words else {
         return Err(Fault::Bad);
     };
-    let asker = asker(stage, at)?;
+    let asker = asker_at(stage, at)?;
     match asker.map.containing_module(asker.at) {
         Some(module) => write!(out, " -> {}", ModuleText(module))?,
         None => out.push_str(" -> none")?,
@@ -218,7 +218,7 @@ fn page(alloc: Global, stage: &Stage, words: &[&str]) -> Result<String, Fault> {
     let [at] = words else {
         return Err(Fault::Bad);
     };
-    let asker = asker(stage, at)?;
+    let asker = asker_at(stage, at)?;
     Ok(asker.map.dump(alloc, asker.world)?)
 }
 
@@ -245,8 +245,8 @@ pub fn entry(alloc: Global, stage: &Stage, words: &[&str], out: &mut String) -> 
     let [at, name] = words else {
         return Err(Fault::Bad);
     };
-    let asker = asker(stage, at)?;
-    let name = words::name(alloc, name)?;
+    let asker = asker_at(stage, at)?;
+    let name = words::name_of(alloc, name)?;
     write!(
         out,
         " ->{}",
@@ -265,7 +265,7 @@ pub fn globs(
     let [at, name] = words else {
         return Err(Fault::Bad);
     };
-    let place = (words::module_id(at)?, words::name(alloc, name)?);
+    let place = (words::module_id(at)?, words::name_of(alloc, name)?);
     let types = if globs.contains_type(&place) {
         " type"
     } else {
@@ -290,7 +290,7 @@ pub fn outwards(stage: &Stage, words: &[&str], out: &mut String) -> Result<(), F
     let [at] = words else {
         return Err(Fault::Bad);
     };
-    let asker = asker(stage, at)?;
+    let asker = asker_at(stage, at)?;
     out.push_str(" ->")?;
     let refused = asker
         .map

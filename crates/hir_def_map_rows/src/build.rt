@@ -1,7 +1,7 @@
 //! How the open map is begun and filled.
-use crate::stage::Open;
+use crate::stage::Draft;
 use crate::words;
-use crate::words::{Fault, find, module_id, node};
+use crate::words::{Fault, find, module_id, node_of};
 use hir_base::ast_id::{AstId, AstKind, EditionedFileId, FileId, HirFileId, SyntaxId};
 use hir_base::edition::Edition;
 use hir_base::ids::{
@@ -31,7 +31,7 @@ const FILE: EditionedFileId = EditionedFileId {
 
 fn add_crates(crates: &mut BTreeSet<Crate>, words: &[&str]) -> Result<(), Fault> {
     for word in words {
-        let krate = Crate(words::number(word)?);
+        let krate = Crate(words::number_of(word)?);
         if crates.insert(krate).is_err() {
             return Err(Fault::Memory);
         }
@@ -51,7 +51,7 @@ pub fn data_over(
     }
 }
 
-fn data(alloc: Global, edition: Edition, words: &[&str]) -> Result<DefMapCrateData, Fault> {
+fn data_of(alloc: Global, edition: Edition, words: &[&str]) -> Result<DefMapCrateData, Fault> {
     let mut crates = BTreeSet::new(alloc);
     add_crates(&mut crates, words)?;
     data_over(alloc, edition, crates)
@@ -61,13 +61,13 @@ fn data(alloc: Global, edition: Edition, words: &[&str]) -> Result<DefMapCrateDa
 pub fn begin(
     alloc: Global,
     krate: Crate,
-    data: DefMapCrateData,
+    top: DefMapCrateData,
     block: Option<BlockInfo>,
-) -> Result<Open, Fault> {
+) -> Result<Draft, Fault> {
     let origin = ModuleOrigin::CrateRoot { definition: FILE };
     let root = ModuleData::new(alloc, origin, Visibility::Public, None);
-    match DefMap::empty(alloc, krate, data, root, block) {
-        Ok(map) => Ok(Open {
+    match DefMap::empty(alloc, krate, top, root, block) {
+        Ok(map) => Ok(Draft {
             map,
             local: LocalDefMap::empty(alloc),
             globs: PerNsGlobImports::new(alloc),
@@ -76,16 +76,16 @@ pub fn begin(
     }
 }
 
-pub fn begin_crate(alloc: Global, words: &[&str]) -> Result<Open, Fault> {
+pub fn begin_crate(alloc: Global, words: &[&str]) -> Result<Draft, Fault> {
     let [krate, edition, crates @ ..] = words else {
         return Err(Fault::Bad);
     };
-    let krate = Crate(words::number(krate)?);
-    let data = data(alloc, words::edition(edition)?, crates)?;
-    begin(alloc, krate, data, None)
+    let krate = Crate(words::number_of(krate)?);
+    let top = data_of(alloc, words::edition_of(edition)?, crates)?;
+    begin(alloc, krate, top, None)
 }
 
-pub fn begin_block(alloc: Global, words: &[&str]) -> Result<Open, Fault> {
+pub fn begin_block(alloc: Global, words: &[&str]) -> Result<Draft, Fault> {
     let [id, holder, crates @ ..] = words else {
         return Err(Fault::Bad);
     };
@@ -97,8 +97,8 @@ pub fn begin_block(alloc: Global, words: &[&str]) -> Result<Open, Fault> {
         return Err(Fault::Bad);
     };
     let parent = module_id(holder)?;
-    let data = data(alloc, Edition::Edition2021, crates)?;
-    begin(alloc, krate, data, Some(BlockInfo { block, parent }))
+    let top = data_of(alloc, Edition::Edition2021, crates)?;
+    begin(alloc, krate, top, Some(BlockInfo { block, parent }))
 }
 
 fn location(container: ModuleId, id: SyntaxId) -> ItemLoc<ModuleId> {
@@ -169,44 +169,44 @@ fn items(
     import: Option<ImportOrExternCrate>,
 ) -> Result<PerNs, Fault> {
     let def = definition(at, kind, of)?;
-    let vis = words::visibility(vis)?;
+    let vis = words::visibility_of(vis)?;
     Ok(PerNs::from_def(def, vis, Some(vis), import))
 }
 
 fn definition(at: ModuleId, kind: &str, of: &str) -> Result<ModuleDefId, Fault> {
     match kind {
         "mod" => Ok(ModuleDefId::ModuleId(module_id(of)?)),
-        "struct" => Ok(structure(at, node(of)?)),
-        "fn" => Ok(function(at, node(of)?)),
-        "enum" => Ok(ModuleDefId::AdtId(AdtId::EnumId(choice(at, node(of)?)))),
+        "struct" => Ok(structure(at, node_of(of)?)),
+        "fn" => Ok(function(at, node_of(of)?)),
+        "enum" => Ok(ModuleDefId::AdtId(AdtId::EnumId(choice(at, node_of(of)?)))),
         _ => {
             let styles = find(&STYLES, kind)?;
-            Ok(ModuleDefId::MacroId(makro(at, styles, node(of)?)))
+            Ok(ModuleDefId::MacroId(makro(at, styles, node_of(of)?)))
         }
     }
 }
 
 /// Binds items to a name, and says whether that changed anything.
 fn bind(
-    open: &mut Open,
+    draft: &mut Draft,
     at: ModuleId,
     name: Name,
     items: PerNs,
     by: Option<ImportOrExternCrate>,
 ) -> Result<bool, Fault> {
-    match open.map.push(&mut open.globs, at.index, name, items, by) {
+    match draft.map.push(&mut draft.globs, at.index, name, items, by) {
         Ok(changed) => Ok(changed),
         Err(_) => Err(Fault::Memory),
     }
 }
 
-pub fn push(alloc: Global, open: &mut Open, words: &[&str]) -> Result<(), Fault> {
+pub fn push(alloc: Global, draft: &mut Draft, words: &[&str]) -> Result<(), Fault> {
     let [at, name, kind, of, vis] = words else {
         return Err(Fault::Bad);
     };
     let at = module_id(at)?;
     let items = items(at, kind, of, vis, None)?;
-    bind(open, at, words::name(alloc, name)?, items, None)?;
+    bind(draft, at, words::name_of(alloc, name)?, items, None)?;
     Ok(())
 }
 
@@ -215,7 +215,7 @@ fn brought(at: ModuleId, word: &str) -> Result<ImportOrExternCrate, Fault> {
     let Some((kind, of)) = word.split_once('=') else {
         return Err(Fault::Bad);
     };
-    let loc = location(at, node(of)?);
+    let loc = location(at, node_of(of)?);
     match kind {
         "import" => Ok(ImportOrExternCrate::Import(ImportId {
             use_: UseId { loc },
@@ -243,34 +243,34 @@ fn brought_by(
 }
 
 /// Binds items to a name as an import does, and says whether that changed anything.
-pub fn update(alloc: Global, open: &mut Open, words: &[&str]) -> Result<bool, Fault> {
+pub fn update(alloc: Global, draft: &mut Draft, words: &[&str]) -> Result<bool, Fault> {
     match words {
         [at, name, "nothing"] => {
-            let name = words::name(alloc, name)?;
-            bind(open, module_id(at)?, name, PerNs::none(), None)
+            let name = words::name_of(alloc, name)?;
+            bind(draft, module_id(at)?, name, PerNs::none(), None)
         }
         [at, name, kind, of, vis, by @ ..] => {
             let at = module_id(at)?;
             let items = items(at, kind, of, vis, brought_by(at, by, 1)?)?;
             let by = brought_by(at, by, 0)?;
-            bind(open, at, words::name(alloc, name)?, items, by)
+            bind(draft, at, words::name_of(alloc, name)?, items, by)
         }
         _ => Err(Fault::Bad),
     }
 }
 
 /// Gives a module a macro in textual scope.
-pub fn textual(alloc: Global, open: &mut Open, words: &[&str]) -> Result<(), Fault> {
+pub fn textual(alloc: Global, draft: &mut Draft, words: &[&str]) -> Result<(), Fault> {
     let [at, name, style, id] = words else {
         return Err(Fault::Bad);
     };
     let at = module_id(at)?;
-    let makro = makro(at, find(&STYLES, style)?, node(id)?);
-    let name = words::name(alloc, name)?;
-    if !open.map.contains(at) {
+    let makro = makro(at, find(&STYLES, style)?, node_of(id)?);
+    let name = words::name_of(alloc, name)?;
+    if !draft.map.contains(at) {
         return Err(Fault::Bad);
     }
-    open.map[at].scope_mut().define_legacy_macro(name, makro)?;
+    draft.map[at].scope_mut().define_legacy_macro(name, makro)?;
     Ok(())
 }
 
@@ -282,19 +282,19 @@ fn import_in(brought: Option<ImportOrExternCrate>) -> Option<ImportId> {
 }
 
 /// Gives a module a trait without a name.
-pub fn unnamed_trait(open: &mut Open, words: &[&str]) -> Result<(), Fault> {
+pub fn unnamed_trait(draft: &mut Draft, words: &[&str]) -> Result<(), Fault> {
     let [at, id, by @ ..] = words else {
         return Err(Fault::Bad);
     };
     let at = module_id(at)?;
     let id = TraitId {
-        loc: location(at, node(id)?),
+        loc: location(at, node_of(id)?),
     };
     let import = import_in(brought_by(at, by, 0)?);
-    if !open.map.contains(at) {
+    if !draft.map.contains(at) {
         return Err(Fault::Bad);
     }
-    open.map[at]
+    draft.map[at]
         .scope_mut()
         .push_unnamed_trait(id, Visibility::Public, import)?;
     Ok(())
@@ -319,8 +319,8 @@ fn add_module(
             id: SyntaxId { hash: 1, index: 0 },
         },
     };
-    let data = ModuleData::new(alloc, origin, Visibility::Public, Some(parent));
-    match map.add_module(parent.index, name, data) {
+    let child = ModuleData::new(alloc, origin, Visibility::Public, Some(parent));
+    match map.add_module(parent.index, name, child) {
         Ok(id) => Ok(id),
         Err(AddModuleError::TooMany) => Err(Fault::Bad),
         Err(AddModuleError::Memory) => Err(Fault::Memory),
@@ -330,39 +330,38 @@ fn add_module(
 /// Adds a module, and binds its name to it.
 fn name_module(
     alloc: Global,
-    open: &mut Open,
+    draft: &mut Draft,
     parent: ModuleId,
     word: &str,
 ) -> Result<ModuleId, Fault> {
-    let id = add_module(alloc, &mut open.map, parent, words::name(alloc, word)?)?;
-    let name = words::name(alloc, word)?;
+    let id = add_module(alloc, &mut draft.map, parent, words::name_of(alloc, word)?)?;
+    let name = words::name_of(alloc, word)?;
     let items = PerNs::types(ModuleDefId::ModuleId(id), Visibility::Public, None);
-    bind(open, parent, name, items, None)?;
+    bind(draft, parent, name, items, None)?;
     Ok(id)
 }
 
-pub fn module(alloc: Global, open: &mut Open, words: &[&str]) -> Result<(), Fault> {
+pub fn module(alloc: Global, draft: &mut Draft, words: &[&str]) -> Result<(), Fault> {
     let [parent, word] = words else {
         return Err(Fault::Bad);
     };
-    name_module(alloc, open, module_id(parent)?, word)?;
+    name_module(alloc, draft, module_id(parent)?, word)?;
     Ok(())
 }
 
 /// Adds modules of one name, the first below the root, and each in the one before.
-pub fn nest(alloc: Global, open: &mut Open, words: &[&str]) -> Result<(), Fault> {
+pub fn nest(alloc: Global, draft: &mut Draft, words: &[&str]) -> Result<(), Fault> {
     let [count, word] = words else {
         return Err(Fault::Bad);
     };
-    let mut parent = open.map.root();
-    for _ in 0..words::number(count)? {
-        parent = name_module(alloc, open, parent, word)?;
+    let mut parent = draft.map.root();
+    for _ in 0..words::number_of(count)? {
+        parent = name_module(alloc, draft, parent, word)?;
     }
     Ok(())
 }
 
 fn add_variant(
-    alloc: Global,
     variants: &mut EnumVariants,
     parent: EnumId,
     name: Name,
@@ -372,9 +371,9 @@ fn add_variant(
     let variant = EnumVariant {
         id: EnumVariantId {
             parent,
-            id: node(id)?,
+            id: node_of(id)?,
         },
-        shape: words::shape(shape)?,
+        shape: words::shape_of(shape)?,
     };
     variants.insert(name, variant)?;
     Ok(())
@@ -390,51 +389,48 @@ fn add_variants(
         let [name, shape, id] = row else {
             return Err(Fault::Bad);
         };
-        add_variant(
-            alloc,
-            variants,
-            parent,
-            words::name(alloc, name)?,
-            (shape, id),
-        )?;
+        add_variant(variants, parent, words::name_of(alloc, name)?, (shape, id))?;
     }
     Ok(())
 }
 
-pub fn variants(alloc: Global, open: &mut Open, words: &[&str]) -> Result<(), Fault> {
+pub fn variants(alloc: Global, draft: &mut Draft, words: &[&str]) -> Result<(), Fault> {
     let [at, id, rows @ ..] = words else {
         return Err(Fault::Bad);
     };
-    let id = choice(module_id(at)?, node(id)?);
+    let id = choice(module_id(at)?, node_of(id)?);
     let mut variants = EnumVariants::new(alloc);
     add_variants(alloc, &mut variants, id, rows)?;
-    open.map.add_enum(id, variants)?;
+    draft.map.add_enum(id, variants)?;
     Ok(())
 }
 
-pub fn macro_use(alloc: Global, open: &mut Open, words: &[&str]) -> Result<(), Fault> {
+pub fn macro_use(alloc: Global, draft: &mut Draft, words: &[&str]) -> Result<(), Fault> {
     let [name, style, at, id] = words else {
         return Err(Fault::Bad);
     };
-    let makro = makro(module_id(at)?, find(&STYLES, style)?, node(id)?);
-    open.map
-        .add_macro_use(words::name(alloc, name)?, makro, None)?;
+    let makro = makro(module_id(at)?, find(&STYLES, style)?, node_of(id)?);
+    draft
+        .map
+        .add_macro_use(words::name_of(alloc, name)?, makro, None)?;
     Ok(())
 }
 
-pub fn prelude(open: &mut Open, words: &[&str]) -> Result<(), Fault> {
+pub fn prelude(draft: &mut Draft, words: &[&str]) -> Result<(), Fault> {
     let [at] = words else {
         return Err(Fault::Bad);
     };
-    open.map.set_prelude(Some((module_id(at)?, None)));
+    draft.map.set_prelude(Some((module_id(at)?, None)));
     Ok(())
 }
 
-pub fn extern_crate(alloc: Global, open: &mut Open, words: &[&str]) -> Result<(), Fault> {
+pub fn extern_crate(alloc: Global, draft: &mut Draft, words: &[&str]) -> Result<(), Fault> {
     let [name, at] = words else {
         return Err(Fault::Bad);
     };
     let at = module_id(at)?;
-    open.local.add_extern(words::name(alloc, name)?, at, None)?;
+    draft
+        .local
+        .add_extern(words::name_of(alloc, name)?, at, None)?;
     Ok(())
 }

@@ -1,7 +1,7 @@
 //! Lines, and what they do.
 use crate::asks::OfPath;
 use crate::shows::MapText;
-use crate::stage::{Open, Stage};
+use crate::stage::{Draft, Stage};
 use crate::words::{Fault, find};
 use crate::{asks, build, words};
 use hir_base::edition::Edition;
@@ -80,23 +80,23 @@ const COMMANDS: [(&str, Command); 33] = [
 ];
 
 /// What begins or fills the open map; other commands are no concern of this.
-fn fill(alloc: Global, open: &mut Open, command: Command, words: &[&str]) -> Result<(), Fault> {
+fn fill(alloc: Global, draft: &mut Draft, command: Command, words: &[&str]) -> Result<(), Fault> {
     match command {
-        Command::Module => build::module(alloc, open, words),
-        Command::Nest => build::nest(alloc, open, words),
-        Command::Push => build::push(alloc, open, words),
-        Command::Textual => build::textual(alloc, open, words),
-        Command::Trait => build::unnamed_trait(open, words),
-        Command::Variants => build::variants(alloc, open, words),
-        Command::MacroUse => build::macro_use(alloc, open, words),
-        Command::Prelude => build::prelude(open, words),
-        Command::Extern => build::extern_crate(alloc, open, words),
+        Command::Module => build::module(alloc, draft, words),
+        Command::Nest => build::nest(alloc, draft, words),
+        Command::Push => build::push(alloc, draft, words),
+        Command::Textual => build::textual(alloc, draft, words),
+        Command::Trait => build::unnamed_trait(draft, words),
+        Command::Variants => build::variants(alloc, draft, words),
+        Command::MacroUse => build::macro_use(alloc, draft, words),
+        Command::Prelude => build::prelude(draft, words),
+        Command::Extern => build::extern_crate(alloc, draft, words),
         _ => Err(Fault::Bad),
     }
 }
 
-fn update(alloc: Global, open: &mut Open, words: &[&str], out: &mut String) -> Result<(), Fault> {
-    let changed = build::update(alloc, open, words)?;
+fn update(alloc: Global, draft: &mut Draft, words: &[&str], out: &mut String) -> Result<(), Fault> {
+    let changed = build::update(alloc, draft, words)?;
     out.push_str(if changed {
         " -> changed"
     } else {
@@ -107,19 +107,19 @@ fn update(alloc: Global, open: &mut Open, words: &[&str], out: &mut String) -> R
 
 /// Adds the open map to the world; one that is refused stays open.
 fn insert(stage: &mut Stage) -> Result<Option<InsertError>, Fault> {
-    let Some(Open { map, local, globs }) = stage.open.take() else {
+    let Some(Draft { map, local, globs }) = stage.draft.take() else {
         return Err(Fault::Bad);
     };
     match stage.world.insert(map, local) {
         Ok(()) => Ok(None),
         Err(Refused { map, local, why }) => {
-            stage.open = Some(Open { map, local, globs });
+            stage.draft = Some(Draft { map, local, globs });
             Ok(Some(why))
         }
     }
 }
 
-fn insert_open(stage: &mut Stage, out: &mut String) -> Result<(), Fault> {
+fn insert_draft(stage: &mut Stage, out: &mut String) -> Result<(), Fault> {
     let text = match insert(stage)? {
         None => " -> joins",
         Some(InsertError::Unchecked) => " -> stays out",
@@ -137,8 +137,8 @@ fn remove(world: &mut World, words: &[&str]) -> Result<(), Fault> {
     Ok(())
 }
 
-fn add(world: &mut World, open: Open) -> Result<(), Fault> {
-    let Open { map, local, .. } = open;
+fn add(world: &mut World, draft: Draft) -> Result<(), Fault> {
+    let Draft { map, local, .. } = draft;
     match world.insert(map, local) {
         Ok(()) => Ok(()),
         Err(_) => Err(Fault::Bad),
@@ -157,9 +157,9 @@ fn crates_below(alloc: Global, end: u32) -> Result<BTreeSet<Crate>, Fault> {
 }
 
 /// A crate over these.
-fn krate_over(alloc: Global, krate: u32, crates: BTreeSet<Crate>) -> Result<Open, Fault> {
-    let data = build::data_over(alloc, Edition::Edition2021, crates)?;
-    build::begin(alloc, Crate(krate), data, None)
+fn krate_over(alloc: Global, krate: u32, crates: BTreeSet<Crate>) -> Result<Draft, Fault> {
+    let top = build::data_over(alloc, Edition::Edition2021, crates)?;
+    build::begin(alloc, Crate(krate), top, None)
 }
 
 /// Adds so many crates that stand on none.
@@ -173,16 +173,16 @@ fn add_crates(alloc: Global, world: &mut World, count: u32) -> Result<(), Fault>
 fn name_below(alloc: Global, local: &mut LocalDefMap, krate: u32) -> Result<(), Fault> {
     if krate > 0 {
         let below = ModuleId::root(MapId::of_crate(Crate(krate - 1)));
-        local.add_extern(words::name(alloc, "below")?, below, None)?;
+        local.add_extern(words::name_of(alloc, "below")?, below, None)?;
     }
     Ok(())
 }
 
 /// A crate over all of smaller numbers, with the one before as `below`.
-fn link(alloc: Global, krate: u32) -> Result<Open, Fault> {
-    let mut open = krate_over(alloc, krate, crates_below(alloc, krate)?)?;
-    name_below(alloc, &mut open.local, krate)?;
-    Ok(open)
+fn link(alloc: Global, krate: u32) -> Result<Draft, Fault> {
+    let mut draft = krate_over(alloc, krate, crates_below(alloc, krate)?)?;
+    name_below(alloc, &mut draft.local, krate)?;
+    Ok(draft)
 }
 
 fn add_chain(alloc: Global, world: &mut World, count: u32) -> Result<(), Fault> {
@@ -208,7 +208,7 @@ fn count(words: &[&str]) -> Result<u32, Fault> {
     let [count] = words else {
         return Err(Fault::Bad);
     };
-    words::number(count)
+    words::number_of(count)
 }
 
 /// What changes the stage.
@@ -221,23 +221,23 @@ fn change(
 ) -> Result<(), Fault> {
     match command {
         Command::Crate => {
-            stage.open = Some(build::begin_crate(alloc, words)?);
+            stage.draft = Some(build::begin_crate(alloc, words)?);
             Ok(())
         }
         Command::Block => {
-            stage.open = Some(build::begin_block(alloc, words)?);
+            stage.draft = Some(build::begin_block(alloc, words)?);
             Ok(())
         }
-        Command::Insert => insert_open(stage, out),
+        Command::Insert => insert_draft(stage, out),
         Command::Remove => remove(&mut stage.world, words),
         Command::Crates => add_crates(alloc, &mut stage.world, count(words)?),
         Command::Chain => add_chain(alloc, &mut stage.world, count(words)?),
-        Command::Update => match &mut stage.open {
-            Some(open) => update(alloc, open, words, out),
+        Command::Update => match &mut stage.draft {
+            Some(draft) => update(alloc, draft, words, out),
             None => Err(Fault::Bad),
         },
-        _ => match &mut stage.open {
-            Some(open) => fill(alloc, open, command, words),
+        _ => match &mut stage.draft {
+            Some(draft) => fill(alloc, draft, command, words),
             None => Err(Fault::Bad),
         },
     }
@@ -253,14 +253,14 @@ fn ask(
 ) -> Result<(), Fault> {
     match command {
         Command::OfPath(asked) => asks::of_path(alloc, stage, asked, words, out),
-        Command::Visibility => asks::visibility(stage, words, out),
+        Command::Visibility => asks::meaning(stage, words, out),
         Command::Lesser => asks::lesser(stage, words, out),
         Command::Sees => asks::sees(stage, words, out),
         Command::Around => asks::around(stage, words, out),
         Command::Outwards => asks::outwards(stage, words, out),
         Command::Entry => asks::entry(alloc, stage, words, out),
-        Command::Globs => match &stage.open {
-            Some(open) => asks::globs(alloc, &open.globs, words, out),
+        Command::Globs => match &stage.draft {
+            Some(draft) => asks::globs(alloc, &draft.globs, words, out),
             None => Err(Fault::Bad),
         },
         Command::Dump => asks::dump(alloc, stage, words, out),
@@ -275,7 +275,7 @@ fn ask(
 }
 
 /// Whether a command asks.
-fn asks(command: Command) -> bool {
+fn is_question(command: Command) -> bool {
     matches!(
         command,
         Command::OfPath(_)
@@ -303,7 +303,7 @@ fn perform(
         return Ok(());
     };
     let command = find(&COMMANDS, word)?;
-    if asks(command) {
+    if is_question(command) {
         ask(alloc, stage, command, others, out)
     } else {
         change(alloc, stage, command, others, out)

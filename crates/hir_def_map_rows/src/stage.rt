@@ -6,7 +6,7 @@ use std::alloc::Global;
 
 /// A map that is being built, and the crates that its paths may begin with.
 #[derive(Drop)]
-pub struct Open {
+pub struct Draft {
     pub map: DefMap,
     pub local: LocalDefMap,
     pub globs: PerNsGlobImports,
@@ -16,7 +16,7 @@ pub struct Open {
 #[derive(Drop)]
 pub struct Stage {
     pub world: World,
-    pub open: Option<Open>,
+    pub draft: Option<Draft>,
 }
 
 /// A module that asks, its map and the crates that its paths may begin with.
@@ -32,14 +32,14 @@ impl Stage {
     pub fn new(alloc: Global) -> Stage {
         Stage {
             world: World::new(alloc),
-            open: None,
+            draft: None,
         }
     }
 
     /// The open map if it has this id, or else the finished one.
     fn map(&self, id: MapId) -> Option<&DefMap> {
-        match &self.open {
-            Some(open) if open.map.id() == id => Some(&open.map),
+        match &self.draft {
+            Some(draft) if draft.map.id() == id => Some(&draft.map),
             _ => self.world.map(id),
         }
     }
@@ -47,8 +47,8 @@ impl Stage {
     /// The crates that the paths of a crate may begin with.
     fn local(&self, krate: Crate) -> Option<&LocalDefMap> {
         let id = MapId::of_crate(krate);
-        match &self.open {
-            Some(open) if open.map.id() == id => Some(&open.local),
+        match &self.draft {
+            Some(draft) if draft.map.id() == id => Some(&draft.local),
             _ => self.world.local(id),
         }
     }

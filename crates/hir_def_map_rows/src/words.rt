@@ -34,14 +34,14 @@ pub fn find<T: Copy>(table: &[(&str, T)], word: &str) -> Result<T, Fault> {
     Err(Fault::Bad)
 }
 
-pub fn number(word: &str) -> Result<u32, Fault> {
+pub fn number_of(word: &str) -> Result<u32, Fault> {
     match word.parse::<u32>() {
         Ok(number) => Ok(number),
         Err(_) => Err(Fault::Bad),
     }
 }
 
-pub fn node(word: &str) -> Result<SyntaxId, Fault> {
+pub fn node_of(word: &str) -> Result<SyntaxId, Fault> {
     match word.parse::<u16>() {
         Ok(hash) => Ok(SyntaxId { hash, index: 0 }),
         Err(_) => Err(Fault::Bad),
@@ -51,11 +51,11 @@ pub fn node(word: &str) -> Result<SyntaxId, Fault> {
 /// `1` is the map of a crate, `1.7` that of a block.
 pub fn map_id(word: &str) -> Result<MapId, Fault> {
     let Some((krate, block)) = word.split_once('.') else {
-        return Ok(MapId::of_crate(Crate(number(word)?)));
+        return Ok(MapId::of_crate(Crate(number_of(word)?)));
     };
     Ok(MapId {
-        krate: Crate(number(krate)?),
-        block: Some(BlockId(number(block)?)),
+        krate: Crate(number_of(krate)?),
+        block: Some(BlockId(number_of(block)?)),
     })
 }
 
@@ -66,11 +66,11 @@ pub fn module_id(word: &str) -> Result<ModuleId, Fault> {
     };
     Ok(ModuleId {
         map: map_id(map)?,
-        index: number(index)?,
+        index: number_of(index)?,
     })
 }
 
-pub fn name(alloc: Global, word: &str) -> Result<Name, Fault> {
+pub fn name_of(alloc: Global, word: &str) -> Result<Name, Fault> {
     match Name::new(alloc, word) {
         Ok(name) => Ok(name),
         Err(NameError::Memory) => Err(Fault::Memory),
@@ -85,7 +85,7 @@ const EDITIONS: [(&str, Edition); 4] = [
     ("2024", Edition::Edition2024),
 ];
 
-pub fn edition(word: &str) -> Result<Edition, Fault> {
+pub fn edition_of(word: &str) -> Result<Edition, Fault> {
     find(&EDITIONS, word)
 }
 
@@ -95,12 +95,12 @@ const SHAPES: [(&str, FieldsShape); 3] = [
     ("unit", FieldsShape::Unit),
 ];
 
-pub fn shape(word: &str) -> Result<FieldsShape, Fault> {
+pub fn shape_of(word: &str) -> Result<FieldsShape, Fault> {
     find(&SHAPES, word)
 }
 
 /// `pub`, or one of a crate or of a module.
-pub fn visibility(word: &str) -> Result<Visibility, Fault> {
+pub fn visibility_of(word: &str) -> Result<Visibility, Fault> {
     let Some((key, of)) = word.split_once('=') else {
         return if word == "pub" {
             Ok(Visibility::Public)
@@ -109,7 +109,7 @@ pub fn visibility(word: &str) -> Result<Visibility, Fault> {
         };
     };
     match key {
-        "crate" => Ok(Visibility::PubCrate(Crate(number(of)?))),
+        "crate" => Ok(Visibility::PubCrate(Crate(number_of(of)?))),
         "in" => within(of, VisibilityExplicitness::Implicit),
         "pub-in" => within(of, VisibilityExplicitness::Explicit),
         _ => Err(Fault::Bad),
@@ -121,7 +121,7 @@ fn within(of: &str, explicitness: VisibilityExplicitness) -> Result<Visibility, 
 }
 
 /// A visibility as it is written.
-pub fn raw_visibility(word: &str) -> Result<RawVisibility, Fault> {
+pub fn written_visibility(word: &str) -> Result<RawVisibility, Fault> {
     match word {
         "pub" => Ok(RawVisibility::Public),
         "pub(crate)" => Ok(RawVisibility::PubCrate),
@@ -137,7 +137,7 @@ fn push_segment(text: &mut String, segment: &str) -> Result<(), Fault> {
         return Ok(());
     };
     text.push_str(segment)?;
-    for _ in 1..number(times)? {
+    for _ in 1..number_of(times)? {
         text.push_str("::")?;
         text.push_str(segment)?;
     }
@@ -158,7 +158,7 @@ fn push_segments(text: &mut String, word: &str) -> Result<(), Fault> {
 }
 
 /// The path of a word, in which segments may be counted; `""` is the empty one.
-pub fn path(alloc: Global, word: &str) -> Result<ModPath, Fault> {
+pub fn path_of(alloc: Global, word: &str) -> Result<ModPath, Fault> {
     let mut text = String::new(alloc);
     if word != "\"\"" {
         push_segments(&mut text, word)?;
@@ -215,7 +215,7 @@ fn with_word(setting: Setting, word: &str) -> Result<Setting, Fault> {
 }
 
 /// The setting of the words behind a path.
-pub fn setting(words: &[&str]) -> Result<Setting, Fault> {
+pub fn setting_of(words: &[&str]) -> Result<Setting, Fault> {
     let mut setting = Setting {
         mode: ResolveMode::Other,
         shadow: BuiltinShadowMode::Other,
