@@ -246,7 +246,7 @@ module _ (t : Growth) where
       go : (b : Bool) → is_in own m ≡ b → numbers_of (option_map frame_of (new m.map)) m.index ≡ numbers_of (option_map frame_of (old m.map)) m.index
       go true e =
           ap (λ (o : Option Placed). numbers_of (option_map frame_of o) m.index) (new_own m.map e)
-          ∙ same_numbers_above one other grows stands.in_order (placed_in finished one).holders (placed_in finished other).holders m.index (here e)
+          ∙ same_numbers_above one other grows stands.in_order finished m.index (here e)
           ∙ sym (ap (λ (o : Option Placed). numbers_of (option_map frame_of o) m.index) (old_own m.map e))
       go false e = ap (λ (o : Option Placed). numbers_of (option_map frame_of o) m.index) (same_out m.map e)
 

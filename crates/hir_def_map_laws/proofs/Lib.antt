@@ -9,3 +9,4 @@ pub mod Grown
 pub mod ReadOutside
 pub mod ReadLaw
 pub mod Whole
+pub mod SlotChanges

@@ -2,7 +2,7 @@
 use Rattle.std.proofs.Common.{◌≡◌, ◌∙◌, ap, sym, subst, refl, ℕ, ◌+◌, ◌<◌, List, [], ◌∷◌, length, Bool, true, false, ◌&&◌, ◌==◌, cond, Option, None, Some}
 use Rattle.std.specs.Cmp.{unsigned_Decides}
 use Rattle.std.specs.List.{All}
-use Rattle.std.specs.Prelude.{is_some, not}
+use Rattle.std.specs.Prelude.{is_some, not, option_and_then}
 use Rattle.std.proofs.lemmas.List.Elements.{All-head, All-tail}
 use Rattle.hir_base.specs.ModPath.{Path}
 use Rattle.hir_base.specs.declared.ast_id.BlockId.{BlockId}
@@ -43,7 +43,7 @@ use Rattle.hir_def_map_laws.proofs.Holders.{start-of_crate}
 use Rattle.hir_def_map_laws.proofs.ReadOutside.{Outside, SameFirst, inherited_out, rest_out, through_out}
 use Rattle.hir_def_map_laws.specs.Paths.{prelude_module_of}
 use Rattle.hir_def_map_laws.specs.ReadLaw.{AgreeAt, BeginsWithCrates, Fails, FailsAtType, IsReadAlike, ReadsDecide, SameInModule, SameInPreludes, has_no_variants, is_named_in, with_crates}
-use Rattle.hir_def_map_laws.specs.Slots.{Slot, of_module, of_preludes, further_slots, is_in, reads, slots_below, slots_from_crates, slots_from_module, slots_from_root, slots_of, slots_through, slots_through_type, with_prelude_slot, with_slot}
+use Rattle.hir_def_map_laws.specs.Slots.{Slot, of_module, of_preludes, further_slots, is_in, kept_in, module_among, module_by, reads, slots_after, slots_from_crates, slots_from_module, slots_from_root, slots_of, with_prelude_slot, with_slot}
 
 same_block_itself : (b : Option BlockId) → same_block b b ≡ true
 same_block_itself None = refl
@@ -104,47 +104,41 @@ module _ (t : Growth) (asking : Asking) (local : Local) (begins : BeginsWithCrat
 
   record Alike (ss : List (List ℕ)) (i : ℕ) (p : PerNs) : Type 0 where
     answers : rest (new t) from ss i p ≡ rest (old t) from ss i p
-    slots : further_slots (new t) (own t) from ss p ≡ further_slots (old t) (own t) from ss p
+    slots : slots_after (new t) (own t) from ss p ≡ slots_after (old t) (own t) from ss p
 
-  module _ (ss : List (List ℕ)) (i : ℕ) (s : List ℕ) (alike : (p : PerNs) → Known p → Agree (further_slots (old t) (own t) from ss p) → Alike ss (i + 1) p) where
+  module _ (ss : List (List ℕ)) (i : ℕ) (s : List ℕ) (alike : (p : PerNs) → Known p → Agree (slots_after (old t) (own t) from ss p) → Alike ss (i + 1) p) where
     abbrev before : AnyModule → PerNs → ResolvePathResult
     before f q = rest (old t) f ss (i + 1) q
 
     abbrev after : AnyModule → PerNs → ResolvePathResult
     after f q = rest (new t) f ss (i + 1) q
 
-    abbrev slots_before : PerNs → List Slot
-    slots_before q = further_slots (old t) (own t) from ss q
-
-    abbrev slots_after : PerNs → List Slot
-    slots_after q = further_slots (new t) (own t) from ss q
-
-    module_alike : (m : AnyModule) (b : Bool) → is_in (own t) m ≡ b → Agree (cond b (of_module m.index s ∷ slots_before (seen (old t) from m s)) [])
+    module_alike : (m : AnyModule) (b : Bool) → is_in (own t) m ≡ b → Agree (further_slots (old t) (own t) from (s ∷ ss) (cond b (Some m) None))
         → (through_module after (new t) from s m ≡ through_module before (old t) from s m)
-        × (cond b (of_module m.index s ∷ slots_after (seen (new t) from m s)) [] ≡ cond b (of_module m.index s ∷ slots_before (seen (old t) from m s)) [])
+        × (further_slots (new t) (own t) from (s ∷ ss) (cond b (Some m) None) ≡ further_slots (old t) (own t) from (s ∷ ss) (cond b (Some m) None))
     module_alike m false e agree =
         let outside : through_module after (new t) from s m ≡ through_module before (old t) from s m =
         through_out t before after (λ f q h o. rest_out t ss (i + 1) f h q o) from from_here ss i s (module_bound m).types e in
         (outside, refl)
     module_alike m true e agree =
-        let here : SameInModule t.one t.other m.index s = first_agrees (of_module m.index s) (slots_before (seen (old t) from m s)) agree in
+        let here : SameInModule t.one t.other m.index s = first_agrees (of_module m.index s) (slots_after (old t) (own t) from ss (seen (old t) from m s)) agree in
         let same : seen (new t) from m s ≡ seen (old t) from m s = same_seen t from m s from_here (entry_here t m s e here.entries) in
         let next : Alike ss (i + 1) (seen (old t) from m s) =
         alike (seen (old t) from m s) (Fails-keep (has_no_variants t.one) (λ v. is_visible (above_in (old t)) (holders_in (old t)) v from) (entry_in (old t) m s) (names_here t m s e))
-        (others_agree (of_module m.index s) (slots_before (seen (old t) from m s)) agree) in
+        (others_agree (of_module m.index s) (slots_after (old t) (own t) from ss (seen (old t) from m s)) agree) in
         let own_crate : same_crate m.map.krate from.map.krate ≡ true = ap (λ (id : MapId). same_crate id.krate from.map.krate) (is_own t m e) ∙ (unsigned_Decides from.map.krate.0 from.map.krate.0).1 refl in
         let within : after from (seen (new t) from m s) ≡ before from (seen (old t) from m s) = ap (after from) same ∙ next.answers in
         (
           ap (λ (b : Bool). cond b (after from (seen (new t) from m s)) (crossing (after (nearest_non_block_module (new t) m) (seen (new t) (nearest_non_block_module (new t) m) (nearest_non_block_module (new t) m) s)))) own_crate
           ∙ within
           ∙ sym (ap (λ (b : Bool). cond b (before from (seen (old t) from m s)) (crossing (before (nearest_non_block_module (old t) m) (seen (old t) (nearest_non_block_module (old t) m) (nearest_non_block_module (old t) m) s)))) own_crate),
-          ap (λ (xs : List Slot). of_module m.index s ∷ xs) (ap slots_after same ∙ next.slots),
+          ap (λ (xs : List Slot). of_module m.index s ∷ xs) (ap (slots_after (new t) (own t) from ss) same ∙ next.slots),
         )
 
     type_alike : (o : Option (Item ModuleDefId ImportOrExternCrate)) → FailsAtType (has_no_variants t.one) o
-        → Agree (slots_through_type slots_before (old t) (own t) from s o)
+        → Agree (further_slots (old t) (own t) from (s ∷ ss) (module_among (own t) o))
         → (through_type after (new t) from ss i s o ≡ through_type before (old t) from ss i s o)
-        × (slots_through_type slots_after (new t) (own t) from s o ≡ slots_through_type slots_before (old t) (own t) from s o)
+        × (further_slots (new t) (own t) from (s ∷ ss) (module_among (own t) o) ≡ further_slots (old t) (own t) from (s ∷ ss) (module_among (own t) o))
     type_alike None fails agree = (refl, refl)
     type_alike (Some item) fails agree = go item.def fails agree
       where
@@ -159,9 +153,9 @@ module _ (t : Growth) (asking : Asking) (local : Local) (begins : BeginsWithCrat
         adt (adts.StructId id) none = refl
         adt (adts.UnionId id) none = refl
 
-        go : (d : ModuleDefId) → test_of (has_no_variants t.one) (named_by d) ≡ false → Agree (slots_through slots_before (old t) (own t) from s d)
+        go : (d : ModuleDefId) → test_of (has_no_variants t.one) (named_by d) ≡ false → Agree (further_slots (old t) (own t) from (s ∷ ss) (module_by (own t) d))
             → (through after (new t) from ss i s item d ≡ through before (old t) from ss i s item d)
-            × (slots_through slots_after (new t) (own t) from s d ≡ slots_through slots_before (old t) (own t) from s d)
+            × (further_slots (new t) (own t) from (s ∷ ss) (module_by (own t) d) ≡ further_slots (old t) (own t) from (s ∷ ss) (module_by (own t) d))
         go (ModuleId m) none a = module_alike m (is_in (own t) m) refl a
         go (FunctionId x) none a = (refl, refl)
         go (AnyAdt x) none a = (adt x none, refl)
@@ -173,7 +167,7 @@ module _ (t : Growth) (asking : Asking) (local : Local) (begins : BeginsWithCrat
         go (BuiltinType x) none a = (refl, refl)
         go (MacroId x) none a = (refl, refl)
 
-  rest_alike : (ss : List (List ℕ)) (i : ℕ) (p : PerNs) → Known p → Agree (further_slots (old t) (own t) from ss p) → Alike ss i p
+  rest_alike : (ss : List (List ℕ)) (i : ℕ) (p : PerNs) → Known p → Agree (slots_after (old t) (own t) from ss p) → Alike ss i p
   rest_alike [] i p k agree = record { answers = refl; slots = refl }
   rest_alike (s ∷ ss) i p k agree =
       let both = type_alike ss i s (λ q l a. rest_alike ss (i + 1) q l a) p.types k agree in
@@ -233,7 +227,7 @@ module _ (t : Growth) (asking : Asking) (local : Local) (begins : BeginsWithCrat
     root_alike agree =
         let root : AnyModule = crate_root from.map.krate in
         let names_before : PerNs = name_in_crate_root_or_extern_prelude (old t) asking.local from s in
-        let behind : List Slot = further_slots (old t) (own t) from ss names_before in
+        let behind : List Slot = slots_after (old t) (own t) from ss names_before in
         let found : Looked root s (of_preludes s ∷ behind) = look root s (of_preludes s ∷ behind) agree in
         let same : SameInPreludes t.one asking.local t.other local s = first_agrees (of_preludes s) behind found.left in
         let names : name_in_crate_root_or_extern_prelude (new t) local from s ≡ names_before = λ i. or_of (found.entries i) (unless_block_root from (same_extern same i)) in
@@ -241,7 +235,7 @@ module _ (t : Growth) (asking : Asking) (local : Local) (begins : BeginsWithCrat
         rest_alike ss 1 names_before (Fails-in_root (has_no_variants t.one) (old t) asking.local from s (known_extern s) (known root s)) (others_agree (of_preludes s) behind found.left) in
         (
           ap (rest (new t) from ss 1) names ∙ next.answers,
-          ap (λ (xs : List Slot). with_slot (own t) root s (of_preludes s ∷ xs)) (ap (further_slots (new t) (own t) from ss) names ∙ next.slots),
+          ap (λ (xs : List Slot). with_slot (own t) root s (of_preludes s ∷ xs)) (ap (slots_after (new t) (own t) from ss) names ∙ next.slots),
         )
 
     inside_alike : Agree (slots_from_module (old t) asking (own t) from s ss)
@@ -249,7 +243,7 @@ module _ (t : Growth) (asking : Asking) (local : Local) (begins : BeginsWithCrat
         × (slots_from_module (new t) asked (own t) from s ss ≡ slots_from_module (old t) asking (own t) from s ss)
     inside_alike agree =
         let names_before : PerNs = name_in_module (old t) asking.local asking.sub_ns (shadow_before ss asking.shadow) from s in
-        let behind : List Slot = further_slots (old t) (own t) from ss names_before in
+        let behind : List Slot = slots_after (old t) (own t) from ss names_before in
         let found : Looked from s (with_prelude_slot (own t) prelude_before s (of_preludes s ∷ behind)) = look from s (with_prelude_slot (own t) prelude_before s (of_preludes s ∷ behind)) agree in
         let prelude = look_prelude prelude_before s (of_preludes s ∷ behind) found.left in
         let same : SameInPreludes t.one asking.local t.other local s = first_agrees (of_preludes s) behind prelude.1 in
@@ -268,7 +262,7 @@ module _ (t : Growth) (asking : Asking) (local : Local) (begins : BeginsWithCrat
         (others_agree (of_preludes s) behind prelude.1) in
         (
           ap (rest (new t) from ss 1) names ∙ next.answers,
-          λ i. with_slot (own t) from s (with_prelude_slot (own t) (same_module i) s (of_preludes s ∷ (ap (further_slots (new t) (own t) from ss) names ∙ next.slots) i)),
+          λ i. with_slot (own t) from s (with_prelude_slot (own t) (same_module i) s (of_preludes s ∷ (ap (slots_after (new t) (own t) from ss) names ∙ next.slots) i)),
         )
 
     crates_alike : Agree (slots_from_crates (old t) asking (own t) from s ss)
@@ -276,19 +270,26 @@ module _ (t : Growth) (asking : Asking) (local : Local) (begins : BeginsWithCrat
         × (slots_from_crates (new t) asked (own t) from s ss ≡ slots_from_crates (old t) asking (own t) from s ss)
     crates_alike agree =
         let names_before : PerNs = extern_name asking.local s in
-        let behind : List Slot = further_slots (old t) (own t) from ss names_before in
+        let behind : List Slot = slots_after (old t) (own t) from ss names_before in
         let same : SameInPreludes t.one asking.local t.other local s = first_agrees (of_preludes s) behind agree in
         let next : Alike ss 1 names_before = rest_alike ss 1 names_before (known_extern s) (others_agree (of_preludes s) behind agree) in
         (
           ap (abs_from (new t) from ss) (same_extern same) ∙ ap (λ (r : ResolvePathResult). cond (is_some names_before.types) r (unresolved No)) next.answers,
-          ap (λ (xs : List Slot). of_preludes s ∷ xs) (ap (further_slots (new t) (own t) from ss) (same_extern same) ∙ next.slots),
+          ap (λ (xs : List Slot). of_preludes s ∷ xs) (ap (slots_after (new t) (own t) from ss) (same_extern same) ∙ next.slots),
         )
 
   -- ---- a path from where it starts
 
-  super_alike : (segs : List (List ℕ)) (o : Option AnyModule) → Agree (slots_below (old t) (own t) from segs o)
-      → (super_from (new t) from segs o ≡ super_from (old t) from segs o) × (slots_below (new t) (own t) from segs o ≡ slots_below (old t) (own t) from segs o)
-  super_alike segs None agree = (refl, refl)
+  no_slots : (maps : Maps) (segs : List (List ℕ)) → further_slots maps (own t) from segs None ≡ []
+  no_slots maps [] = refl
+  no_slots maps (s ∷ ss) = refl
+
+  abbrev slots_under : Maps → List (List ℕ) → Option AnyModule → List Slot
+  slots_under maps segs o = further_slots maps (own t) from segs (option_and_then (kept_in (own t)) o)
+
+  super_alike : (segs : List (List ℕ)) (o : Option AnyModule) → Agree (slots_under (old t) segs o)
+      → (super_from (new t) from segs o ≡ super_from (old t) from segs o) × (slots_under (new t) segs o ≡ slots_under (old t) segs o)
+  super_alike segs None agree = (refl, no_slots (new t) segs ∙ sym (no_slots (old t) segs))
   super_alike segs (Some m) agree =
       let next : Alike segs 0 (module_bound m) = rest_alike segs 0 (module_bound m) refl agree in
       (on (same_block m.map.block from.map.block) refl next.answers, next.slots)
@@ -318,7 +319,7 @@ module _ (t : Growth) (asking : Asking) (local : Local) (begins : BeginsWithCrat
       let near : AnyModule = nearest_non_block_module (old t) from in
       let climbed : climb (new t) n (nearest_non_block_module (new t) from) ≡ climb (old t) n near = ap (climb (new t) n) (same_nearest t from) ∙ same_climb t n near (nearest_here t from from_here) in
       let both = super_alike segs (climb (old t) n near) agree in
-      (ap (super_from (new t) from segs) climbed ∙ both.0, ap (slots_below (new t) (own t) from segs) climbed ∙ both.1)
+      (ap (super_from (new t) from segs) climbed ∙ both.0, ap (slots_under (new t) segs) climbed ∙ both.1)
   start_alike kinds.Plain [] agree = (refl, refl)
   start_alike kinds.Plain (s ∷ ss) agree =
       let same : (is_in_edition_2015 (map_in (new t) from.map) && is_import asking.mode) ≡ (is_in_edition_2015 (map_in (old t) from.map) && is_import asking.mode) =
@@ -331,18 +332,18 @@ module _ (t : Growth) (asking : Asking) (local : Local) (begins : BeginsWithCrat
 
   root_first : (s : List ℕ) (ss : List (List ℕ)) → Agree (slots_from_root (old t) asking (own t) from s ss) → SameInPreludes t.one asking.local t.other local s
   root_first s ss agree =
-      let behind : List Slot = further_slots (old t) (own t) from ss (name_in_crate_root_or_extern_prelude (old t) asking.local from s) in
+      let behind : List Slot = slots_after (old t) (own t) from ss (name_in_crate_root_or_extern_prelude (old t) asking.local from s) in
       let found : Looked (crate_root from.map.krate) s (of_preludes s ∷ behind) = look (crate_root from.map.krate) s (of_preludes s ∷ behind) agree in
       first_agrees (of_preludes s) behind found.left
 
   inside_first : (s : List ℕ) (ss : List (List ℕ)) → Agree (slots_from_module (old t) asking (own t) from s ss) → SameInPreludes t.one asking.local t.other local s
   inside_first s ss agree =
-      let behind : List Slot = further_slots (old t) (own t) from ss (name_in_module (old t) asking.local asking.sub_ns (shadow_before ss asking.shadow) from s) in
+      let behind : List Slot = slots_after (old t) (own t) from ss (name_in_module (old t) asking.local asking.sub_ns (shadow_before ss asking.shadow) from s) in
       let found : Looked from s (with_prelude_slot (own t) prelude_before s (of_preludes s ∷ behind)) = look from s (with_prelude_slot (own t) prelude_before s (of_preludes s ∷ behind)) agree in
       first_agrees (of_preludes s) behind (look_prelude prelude_before s (of_preludes s ∷ behind) found.left).1
 
   crates_first : (s : List ℕ) (ss : List (List ℕ)) → Agree (slots_from_crates (old t) asking (own t) from s ss) → SameInPreludes t.one asking.local t.other local s
-  crates_first s ss agree = first_agrees (of_preludes s) (further_slots (old t) (own t) from ss (extern_name asking.local s)) agree
+  crates_first s ss agree = first_agrees (of_preludes s) (slots_after (old t) (own t) from ss (extern_name asking.local s)) agree
 
   first_same : (kind : PathKind) (segs : List (List ℕ)) → Agree (slots_of (old t) asking (own t) from kind segs) → SameFirst t asking local begins kind segs
   first_same kinds.Crate segs agree = tt

@@ -4,7 +4,7 @@ use Rattle.std.proofs.lemmas.Grind.{common_steps}
 use Rattle.std.specs.Prelude.{slice_get}
 use Rattle.hir_base.specs.declared.ids.MapId.{MapId}
 use Rattle.hir_base.specs.declared.ids.ModuleId.{ModuleId}
-use Rattle.hir_def_map.specs.State.{IsBefore, IsInOrder, Map, ModuleValue, Placed, module_at, parent_at, parent_of}
+use Rattle.hir_def_map.specs.State.{IsBefore, IsInOrder, Map, Maps, ModuleValue, Placed, module_at, parent_at, parent_of, placed_in}
 use Rattle.hir_def_map.specs.Chains.{Frame, frame_of, leads_to_root, number_in, numbers_above, step_in, step_to, steps_by, steps_from}
 use Rattle.hir_def_map_laws.proofs.Steps.{number_there, step_listed}
 use Rattle.hir_def_map_laws.specs.ReadLaw.{Grows}
@@ -66,12 +66,12 @@ module _ (one other : Map) (grows : Grows one other) (in_order : IsInOrder one) 
       let found = found-below one.modules at low in
       subst (λ (o : Option ModuleValue). IsBefore one.id at (parent_of o)) (sym found.1) (in_order at found.0 found.1)
 
-  module _ (old new : List ModuleId) where
+  module _ (finished : Maps) where
     abbrev before : Placed
-    before = record { map = one; holders = old }
+    before = placed_in finished one
 
     abbrev after : Placed
-    after = record { map = other; holders = new }
+    after = placed_in finished other
 
     step-before : (at : ℕ) → at < length one.modules → step_in (frame_of before) at ≡ number_of (parent_at one at)
     step-before at low = step_listed before at ∙ step-known (frame_of before) one.id at (parent_at one at) (before_at at low)

@@ -3,7 +3,7 @@ use Rattle.std.proofs.Common.{◌≡◌, ◌∙◌, ap, sym, subst, refl, ℕ, L
 use Rattle.std.specs.List.{All}
 use Rattle.std.specs.Option.{option_and_then, option_map}
 use Rattle.std.specs.Prelude.{is_some, not}
-use Rattle.std.proofs.lemmas.List.Elements.{All-nil}
+use Rattle.std.proofs.lemmas.List.Elements.{All-weaker}
 use mathlib.Core.Bool.{true≢false}
 use Rattle.hir_base.specs.declared.ids.EnumId.{EnumId}
 use Rattle.hir_base.specs.declared.ids.MapId.{MapId}
@@ -15,7 +15,7 @@ use Rattle.hir_scope.specs.PerNs.{Item}
 use Rattle.hir_scope.specs.declared.imports.ImportOrExternCrate.{ImportOrExternCrate}
 use Rattle.hir_scope.specs.declared.per_ns.PerNs.{PerNs}
 use Rattle.hir_def_map.specs.Beside.{exact_map, same_id}
-use Rattle.hir_def_map.specs.Chains.{frame_of, frames_of, holders_in, holders_of_frame}
+use Rattle.hir_def_map.specs.Chains.{holders_in}
 use Rattle.hir_def_map.specs.Closed.{AreThere, ModuleIsThere, TypeIsThere}
 use Rattle.hir_def_map.specs.Complete.{AreWhole, NamesOnly}
 use Rattle.hir_def_map.specs.Named.{is_missing, is_there, map_named, prelude_named, test_of}
@@ -61,19 +61,14 @@ module _ (finished : Maps) (own : MapId) (whole : AreWhole finished) (absent : f
       go None f g = absurd cc
       go (Some prelude) f g = let same : prelude.0 ≡ p = cc in subst (λ (m : ModuleId). is_in own m ≡ false) same (elsewhere (named.Module prelude.0) f)
 
-  no_holders : (o : Option Placed) → ((placed : Placed) → o ≡ Some placed → placed.holders ≡ []) → holders_of_frame (option_map frame_of o) ≡ []
-  no_holders None names = refl
-  no_holders (Some placed) names = names placed refl
-
   pub KeepApart-whole : KeepApart finished own
-  unfolding frames_of
   KeepApart-whole =
       let closed = IsClosed-whole finished whole in
       record {
         absent = absent;
         types = λ m name. Fails-weaker (is_missing finished) (is_named_in own) elsewhere (entry_in finished m name) (closed.types m name);
         parents = λ m p e. there_apart p (closed.parents m p e);
-        holders = λ m. subst (All (λ (h : ModuleId). is_in own h ≡ false)) (sym (no_holders (finished m.map) (λ placed e. (whole m.map placed e).unheld))) (All-nil (λ (h : ModuleId). is_in own h ≡ false));
+        holders = λ m. All-weaker (ModuleIsThere finished) (λ (h : ModuleId). is_in own h ≡ false) there_apart (holders_in finished m) (closed.holders m);
         preludes = λ id p e. prelude_apart (finished id) (λ placed f. (whole id placed f).names.prelude) p e;
       }
 

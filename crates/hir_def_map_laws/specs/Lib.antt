@@ -2,3 +2,4 @@ pub mod Paths
 pub mod Building
 pub mod Slots
 pub mod ReadLaw
+pub mod SlotChanges

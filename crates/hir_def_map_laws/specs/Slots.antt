@@ -1,5 +1,5 @@
 -- Which names of the map that is built does a path look up?
-use Rattle.std.specs.Prelude.{ℕ, List, [], ◌∷◌, Bool, ◌&&◌, Option, None, Some, cond}
+use Rattle.std.specs.Prelude.{ℕ, List, [], ◌∷◌, Bool, ◌&&◌, Option, None, Some, cond, option_and_then}
 use Rattle.hir_base.specs.ModPath.{Path}
 use Rattle.hir_base.specs.declared.ids.MapId.{MapId}
 use Rattle.hir_base.specs.declared.ids.ModuleDefId.{ModuleDefId}
@@ -15,7 +15,7 @@ use Rattle.hir_def_map.specs.State.{Map, Maps, beside, crate_root, map_in}
 use Rattle.hir_def_map.specs.Scoping.Asking.{Asking}
 use Rattle.hir_def_map.specs.Scoping.FirstSegment.{extern_name, name_in_module, name_in_crate_root_or_extern_prelude, shadow_before}
 use Rattle.hir_def_map.specs.Scoping.Segments.{nearest_non_block_module, seen}
-use Rattle.hir_def_map.specs.Scoping.Start.{climb, is_import, is_in_edition_2015, module_bound}
+use Rattle.hir_def_map.specs.Scoping.Start.{climb, is_import, is_in_edition_2015}
 use Rattle.hir_def_map_laws.specs.Paths.{prelude_module_of}
 
 -- where a path looks for a name in the map that is built
@@ -35,28 +35,32 @@ with_slot own m name slots = cond (is_in own m) (of_module m.index name ∷ slot
 
 -- ---- further segments
 
--- a segment after what names a definition: where that is a module of the map, its name is looked up there, and the path
--- goes on from what is seen; what other maps hold and what enums have doesn't change
-abbrev pub slots_through : (PerNs → List Slot) → Maps → MapId → ModuleId → List ℕ → ModuleDefId → List Slot
-slots_through further maps own from segment (definitions.ModuleId m) = cond (is_in own m) (of_module m.index segment ∷ further (seen maps from m segment)) []
-slots_through further maps own from segment _ = []
+-- a module, where it lies in the map
+abbrev pub kept_in : MapId → ModuleId → Option ModuleId
+kept_in own m = cond (is_in own m) (Some m) None
 
--- a segment after what names a type, or else none
-abbrev pub slots_through_type : (PerNs → List Slot) → Maps → MapId → ModuleId → List ℕ → Option (Item ModuleDefId ImportOrExternCrate) → List Slot
-slots_through_type further maps own from segment None = []
-slots_through_type further maps own from segment (Some item) = slots_through further maps own from segment item.def
+-- the module of the map that a definition is, if it is one
+abbrev pub module_by : MapId → ModuleDefId → Option ModuleId
+module_by own (definitions.ModuleId m) = kept_in own m
+module_by own _ = None
+
+-- the module of the map that a type is, if it is one
+abbrev pub module_among : MapId → Option (Item ModuleDefId ImportOrExternCrate) → Option ModuleId
+module_among own None = None
+module_among own (Some item) = module_by own item.def
+
+-- the segments that are left, after what names a module of the map: each is looked up in the module to which those before
+-- it led; after anything else nothing is looked up that may change, neither in other maps nor among the variants of an enum
+abbrev pub further_slots : Maps → MapId → ModuleId → List (List ℕ) → Option ModuleId → List Slot
+further_slots maps own from [] at = []
+further_slots maps own from (segment ∷ others) None = []
+further_slots maps own from (segment ∷ others) (Some m) = of_module m.index segment ∷ further_slots maps own from others (module_among own (seen maps from m segment).types)
 
 -- the segments that are left, after what names these items
-abbrev pub further_slots : Maps → MapId → ModuleId → List (List ℕ) → PerNs → List Slot
-further_slots maps own from [] now = []
-further_slots maps own from (segment ∷ others) now = slots_through_type (λ next. further_slots maps own from others next) maps own from segment now.types
+abbrev pub slots_after : Maps → MapId → ModuleId → List (List ℕ) → PerNs → List Slot
+slots_after maps own from segments now = further_slots maps own from segments (module_among own now.types)
 
 -- ---- where a path starts
-
--- all segments, after a module, where there is one
-abbrev pub slots_below : Maps → MapId → ModuleId → List (List ℕ) → Option ModuleId → List Slot
-slots_below maps own from segments None = []
-slots_below maps own from segments (Some m) = further_slots maps own from segments (module_bound m)
 
 -- these slots, and first that of a name in the prelude module, if there is one, where that lies in the map
 abbrev pub with_prelude_slot : MapId → Option ModuleId → List ℕ → List Slot → List Slot
@@ -67,24 +71,24 @@ with_prelude_slot own (Some prelude) name slots = with_slot own prelude name slo
 abbrev pub slots_from_root : Maps → Asking → MapId → ModuleId → List ℕ → List (List ℕ) → List Slot
 slots_from_root maps asking own from segment others =
     with_slot own (crate_root from.map.krate) segment
-    (of_preludes segment ∷ further_slots maps own from others (name_in_crate_root_or_extern_prelude maps asking.local from segment))
+    (of_preludes segment ∷ slots_after maps own from others (name_in_crate_root_or_extern_prelude maps asking.local from segment))
 
 -- a first segment in the module and in the preludes, and the others
 abbrev pub slots_from_module : Maps → Asking → MapId → ModuleId → List ℕ → List (List ℕ) → List Slot
 slots_from_module maps asking own from segment others =
     with_slot own from segment
     (with_prelude_slot own (prelude_module_of (map_in maps from.map)) segment
-    (of_preludes segment ∷ further_slots maps own from others (name_in_module maps asking.local asking.sub_ns (shadow_before others asking.shadow) from segment)))
+    (of_preludes segment ∷ slots_after maps own from others (name_in_module maps asking.local asking.sub_ns (shadow_before others asking.shadow) from segment)))
 
 -- a first segment among the crates alone, and the others
 abbrev pub slots_from_crates : Maps → Asking → MapId → ModuleId → List ℕ → List (List ℕ) → List Slot
-slots_from_crates maps asking own from segment others = of_preludes segment ∷ further_slots maps own from others (extern_name asking.local segment)
+slots_from_crates maps asking own from segment others = of_preludes segment ∷ slots_after maps own from others (extern_name asking.local segment)
 
 -- a path, its root and its segments apart; no root is looked up, since what a module is in doesn't change
 abbrev pub slots_of : Maps → Asking → MapId → ModuleId → PathKind → List (List ℕ) → List Slot
-slots_of maps asking own from kinds.Crate segments = further_slots maps own from segments (module_bound (crate_root from.map.krate))
-slots_of maps asking own from (kinds.DollarCrate c) segments = further_slots maps own from segments (module_bound (crate_root c))
-slots_of maps asking own from (kinds.Super n) segments = slots_below maps own from segments (climb maps n (nearest_non_block_module maps from))
+slots_of maps asking own from kinds.Crate segments = further_slots maps own from segments (kept_in own (crate_root from.map.krate))
+slots_of maps asking own from (kinds.DollarCrate c) segments = further_slots maps own from segments (kept_in own (crate_root c))
+slots_of maps asking own from (kinds.Super n) segments = further_slots maps own from segments (option_and_then (kept_in own) (climb maps n (nearest_non_block_module maps from)))
 slots_of maps asking own from kinds.Plain [] = []
 slots_of maps asking own from kinds.Plain (segment ∷ others) =
     cond (is_in_edition_2015 (map_in maps from.map) && is_import asking.mode)

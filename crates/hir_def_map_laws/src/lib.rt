@@ -11,6 +11,7 @@ ghost use Rattle.hir_def_map.specs.Closed.{IsClosed};
 ghost use Rattle.hir_def_map.specs.State.{Local, Map};
 ghost use Rattle.hir_def_map_laws.specs.Building.{DeclarationsKeepNames, DeclarationsKeepPlaces, DeclarationsNameWhatIsThere, EnumsKeepToSources, ListsKeepToSources, ModulesKeepToSources, ModulesNameWhatIsThere, PushesKeepPlaces, PushesKeepToSources, PushesNameWhatIsThere};
 ghost use Rattle.hir_def_map_laws.specs.ReadLaw.{ImportsReadAlike, ReadsDecide, WholeMapsStandBeside};
+ghost use Rattle.hir_def_map_laws.specs.SlotChanges.{CratesChangeTheirSlot, ListsChangeNoSlot, MacroUsesChangeTheirSlot, ModulesChangeNoSlot, PushesChangeTheirSlot};
 ghost use Rattle.hir_def_map_laws.specs.Paths.{BlocksAskHolders, CratesAskThemselves, InnerModulesAskPreludes, LaterSegmentsAreSeen, RootedStepsLeadToParents, SegmentsAreSeen, StepsLeadToParents, UnnamedBindingsDoNotMatter};
 
 use hir_def_map::nameres::local_def_map::LocalDefMap;
@@ -27,6 +28,15 @@ pub fn reads_decide_answers()
     ensures paths { ReadsDecide }
     ensures imports { ImportsReadAlike }
     ensures whole { WholeMapsStandBeside }
+{}
+
+/// A change of a map changes one slot, or none.
+pub fn changes_keep_to_their_slot()
+    ensures pushed { PushesChangeTheirSlot }
+    ensures listed { ListsChangeNoSlot }
+    ensures made { ModulesChangeNoSlot }
+    ensures macro_uses { MacroUsesChangeTheirSlot }
+    ensures crates { CratesChangeTheirSlot }
 {}
 
 /// Each segment after a module is a name of that module which the asking module may see; past a module of another
