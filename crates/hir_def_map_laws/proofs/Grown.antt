@@ -13,18 +13,17 @@ use Rattle.hir_base.specs.contracts.ids.MapIdPartialEq.TheImpl as map_id
 use Rattle.hir_scope.specs.ModuleTree.{same_crate, same_module}
 use Rattle.hir_scope.specs.PerNs.{keep_of}
 use Rattle.hir_scope.specs.Visibility.{is_visible, stands_for}
-use Rattle.hir_scope.specs.declared.per_ns.PerNs.{PerNs}
 use Rattle.hir_scope.specs.declared.visibility.Visibility.{Visibility}
 use Rattle.hir_scope.specs.declared.visibility.Visibility.TheVariants.{Module, PubCrate, Public}
 use Rattle.hir_def_map.specs.Beside.{exact_map}
-use Rattle.hir_def_map.specs.Chains.{Frame, above_in, above_inside, above_under, frame_of, frames_of, holders_by, holders_in, holders_of_frame, numbers_of}
+use Rattle.hir_def_map.specs.Chains.{above_in, above_inside, above_under, frame_of, frames_of, holders_in, holders_of_frame, numbers_of}
 use Rattle.hir_def_map.specs.Scoping.FirstSegment.{is_block_root, legacy_of}
 use Rattle.hir_def_map.specs.Scoping.Segments.{nearest_non_block_among, nearest_non_block_module, seen, variant_in}
 use Rattle.hir_def_map.specs.Scoping.Start.{climb, is_dependency, is_edition_2015, is_in_edition_2015, is_in_reach}
-use Rattle.hir_def_map.specs.State.{IsBefore, Map, Maps, ModuleValue, Placed, Variants, at_name, beside, entry_at, entry_in, entry_of, holders_of, holders_or, holders_under, map_in, module_at, module_in, numbered, parent_at, parent_in, parent_of, placed_in, variants_at, variants_in}
+use Rattle.hir_def_map.specs.State.{IsBefore, Map, Maps, ModuleValue, Placed, Variants, at_name, beside, entry_at, entry_in, entry_of, holders_of, holders_or, holders_under, map_in, module_at, module_in, numbered, parent_at, parent_in, parent_of, placed_in, variants_at}
 use Rattle.hir_def_map_laws.proofs.SameAbove.{before_at, same_numbers_above, same_parent_at}
 use Rattle.hir_def_map_laws.specs.Paths.{prelude_module_of}
-use Rattle.hir_def_map_laws.specs.ReadLaw.{Fails, Grows, KeepApart, StandsBeside, has_no_variants, is_named_in}
+use Rattle.hir_def_map_laws.specs.ReadLaw.{Fails, Grows, StandsBeside, has_no_variants, is_named_in}
 use Rattle.hir_def_map_laws.specs.Slots.{is_in}
 
 pub either-false : {P : Type 0} (b : Bool) → b ≡ true → b ≡ false → P

@@ -1,5 +1,5 @@
 -- Paths that are asked inside a map that grows.
-use Rattle.std.proofs.Common.{◌≡◌, ◌∙◌, ap, sym, subst, refl, ℕ, ◌+◌, ◌<◌, List, [], ◌∷◌, length, Bool, true, false, ◌&&◌, ◌==◌, cond, Option, None, Some}
+use Rattle.std.proofs.Common.{◌≡◌, ◌∙◌, ap, sym, subst, refl, ℕ, ◌+◌, ◌<◌, List, [], ◌∷◌, length, Bool, true, false, ◌&&◌, cond, Option, None, Some}
 use Rattle.std.specs.Cmp.{unsigned_Decides}
 use Rattle.std.specs.List.{All}
 use Rattle.std.specs.Prelude.{is_some, not, option_and_then}
@@ -8,7 +8,6 @@ use Rattle.hir_base.specs.ModPath.{Path}
 use Rattle.hir_base.specs.declared.ast_id.BlockId.{BlockId}
 use Rattle.hir_base.specs.declared.ids.AdtId.{AdtId}
 use Rattle.hir_base.specs.declared.ids.AdtId.TheVariants as adts
-use Rattle.hir_base.specs.declared.ids.Crate.{Crate}
 use Rattle.hir_base.specs.declared.ids.EnumId.{EnumId}
 use Rattle.hir_base.specs.declared.ids.ExternCrateId.{ExternCrateId}
 use Rattle.hir_base.specs.declared.ids.MapId.{MapId}
@@ -28,17 +27,17 @@ use Rattle.hir_def_map.specs.Chains.{above_in, holders_in}
 use Rattle.hir_def_map.specs.Named.{named_by, test_of}
 use Rattle.hir_def_map.specs.Scoping.Asking.{Asking}
 use Rattle.hir_def_map.specs.Scoping.Blocks.{from_blocks, inherited}
-use Rattle.hir_def_map.specs.Scoping.FirstSegment.{builtin_name, extern_bound, extern_name, is_block_root, legacy_bound, legacy_of, macro_use_bound, macro_use_name, macro_use_of, name_in_crate_root_or_extern_prelude, name_in_module, of_style, prelude_name, shadow_before, unless_block_root, with_builtin}
+use Rattle.hir_def_map.specs.Scoping.FirstSegment.{builtin_name, extern_bound, extern_name, legacy_bound, legacy_of, macro_use_bound, macro_use_name, macro_use_of, name_in_crate_root_or_extern_prelude, name_in_module, of_style, prelude_name, shadow_before, unless_block_root, with_builtin}
 use Rattle.hir_def_map.specs.Scoping.Segments.{after_enum, crossing, nearest_non_block_module, rest, seen, through, through_adt, through_module, through_type, unresolved}
 use Rattle.hir_def_map.specs.Scoping.Start.{abs_from, climb, from_start, is_import, is_in_edition_2015, module_bound, settled_in_block, super_from}
-use Rattle.hir_def_map.specs.State.{Local, Map, Maps, at_name, beside, crate_root, entry_in, map_in, module_in, numbered, variants_at}
+use Rattle.hir_def_map.specs.State.{Local, Map, Maps, at_name, crate_root, entry_in, map_in, module_in, numbered, variants_at}
 use Rattle.hir_def_map.specs.declared.nameres.path_resolution.ReachedFixedPoint.TheVariants.{No}
 use Rattle.hir_def_map.specs.declared.nameres.path_resolution.ResolvePathResult.{ResolvePathResult}
 use Rattle.hir_def_map.specs.declared.world.named.Named.{Named}
 use Rattle.hir_def_map.specs.declared.world.named.Named.TheVariants as named
 use Rattle.hir_def_map_laws.proofs.Agreement.{bound-in, bound_in}
 use Rattle.hir_def_map_laws.proofs.Fails.{Fails-in_module, Fails-in_root, Fails-keep, Fails-weaker}
-use Rattle.hir_def_map_laws.proofs.Grown.{Growth, Here, Out, climb_here, either-false, entry_here, entry_out, here_out, holders_out, is_own, legacy_here, legacy_out, names_here, names_out, nearest_here, new, new_map, old, old_map, own, same_2015, same_climb, same_holders, same_nearest, same_prelude_module, same_reach, same_seen, variant_here, variant_out}
+use Rattle.hir_def_map_laws.proofs.Grown.{Growth, Here, Out, either-false, entry_here, entry_out, here_out, holders_out, is_own, legacy_here, legacy_out, names_here, names_out, nearest_here, new, new_map, old, old_map, own, same_2015, same_climb, same_holders, same_nearest, same_prelude_module, same_reach, same_seen, variant_here, variant_out}
 use Rattle.hir_def_map_laws.proofs.Holders.{start-of_crate}
 use Rattle.hir_def_map_laws.proofs.ReadOutside.{Outside, SameFirst, inherited_out, rest_out, through_out}
 use Rattle.hir_def_map_laws.specs.Paths.{prelude_module_of}

@@ -6,7 +6,6 @@ use Rattle.std.proofs.lemmas.List.Elements.{All-head, All-tail}
 use Rattle.hir_base.specs.declared.ast_id.BlockId.{BlockId}
 use Rattle.hir_base.specs.declared.ids.AdtId.{AdtId}
 use Rattle.hir_base.specs.declared.ids.AdtId.TheVariants as adts
-use Rattle.hir_base.specs.declared.ids.Crate.{Crate}
 use Rattle.hir_base.specs.declared.ids.ExternCrateId.{ExternCrateId}
 use Rattle.hir_base.specs.declared.ids.MapId.{MapId}
 use Rattle.hir_base.specs.declared.ids.ModuleId.{ModuleId as AnyModule}
@@ -25,13 +24,13 @@ use Rattle.hir_def_map.specs.Scoping.Asking.{Asking}
 use Rattle.hir_def_map.specs.Scoping.Blocks.{in_preludes, inherited, joined, with_preludes}
 use Rattle.hir_def_map.specs.Scoping.FirstSegment.{builtin_name, extern_bound, extern_name, is_block_root, legacy_bound, macro_use_bound, macro_use_name, macro_use_of, name_in_crate_root_or_extern_prelude, name_in_module, name_in_preludes, of_style, prelude_name, shadow_before, unless_block_root, with_builtin}
 use Rattle.hir_def_map.specs.Scoping.Segments.{after_enum, crossing, nearest_non_block_module, rest, seen, through, through_adt, through_type, unresolved}
-use Rattle.hir_def_map.specs.Scoping.Start.{abs_from, climb, from_start, is_import, is_in_edition_2015, module_bound, settled_in_block, super_from}
-use Rattle.hir_def_map.specs.State.{Local, Map, Maps, at_name, crate_root, entry_in, map_in}
+use Rattle.hir_def_map.specs.Scoping.Start.{abs_from, climb, from_start, is_import, module_bound, settled_in_block, super_from}
+use Rattle.hir_def_map.specs.State.{Local, Map, at_name, crate_root, entry_in, map_in}
 use Rattle.hir_def_map.specs.declared.nameres.path_resolution.ReachedFixedPoint.TheVariants.{No}
 use Rattle.hir_def_map.specs.declared.nameres.path_resolution.ResolvePathResult.{ResolvePathResult}
 use Rattle.hir_def_map_laws.proofs.Agreement.{bound-in, bound_in}
 use Rattle.hir_def_map_laws.proofs.Fails.{Fails-in_module, Fails-in_preludes, Fails-in_root, Fails-keep}
-use Rattle.hir_def_map_laws.proofs.Grown.{Growth, Here, Out, climb_out, either-false, entry_out, here_out, is_own, legacy_out, map_in-out, names_out, nearest_out, new, old, own, prelude_out, same_2015, same_climb, same_nearest, same_prelude_module, same_reach, same_seen, variant_out}
+use Rattle.hir_def_map_laws.proofs.Grown.{Growth, Here, Out, climb_out, entry_out, here_out, is_own, legacy_out, map_in-out, names_out, nearest_out, new, old, own, prelude_out, same_2015, same_climb, same_nearest, same_prelude_module, same_reach, same_seen, variant_out}
 use Rattle.hir_def_map_laws.specs.Paths.{prelude_module_of}
 use Rattle.hir_def_map_laws.specs.ReadLaw.{BeginsWithCrates, Fails, FailsAtType, SameInPreludes, is_named_in, with_crates}
 use Rattle.hir_def_map_laws.specs.Slots.{is_in}

@@ -1,8 +1,18 @@
 -- What building leaves of the slots of a map.
-use Rattle.std.proofs.Common.{◌≡◌, ◌≢◌, ◌∙◌, ap, sym, refl, ◌==◌, ℕ, zero, suc, ◌<◌, ◌++◌, List, [], ◌∷◌, length, Bool, true, false, cond, Option, None, Some, arith}
+use Rattle.std.proofs.Common.{◌≡◌, ◌≢◌, ◌∙◌, ap, sym, refl, ◌==◌, ℕ, zero, suc, ◌++◌, List, [], ◌∷◌, Bool, true, false, cond, Option, None, Some}
 use Rattle.std.specs.Cmp.{unsigned_Decides}
-use Rattle.std.specs.Prelude.{slice_get, option_and_then}
+use Rattle.std.specs.Prelude.{slice_get, option_and_then, Contains}
+use Rattle.std.specs.BTreeMap.{insert_entry, is_at}
+use Rattle.std.specs.Cmp.{IsTotalOrder}
+use Rattle.std.specs.Map.{lookup}
+use Rattle.std.specs.Ordering.{is_eq, match_ordering}
+use Rattle.std.specs.declared.cmp.Ordering.{Ordering}
+use Rattle.std.specs.declared.cmp.Ordering.TheVariants.{Less, Equal, Greater}
+use Rattle.std.proofs.lemmas.List.Elements.{All-contains_itself, All-weaker}
 use mathlib.Core.Bool.{true≢false}
+use Rattle.hir_base.specs.contracts.ids.EnumIdOrd.TheImpl as enum_order
+use Rattle.hir_base.specs.contracts.ids.EnumIdOrd.TheImpl.Laws.{total-law as enum_total}
+use Rattle.hir_base.specs.declared.ids.EnumId.{EnumId}
 use Rattle.hir_base.specs.declared.ids.ExternCrateId.{ExternCrateId}
 use Rattle.hir_base.specs.declared.ids.ModuleId.{ModuleId}
 use Rattle.hir_base.specs.declared.macro_kind.MacroId.{MacroId}
@@ -16,15 +26,16 @@ use Rattle.hir_scope.specs.declared.per_ns.PerNs.{PerNs}
 use Rattle.hir_scope.specs.declared.visibility.Visibility.{Visibility}
 use Rattle.hir_def_map.specs.Declaration.{listed}
 use Rattle.hir_def_map.specs.Scoping.FirstSegment.{last_macro, legacy_of}
-use Rattle.hir_def_map.specs.State.{Local, Map, ModuleValue, Variants, changed_at, entry_at, entry_of, module_at, new_id, new_module, parent_at, parent_of, place_at, pushed, pushed_module, variants_at, with_child, with_macro_use, with_module, with_module_scope, with_name, with_scope}
+use Rattle.hir_def_map.specs.State.{Local, Map, ModuleValue, Variants, changed_at, entry_at, module_at, new_id, new_module, numbered, parent_at, parent_of, place_at, pushed, pushed_module, variants_at, with_child, with_enum, with_macro_use, with_module, with_module_scope, with_name, with_scope}
 use Rattle.hir_def_map.specs.declared.nameres.declaration.Declaration.{Declaration}
 use Rattle.hir_def_map.specs.declared.nameres.declaration.Declaration.TheVariants as declaration
 use Rattle.hir_def_map.specs.declared.nameres.origin.ModuleOrigin.{ModuleOrigin}
 use Rattle.hir_def_map.proofs.Grown.{at_name-with_name_other, entry_at-pushed_elsewhere, entry_at-pushed_other, entry_at-with_module, kept}
 use Rattle.hir_def_map.proofs.Listed.{KeepsNames-listed}
 use Rattle.hir_def_map_laws.specs.ReadLaw.{AgreeAt, Grows}
-use Rattle.hir_def_map_laws.specs.SlotChanges.{ChangesOnly}
-use Rattle.hir_def_map_laws.specs.Slots.{Slot, of_module, of_preludes}
+use Rattle.hir_def_map_laws.proofs.ReadLaw.{reads_decide}
+use Rattle.hir_def_map_laws.specs.SlotChanges.{ChangesOnly, OtherSlotsDoNotMatter}
+use Rattle.hir_def_map_laws.specs.Slots.{Slot, of_module, of_preludes, reads}
 
 -- a change of modules that leaves what each is in lets a map grow
 Grows-changed : (map : Map) (at : ℕ) (change : ModuleValue → ModuleValue) → ((m : ModuleValue) → (change m).parent ≡ m.parent)
@@ -156,6 +167,52 @@ changes-made map local at name origin visibility parent = record {
     }
     slots (of_preludes other) differs = same_preludes map _ local other
 
+-- ---- enums
+
+module _ {K V : Type 0} (cmp : K → K → Ordering) (total : IsTotalOrder cmp) (k : K) (v : V) (q : K) where
+  -- a key that wasn't there leaves what other keys have
+  inserted_other : is_at (cmp q) k ≡ false → (es : List (K × V)) → lookup (is_at (cmp k)) es ≡ None → lookup (is_at (cmp q)) (insert_entry cmp es k v) ≡ lookup (is_at (cmp q)) es
+  inserted_other away [] none = ap (λ (b : Bool). cond b (Some v) None) away
+  inserted_other away (e ∷ es) none = go (cmp k e.0) refl (λ n. inserted_other away es n)
+    where
+      go : (o : Ordering) → cmp k e.0 ≡ o → (lookup (is_at (cmp k)) es ≡ None → lookup (is_at (cmp q)) (insert_entry cmp es k v) ≡ lookup (is_at (cmp q)) es)
+          → lookup (is_at (cmp q)) (match_ordering o ((k, v) ∷ e ∷ es) ((e.0, v) ∷ es) (e ∷ insert_entry cmp es k v)) ≡ lookup (is_at (cmp q)) (e ∷ es)
+      go Less s below = ap (λ (b : Bool). cond b (Some v) (lookup (is_at (cmp q)) (e ∷ es))) away
+      go Equal s below =
+          let found : Some e.1 ≡ None = sym (ap (λ (o : Ordering). cond (is_eq o) (Some e.1) (lookup (is_at (cmp k)) es)) s) ∙ none in
+          absurd cc
+      go Greater s below =
+          ap (cond (is_at (cmp q) e.0) (Some e.1)) (below (sym (ap (λ (o : Ordering). cond (is_eq o) (Some e.1) (lookup (is_at (cmp k)) es)) s) ∙ none))
+
+  -- what a key has stays where another comes in that wasn't there
+  kept_inserted : (es : List (K × V)) (w : V) → lookup (is_at (cmp k)) es ≡ None → lookup (is_at (cmp q)) es ≡ Some w → lookup (is_at (cmp q)) (insert_entry cmp es k v) ≡ Some w
+  kept_inserted es w none found = go (cmp q k) refl
+    where
+      go : (o : Ordering) → cmp q k ≡ o → lookup (is_at (cmp q)) (insert_entry cmp es k v) ≡ Some w
+      go Less s = inserted_other (ap is_eq s) es none ∙ found
+      go Equal s =
+          let same : lookup (is_at (cmp q)) es ≡ lookup (is_at (cmp k)) es = λ i. lookup (λ x. is_eq (total.congr q k x s i)) es in
+          let both : Some w ≡ None = sym found ∙ same ∙ none in
+          absurd cc
+      go Greater s = inserted_other (ap is_eq s) es none ∙ found
+
+pub changes-enum : (map : Map) (local : Local) (id : EnumId) (variants : Variants) → variants_at map id ≡ None → ChangesOnly map local (with_enum map id variants) local None
+changes-enum map local id variants none = record {
+  grows = record {
+    id = refl;
+    holder = refl;
+    crate_data = refl;
+    prelude = refl;
+    parents = λ k m e. ap parent_of e;
+    enums = λ other found e. kept_inserted enum_order.ghosts.cmp enum_total id variants other map.enums found none e;
+  };
+  others = slots;
+}
+  where
+    slots : (slot : Slot) → Some slot ≢ None → AgreeAt map local (with_enum map id variants) local slot
+    slots (of_module k other) differs = record { entries = refl; legacy = refl }
+    slots (of_preludes other) differs = record { crates = refl; macro_uses = refl }
+
 -- ---- preludes
 
 pub changes-macro_use : (map : Map) (local : Local) (name : List ℕ) (makro : MacroId) (by : Option ExternCrateId)
@@ -181,3 +238,11 @@ changes-crate map local name entry = record { grows = Grows-itself map; others =
       crates = at_name-with_name_other local name other entry (λ f. differs (λ i. Some (of_preludes (f i))));
       macro_uses = refl;
     }
+
+-- ---- paths
+
+pub other_slots : OtherSlotsDoNotMatter
+other_slots finished one other asking local changed at path stands begins low changes apart =
+    let slots : List Slot = reads finished asking one (numbered one.id at) path in
+    reads_decide finished one other asking local at path stands begins low changes.grows
+    (All-weaker (Contains slots) (AgreeAt one asking.local other local) (λ slot there. changes.others slot (λ e. apart slot (sym e) there)) slots (All-contains_itself slots))

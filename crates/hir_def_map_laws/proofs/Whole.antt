@@ -1,33 +1,26 @@
 -- A map that names only what is there stands beside finished maps that do.
-use Rattle.std.proofs.Common.{◌≡◌, ◌∙◌, ap, sym, subst, refl, ℕ, List, [], ◌∷◌, Bool, true, false, ◌&&◌, cond, Option, None, Some}
-use Rattle.std.specs.List.{All}
+use Rattle.std.proofs.Common.{◌≡◌, ◌∙◌, ap, sym, subst, refl, ℕ, List, Bool, true, false, ◌&&◌, cond, Option, None, Some}
 use Rattle.std.specs.Option.{option_and_then, option_map}
 use Rattle.std.specs.Prelude.{is_some, not}
 use Rattle.std.proofs.lemmas.List.Elements.{All-weaker}
 use mathlib.Core.Bool.{true≢false}
-use Rattle.hir_base.specs.declared.ids.EnumId.{EnumId}
 use Rattle.hir_base.specs.declared.ids.MapId.{MapId}
-use Rattle.hir_base.specs.declared.ids.ModuleDefId.{ModuleDefId}
 use Rattle.hir_base.specs.declared.ids.ModuleId.{ModuleId}
 use Rattle.hir_base.specs.declared.ids.UseId.{UseId}
 use Rattle.hir_base.specs.contracts.ids.MapIdPartialEq.TheImpl as map_id
-use Rattle.hir_scope.specs.PerNs.{Item}
-use Rattle.hir_scope.specs.declared.imports.ImportOrExternCrate.{ImportOrExternCrate}
-use Rattle.hir_scope.specs.declared.per_ns.PerNs.{PerNs}
 use Rattle.hir_def_map.specs.Beside.{exact_map, same_id}
 use Rattle.hir_def_map.specs.Chains.{holders_in}
-use Rattle.hir_def_map.specs.Closed.{AreThere, ModuleIsThere, TypeIsThere}
+use Rattle.hir_def_map.specs.Closed.{AreThere, ModuleIsThere}
 use Rattle.hir_def_map.specs.Complete.{AreWhole, NamesOnly}
 use Rattle.hir_def_map.specs.Named.{is_missing, is_there, map_named, prelude_named, test_of}
-use Rattle.hir_def_map.specs.Scoping.FirstSegment.{prelude_of}
-use Rattle.hir_def_map.specs.State.{Map, Maps, ModuleValue, Placed, beside, entry_at, entry_in, entry_of, map_in, module_at, module_in, numbered, parent_in, placed_in, variants_at, variants_in}
+use Rattle.hir_def_map.specs.State.{Map, Maps, Placed, beside, entry_at, entry_in, entry_of, module_at, numbered, placed_in, variants_at}
 use Rattle.hir_def_map.specs.declared.world.named.Named.{Named}
 use Rattle.hir_def_map.specs.declared.world.named.Named.TheVariants as named
 use Rattle.hir_def_map.proofs.Complete.{IsClosed-whole}
 use Rattle.hir_def_map.proofs.StaysComplete.{IsClosed-beside}
 use Rattle.hir_def_map_laws.proofs.Fails.{Fails-weaker}
 use Rattle.hir_def_map_laws.specs.Paths.{prelude_module_of}
-use Rattle.hir_def_map_laws.specs.ReadLaw.{Fails, FailsAtType, KeepApart, StandsBeside, has_no_variants, is_named_in}
+use Rattle.hir_def_map_laws.specs.ReadLaw.{KeepApart, StandsBeside, has_no_variants, is_named_in}
 use Rattle.hir_def_map_laws.specs.Slots.{is_in}
 
 

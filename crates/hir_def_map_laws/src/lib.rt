@@ -11,7 +11,7 @@ ghost use Rattle.hir_def_map.specs.Closed.{IsClosed};
 ghost use Rattle.hir_def_map.specs.State.{Local, Map};
 ghost use Rattle.hir_def_map_laws.specs.Building.{DeclarationsKeepNames, DeclarationsKeepPlaces, DeclarationsNameWhatIsThere, EnumsKeepToSources, ListsKeepToSources, ModulesKeepToSources, ModulesNameWhatIsThere, PushesKeepPlaces, PushesKeepToSources, PushesNameWhatIsThere};
 ghost use Rattle.hir_def_map_laws.specs.ReadLaw.{ImportsReadAlike, ReadsDecide, WholeMapsStandBeside};
-ghost use Rattle.hir_def_map_laws.specs.SlotChanges.{CratesChangeTheirSlot, ListsChangeNoSlot, MacroUsesChangeTheirSlot, ModulesChangeNoSlot, PushesChangeTheirSlot};
+ghost use Rattle.hir_def_map_laws.specs.SlotChanges.{CratesChangeTheirSlot, EnumsChangeNoSlot, ListsChangeNoSlot, MacroUsesChangeTheirSlot, ModulesChangeNoSlot, OtherSlotsDoNotMatter, PushesChangeTheirSlot};
 ghost use Rattle.hir_def_map_laws.specs.Paths.{BlocksAskHolders, CratesAskThemselves, InnerModulesAskPreludes, LaterSegmentsAreSeen, RootedStepsLeadToParents, SegmentsAreSeen, StepsLeadToParents, UnnamedBindingsDoNotMatter};
 
 use hir_def_map::nameres::local_def_map::LocalDefMap;
@@ -30,11 +30,13 @@ pub fn reads_decide_answers()
     ensures whole { WholeMapsStandBeside }
 {}
 
-/// A change of a map changes one slot, or none.
+/// A change of a map changes one slot, or none; paths that don't look at it mean the same.
 pub fn changes_keep_to_their_slot()
+    ensures others { OtherSlotsDoNotMatter }
     ensures pushed { PushesChangeTheirSlot }
     ensures listed { ListsChangeNoSlot }
     ensures made { ModulesChangeNoSlot }
+    ensures enums { EnumsChangeNoSlot }
     ensures macro_uses { MacroUsesChangeTheirSlot }
     ensures crates { CratesChangeTheirSlot }
 {}
