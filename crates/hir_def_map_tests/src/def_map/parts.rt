@@ -17,23 +17,25 @@ use std::process::Abort;
 use std::rc::Rc;
 use std::test::Fail;
 
-const fn block_of(number: u32) -> MapId {
-    MapId {
-        krate: Crate(0),
-        block: Some(BlockId(number)),
-    }
-}
-
 /// A block in the crate's root.
-const OUTER: MapId = block_of(1);
+const OUTER: MapId = MapId {
+    krate: Crate(0),
+    block: Some(BlockId(1)),
+};
 
 /// A block in the outer one.
-const INNER: MapId = block_of(2);
+const INNER: MapId = MapId {
+    krate: Crate(0),
+    block: Some(BlockId(2)),
+};
 
 /// Another block in the outer one.
-const BESIDE: MapId = block_of(3);
+const BESIDE: MapId = MapId {
+    krate: Crate(0),
+    block: Some(BlockId(3)),
+};
 
-const fn root(map: MapId) -> ModuleId {
+fn root(map: MapId) -> ModuleId {
     ModuleId { map, index: 0 }
 }
 
@@ -41,7 +43,12 @@ const fn root(map: MapId) -> ModuleId {
 const READ_BELOW: [(MapId, bool); 4] = [(MAP, true), (OUTER, true), (INNER, true), (BESIDE, false)];
 
 /// Without the outer block's map the inner one's can't be read either.
-const READ_WITHOUT_OUTER: [(MapId, bool); 4] = [(MAP, true), (OUTER, false), (INNER, false), (BESIDE, false)];
+const READ_WITHOUT_OUTER: [(MapId, bool); 4] = [
+    (MAP, true),
+    (OUTER, false),
+    (INNER, false),
+    (BESIDE, false),
+];
 
 /// A map with its root alone, of the crate or of a block.
 fn made(alloc: Global, block: Option<BlockInfo>) -> Result<DefMap, Fail> {
@@ -84,8 +91,16 @@ fn parts_with_holders(rt: HostRuntime) -> Result<(), Fail> {
     let mut crates = BTreeSet::new(rt.alloc());
     crates.insert(Crate(0))?;
     let holders = [root(INNER), root(OUTER), root(MAP)];
-    reads(&rt, WorldPart::among(&world, &crates, &holders), &READ_BELOW);
+    reads(
+        &rt,
+        WorldPart::among(&world, &crates, &holders),
+        &READ_BELOW,
+    );
     let inner_alone = [root(INNER)];
-    reads(&rt, WorldPart::among(&world, &crates, &inner_alone), &READ_WITHOUT_OUTER);
+    reads(
+        &rt,
+        WorldPart::among(&world, &crates, &inner_alone),
+        &READ_WITHOUT_OUTER,
+    );
     Ok(())
 }
