@@ -314,7 +314,7 @@ NamesOnly-prelude finished map prelude there f =
     NamesOnly-more (beside finished map) (beside finished new) more new (record {
       own_crate = f.own_crate;
       held = f.held;
-        outside = f.outside;
+      outside = f.outside;
       root = f.root;
       in_order = f.in_order;
       modules = f.modules;
