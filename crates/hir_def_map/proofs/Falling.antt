@@ -2,24 +2,21 @@
 use Rattle.std.proofs.Common.{◌≡◌, ◌∙◌, ap, sym, subst, refl, Bool, true, false, not, ◌&&◌, ◌||◌, is_some, cond, Option, Some, None, List, [], ◌∷◌, ◌⊎◌, inl, inr}
 use mathlib.Core.Bool.{true≢false}
 use Rattle.std.specs.Option.{option_map}
-use Rattle.std.specs.Cmp.{first_so, second_so}
 use Rattle.std.specs.List.{list_any}
 use Rattle.std.specs.BTreeMap.{BTreeMap, get, is_at, Updates}
 use Rattle.hir_base.specs.declared.ids.MapId.{MapId}
 use Rattle.hir_base.specs.declared.ids.ModuleId.{ModuleId}
 use Rattle.hir_base.specs.contracts.ids.MapIdOrd.TheImpl as map_order
-use Rattle.hir_base.specs.contracts.ids.MapIdPartialEq.TheImpl as map_id
 use Rattle.hir_scope.specs.ModuleTree.{same_crate}
 use Rattle.hir_def_map.specs.declared.world.finished.Finished.{Finished}
-use Rattle.hir_def_map.specs.State.{Maps, Placed, beside, holders_of, holders_under, placed_in}
+use Rattle.hir_def_map.specs.State.{Maps, Placed, holders_of, holders_under}
 use Rattle.hir_def_map.specs.Chains.{HolderLeads, IsPlaced, frame_of, frames_of, holders_of_frame}
-use Rattle.hir_def_map.specs.Beside.{exact_map}
-use Rattle.hir_def_map.specs.Named.{is_missing, is_there, lies_in, map_named, names_map, names_some}
+use Rattle.hir_def_map.specs.Named.{lies_in, names_map, names_some}
 use Rattle.hir_def_map.specs.World.{IsChecked, IsFinished, finished_in, placed_of}
 use Rattle.hir_def_map.specs.Removal.{Depends, FallsWith, IsClosed, IsFalling, IsUpward, lacks_some, lists_in, lists_of, names_in, names_of}
 use Rattle.hir_def_map.specs.Removal.Depends.{itself, through}
 use Rattle.hir_def_map.proofs.Depending.{depends_still, falls_by}
-use Rattle.hir_def_map.proofs.Joined.{finds_some, finished_kept, holder_named, nothing_missing, own_id, same_id, there_in}
+use Rattle.hir_def_map.proofs.Joined.{finished_kept, holder_named, own_id, same_id}
 use Rattle.hir_def_map.proofs.Naming.{names_finished}
 
 abbrev pub Store : Type 0

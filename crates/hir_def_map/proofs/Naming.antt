@@ -1,8 +1,8 @@
 -- What a map names is there, among finished maps and among a part of them.
-use Rattle.std.specs.Prelude.{◌≡◌, Bool, true, false, not, ◌&&◌, is_some, Option, None, Some, List, cond, option_and_then, option_map}
+use Rattle.std.specs.Prelude.{◌≡◌, Bool, true, false, not, is_some, Option, None, Some, List, cond, option_and_then}
 use Rattle.std.specs.Cmp.{first_so, second_so}
 use Rattle.std.specs.BTreeMap.{is_at}
-use Rattle.std.proofs.Common.{ap, refl, sym, subst, ◌∙◌}
+use Rattle.std.proofs.Common.{ap, refl, sym, ◌∙◌}
 use mathlib.Core.Bool.{true≢false}
 use Rattle.hir_base.specs.declared.ids.Crate.{Crate}
 use Rattle.hir_base.specs.declared.ids.MapId.{MapId}

@@ -193,10 +193,8 @@ impl DefMap {
         ensures value { Some result.now ≡ scope_at self.old at }
         ensures* lends { sem 𝓛 (LendsScopeAt self.entry at result) }
     {
-        let id = ModuleId {
-            map: self.id(),
-            index: at,
-        };
+        let map = self.id();
+        let id = ModuleId { map, index: at };
         self.modules[id].scope_mut()
     }
 
