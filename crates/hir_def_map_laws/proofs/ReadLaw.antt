@@ -126,11 +126,10 @@ module _ (t : Growth) (asking : Asking) (local : Local) (begins : BeginsWithCrat
         alike (seen (old t) from m s) (Fails-keep (has_no_variants t.one) (λ v. is_visible (above_in (old t)) (holders_in (old t)) v from) (entry_in (old t) m s) (names_here t m s e))
         (others_agree (of_module m.index s) (slots_after (old t) (own t) from ss (seen (old t) from m s)) agree) in
         let own_crate : same_crate m.map.krate from.map.krate ≡ true = ap (λ (id : MapId). same_crate id.krate from.map.krate) (is_own t m e) ∙ (unsigned_Decides from.map.krate.0 from.map.krate.0).1 refl in
-        let within : after from (seen (new t) from m s) ≡ before from (seen (old t) from m s) = ap (after from) same ∙ next.answers in
-        (
+        let within : after from (seen (new t) from m s) ≡ before from (seen (old t) from m s) = ap (after from) same ∙ next.answers in (
           ap (λ (b : Bool). cond b (after from (seen (new t) from m s)) (crossing (after (nearest_non_block_module (new t) m) (seen (new t) (nearest_non_block_module (new t) m) (nearest_non_block_module (new t) m) s)))) own_crate
-          ∙ within
-          ∙ sym (ap (λ (b : Bool). cond b (before from (seen (old t) from m s)) (crossing (before (nearest_non_block_module (old t) m) (seen (old t) (nearest_non_block_module (old t) m) (nearest_non_block_module (old t) m) s)))) own_crate),
+              ∙ within
+              ∙ sym (ap (λ (b : Bool). cond b (before from (seen (old t) from m s)) (crossing (before (nearest_non_block_module (old t) m) (seen (old t) (nearest_non_block_module (old t) m) (nearest_non_block_module (old t) m) s)))) own_crate),
           ap (λ (xs : List Slot). of_module m.index s ∷ xs) (ap (slots_after (new t) (own t) from ss) same ∙ next.slots),
         )
 
@@ -231,8 +230,7 @@ module _ (t : Growth) (asking : Asking) (local : Local) (begins : BeginsWithCrat
         let same : SameInPreludes t.one asking.local t.other local s = first_agrees (of_preludes s) behind found.left in
         let names : name_in_crate_root_or_extern_prelude (new t) local from s ≡ names_before = λ i. or_of (found.entries i) (unless_block_root from (same_extern same i)) in
         let next : Alike ss 1 names_before =
-        rest_alike ss 1 names_before (Fails-in_root (has_no_variants t.one) (old t) asking.local from s (known_extern s) (known root s)) (others_agree (of_preludes s) behind found.left) in
-        (
+        rest_alike ss 1 names_before (Fails-in_root (has_no_variants t.one) (old t) asking.local from s (known_extern s) (known root s)) (others_agree (of_preludes s) behind found.left) in (
           ap (rest (new t) from ss 1) names ∙ next.answers,
           ap (λ (xs : List Slot). with_slot (own t) root s (of_preludes s ∷ xs)) (ap (slots_after (new t) (own t) from ss) names ∙ next.slots),
         )
@@ -258,8 +256,7 @@ module _ (t : Growth) (asking : Asking) (local : Local) (begins : BeginsWithCrat
         let next : Alike ss 1 names_before =
         rest_alike ss 1 names_before
         (Fails-in_module (has_no_variants t.one) (old t) asking.local from s (known_extern s) asking.sub_ns (shadow_before ss asking.shadow) (known from s) (subst Known (sym (prelude_by s)) (known_bound prelude_before s)))
-        (others_agree (of_preludes s) behind prelude.1) in
-        (
+        (others_agree (of_preludes s) behind prelude.1) in (
           ap (rest (new t) from ss 1) names ∙ next.answers,
           λ i. with_slot (own t) from s (with_prelude_slot (own t) (same_module i) s (of_preludes s ∷ (ap (slots_after (new t) (own t) from ss) names ∙ next.slots) i)),
         )
@@ -271,8 +268,7 @@ module _ (t : Growth) (asking : Asking) (local : Local) (begins : BeginsWithCrat
         let names_before : PerNs = extern_name asking.local s in
         let behind : List Slot = slots_after (old t) (own t) from ss names_before in
         let same : SameInPreludes t.one asking.local t.other local s = first_agrees (of_preludes s) behind agree in
-        let next : Alike ss 1 names_before = rest_alike ss 1 names_before (known_extern s) (others_agree (of_preludes s) behind agree) in
-        (
+        let next : Alike ss 1 names_before = rest_alike ss 1 names_before (known_extern s) (others_agree (of_preludes s) behind agree) in (
           ap (abs_from (new t) from ss) (same_extern same) ∙ ap (λ (r : ResolvePathResult). cond (is_some names_before.types) r (unresolved No)) next.answers,
           ap (λ (xs : List Slot). of_preludes s ∷ xs) (ap (slots_after (new t) (own t) from ss) (same_extern same) ∙ next.slots),
         )

@@ -104,11 +104,10 @@ module _ (t : Growth) where
   prelude_name_out at name out =
       let module_ : Option AnyModule = prelude_module_of (map_in (old t) at.map) in
       let both = prelude_name_by at name out module_ refl in
-      let before : prelude_name (old t) at name ≡ bound_in (λ m. entry_in (old t) m name) module_ = bound-in (old t) (map_in (old t) at.map) name in
-      (
+      let before : prelude_name (old t) at name ≡ bound_in (λ m. entry_in (old t) m name) module_ = bound-in (old t) (map_in (old t) at.map) name in (
         bound-in (new t) (map_in (new t) at.map) name
-        ∙ ap (bound_in (λ m. entry_in (new t) m name)) (same_prelude_module t at.map)
-        ∙ both.0 ∙ sym before,
+            ∙ ap (bound_in (λ m. entry_in (new t) m name)) (same_prelude_module t at.map)
+            ∙ both.0 ∙ sym before,
         subst Outside (sym before) both.1,
       )
 

@@ -5,7 +5,7 @@ use Rattle.std.specs.Prelude.{slice_get, option_and_then, Contains}
 use Rattle.std.specs.BTreeMap.{insert_entry, is_at}
 use Rattle.std.specs.Cmp.{IsTotalOrder}
 use Rattle.std.specs.Map.{lookup}
-use Rattle.std.specs.Ordering.{is_eq, match_ordering}
+use Rattle.std.specs.Ordering.{is_eq, match_ordering, ordering_reverse}
 use Rattle.std.specs.declared.cmp.Ordering.{Ordering}
 use Rattle.std.specs.declared.cmp.Ordering.TheVariants.{Less, Equal, Greater}
 use Rattle.std.proofs.lemmas.List.Elements.{All-contains_itself, All-weaker}
@@ -38,7 +38,7 @@ use Rattle.hir_def_map_laws.specs.SlotChanges.{ChangesOnly, OtherSlotsDoNotMatte
 use Rattle.hir_def_map_laws.specs.Slots.{Slot, of_module, of_preludes, reads}
 
 -- a change of modules that leaves what each is in lets a map grow
-Grows-changed : (map : Map) (at : ℕ) (change : ModuleValue → ModuleValue) → ((m : ModuleValue) → (change m).parent ≡ m.parent)
+pub Grows-changed : (map : Map) (at : ℕ) (change : ModuleValue → ModuleValue) → ((m : ModuleValue) → (change m).parent ≡ m.parent)
     → Grows map (record map { modules = changed_at map.modules at change })
 Grows-changed map at change keeps = record {
   id = refl;
@@ -49,7 +49,8 @@ Grows-changed map at change keeps = record {
   enums = λ id variants e. e;
 }
 
-Grows-itself : (map : Map) → Grows map map
+-- a map that stays has what it had
+pub Grows-itself : (map : Map) → Grows map map
 Grows-itself map = record { id = refl; holder = refl; crate_data = refl; prelude = refl; parents = λ k m e. ap parent_of e; enums = λ id variants e. e }
 
 same_preludes : (map : Map) (modules : List ModuleValue) (local : Local) (name : List ℕ) → AgreeAt map local (record map { modules = modules }) local (of_preludes name)
@@ -170,41 +171,65 @@ changes-made map local at name origin visibility parent = record {
 -- ---- enums
 
 module _ {K V : Type 0} (cmp : K → K → Ordering) (total : IsTotalOrder cmp) (k : K) (v : V) (q : K) where
-  -- a key that wasn't there leaves what other keys have
-  inserted_other : is_at (cmp q) k ≡ false → (es : List (K × V)) → lookup (is_at (cmp k)) es ≡ None → lookup (is_at (cmp q)) (insert_entry cmp es k v) ≡ lookup (is_at (cmp q)) es
-  inserted_other away [] none = ap (λ (b : Bool). cond b (Some v) None) away
-  inserted_other away (e ∷ es) none = go (cmp k e.0) refl (λ n. inserted_other away es n)
+  -- a key that comes in leaves what other keys have
+  inserted_other : is_at (cmp q) k ≡ false → (es : List (K × V)) → lookup (is_at (cmp q)) (insert_entry cmp es k v) ≡ lookup (is_at (cmp q)) es
+  inserted_other away [] = ap (λ (b : Bool). cond b (Some v) None) away
+  inserted_other away (e ∷ es) = go (cmp k e.0) refl (inserted_other away es)
     where
-      go : (o : Ordering) → cmp k e.0 ≡ o → (lookup (is_at (cmp k)) es ≡ None → lookup (is_at (cmp q)) (insert_entry cmp es k v) ≡ lookup (is_at (cmp q)) es)
+      -- what is tied with the one key isn't tied with the other
+      apart : cmp k e.0 ≡ Equal → (b : Bool) → is_at (cmp q) e.0 ≡ b → is_at (cmp q) e.0 ≡ false
+      apart s false f = f
+      apart s true f =
+          let back : cmp e.0 k ≡ Equal = total.antisymm e.0 k ∙ ap ordering_reverse s in
+          let tied : cmp q k ≡ cmp e.0 k = total.congr q e.0 k (at_tie (cmp q e.0) f) in
+          absurd (true≢false (sym (ap is_eq (tied ∙ back)) ∙ away))
+        where
+          at_tie : (o : Ordering) → is_eq o ≡ true → o ≡ Equal
+          at_tie Less g = absurd (true≢false (sym g))
+          at_tie Equal g = refl
+          at_tie Greater g = absurd (true≢false (sym g))
+
+      go : (o : Ordering) → cmp k e.0 ≡ o → lookup (is_at (cmp q)) (insert_entry cmp es k v) ≡ lookup (is_at (cmp q)) es
           → lookup (is_at (cmp q)) (match_ordering o ((k, v) ∷ e ∷ es) ((e.0, v) ∷ es) (e ∷ insert_entry cmp es k v)) ≡ lookup (is_at (cmp q)) (e ∷ es)
       go Less s below = ap (λ (b : Bool). cond b (Some v) (lookup (is_at (cmp q)) (e ∷ es))) away
       go Equal s below =
-          let found : Some e.1 ≡ None = sym (ap (λ (o : Ordering). cond (is_eq o) (Some e.1) (lookup (is_at (cmp k)) es)) s) ∙ none in
-          absurd cc
-      go Greater s below =
-          ap (cond (is_at (cmp q) e.0) (Some e.1)) (below (sym (ap (λ (o : Ordering). cond (is_eq o) (Some e.1) (lookup (is_at (cmp k)) es)) s) ∙ none))
+          let other : is_at (cmp q) e.0 ≡ false = apart s (is_at (cmp q) e.0) refl in
+          ap (λ (b : Bool). cond b (Some v) (lookup (is_at (cmp q)) es)) other ∙ sym (ap (λ (b : Bool). cond b (Some e.1) (lookup (is_at (cmp q)) es)) other)
+      go Greater s below = ap (cond (is_at (cmp q) e.0) (Some e.1)) below
 
-  -- what a key has stays where another comes in that wasn't there
-  kept_inserted : (es : List (K × V)) (w : V) → lookup (is_at (cmp k)) es ≡ None → lookup (is_at (cmp q)) es ≡ Some w → lookup (is_at (cmp q)) (insert_entry cmp es k v) ≡ Some w
-  kept_inserted es w none found = go (cmp q k) refl
+  -- and has its value
+  inserted_here : cmp q k ≡ Equal → (es : List (K × V)) → lookup (is_at (cmp q)) (insert_entry cmp es k v) ≡ Some v
+  inserted_here tied [] = ap (λ (o : Ordering). cond (is_eq o) (Some v) None) tied
+  inserted_here tied (e ∷ es) = go (cmp k e.0) refl (inserted_here tied es)
+    where
+      go : (o : Ordering) → cmp k e.0 ≡ o → lookup (is_at (cmp q)) (insert_entry cmp es k v) ≡ Some v
+          → lookup (is_at (cmp q)) (match_ordering o ((k, v) ∷ e ∷ es) ((e.0, v) ∷ es) (e ∷ insert_entry cmp es k v)) ≡ Some v
+      go Less s below = ap (λ (o : Ordering). cond (is_eq o) (Some v) (lookup (is_at (cmp q)) (e ∷ es))) tied
+      go Equal s below = ap (λ (o : Ordering). cond (is_eq o) (Some v) (lookup (is_at (cmp q)) es)) (total.congr q k e.0 tied ∙ s)
+      go Greater s below = ap (λ (o : Ordering). cond (is_eq o) (Some e.1) (lookup (is_at (cmp q)) (insert_entry cmp es k v))) (total.congr q k e.0 tied ∙ s) ∙ below
+
+  -- what keys have stays where one comes in that had nothing, or had the same
+  kept_inserted : (es : List (K × V)) (w : V) → ((u : V) → lookup (is_at (cmp k)) es ≡ Some u → u ≡ v) → lookup (is_at (cmp q)) es ≡ Some w
+      → lookup (is_at (cmp q)) (insert_entry cmp es k v) ≡ Some w
+  kept_inserted es w known found = go (cmp q k) refl
     where
       go : (o : Ordering) → cmp q k ≡ o → lookup (is_at (cmp q)) (insert_entry cmp es k v) ≡ Some w
-      go Less s = inserted_other (ap is_eq s) es none ∙ found
+      go Less s = inserted_other (ap is_eq s) es ∙ found
       go Equal s =
           let same : lookup (is_at (cmp q)) es ≡ lookup (is_at (cmp k)) es = λ i. lookup (λ x. is_eq (total.congr q k x s i)) es in
-          let both : Some w ≡ None = sym found ∙ same ∙ none in
-          absurd cc
-      go Greater s = inserted_other (ap is_eq s) es none ∙ found
+          inserted_here s es ∙ ap Some (sym (known w (sym same ∙ found)))
+      go Greater s = inserted_other (ap is_eq s) es ∙ found
 
-pub changes-enum : (map : Map) (local : Local) (id : EnumId) (variants : Variants) → variants_at map id ≡ None → ChangesOnly map local (with_enum map id variants) local None
-changes-enum map local id variants none = record {
+pub changes-enum : (map : Map) (local : Local) (id : EnumId) (variants : Variants) → ((before : Variants) → variants_at map id ≡ Some before → before ≡ variants)
+    → ChangesOnly map local (with_enum map id variants) local None
+changes-enum map local id variants known = record {
   grows = record {
     id = refl;
     holder = refl;
     crate_data = refl;
     prelude = refl;
     parents = λ k m e. ap parent_of e;
-    enums = λ other found e. kept_inserted enum_order.ghosts.cmp enum_total id variants other map.enums found none e;
+    enums = λ other found e. kept_inserted enum_order.ghosts.cmp enum_total id variants other map.enums found known e;
   };
   others = slots;
 }

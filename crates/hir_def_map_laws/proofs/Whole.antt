@@ -23,7 +23,6 @@ use Rattle.hir_def_map_laws.specs.Paths.{prelude_module_of}
 use Rattle.hir_def_map_laws.specs.ReadLaw.{KeepApart, StandsBeside, has_no_variants, is_named_in}
 use Rattle.hir_def_map_laws.specs.Slots.{is_in}
 
-
 missing-not : (b : Bool) → not b ≡ false → b ≡ true
 missing-not true e = refl
 missing-not false e = absurd (true≢false e)

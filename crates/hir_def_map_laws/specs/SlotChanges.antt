@@ -43,9 +43,10 @@ abbrev pub ModulesChangeNoSlot : Type 0
 ModulesChangeNoSlot = (map : Map) (local : Local) (at : ℕ) (name : List ℕ) (origin : ModuleOrigin) (visibility : Visibility) (parent : Option ModuleId)
     → ChangesOnly map local (with_module map at name (new_module origin visibility parent)) local None
 
--- variants that an enum gets which had none change none
+-- variants that an enum gets which had none, or had these, change none
 abbrev pub EnumsChangeNoSlot : Type 0
-EnumsChangeNoSlot = (map : Map) (local : Local) (id : EnumId) (variants : Variants) → variants_at map id ≡ None → ChangesOnly map local (with_enum map id variants) local None
+EnumsChangeNoSlot = (map : Map) (local : Local) (id : EnumId) (variants : Variants) → ((before : Variants) → variants_at map id ≡ Some before → before ≡ variants)
+    → ChangesOnly map local (with_enum map id variants) local None
 
 -- a macro that joins the `macro_use` prelude changes the slot of its name there
 abbrev pub MacroUsesChangeTheirSlot : Type 0
