@@ -9,7 +9,7 @@ use Rattle.hir_def_map.specs.State.{beside, root_of}
 use Rattle.hir_wire.specs.declared.answer.Answer.{Answer}
 use Rattle.hir_wire.specs.declared.command.Shadow.{Shadow}
 use Rattle.hir_wire.specs.declared.command.MacroStyle.{MacroStyle}
-use Rattle.hir_session.specs.SessionState.{SessionState, Resolution, workspace_of, finished_of, read_of, start_of, kept_of, IsCurrent, IsResolved}
+use Rattle.hir_session.specs.SessionState.{SessionState, Resolution, workspace_of, finished_of, read_of, beginning_of, kept_of, IsCurrent, IsResolved}
 use Rattle.hir_session.specs.Due.{IsBehind}
 use Rattle.hir_session.specs.Status.{map_of, module_below}
 use Rattle.hir_session.specs.Answers.{answer_in, asking_of}
@@ -21,7 +21,7 @@ pub record AnswersStand (s : SessionState) (place : PlaceValue) (path : Path) (s
   pub found : Resolution
   pub kept : kept_of s (map_of place) ≡ Some found
   -- over the present workspace and finished maps, and over all that agree with them on what the run asked for
-  pub present : IsResolved (workspace_of s) (finished_of s) (start_of s (map_of place)) found
+  pub present : IsResolved s.tables (workspace_of s) (finished_of s) (beginning_of s (map_of place)) found
   -- and so is what stands behind the place
   pub behind : (id : MapId) → IsBehind s (map_of place) id → IsCurrent s id
   pub asked_from : ModuleId

@@ -4,6 +4,7 @@ use Rattle.hir_base.specs.CfgOptions.{SetAlike}
 use Rattle.hir_wire.specs.CommandValue.{CrateInputValue}
 use Rattle.hir_wire.specs.declared.command.Dependency.{Dependency as HandedIn}
 use Rattle.hir_def_collector.specs.declared.source_database.Dependency.{Dependency}
+use Rattle.hir_def_collector.specs.Workspace.{ConfigValue}
 use Rattle.hir_base.specs.declared.ids.Crate.{Crate}
 use Rattle.hir_base.specs.declared.ids.MapId.{MapId}
 use Rattle.hir_session.specs.Crates.{CrateValue, behind_in, crate_in, dependencies_in}
@@ -17,15 +18,18 @@ use Rattle.hir_session.specs.Refusals.{dependency_crates}
 abbrev pub dependency_of : HandedIn → Dependency
 dependency_of d = record { krate = d.krate; name = d.name; is_prelude = d.prelude }
 
--- the crate is as it was handed in, and its options are a set
+-- it is what the crate was handed in with, and its options are a set
+pub record IsConfigOf (input : CrateInputValue) (config : ConfigValue) : Type 0 where
+  pub edition : config.edition ≡ input.edition
+  pub attributes : config.attributes ≡ input.attributes
+  pub dependencies : config.dependencies ≡ map dependency_of input.deps
+  pub options : SetAlike config.options input.options
+
+-- the crate is as it was handed in
 pub record IsMade (input : CrateInputValue) (c : CrateValue) : Type 0 where
-  pub edition : c.own.root.edition ≡ input.edition
-  pub named : c.own.dependencies ≡ map dependency_of input.deps
+  pub root : c.own.root ≡ input.root
   pub is_proc_macro : c.own.is_proc_macro ≡ input.proc_macro
-  pub dependencies : c.dependencies ≡ dependency_crates input.deps
-  pub options : SetAlike c.options input.options
-  pub root_path : c.root_path ≡ input.root
-  pub attributes : c.attributes ≡ input.attributes
+  pub config : IsConfigOf input c.config
 
 -- the crates are as they were handed in
 abbrev pub AreMade : List CrateInputValue → List CrateValue → Type 0
@@ -36,14 +40,14 @@ AreMade (input ∷ inputs) [] = ⊥
 
 -- the number of each crate's root file means its path
 abbrev pub AreRooted : TablesValue → List CrateValue → Type 0
-AreRooted tables crates = (k : ℕ) → k < length crates → file_at tables (crate_in crates k).own.root.file_id ≡ Some (crate_in crates k).root_path
+AreRooted tables crates = (k : ℕ) → k < length crates → file_at tables (crate_in crates k).file ≡ Some (crate_in crates k).own.root
 
 -- one more crate was made, as it was handed in
 pub record IsAdded (input : CrateInputValue) (old new : List CrateValue) (before after : TablesValue) : Type 0 where
   pub made : CrateValue
   pub is : IsMade input made
-  pub behind : AreBehind old made.dependencies made.own.behind
-  pub number : file_at after made.own.root.file_id ≡ Some made.root_path
+  pub behind : AreBehind old (map (λ d. d.krate) made.config.dependencies) made.behind
+  pub number : file_at after made.file ≡ Some made.own.root
   pub longer : new ≡ old ++ made ∷ []
   pub kept : KeepsTables before after
 

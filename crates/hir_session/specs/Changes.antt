@@ -7,6 +7,7 @@ use Rattle.hir_session.specs.Files.{Files, with_file, without_file}
 use Rattle.hir_session.specs.SessionState.{SessionState, workspace_of, kept_of, is_marked, IsSound}
 use Rattle.hir_session.specs.Marks.{marks_after}
 use Rattle.hir_session.specs.Due.{due_places}
+use Rattle.hir_tables.specs.Tables.{KeepsTables}
 
 -- the files once the edit is made
 abbrev pub edited_files : SessionState → EditValue → Files
@@ -35,7 +36,7 @@ Applies old edit new = Becomes old (edited_files old edit) new
 -- the places of the list, the first that were due, were resolved in turn, and nothing else was
 pub record Resolves (old : SessionState) (done : List PlaceValue) (new : SessionState) : Type 0 where
   pub crates : new.crates ≡ old.crates
-  pub tables : new.tables ≡ old.tables
+  pub tables : KeepsTables old.tables new.tables
   pub files : new.files ≡ old.files
   pub due : due_places old ≡ done ++ due_places new
   pub others : (id : MapId) → is_marked old id ≡ false → kept_of new id ≡ kept_of old id

@@ -1,31 +1,34 @@
 -- What is a crate of a session?
-use Rattle.std.specs.Prelude.{ℕ, false, List, [], map, slice_index_or}
-use Rattle.hir_item_tree.specs.Attributes.{Attributes, no_attributes}
+use Rattle.std.specs.Prelude.{ℕ, false, List, [], map, None, slice_index_or}
+use Rattle.hir_item_tree.specs.Attributes.{no_attributes}
+use Rattle.hir_item_tree.specs.declared.tree_id.TreeId.{TreeId}
+use Rattle.hir_base.specs.declared.ast_id.FileId.{FileId}
+use Rattle.hir_base.specs.declared.ast_id.HirFileId.TheVariants.{File}
+use Rattle.hir_base.specs.declared.ast_id.EditionedFileId.{EditionedFileId}
 use Rattle.hir_base.specs.declared.cfg.CfgAtom.{CfgAtom}
 use Rattle.hir_base.specs.declared.edition.Edition.TheVariants.{Edition2024}
 use Rattle.hir_base.specs.declared.ids.Crate.{Crate}
 use Rattle.hir_base.specs.declared.ids.MapId.{MapId}
 use Rattle.hir_def_map.specs.State.{crate_map}
-use Rattle.hir_def_collector.specs.Workspace.{CrateData}
-use Rattle.hir_def_collector.specs.declared.collector.Start.{Start}
+use Rattle.hir_def_collector.specs.Workspace.{ConfigValue}
+use Rattle.hir_def_collector.specs.Start.{Beginning, beginning}
+use Rattle.hir_def_collector.specs.declared.source_database.CrateRoot.{CrateRoot}
+use Rattle.hir_def_collector.specs.declared.collector.Start.TheVariants as starts
 
--- what a run may ask of it, the crates that its dependencies name, the options that are set, the path of its root file,
--- and the attributes that are handed in for the top of that
+-- its root, what else it was handed in with, the crates on which it stands, and the number of its root file
 pub record CrateValue : Type 0 where
-  pub own : CrateData
-  pub dependencies : List Crate
-  pub options : List CfgAtom
-  pub root_path : List ℕ
-  pub attributes : Attributes
+  pub own : CrateRoot
+  pub config : ConfigValue
+  pub behind : List Crate
+  pub file : FileId
 
 -- what stands for a crate that isn't there
 abbrev pub no_crate : CrateValue
 no_crate = record {
-  own = record { root = record { file_id = record { 0 = 0 }; edition = Edition2024 }; dependencies = []; behind = []; is_proc_macro = false };
-  dependencies = [];
-  options = [];
-  root_path = [];
-  attributes = no_attributes;
+  own = record { root = []; is_proc_macro = false };
+  config = record { edition = Edition2024; attributes = no_attributes; dependencies = []; options = [] };
+  behind = [];
+  file = record { 0 = 0 };
 }
 
 -- the crate of this number
@@ -34,7 +37,7 @@ crate_in crates k = slice_index_or crates k no_crate
 
 -- what it depends on
 abbrev pub dependencies_in : List CrateValue → ℕ → List Crate
-dependencies_in crates k = (crate_in crates k).dependencies
+dependencies_in crates k = map (λ d. d.krate) (crate_in crates k).config.dependencies
 
 -- the id of the map of the crate of this number
 abbrev pub id_of : ℕ → MapId
@@ -46,12 +49,24 @@ follows_in crates id = map crate_map (dependencies_in crates id.krate.0)
 
 -- on what it stands, directly or through others
 abbrev pub behind_in : List CrateValue → ℕ → List Crate
-behind_in crates k = (crate_in crates k).own.behind
+behind_in crates k = (crate_in crates k).behind
 
 -- the options that are set in it
 abbrev pub options_in : List CrateValue → ℕ → List CfgAtom
-options_in crates k = (crate_in crates k).options
+options_in crates k = (crate_in crates k).config.options
 
--- where the run for a crate begins
-abbrev pub start_in : List CrateValue → ℕ → Start
-start_in crates k = record { krate = record { 0 = k }; root = (crate_in crates k).own.root }
+-- its root file, in its edition
+abbrev pub root_of : CrateValue → EditionedFileId
+root_of c = record { file_id = c.file; edition = c.config.edition }
+
+-- the tree of a root file
+abbrev pub tree_of_root : EditionedFileId → TreeId
+tree_of_root root = record { file = File root; block = None }
+
+-- what the run for a crate with this root begins with
+abbrev pub begins_at : Crate → EditionedFileId → Beginning
+begins_at krate root = beginning (starts.Crate krate root) (tree_of_root root) None
+
+-- what the run for the crate of this number begins with
+abbrev pub beginning_in : List CrateValue → ℕ → Beginning
+beginning_in crates k = begins_at (record { 0 = k }) (root_of (crate_in crates k))

@@ -5,7 +5,8 @@ use Rattle.hir_base.specs.declared.ids.MapId.{MapId}
 use Rattle.hir_def_collector.specs.Derivation.{IsOverlong}
 use Rattle.hir_def_collector.specs.declared.source_database.Key.{Key}
 use Rattle.hir_session.specs.Crates.{CrateValue, id_of}
-use Rattle.hir_session.specs.SessionState.{SessionState, Resolution, workspace_of, start_of, follows, kept_of, is_marked, finished_of}
+use Rattle.hir_session.specs.SessionState.{SessionState, Resolution, workspace_of, beginning_of, follows, kept_of, is_marked, finished_of, IsSound}
+use Rattle.hir_tables.specs.Tables.{KeepsTables}
 
 -- the places of these crates, of which the first has this number
 abbrev pub places_from : ℕ → List CrateValue → List MapId
@@ -24,10 +25,19 @@ root_place id = record { krate = id.krate; elements = [] }
 abbrev pub due_places : SessionState → List PlaceValue
 due_places s = map root_place (due s)
 
--- a place was resolved so, and nothing else changed
+-- the tables grew, and nothing else changed
+pub record Grows (old new : SessionState) : Type 0 where
+  pub crates : new.crates ≡ old.crates
+  pub tables : KeepsTables old.tables new.tables
+  pub files : new.files ≡ old.files
+  pub kept : new.kept ≡ old.kept
+  -- what isn't marked is what the import rules could have given just now
+  pub sound : IsSound new
+
+-- a place was resolved so, and nothing else changed but for tables that grew
 pub record Resolved (old : SessionState) (id : MapId) (r : Resolution) (new : SessionState) : Type 0 where
   pub crates : new.crates ≡ old.crates
-  pub tables : new.tables ≡ old.tables
+  pub tables : KeepsTables old.tables new.tables
   pub files : new.files ≡ old.files
   pub here : kept_of new id ≡ Some r
   pub others : (j : MapId) → j ≢ id → kept_of new j ≡ kept_of old j
@@ -37,7 +47,7 @@ pub record HasOverlongRun (s : SessionState) : Type 0 where
   pub place : MapId
   pub others : List MapId
   pub first : due s ≡ place ∷ others
-  pub overlong : IsOverlong (workspace_of s) (finished_of s) (start_of s place)
+  pub overlong : IsOverlong s.tables (workspace_of s) (finished_of s) (beginning_of s place)
 
 -- what stands behind a place: the place, what it depends on, and so on
 pub data IsBehind (s : SessionState) (id : MapId) : MapId → Type 0 where

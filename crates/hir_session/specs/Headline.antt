@@ -51,7 +51,7 @@ pub record Alters (old : MachineState) (line : List ℕ) (new : MachineState) (k
   pub made : EditValue
   pub read : reading_of line ≡ Ok (edit made)
   pub applied : Applies from made to
-  pub altered : IsAltered (workspace_of from) (workspace_of to) key
+  pub altered : IsAltered from.tables (workspace_of from) (workspace_of to) key
 
 -- a run behind the place asked for the key, in the session that there is
 abbrev pub IsAskedIn : MachineState → MapId → Key → Type 0

@@ -28,7 +28,7 @@ pub data History (from : SessionState) : SessionState → Type 0 where
 -- an edit on the way altered the key
 abbrev pub WasAltered : {from to : SessionState} → Key → History from to → Type 0
 WasAltered key none = ⊥
-WasAltered key (edit mid to e earlier is) = IsAltered (workspace_of mid) (workspace_of to) key ⊎ WasAltered key earlier
+WasAltered key (edit mid to e earlier is) = IsAltered mid.tables (workspace_of mid) (workspace_of to) key ⊎ WasAltered key earlier
 WasAltered key (refresh mid to done earlier is) = WasAltered key earlier
 
 -- two answers to a query differ only where an edit between them altered a key that was asked for behind the first

@@ -25,7 +25,7 @@ kept_in kept id = lookup (is_at (map_order.ghosts.cmp id)) kept
 
 -- the finished maps of which they tell; nothing holds a crate's map
 abbrev pub finished_by : Resolutions → Maps
-finished_by kept id = option_map (λ (r : CollectedValue). unheld r.map) (kept_in kept id)
+finished_by kept id = option_map (λ (r : CollectedValue). unheld r.map r.local) (kept_in kept id)
 
 -- ---- how some of them go; no public clause speaks of this
 
@@ -46,26 +46,40 @@ pub record AreForgotten (old : Resolutions) (ids : List MapId) (new : Resolution
 
 -- ---- maps in a world, and beside them what else is kept of each run
 
+abbrev pub keys_of : Option (List Key) → List Key
+keys_of None = []
+keys_of (Some keys) = keys
+
 -- what is kept of a place that was resolved
 abbrev pub resolution_of : KeptResolution → CollectedValue
-resolution_of found = record { map = found.map.now; local = found.local.now; leftover = found.leftover.now; asked = found.asked.now }
+resolution_of found = record {
+  map = found.map.now;
+  local = found.local.now;
+  leftover = found.leftover.now;
+  round_limit_met = found.round_limit_met;
+  asked = keys_of (option_map (λ a. a.now) found.asked);
+}
 
 abbrev pub leftover_of : Option KeptRun → List ImportOrExternCrate
 leftover_of None = []
 leftover_of (Some run) = run.leftover.items
 
+abbrev pub was_limited : Option KeptRun → Bool
+was_limited None = false
+was_limited (Some run) = run.round_limit_met
+
 abbrev pub asked_of : Option KeptRun → List Key
 asked_of None = []
-asked_of (Some run) = run.asked.items
+asked_of (Some run) = run.asked
 
 -- a map and what its paths may begin with, with what is kept of the run
 abbrev pub resolution_from : Option Map → Option Local → Option KeptRun → Option CollectedValue
 resolution_from None local run = None
 resolution_from (Some map) None run = None
-resolution_from (Some map) (Some local) run = Some (record { map = map; local = local; leftover = leftover_of run; asked = asked_of run })
+resolution_from (Some map) (Some local) run = Some (record { map = map; local = local; leftover = leftover_of run; round_limit_met = was_limited run; asked = asked_of run })
 
 abbrev pub resolution_at : Finished → Option KeptRun → CollectedValue
-resolution_at finished run = record { map = finished.map; local = finished.local; leftover = leftover_of run; asked = asked_of run }
+resolution_at finished run = record { map = finished.map; local = finished.local; leftover = leftover_of run; round_limit_met = was_limited run; asked = asked_of run }
 
 abbrev pub entry_with : BTreeMap MapId KeptRun → (MapId × Finished) → MapId × CollectedValue
 entry_with runs entry = (entry.0, resolution_at entry.1 (get map_order.ghosts.cmp runs entry.0))

@@ -2,11 +2,10 @@
 use Rattle.std.specs.Prelude.{◌≡◌, ℕ, true, List, Option, Some, None, Contains}
 use Rattle.hir_base.specs.ModPath.{Path}
 use Rattle.hir_base.specs.Place.{PlaceValue}
-use Rattle.hir_base.specs.declared.ids.Crate.{Crate}
 use Rattle.hir_base.specs.declared.ids.MapId.{MapId}
-use Rattle.hir_base.specs.declared.ast_id.HirFileId.{HirFileId}
 use Rattle.hir_item_tree.specs.BodyTexts.{source_without_bodies}
 use Rattle.hir_item_tree.specs.Source.{SourceValue}
+use Rattle.hir_item_tree.specs.declared.tree_id.TreeKey.{TreeKey}
 use Rattle.hir_def_collector.specs.declared.source_database.Key.TheVariants.{Tree}
 use Rattle.hir_wire.specs.Edits.{set_file, remove_file}
 use Rattle.hir_wire.specs.declared.command.Shadow.{Shadow}
@@ -36,16 +35,16 @@ BodyEditsLeaveAnswers = (old new : SessionState) (path : List ℕ) (was source :
 
 -- a file that was absent is set, to an empty source too: each place whose run asked for it is marked
 abbrev pub SetAbsentFileMarks : Type 0
-SetAbsentFileMarks = (old new : SessionState) (path : List ℕ) (source : SourceValue) (id : MapId) (found : Resolution) (krate : Crate) (file : HirFileId)
+SetAbsentFileMarks = (old new : SessionState) (path : List ℕ) (source : SourceValue) (id : MapId) (found : Resolution) (key : TreeKey)
     → file_at old.files path ≡ None → Applies old (set_file path source) new
-    → kept_of old id ≡ Some found → Contains found.asked (Tree krate file) → path_in old.tables.files file ≡ Some path
+    → kept_of old id ≡ Some found → Contains found.asked (Tree key) → path_in old.tables key.id ≡ Some path
     → is_marked new id ≡ true
 
 -- a file that was there is removed, an empty one too: each place whose run asked for it is marked
 abbrev pub RemovePresentFileMarks : Type 0
-RemovePresentFileMarks = (old new : SessionState) (path : List ℕ) (was : SourceValue) (id : MapId) (found : Resolution) (krate : Crate) (file : HirFileId)
+RemovePresentFileMarks = (old new : SessionState) (path : List ℕ) (was : SourceValue) (id : MapId) (found : Resolution) (key : TreeKey)
     → file_at old.files path ≡ Some was → Applies old (remove_file path) new
-    → kept_of old id ≡ Some found → Contains found.asked (Tree krate file) → path_in old.tables.files file ≡ Some path
+    → kept_of old id ≡ Some found → Contains found.asked (Tree key) → path_in old.tables key.id ≡ Some path
     → is_marked new id ≡ true
 
 -- a file that isn't there is removed: no mark changes

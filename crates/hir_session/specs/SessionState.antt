@@ -1,5 +1,5 @@
 -- Where does a session stand?
-use Rattle.std.specs.Prelude.{◌≡◌, ◌↔◌, ℕ, ◌<◌, ◌≤◌, Bool, true, false, List, length, map, is_none, Some, None, Option, Contains}
+use Rattle.std.specs.Prelude.{◌≡◌, ◌↔◌, ℕ, ◌<◌, ◌≤◌, Bool, true, false, List, [], length, is_none, Some, None, Option, Contains}
 use Rattle.hir_base.specs.declared.ids.Crate.{Crate}
 use Rattle.hir_base.specs.declared.ids.MapId.{MapId}
 use Rattle.hir_def_map.specs.Among.{among}
@@ -7,15 +7,14 @@ use Rattle.hir_def_map.specs.Complete.{BeginsOnly, NamesOnly}
 use Rattle.hir_def_map.specs.State.{Maps, beside}
 use Rattle.hir_def_collector.specs.Workspace.{Workspace}
 use Rattle.hir_def_collector.specs.Keys.{AgreeOn}
-use Rattle.hir_def_collector.specs.Derivation.{CollectedValue, Ends, keys_of}
-use Rattle.hir_def_collector.specs.declared.collector.Start.{Start}
-use Rattle.hir_def_collector.specs.Start.{root_file}
-use Rattle.hir_session.specs.Crates.{CrateValue, behind_in, crate_in, dependencies_in, follows_in, start_in}
+use Rattle.hir_def_collector.specs.Derivation.{CollectedValue, Ends}
+use Rattle.hir_def_collector.specs.Start.{Beginning}
+use Rattle.hir_session.specs.Crates.{CrateValue, beginning_in, behind_in, crate_in, dependencies_in, follows_in}
 use Rattle.hir_session.specs.StandsOn.{StandsOn}
 use Rattle.hir_session.specs.Behind.{has_crate}
-use Rattle.hir_session.specs.Files.{Files, path_in, workspace_in}
+use Rattle.hir_session.specs.Files.{Files, workspace_in}
 use Rattle.hir_session.specs.Kept.{Resolutions, finished_by, kept_in}
-use Rattle.hir_tables.specs.Tables.{TablesValue}
+use Rattle.hir_tables.specs.Tables.{TablesValue, file_at}
 
 -- what is kept of a place that was resolved: its map, the imports left over, and the keys that were asked for
 abbrev pub Resolution : Type 0
@@ -31,7 +30,7 @@ pub record SessionState : Type 0 where
 
 -- the workspace as it is now: a file that isn't there is not an empty one
 abbrev pub workspace_of : SessionState → Workspace
-workspace_of s = workspace_in s.crates s.tables.files s.files
+workspace_of s = workspace_in s.crates s.files
 
 -- what a crate depends on
 abbrev pub dependencies_of : SessionState → ℕ → List Crate
@@ -41,9 +40,9 @@ dependencies_of s k = dependencies_in s.crates k
 abbrev pub follows : SessionState → MapId → List MapId
 follows s id = follows_in s.crates id
 
--- where the run for a place begins
-abbrev pub start_of : SessionState → MapId → Start
-start_of s id = start_in s.crates id.krate.0
+-- what the run for a place begins with
+abbrev pub beginning_of : SessionState → MapId → Beginning
+beginning_of s id = beginning_in s.crates id.krate.0
 
 -- what is kept of a place
 abbrev pub kept_of : SessionState → MapId → Option Resolution
@@ -59,17 +58,19 @@ finished_of s = finished_by s.kept
 
 -- the finished maps that a place reads: those of the crates on which its crate stands
 abbrev pub read_of : SessionState → MapId → Maps
-read_of s id = among (behind_in s.crates id.krate.0) (finished_of s)
+read_of s id = among (behind_in s.crates id.krate.0) [] (finished_of s)
 
 -- a derivation ends in the resolution over every workspace, beside finished maps, that agrees with this one, beside these, on the
 -- keys that it asked for
-pub record IsResolved (w : Workspace) (before : Maps) (start : Start) (r : Resolution) : Type 0 where
-  pub ends : (v : Workspace) (finished : Maps) → AgreeOn (keys_of r) w before v finished → Ends v finished start r
+pub record IsResolved (tables : TablesValue) (w : Workspace) (before : Maps) (from : Beginning) (r : Resolution) : Type 0 where
+  pub ends : (v : Workspace) (finished : Maps) → AgreeOn tables r.asked w before v finished → Ends tables v finished from r
 
 -- the resolution of a place is what the import rules could give just now, and names only what is there
 pub record IsResolutionOf (s : SessionState) (id : MapId) (r : Resolution) : Type 0 where
-  pub resolved : IsResolved (workspace_of s) (finished_of s) (start_of s id) r
+  pub resolved : IsResolved s.tables (workspace_of s) (finished_of s) (beginning_of s id) r
   pub own : r.map.id ≡ id
+  -- nothing holds a crate's map
+  pub unheld : r.map.holder ≡ None
   pub names : NamesOnly (beside (read_of s id) r.map) r.map
   pub begins : BeginsOnly (beside (read_of s id) r.map) r.local
 
@@ -93,10 +94,8 @@ pub record IsSound (s : SessionState) : Type 0 where
   pub few : length s.crates ≤ max_crates
   pub below : (k : ℕ) (d : Crate) → Contains (dependencies_of s k) d → d.0 < k
   pub behind : (k : ℕ) (c : Crate) → (has_crate (behind_in s.crates k) c ≡ true) ↔ StandsOn (dependencies_of s) k c.0
-  -- the dependencies that a run sees are those
-  pub named : (k : ℕ) → map (λ d. d.krate) (crate_in s.crates k).own.dependencies ≡ dependencies_of s k
   pub placed : (id : MapId) → is_marked s id ≡ false → IsPlace s id
   pub closed : (id d : MapId) → is_marked s id ≡ false → Contains (follows s id) d → is_marked s d ≡ false
   pub current : (id : MapId) → is_marked s id ≡ false → IsCurrent s id
   -- the number of a crate's root file means its path
-  pub rooted : (k : ℕ) → k < length s.crates → path_in s.tables.files (root_file (start_in s.crates k)) ≡ Some (crate_in s.crates k).root_path
+  pub rooted : (k : ℕ) → k < length s.crates → file_at s.tables (crate_in s.crates k).file ≡ Some (crate_in s.crates k).own.root

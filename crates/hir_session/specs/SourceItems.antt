@@ -1,9 +1,10 @@
 -- Which source item does an id stand for?
-use Rattle.std.specs.Prelude.{ℕ, Bool, true, false, List, [], Option, None, Some, option_map}
+use Rattle.std.specs.Prelude.{ℕ, Bool, true, false, List, [], Option, None, Some, option_map, slice_get}
 use Rattle.std.specs.Option.{option_and_then}
 use Rattle.hir_base.specs.declared.ast_id.AstKind.TheVariants as kind
 use Rattle.hir_base.specs.declared.ast_id.BlockId.{BlockId}
 use Rattle.hir_base.specs.declared.ast_id.HirFileId.{HirFileId}
+use Rattle.hir_base.specs.declared.ast_id.HirFileId.TheVariants.{File, Macro}
 use Rattle.hir_base.specs.declared.ast_id.SyntaxId.{SyntaxId}
 use Rattle.hir_base.specs.declared.ids.AdtId.{AdtId}
 use Rattle.hir_base.specs.declared.ids.AdtId.TheVariants as adt
@@ -40,15 +41,19 @@ use Rattle.hir_wire.specs.declared.answer.ItemSource.{ItemSource}
 use Rattle.hir_wire.specs.declared.answer.SourceKind.{SourceKind}
 use Rattle.hir_wire.specs.declared.answer.SourceKind.TheVariants as source
 use Rattle.hir_wire.specs.declared.answer.SourceRoot.TheVariants as root
-use Rattle.hir_session.specs.Files.{path_in}
 
 -- the file at a path
 abbrev pub file_source : List ℕ → ItemSource
 file_source path = record { root = root.File path; calls = [] }
 
--- what holds syntax, where it is a file of the table; no block is set and no call is expanded
+-- the path of what holds syntax, where it is a file of the tables
+abbrev pub file_path : List (List ℕ) → HirFileId → Option (List ℕ)
+file_path paths (File f) = slice_get paths f.file_id.0
+file_path paths (Macro call) = None
+
+-- what holds syntax, where it is a file of the tables; no block is set and no call is expanded
 abbrev pub source_of : List (List ℕ) → HirFileId → Option BlockId → Option ItemSource
-source_of paths file None = option_map file_source (path_in paths file)
+source_of paths file None = option_map file_source (file_path paths file)
 source_of paths file (Some block) = None
 
 -- an item of a crate, by what holds it and its node there

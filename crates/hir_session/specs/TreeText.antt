@@ -11,7 +11,7 @@ use Rattle.hir_session.specs.SessionState.{SessionState}
 
 -- the edition of a crate
 abbrev pub edition_in : List CrateValue → ℕ → Edition
-edition_in crates k = (crate_in crates k).own.root.edition
+edition_in crates k = (crate_in crates k).config.edition
 
 -- the page of the file's tree in the crate's edition, or that there is no such crate
 abbrev pub tree_text_of : SessionState → Crate → List ℕ → Result (List ℕ) TreeTextError

@@ -4,18 +4,19 @@ ghost use Rattle.hir_base.specs.CfgOptions.{SetAlike};
 ghost use Rattle.hir_wire.specs.CommandValue.{crate_input_view};
 ghost use Rattle.hir_session.specs.Refusals.{dependency_crates, has_late, first_out_of_order};
 ghost use Rattle.hir_session.specs.Behind.{AreBehind, AreBuilt};
-ghost use Rattle.hir_session.specs.Beginning.{dependency_of, IsAdded, IsMade, AreMade, AreRooted};
+ghost use Rattle.hir_session.specs.Beginning.{dependency_of, IsAdded, IsConfigOf, IsMade, AreMade, AreRooted};
+ghost use Rattle.hir_def_collector.specs.Workspace.{config_view};
 ghost use Rattle.hir_tables.specs.Tables.{file_at, KeepsTables};
 
 use crate::behind::behind_of;
 use crate::crate_info::CrateInfo;
 use crate::front::copy_attrs;
-use hir_base::ast_id::{EditionedFileId, FileId};
+use hir_base::ast_id::FileId;
 use hir_base::cfg::CfgAtom;
 use hir_base::cfg_options::CfgOptions;
 use hir_base::file_path::FilePath;
 use hir_base::ids::Crate;
-use hir_def_collector::source_database::{CrateData, Dependency as RunDependency};
+use hir_def_collector::source_database::{Config, CrateRoot, Dependency as RunDependency};
 use hir_tables::Tables;
 use hir_wire::command::{CrateInput, Dependency};
 use std::alloc::{AllocError, Global};
@@ -86,6 +87,21 @@ fn options_of(alloc: Global, atoms: &Vec<CfgAtom>) -> Result<CfgOptions, AllocEr
     Ok(options)
 }
 
+/// What a crate was handed in with, its root aside.
+fn config_of(alloc: Global, input: &CrateInput) -> Result<Config, AllocError>
+    ensures config { IfOk result (λ c. IsConfigOf (crate_input_view input.now) (config_view c)) }
+{
+    let attributes = copy_attrs(alloc, &input.attrs)?;
+    let dependencies = dependencies_of(alloc, input.deps.as_slice())?;
+    let options = options_of(alloc, &input.cfg)?;
+    Ok(Config {
+        edition: input.edition,
+        attributes,
+        dependencies,
+        options,
+    })
+}
+
 /// A crate with a root file of this number, behind the crates before it.
 fn info_of(
     alloc: Global,
@@ -94,22 +110,17 @@ fn info_of(
     before: &Vec<CrateInfo>,
 ) -> Result<CrateInfo, AllocError>
     ensures made { IfOk result (λ c. IsMade (crate_input_view input.now) c) }
-    ensures number { IfOk result (λ c. c.own.root.file_id ≡ file) }
-    ensures root { IfOk result (λ c. c.root_path ≡ (crate_input_view input.now).root) }
-    ensures behind { IfOk result (λ c. AreBehind before.now.items c.dependencies c.own.behind) }
+    ensures number { IfOk result (λ c. c.file ≡ file) }
+    ensures behind { IfOk result (λ c. AreBehind before.now.items (dependency_crates (crate_input_view input.now).deps) c.behind) }
 {
-    let root = EditionedFileId {
-        file_id: file,
-        edition: input.edition,
-    };
     let dependencies = named_crates(alloc, input.deps.as_slice())?;
     let behind = behind_of(alloc, before, dependencies.as_slice())?;
-    let named = dependencies_of(alloc, input.deps.as_slice())?;
-    let options = options_of(alloc, &input.cfg)?;
-    let attrs = copy_attrs(alloc, &input.attrs)?;
-    let root_path = input.root.clone()?;
-    let own = CrateData::new(root, named, Rc::new(alloc, behind)?, input.proc_macro);
-    Ok(CrateInfo::new(own, dependencies, options, root_path, attrs))
+    let config = config_of(alloc, input)?;
+    let own = CrateRoot {
+        root: input.root.clone()?,
+        is_proc_macro: input.proc_macro,
+    };
+    Ok(CrateInfo::new(own, config, Rc::new(alloc, behind)?, file))
 }
 
 /// The number of a root file. A session has too few crates for numbers to run out.

@@ -1,30 +1,31 @@
 //! The crates of a session.
 ghost use Rattle.std.specs.Prelude.{◌≡◌, List, [], option_map, unwrap_or};
 ghost use Rattle.hir_item_tree.specs.Attributes.{attributes_view};
+ghost use Rattle.hir_def_collector.specs.Workspace.{config_view};
+ghost use Rattle.hir_session.specs.Crates.{root_of};
 ghost use Rattle.hir_session.specs.Files.{front_in};
 
-use hir_base::ast_id::EditionedFileId;
+use hir_base::ast_id::{EditionedFileId, FileId};
 use hir_base::cfg_options::CfgOptions;
 use hir_base::file_path::FilePath;
 use hir_base::ids::Crate;
-use hir_def_collector::source_database::CrateData;
+use hir_def_collector::source_database::{Config, CrateRoot};
 use hir_item_tree::raw_attr::RawAttr;
 use std::collections::BTreeSet;
 use std::marker::Model;
+use std::rc::Rc;
 
-/// A crate: what a run may ask of it, the crates that its dependencies name, the options that are set, the path of
-/// its root file, and the attributes that are handed in for the top of that.
+/// A crate: its root, what else it was handed in with, the crates on which it stands, and the number of its root file.
 #[derive(Drop)]
 pub struct CrateInfo {
-    own: CrateData,
-    dependencies: Vec<Crate>,
-    options: CfgOptions,
-    root_path: FilePath,
-    attrs: Vec<RawAttr>,
+    own: CrateRoot,
+    config: Config,
+    behind: Rc<BTreeSet<Crate>>,
+    file: FileId,
 }
 
 impl Model for CrateInfo {
-    ghost use Rattle.hir_item_tree.specs.Attributes.{attributes_view};
+    ghost use Rattle.hir_def_collector.specs.Workspace.{config_view};
     ghost use Rattle.hir_session.specs.CrateCodes.{coded_crate};
     ghost use Rattle.hir_session.specs.Crates.{CrateValue};
 
@@ -34,57 +35,58 @@ impl Model for CrateInfo {
 
     ghost view = { λ c. record {
       own = c.own;
-      dependencies = c.dependencies.items;
-      options = c.options;
-      root_path = c.root_path;
-      attributes = attributes_view c.attrs.items;
+      config = config_view c.config;
+      behind = c.behind.value.keys;
+      file = c.file;
     } };
 }
 
 impl CrateInfo {
     pub fn new(
-        own: CrateData,
-        dependencies: Vec<Crate>,
-        options: CfgOptions,
-        root_path: FilePath,
-        attrs: Vec<RawAttr>,
+        own: CrateRoot,
+        config: Config,
+        behind: Rc<BTreeSet<Crate>>,
+        file: FileId,
     ) -> CrateInfo
-        ensures value { result ≡ record {
-          own = own;
-          dependencies = dependencies.items;
-          options = options;
-          root_path = root_path;
-          attributes = attributes_view attrs.items;
-        } }
+        ensures value { result ≡ record { own = own; config = config_view config; behind = behind.value.keys; file = file } }
     {
         CrateInfo {
             own,
-            dependencies,
-            options,
-            root_path,
-            attrs,
+            config,
+            behind,
+            file,
         }
     }
 
-    /// What a run may ask of it.
-    pub fn own(&self) -> &CrateData
+    /// Its root.
+    pub fn own(&self) -> &CrateRoot
         ensures value { result.now ≡ self.now.own }
     {
         &self.own
     }
 
-    /// Its root file.
-    pub fn root(&self) -> EditionedFileId
-        ensures value { result ≡ self.now.own.root }
+    /// What else it was handed in with.
+    pub fn config(&self) -> &Config
+        ensures value { config_view result.now ≡ self.now.config }
     {
-        self.own.root()
+        &self.config
+    }
+
+    /// Its root file, in its edition.
+    pub fn root(&self) -> EditionedFileId
+        ensures value { result ≡ root_of self.now }
+    {
+        EditionedFileId {
+            file_id: self.file,
+            edition: self.config.edition,
+        }
     }
 
     /// On what it stands, directly or through others.
-    pub fn behind(&self) -> &BTreeSet<Crate>
-        ensures value { result.now.keys ≡ self.now.own.behind }
+    pub fn behind(&self) -> &Rc<BTreeSet<Crate>>
+        ensures value { result.now.value.keys ≡ self.now.behind }
     {
-        self.own.behind()
+        &self.behind
     }
 
     /// The attributes that stand in front of those at the top of the file at a path, if any do.
@@ -93,8 +95,8 @@ impl CrateInfo {
     {
         match path {
             Some(path) => {
-                if self.root_path == *path {
-                    Some(&self.attrs)
+                if self.own.root == *path {
+                    Some(&self.config.attributes)
                 } else {
                     None
                 }
@@ -105,8 +107,8 @@ impl CrateInfo {
 
     /// The options that are set in it.
     pub fn options(&self) -> &CfgOptions
-        ensures value { result.now ≡ self.now.options }
+        ensures value { result.now ≡ self.now.config.options }
     {
-        &self.options
+        &self.config.options
     }
 }

@@ -6,13 +6,13 @@ ghost use Rattle.hir_base.specs.contracts.ids.MapIdOrd.TheImpl as map_order;
 ghost use Rattle.hir_def_map.specs.Inserted.{may_join};
 ghost use Rattle.hir_def_map.specs.Named.{is_complete};
 ghost use Rattle.hir_def_map.specs.Removal.{Depends};
-ghost use Rattle.hir_def_map.specs.State.{beside};
+ghost use Rattle.hir_def_map.specs.State.{with_map};
+ghost use Rattle.hir_def_collector.specs.Derivation.{collected_view};
 ghost use Rattle.hir_def_map.specs.World.{finished_in, local_in};
-ghost use Rattle.hir_session.specs.Kept.{finished_by, kept_in, names_in, leftover_of, asked_of, resolution_from, resolution_of, AreForgotten};
+ghost use Rattle.hir_session.specs.Kept.{finished_by, kept_in, names_in, leftover_of, was_limited, asked_of, keys_of, resolution_from, resolution_of, AreForgotten};
 
 use hir_base::ids::MapId;
-use hir_def_collector::collector::collected::Collected;
-use hir_def_collector::source_database::Key;
+use hir_def_collector::collector::collected::{Asked, Collected};
 use hir_def_map::nameres::DefMap;
 use hir_def_map::nameres::local_def_map::LocalDefMap;
 use hir_def_map::world::World;
@@ -26,7 +26,8 @@ use std::marker::Model;
 #[derive(Drop)]
 struct KeptRun {
     leftover: Vec<ImportOrExternCrate>,
-    asked: Vec<Key>,
+    round_limit_met: bool,
+    asked: Asked,
 }
 
 /// What is kept of a place, as `Collected` has it.
@@ -35,7 +36,8 @@ pub struct KeptResolution<'a> {
     pub map: &'a DefMap,
     pub local: &'a LocalDefMap,
     pub leftover: &'a [ImportOrExternCrate],
-    pub asked: &'a [Key],
+    pub round_limit_met: bool,
+    pub asked: Option<&'a Asked>,
 }
 
 /// What is kept of each place that was resolved. Their maps stand in a world.
@@ -71,12 +73,21 @@ fn leftover_in(run: Option<&KeptRun>) -> &[ImportOrExternCrate]
     }
 }
 
-fn asked_in(run: Option<&KeptRun>) -> &[Key]
-    ensures value { result.now ≡ asked_of (option_map (λ r. r.now) run.entry) }
+fn was_limited_in(run: Option<&KeptRun>) -> bool
+    ensures value { result ≡ was_limited (option_map (λ r. r.now) run.entry) }
 {
     match run {
-        Some(run) => run.asked.as_slice(),
-        None => &[],
+        Some(run) => run.round_limit_met,
+        None => false,
+    }
+}
+
+fn asked_in(run: Option<&KeptRun>) -> Option<&Asked>
+    ensures value { keys_of (option_map (λ a. a.now) result) ≡ asked_of (option_map (λ r. r.now) run.entry) }
+{
+    match run {
+        Some(run) => Some(&run.asked),
+        None => None,
     }
 }
 
@@ -95,6 +106,7 @@ fn joined<'a>(
         map,
         local,
         leftover: leftover_in(run),
+        round_limit_met: was_limited_in(run),
         asked: asked_in(run),
     })
 }
@@ -117,7 +129,7 @@ fn put(runs: &mut BTreeMap<MapId, KeptRun>, id: MapId, run: KeptRun) -> Result<(
 /// Adds a map that is complete beside the others.
 fn join(world: &mut World, map: DefMap, local: LocalDefMap) -> Result<(), AllocError>
     requires may { may_join (finished_in world.old.maps) map local ≡ true }
-    ensures maps { OnOk result ((id : MapId) → finished_in world.new.maps id ≡ beside (finished_in world.old.maps) map id) }
+    ensures maps { OnOk result ((id : MapId) → finished_in world.new.maps id ≡ with_map (finished_in world.old.maps) map local id) }
     ensures locals { OnOk result ((id : MapId) → local_in world.new.maps id
         ≡ cond (is_at (map_order.ghosts.cmp map.id) id) (Some local) (local_in world.old.maps id)) }
     ensures err { OnErr result (IsUnchanged world.old.maps world.new.maps) }
@@ -166,13 +178,18 @@ impl Kept {
         requires free { kept_in self.old found.map.id ≡ None }
         requires unheld { found.map.holder ≡ None }
         requires complete { is_complete (finished_by self.old) found.map found.local ≡ true }
-        ensures here { OnOk result (kept_in self.new found.map.id ≡ Some found) }
+        ensures here { OnOk result (kept_in self.new found.map.id ≡ Some (collected_view found)) }
         ensures others { OnOk result ((id : MapId) → id ≢ found.map.id → kept_in self.new id ≡ kept_in self.old id) }
         ensures err { OnErr result (self.new ≡ self.old) }
     {
-        let (map, local, leftover, asked) = found.into_parts();
-        put(&mut self.runs, map.id(), KeptRun { leftover, asked })?;
-        join(&mut self.world, map, local)?;
+        let id = found.map.id();
+        let run = KeptRun {
+            leftover: found.leftover,
+            round_limit_met: found.round_limit_met,
+            asked: found.asked,
+        };
+        put(&mut self.runs, id, run)?;
+        join(&mut self.world, found.map, found.local)?;
         Ok(())
     }
 

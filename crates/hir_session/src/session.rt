@@ -2,7 +2,7 @@
 ghost use Rattle.std.specs.Prelude.{◌≡◌, ℕ, ◌<◌, ◌++◌, ◌∷◌, [], map, true, false, length, None, IfOk, OnOk, OnErr, IfErr, ◌≤◌, ◌⊎◌, Ok, Err, option_map};
 ghost use Rattle.hir_base.specs.declared.ids.MapId.{MapId};
 ghost use Rattle.hir_base.specs.Refusal.{Gives};
-ghost use Rattle.hir_def_collector.specs.Derivation.{IsOverlong};
+ghost use Rattle.hir_def_collector.specs.Derivation.{IsOverlong, collected_view};
 ghost use Rattle.hir_wire.specs.CommandValue.{crate_input_view};
 ghost use Rattle.hir_wire.specs.Edits.{edit_view};
 ghost use Rattle.hir_session.specs.Beginning.{Begins};
@@ -10,8 +10,8 @@ ghost use Rattle.hir_item_tree.specs.Source.{source_view};
 ghost use Rattle.hir_session.specs.Files.{with_file, without_file, edited_at};
 ghost use Rattle.hir_session.specs.Crates.{id_of};
 ghost use Rattle.hir_session.specs.Marking.{AreHit};
-ghost use Rattle.hir_session.specs.SessionState.{SessionState, Resolution, workspace_of, finished_of, start_of, is_marked, IsResolutionOf, IsSound};
-ghost use Rattle.hir_session.specs.Due.{root_place, Resolved, HasOverlongRun};
+ghost use Rattle.hir_session.specs.SessionState.{SessionState, Resolution, workspace_of, finished_of, beginning_of, is_marked, IsResolutionOf, IsSound};
+ghost use Rattle.hir_session.specs.Due.{root_place, Grows, Resolved, HasOverlongRun};
 ghost use Rattle.hir_session.specs.Refusals.{first_out_of_order, verdict_of_new, IsNewMemory, verdict_of_apply, verdict_of_source, IsEditMemory};
 ghost use Rattle.hir_session.specs.Changes.{with_files, Becomes, Applies, Refreshes, RefreshesPartly};
 
@@ -32,7 +32,7 @@ use hir_base::ids::{Crate, MapId};
 use hir_base::limit::Limit;
 use hir_base::place::Place;
 use hir_def_collector::collector::collected::Collected;
-use hir_def_collector::laws::runs_name_what_is_there;
+use hir_def_collector::laws::{answers_stand_as_tables_grow, runs_name_what_is_there};
 use hir_item_tree::source::Source;
 use hir_tables::Tables;
 use hir_wire::command::CrateInput;
@@ -115,7 +115,7 @@ impl Session {
         file: &FilePath,
         new: Option<&Source>,
     ) -> Result<Vec<MapId>, AllocError>
-        ensures hit { IfOk result (λ hits. AreHit (workspace_of self.now)
+        ensures hit { IfOk result (λ hits. AreHit self.now.tables (workspace_of self.now)
             (workspace_of (with_files self.now (edited_at self.now.files file.now (option_map (λ s. source_view s.now) new.entry))))
             self.now.kept (length self.now.crates) hits.items) }
     {
@@ -196,15 +196,23 @@ impl Session {
     }
 
     /// What a run gives for a crate, beside the maps of those before it.
-    fn found_at(&self, alloc: Global, k: u32) -> Result<Collected, RefreshError>
-        requires within { k < length self.now.crates }
-        requires first { (j : ℕ) → j < k → is_marked self.now (id_of j) ≡ false }
-        ensures found { IfOk result (λ r. IsResolutionOf self.now (id_of k) r) }
-        ensures many { result ≡ Err RefreshError.TooMany → IsOverlong (workspace_of self.now) (finished_of self.now) (start_of self.now (id_of k)) }
+    fn found_at(&mut self, alloc: Global, k: u32) -> Result<Collected, RefreshError>
+        requires within { k < length self.old.crates }
+        requires first { (j : ℕ) → j < k → is_marked self.old (id_of j) ≡ false }
+        ensures grown { Grows self.old self.new }
+        ensures found { IfOk result (λ r. IsResolutionOf self.new (id_of k) (collected_view r)) }
+        ensures many { result ≡ Err RefreshError.TooMany → IsOverlong self.new.tables (workspace_of self.new) (finished_of self.new) (beginning_of self.new (id_of k)) }
     {
         runs_name_what_is_there();
-        let world = self.kept.world();
-        let found = resolve_crate(alloc, &self.crates, &self.tables, &self.files, world, k)?;
+        answers_stand_as_tables_grow();
+        let found = resolve_crate(
+            alloc,
+            &self.crates,
+            &mut self.tables,
+            &self.files,
+            self.kept.world(),
+            k,
+        )?;
         Ok(found)
     }
 
@@ -213,10 +221,10 @@ impl Session {
         requires within { k < length self.old.crates }
         requires first { (j : ℕ) → j < k → is_marked self.old (id_of j) ≡ false }
         requires marked { is_marked self.old (id_of k) ≡ true }
-        ensures ok { OnOk result ((r : Resolution) × IsResolutionOf self.old (id_of k) r × Resolved self.old (id_of k) r self.new) }
-        ensures sound { OnOk result (IsSound self.new) }
-        ensures many { result ≡ Err RefreshError.TooMany → IsOverlong (workspace_of self.old) (finished_of self.old) (start_of self.old (id_of k)) }
-        ensures err { OnErr result (self.new ≡ self.old) }
+        ensures ok { OnOk result ((r : Resolution) × Resolved self.old (id_of k) r self.new) }
+        ensures sound { IsSound self.new }
+        ensures many { result ≡ Err RefreshError.TooMany → IsOverlong self.new.tables (workspace_of self.new) (finished_of self.new) (beginning_of self.new (id_of k)) }
+        ensures err { OnErr result (Grows self.old self.new) }
     {
         let found = self.found_at(alloc, k)?;
         self.kept.keep(found)?;

@@ -1,19 +1,29 @@
 //! The source items for which ids stand.
-ghost use Rattle.std.specs.Prelude.{◌≡◌, IfOk};
-ghost use Rattle.hir_session.specs.SourceItems.{source_of, item_of};
+ghost use Rattle.std.specs.Prelude.{◌≡◌, IfOk, option_map};
+ghost use Rattle.hir_session.specs.SourceItems.{file_path, source_of, item_of};
 
 pub mod definitions;
 pub mod imports;
 pub mod visibilities;
 
-use crate::sources::path_at;
 use hir_base::ast_id::{BlockId, HirFileId, SyntaxId};
+use hir_base::file_path::FilePath;
 use hir_base::ids::Crate;
 use hir_tables::Tables;
 use hir_wire::answer::{Definition, ItemSource, SourceCalls, SourceItem, SourceKind, SourceRoot};
 use std::alloc::{AllocError, Global};
 
-/// What holds syntax, where it is a file of the table.
+/// The path of what holds syntax, where it is a file of the tables.
+fn path_of_file(tables: &Tables, file: HirFileId) -> Option<&FilePath>
+    ensures value { option_map (λ p. p.now) result ≡ file_path tables.now.files file }
+{
+    match file {
+        HirFileId::File(file) => tables.file(file.file_id),
+        HirFileId::Macro(_) => None,
+    }
+}
+
+/// What holds syntax, where it is a file of the tables.
 fn source_at(
     alloc: Global,
     tables: &Tables,
@@ -25,7 +35,7 @@ fn source_at(
     if block.is_some() {
         return Ok(None);
     }
-    match path_at(tables, file) {
+    match path_of_file(tables, file) {
         Some(path) => Ok(Some(ItemSource {
             root: SourceRoot::File(path.clone()?),
             calls: SourceCalls::new(Vec::new(alloc)),

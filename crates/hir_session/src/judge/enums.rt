@@ -3,7 +3,7 @@ ghost use Rattle.std.specs.Prelude.{◌≡◌, ◌≢◌, true, false, IfOk, opt
 ghost use Rattle.std.specs.List.{list_any};
 ghost use Rattle.hir_item_tree.specs.Source.{source_view};
 ghost use Rattle.hir_def_map.specs.State.{no_maps};
-ghost use Rattle.hir_def_collector.specs.Keys.{look};
+ghost use Rattle.hir_def_collector.specs.Keys.{enum_tree, look};
 ghost use Rattle.hir_session.specs.Files.{file_at, variants_under, workspace_in, edited_at};
 ghost use Rattle.hir_session.specs.Marks.{IsAltered};
 ghost use Rattle.hir_session.specs.Marking.{is_enum_at, AgreeAt, AreSidesOf, HasAltered};
@@ -14,25 +14,36 @@ use crate::files::Files;
 use crate::side_index::{differ_at, side_index};
 use hir_base::ast_id::SyntaxId;
 use hir_base::file_path::FilePath;
-use hir_base::ids::Crate;
+use hir_base::ids::{Crate, EnumId};
 use hir_def_collector::source_database::Key;
 use hir_item_tree::indexed_source::IndexedSource;
 use hir_item_tree::source::Source;
+use hir_item_tree::tree_id::TreeId;
 use std::alloc::{AllocError, Global};
+
+/// The tree that writes an enum.
+fn enum_tree(id: EnumId) -> TreeId
+    ensures value { result ≡ enum_tree id }
+{
+    TreeId {
+        file: id.loc.file_id,
+        block: id.loc.block,
+    }
+}
 
 /// Whether a key is of the variants of an enum in the file at a path.
 fn is_enum_at(file: &EditedFile<'_>, key: Key) -> bool
-    ensures value { result ≡ is_enum_at file.now.tables.now.files file.now.path.now key }
+    ensures value { result ≡ is_enum_at file.now.tables.now file.now.path.now key }
 {
     match key {
-        Key::Variants(id) => id.loc.block.is_none() && is_file_at(file, id.loc.file_id),
-        Key::Tree(_, _) | Key::Map(_) => false,
+        Key::Variants(id) => is_file_at(file, enum_tree(id)),
+        Key::Tree(_) | Key::Map(_) => false,
     }
 }
 
 /// Whether one of the keys is of the variants of an enum in the file at a path.
 pub fn asks_for_variants(file: &EditedFile<'_>, keys: &[Key]) -> bool
-    ensures value { result ≡ list_any (is_enum_at file.now.tables.now.files file.now.path.now) keys.now }
+    ensures value { result ≡ list_any (is_enum_at file.now.tables.now file.now.path.now) keys.now }
 {
     for key in keys {
         if is_enum_at(file, *key) {
@@ -103,11 +114,11 @@ fn is_enum_altered(
     key: Key,
 ) -> Result<bool, AllocError>
     requires sides { AreSidesOf crates.now.items sides.now.krate (file_at files.now file.now.path.now) (option_map (λ s. source_view s.now) new) sides.now }
-    ensures same { IfOk result (λ altered. altered ≡ false → is_enum_at file.now.tables.now.files file.now.path.now key ≡ true
-        → look (workspace_in crates.now.items file.now.tables.now.files (edited_at files.now file.now.path.now (option_map (λ s. source_view s.now) new.entry))) no_maps key
-        ≡ look (workspace_in crates.now.items file.now.tables.now.files files.now) no_maps key) }
-    ensures other { IfOk result (λ altered. altered ≡ true → IsAltered (workspace_in crates.now.items file.now.tables.now.files files.now)
-        (workspace_in crates.now.items file.now.tables.now.files (edited_at files.now file.now.path.now (option_map (λ s. source_view s.now) new.entry))) key) }
+    ensures same { IfOk result (λ altered. altered ≡ false → is_enum_at file.now.tables.now file.now.path.now key ≡ true
+        → look file.now.tables.now (workspace_in crates.now.items (edited_at files.now file.now.path.now (option_map (λ s. source_view s.now) new.entry))) no_maps key
+        ≡ look file.now.tables.now (workspace_in crates.now.items files.now) no_maps key) }
+    ensures other { IfOk result (λ altered. altered ≡ true → IsAltered file.now.tables.now (workspace_in crates.now.items files.now)
+        (workspace_in crates.now.items (edited_at files.now file.now.path.now (option_map (λ s. source_view s.now) new.entry))) key) }
 {
     if !is_enum_at(file, key) {
         return Ok(false);
@@ -117,7 +128,7 @@ fn is_enum_altered(
             let krate = id.loc.container.map.krate;
             are_variants_altered(alloc, crates, files, file.path, new, sides, krate, id.loc.id)
         }
-        Key::Tree(_, _) | Key::Map(_) => Ok(false),
+        Key::Tree(_) | Key::Map(_) => Ok(false),
     }
 }
 
@@ -132,10 +143,10 @@ pub fn is_any_enum_altered(
     keys: &[Key],
 ) -> Result<bool, AllocError>
     requires sides { AreSidesOf crates.now.items sides.now.krate (file_at files.now file.now.path.now) (option_map (λ s. source_view s.now) new) sides.now }
-    ensures none { IfOk result (λ altered. altered ≡ false → AgreeAt file.now.tables.now.files file.now.path.now true keys.now (workspace_in crates.now.items file.now.tables.now.files files.now)
-        (workspace_in crates.now.items file.now.tables.now.files (edited_at files.now file.now.path.now (option_map (λ s. source_view s.now) new.entry)))) }
-    ensures some { IfOk result (λ altered. altered ≡ true → HasAltered (workspace_in crates.now.items file.now.tables.now.files files.now)
-        (workspace_in crates.now.items file.now.tables.now.files (edited_at files.now file.now.path.now (option_map (λ s. source_view s.now) new.entry))) keys.now) }
+    ensures none { IfOk result (λ altered. altered ≡ false → AgreeAt file.now.tables.now file.now.path.now true keys.now (workspace_in crates.now.items files.now)
+        (workspace_in crates.now.items (edited_at files.now file.now.path.now (option_map (λ s. source_view s.now) new.entry)))) }
+    ensures some { IfOk result (λ altered. altered ≡ true → HasAltered file.now.tables.now (workspace_in crates.now.items files.now)
+        (workspace_in crates.now.items (edited_at files.now file.now.path.now (option_map (λ s. source_view s.now) new.entry))) keys.now) }
 {
     for key in keys {
         if is_enum_altered(alloc, crates, files, file, new, sides, *key)? {

@@ -17,6 +17,7 @@ use hir_base::ids::Crate;
 use hir_def_collector::source_database::Key;
 use hir_item_tree::item_tree::ItemTree;
 use hir_item_tree::source::Source;
+use hir_item_tree::tree_id::{TreeId, TreeKey};
 use hir_tables::Tables;
 use std::alloc::{AllocError, Global};
 
@@ -79,36 +80,35 @@ pub struct EditedFile<'a> {
     ghost numbered: { IsNumberOf tables.now path.now number },
 }
 
-/// Whether what holds syntax is the file.
-pub fn is_file_at(file: &EditedFile<'_>, id: HirFileId) -> bool
-    ensures value { result ≡ is_path file.now.path.now (path_in file.now.tables.now.files id) }
+/// Whether a tree is of the file.
+pub fn is_file_at(file: &EditedFile<'_>, id: TreeId) -> bool
+    ensures value { result ≡ is_path file.now.path.now (path_in file.now.tables.now id) }
 {
-    match id {
-        HirFileId::File(other) => other.file_id.0 == file.number.0,
+    match id.file {
+        HirFileId::File(other) => id.block.is_none() && other.file_id.0 == file.number.0,
         HirFileId::Macro(_) => false,
     }
 }
 
-/// Whether the tree of what holds syntax is altered where the file at a path gets a source, or is removed.
+/// Whether a tree is altered where the file at a path gets a source, or is removed.
 fn is_tree_altered(
     alloc: Global,
     crates: &Vec<CrateInfo>,
     files: &Files,
     file: &EditedFile<'_>,
     new: Option<&Source>,
-    krate: Crate,
-    id: HirFileId,
+    key: TreeKey,
 ) -> Result<bool, AllocError>
     ensures same { IfOk result (λ altered. altered ≡ false
-        → look (workspace_in crates.now.items file.now.tables.now.files (edited_at files.now file.now.path.now (option_map (λ s. source_view s.now) new.entry)))
-        no_maps (Tree krate id)
-        ≡ look (workspace_in crates.now.items file.now.tables.now.files files.now) no_maps (Tree krate id)) }
-    ensures other { IfOk result (λ altered. altered ≡ true → IsAltered (workspace_in crates.now.items file.now.tables.now.files files.now)
-        (workspace_in crates.now.items file.now.tables.now.files (edited_at files.now file.now.path.now (option_map (λ s. source_view s.now) new.entry)))
-        (Tree krate id)) }
+        → look file.now.tables.now (workspace_in crates.now.items (edited_at files.now file.now.path.now (option_map (λ s. source_view s.now) new.entry)))
+        no_maps (Tree key)
+        ≡ look file.now.tables.now (workspace_in crates.now.items files.now) no_maps (Tree key)) }
+    ensures other { IfOk result (λ altered. altered ≡ true → IsAltered file.now.tables.now (workspace_in crates.now.items files.now)
+        (workspace_in crates.now.items (edited_at files.now file.now.path.now (option_map (λ s. source_view s.now) new.entry)))
+        (Tree key)) }
 {
-    if is_file_at(file, id) {
-        becomes_another(alloc, crates, krate, file.path, files.get(file.path), new)
+    if is_file_at(file, key.id) {
+        becomes_another(alloc, crates, key.krate, file.path, files.get(file.path), new)
     } else {
         Ok(false)
     }
@@ -124,11 +124,11 @@ fn is_altered(
     new: Option<&Source>,
     key: Key,
 ) -> Result<bool, AllocError>
-    ensures same { IfOk result (λ altered. altered ≡ false → is_enum_at file.now.tables.now.files file.now.path.now key ≡ false
-        → look (workspace_in crates.now.items file.now.tables.now.files (edited_at files.now file.now.path.now (option_map (λ s. source_view s.now) new.entry))) no_maps key
-        ≡ look (workspace_in crates.now.items file.now.tables.now.files files.now) no_maps key) }
-    ensures other { IfOk result (λ altered. altered ≡ true → IsAltered (workspace_in crates.now.items file.now.tables.now.files files.now)
-        (workspace_in crates.now.items file.now.tables.now.files (edited_at files.now file.now.path.now (option_map (λ s. source_view s.now) new.entry))) key) }
+    ensures same { IfOk result (λ altered. altered ≡ false → is_enum_at file.now.tables.now file.now.path.now key ≡ false
+        → look file.now.tables.now (workspace_in crates.now.items (edited_at files.now file.now.path.now (option_map (λ s. source_view s.now) new.entry))) no_maps key
+        ≡ look file.now.tables.now (workspace_in crates.now.items files.now) no_maps key) }
+    ensures other { IfOk result (λ altered. altered ≡ true → IsAltered file.now.tables.now (workspace_in crates.now.items files.now)
+        (workspace_in crates.now.items (edited_at files.now file.now.path.now (option_map (λ s. source_view s.now) new.entry))) key) }
 {
     match key {
         Key::Tree(krate, id) => { is_tree_altered(alloc, crates, files, file, new, krate, id) }
@@ -145,10 +145,10 @@ pub fn is_any_tree_altered(
     new: Option<&Source>,
     keys: &[Key],
 ) -> Result<bool, AllocError>
-    ensures none { IfOk result (λ altered. altered ≡ false → AgreeAt file.now.tables.now.files file.now.path.now false keys.now (workspace_in crates.now.items file.now.tables.now.files files.now)
-        (workspace_in crates.now.items file.now.tables.now.files (edited_at files.now file.now.path.now (option_map (λ s. source_view s.now) new.entry)))) }
-    ensures some { IfOk result (λ altered. altered ≡ true → HasAltered (workspace_in crates.now.items file.now.tables.now.files files.now)
-        (workspace_in crates.now.items file.now.tables.now.files (edited_at files.now file.now.path.now (option_map (λ s. source_view s.now) new.entry))) keys.now) }
+    ensures none { IfOk result (λ altered. altered ≡ false → AgreeAt file.now.tables.now file.now.path.now false keys.now (workspace_in crates.now.items files.now)
+        (workspace_in crates.now.items (edited_at files.now file.now.path.now (option_map (λ s. source_view s.now) new.entry)))) }
+    ensures some { IfOk result (λ altered. altered ≡ true → HasAltered file.now.tables.now (workspace_in crates.now.items files.now)
+        (workspace_in crates.now.items (edited_at files.now file.now.path.now (option_map (λ s. source_view s.now) new.entry))) keys.now) }
 {
     for key in keys {
         if is_altered(alloc, crates, files, file, new, *key)? {

@@ -85,7 +85,7 @@ impl Session {
         };
         match module_below_root(found.map, place.elements()) {
             Some(at) => {
-                let read = WorldPart::among(self.kept.world(), info.behind());
+                let read = WorldPart::among(self.kept.world(), info.behind(), &[]);
                 let maps = DefMaps::new(read, found.map);
                 let answer = answer_at(
                     alloc,
@@ -148,7 +148,7 @@ impl Session {
             &self.files,
             krate,
             file,
-            info.root().edition,
+            info.config().edition,
         )?;
         Ok(text)
     }
