@@ -41,13 +41,14 @@ found_from : (runs : Runs) (id : MapId) (es : List (MapId × Finished))
     → lookup (is_at (map_order.ghosts.cmp id)) (map (entry_with runs) es)
     ≡ option_map (λ (f : Finished). resolution_at f (run_in runs id)) (lookup (is_at (map_order.ghosts.cmp id)) es)
 found_from runs id [] = refl
-found_from runs id (e ∷ es) = go (is_at (map_order.ghosts.cmp id) e.0) refl
+found_from runs id (e ∷ es) = go (found_from runs id es) (is_at (map_order.ghosts.cmp id) e.0) refl
   where
-    go : (b : Bool) → is_at (map_order.ghosts.cmp id) e.0 ≡ b
+    go : lookup (is_at (map_order.ghosts.cmp id)) (map (entry_with runs) es) ≡ option_map (λ (f : Finished). resolution_at f (run_in runs id)) (lookup (is_at (map_order.ghosts.cmp id)) es)
+        → (b : Bool) → is_at (map_order.ghosts.cmp id) e.0 ≡ b
         → cond b (Some (resolution_at e.1 (run_in runs e.0))) (lookup (is_at (map_order.ghosts.cmp id)) (map (entry_with runs) es))
         ≡ option_map (λ (f : Finished). resolution_at f (run_in runs id)) (cond b (Some e.1) (lookup (is_at (map_order.ghosts.cmp id)) es))
-    go true on = ap (λ (j : MapId). Some (resolution_at e.1 (run_in runs j))) (sym (equal_id id e.0 on))
-    go false off = found_from runs id es
+    go rest true on = ap (λ (j : MapId). Some (resolution_at e.1 (run_in runs j))) (sym (equal_id id e.0 on))
+    go rest false off = rest
 
 -- what is kept of a place stands under its id
 kept_at : (maps : Store) (runs : Runs) (id : MapId)
@@ -327,6 +328,12 @@ module _ (old mid new : Resolutions) (ids : List MapId) (n : ℕ) (on : MapId) (
         ∙ so_far.stay id (λ k d below. none k d (omega arith));
   }
 
+-- within a list the default doesn't matter
+pub listed : (xs : List MapId) (k : ℕ) (a b : MapId) → k < length xs → get_or xs k b ≡ get_or xs k a
+listed [] k a b h = absurd (omega arith)
+listed (x ∷ xs) zero a b h = refl
+listed (x ∷ xs) (suc k) a b h = listed xs k a b (omega arith)
+
 pub forgetting-end : (old new : Resolutions) (ids : List MapId) (n : ℕ) → IsForgetting old ids n new → length ids ≡ n → AreForgotten old ids new
 forgetting-end old new ids n done all = record {
   gone = λ id among. let below : among.0 < length ids = among.1 in
@@ -335,9 +342,3 @@ forgetting-end old new ids n done all = record {
   fewer = done.fewer;
   stay = λ id none. done.stay id (λ k d below. none (get_or ids k d) (k, (let within : k < length ids = omega arith in within), listed ids k d (get_or ids k d) (omega arith)));
 }
-  where
-    -- within a list the default doesn't matter
-    listed : (xs : List MapId) (k : ℕ) (a b : MapId) → k < length xs → get_or xs k b ≡ get_or xs k a
-    listed [] k a b h = absurd (omega arith)
-    listed (x ∷ xs) zero a b h = refl
-    listed (x ∷ xs) (suc k) a b h = listed xs k a b (omega arith)
