@@ -34,7 +34,7 @@ use Rattle.std.specs.Prelude.{is_none}
 -- what is behind the place is as it was
 pub record IsSame (from to : SessionState) (id : MapId) : Type 0 where
   pub crates : to.crates ≡ from.crates
-  pub tables : to.tables ≡ from.tables
+  pub tables : KeepsTables from.tables to.tables
   pub off : (j : MapId) → IsBehind from id j → is_marked to j ≡ false
   pub kept : (j : MapId) → IsBehind from id j → kept_of to j ≡ kept_of from j
 
@@ -63,7 +63,7 @@ unmarked_still alike closed off (next j d behind among) =
 
 -- what was marked shows a key that was altered
 pub what_marked : {from mid : SessionState} {k : MapId} (w : Workspace) → IsSame from mid k → {j : MapId} → Spread (follows mid) (IsTouched mid w) j → IsBehind from k j
-    → (key : Key) × IsAskedBehind from k key × IsAltered (workspace_of mid) w key
+    → (key : Key) × IsAskedBehind from k key × IsAltered mid.tables (workspace_of mid) w key
 what_marked w same (here j (before m)) behind = clash m (same.off j behind)
 what_marked w same (here j (asked_for key r is has ne)) behind =
     (key, record { place = j; found = r; behind = behind; is = sym (same.kept j behind) ∙ is; asked = has }, ne)
@@ -76,10 +76,10 @@ workspace-becomes is = rw (is.crates, is.tables.files, is.files_are) refl
 
 -- an edit leaves all that is behind the crate as it was, or alters a key that was asked for there
 pub same_after_edit : {from mid to : SessionState} {k : MapId} (e : EditValue) → IsSame from mid k → Applies mid e to
-    → IsSame from to k ⊎ ((key : Key) × IsAskedBehind from k key × IsAltered (workspace_of mid) (workspace_of to) key)
+    → IsSame from to k ⊎ ((key : Key) × IsAskedBehind from k key × IsAltered mid.tables (workspace_of mid) (workspace_of to) key)
 same_after_edit {from} {mid} {to} {k} e same is = on_bool (is_marked to k)
     (λ on. let hit = what_marked (workspace_of (with_files mid (edited_files mid e))) same (is.only k on) itself in
-    inr (hit.0, hit.1, λ h. hit.2 (subst (λ (w : Workspace). look w no_maps hit.0 ≡ look (workspace_of mid) no_maps hit.0) (workspace-becomes is) h)))
+    inr (hit.0, hit.1, λ h. hit.2 (subst (λ (w : Workspace). look mid.tables w no_maps hit.0 ≡ look mid.tables (workspace_of mid) no_maps hit.0) (workspace-becomes is) h)))
     (λ still.
     let off = λ (j : MapId) (behind : IsBehind from k j). unmarked_still (is.crates ∙ same.crates) (closed_after is) still behind in
     inl (record {
@@ -99,7 +99,7 @@ same_after_refresh same is = record {
 }
 
 pub same_at_first : {from : SessionState} {k : MapId} → IsSound from → is_marked from k ≡ false → IsSame from from k
-same_at_first sound off = record { crates = refl; tables = refl; off = λ j behind. unmarked_behind sound off behind; kept = λ j behind. refl }
+same_at_first sound off = record { crates = refl; tables = KeepsTables-refl _; off = λ j behind. unmarked_behind sound off behind; kept = λ j behind. refl }
 
 pub same_or_altered : {from : SessionState} {k : MapId} → IsSound from → is_marked from k ≡ false → {to : SessionState} → (h : History from to)
     → IsSame from to k ⊎ ((key : Key) × IsAskedBehind from k key × WasAltered key h)
@@ -124,19 +124,29 @@ behind_from {s} behind (through k i d among rest) = behind_from (next (id_of k) 
 -- the same finished maps are read
 same_read : {from to : SessionState} (k : ℕ) → IsSound from → IsSame from to (id_of k) → read_of to (id_of k) ≡ read_of from (id_of k)
 same_read {from} {to} k sound same =
-    ap (λ (cs : List CrateValue). among (behind_in cs k) (finished_of to)) same.crates
-    ∙ among_agrees (behind_in from.crates k) (finished_of to) (finished_of from)
-    (λ c h. ap (λ (o : Option Resolution). option_map (λ (p : Placed). p.map) (option_map (λ (r : Resolution). unheld r.map) o))
-    (same.kept (crate_map c) (behind_from itself ((sound.behind k c).0 h))))
+    ap (λ (cs : List CrateValue). among (behind_in cs k) [] (finished_of to)) same.crates
+    ∙ among_agrees (behind_in from.crates k) [] (finished_of to) (finished_of from)
+    (λ j h.
+    let of = of_some (behind_in from.crates k) j h in
+    let own : j ≡ crate_map j.krate = λ i. record { krate = j.krate; block = of.0 i } in
+    subst (λ (x : MapId). finished_of to x ≡ finished_of from x) (sym own)
+    (ap (option_map (λ (r : Resolution). unheld r.map r.local)) (same.kept (crate_map j.krate) (behind_from itself ((sound.behind k j.krate).0 of.1)))))
+
+on_option : {A X : Type 0} (o : Option X) → (o ≡ None → A) → ((x : X) → o ≡ Some x → A) → A
+on_option None f g = f refl
+on_option (Some x) f g = g x refl
 
 -- and then a query has the same answer
-pub same_answer : {from to : SessionState} (place : PlaceValue) (path : Path) (shadow : Shadow) (style : Option MacroStyle) → IsSound from
-    → is_marked from (map_of place) ≡ false → IsSame from to (map_of place) → answer_of to place path shadow style ≡ answer_of from place path shadow style
-same_answer place path shadow style sound off same =
-    rw (same_read place.krate.0 sound same, same.crates, same.tables, same.kept (map_of place) itself) refl
+pub same_answer : RunsBindFromSources → PathsAnswerFromSources → PathsLeadToWhatIsThere → {from to : SessionState} (place : PlaceValue) (path : Path) (shadow : Shadow) (style : Option MacroStyle)
+    → IsSound from → is_marked from (map_of place) ≡ false → IsSame from to (map_of place) → answer_of to place path shadow style ≡ answer_of from place path shadow style
+same_answer runs answers leads {from} {to} place path shadow style sound off same =
+    rw (same_read place.krate.0 sound same, same.crates, same.kept (map_of place) itself)
+    (on_option (module_of from place)
+    (λ none. rw none refl)
+    (λ m some. over m some))
+  where
+    now : IsCurrent from (map_of place)
+    now = sound.current (map_of place) off
 
-pub differ_only : DifferOnlyWhereAltered
-differ_only from to place path shadow style sound off h = elim (same_or_altered sound off h) [
-  | inl same ↦ inl (same_answer place path shadow style sound off same)
-  | inr hit ↦ inr hit
-]
+    maps : Maps
+    maps = beside (read_of from (map_of place)) now.found.map

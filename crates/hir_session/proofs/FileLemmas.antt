@@ -1,27 +1,36 @@
-use Rattle.std.proofs.Common.{◌≡◌, ◌≢◌, ℕ, nat_eq, eq-eqb, slice_get, Bool, true, false, ◌&&◌, is_none, cond, Ordering, Less, Equal, Greater, List, [], ◌∷◌, Option, Some, None, refl, sym, ap, ◌∙◌, option_and_then}
+use Rattle.std.proofs.Common.{◌≡◌, ◌≢◌, ℕ, nat_eq, eq-eqb, slice_get, Bool, true, false, ◌&&◌, is_none, cond, Ordering, Less, Equal, Greater, List, [], ◌∷◌, Option, Some, None, option_map, refl, sym, ap, ◌∙◌, option_and_then}
 use Rattle.std.specs.Ordering.{nat_cmp, match_ordering, is_eq}
 use Rattle.std.specs.Cmp.Lexicographic.{slice_cmp, bytes_decides, pointwise}
 use Rattle.std.specs.BTreeMap.{is_at}
+use Rattle.std.proofs.lemmas.Bool.{eqb-true}
 use Rattle.std.proofs.lemmas.Map.Text.{is_eq-slice_cmp}
+use Rattle.hir_base.specs.declared.ast_id.AstKind.TheVariants.{Enum}
+use Rattle.hir_base.specs.declared.ast_id.BlockId.{BlockId}
+use Rattle.hir_base.specs.declared.ast_id.EditionedFileId.{EditionedFileId}
 use Rattle.hir_base.specs.declared.ast_id.FileId.{FileId}
 use Rattle.hir_base.specs.declared.ast_id.HirFileId.{HirFileId}
 use Rattle.hir_base.specs.declared.ast_id.HirFileId.TheVariants.{File, Macro}
-use Rattle.hir_base.specs.declared.ids.Crate.{Crate}
+use Rattle.hir_base.specs.declared.ast_id.MacroCallId.{MacroCallId}
 use Rattle.hir_base.specs.declared.ids.EnumId.{EnumId}
+use Rattle.hir_base.specs.declared.place.BlockPlace.{BlockPlace}
+use Rattle.hir_item_tree.specs.SideLists.{entry_of, entry_variants}
 use Rattle.hir_item_tree.specs.Source.{SourceValue}
+use Rattle.hir_item_tree.specs.SyntaxIds.{node_id}
 use Rattle.hir_item_tree.specs.declared.side_lists.VariantItem.{VariantItem}
+use Rattle.hir_item_tree.specs.declared.tree_id.TreeKey.{TreeKey}
+use Rattle.hir_tables.specs.Interning.{IsOnce}
+use Rattle.hir_tables.specs.SourcePlaces.{ExpansionValue, SourcePlaceValue, block, expansion, file}
+use Rattle.hir_tables.specs.Tables as numbers
+use Rattle.hir_tables.specs.Tables.{TablesValue, expansion_of, source_of}
 use Rattle.hir_def_map.specs.State.{no_maps}
-use Rattle.hir_def_collector.specs.Workspace.{TreeLook}
-use Rattle.hir_def_collector.specs.Keys.{AgreeOn, Look, of_tree, of_variants, look}
+use Rattle.hir_def_collector.specs.Workspace.{TreeLook, Workspace}
+use Rattle.hir_def_collector.specs.Keys.{AgreeOn, Look, enum_tree, look, of_tree, of_variants, tree_of_source}
 use Rattle.hir_def_collector.specs.declared.source_database.Key.{Key}
 use Rattle.hir_def_collector.specs.declared.source_database.Key.TheVariants as keys
 use Rattle.hir_session.specs.Crates.{CrateValue}
-use Rattle.hir_session.specs.Files.{Files, file_at, path_in, with_file, without_file, edited_at, shown, source_in, variants_under, workspace_in}
-use Rattle.hir_session.specs.Marking.{is_enum_at, is_path}
-use Rattle.hir_tables.specs.Interning.{IsOnce}
-use Rattle.hir_tables.specs.Tables.{TablesValue, file_at}
+use Rattle.hir_session.specs.Files.{Files, edited_at, file_at, path_in, path_of, shown, sides_under, source_at, variants_under, with_file, without_file, workspace_in}
+use Rattle.hir_session.specs.Marking.{IsNumberOf, is_enum_at, is_path}
 use Rattle.hir_session.proofs.Truth.{clash, on_bool}
-use Rattle.std.proofs.lemmas.Bool.{eqb-true}
 
 -- the test at a path says that two paths are the same
 pub is_at-same : (p q : List ℕ) → is_at (slice_cmp nat_cmp p) q ≡ true → p ≡ q
@@ -123,23 +132,40 @@ module _ (crates : List CrateValue) (F : Files) (path : List ℕ) (there : Optio
       ∙ ap (λ (x : Option SourceValue). shown crates k (Some q) x) (sym (at_path q (same-is_at path q (sym same))))
       ∙ shown-same _ _ e ∙ ap (λ (p : List ℕ). shown crates k (Some p) (file_at F p)) same)
 
-module _ (crates : List CrateValue) (paths : List (List ℕ)) (F : Files) (path : List ℕ) (there : Option SourceValue) (krate : Crate) (file : HirFileId) where
-  -- a key of another file
-  pub look-other : is_path path (path_in paths file) ≡ false
-      → look (workspace_in crates paths (edited_at F path there)) no_maps (keys.Tree krate file) ≡ look (workspace_in crates paths F) no_maps (keys.Tree krate file)
-  look-other h = seen-other crates F path there krate.0 (path_in paths file) h
+module _ (crates : List CrateValue) (tables : TablesValue) (F : Files) (path : List ℕ) (there : Option SourceValue) (key : TreeKey) where
+  abbrev now : Workspace
+  now = workspace_in crates F
+
+  abbrev edited : Workspace
+  edited = workspace_in crates (edited_at F path there)
+
+  -- a key of another source
+  pub look-other : is_path path (path_in tables key.id) ≡ false → look tables edited no_maps (keys.Tree key) ≡ look tables now no_maps (keys.Tree key)
+  look-other h = go (source_of tables key.id) h
+    where
+      go : (o : Option SourcePlaceValue) → is_path path (option_and_then path_of o) ≡ false → of_tree (tree_of_source edited key.krate o) ≡ of_tree (tree_of_source now key.krate o)
+      go None e = refl
+      go (Some source) e = seen-other crates F path there key.krate.0 (path_of source) e
 
   -- a key of the file, under a crate for which its tree stays
-  pub look-same : is_path path (path_in paths file) ≡ true
-      → shown crates krate.0 (Some path) there ≡ shown crates krate.0 (Some path) (file_at F path)
-      → look (workspace_in crates paths (edited_at F path there)) no_maps (keys.Tree krate file) ≡ look (workspace_in crates paths F) no_maps (keys.Tree krate file)
-  look-same h alike = seen-same crates F path there krate.0 alike (path_in paths file) h
+  pub look-same : is_path path (path_in tables key.id) ≡ true
+      → shown crates key.krate.0 (Some path) there ≡ shown crates key.krate.0 (Some path) (file_at F path)
+      → look tables edited no_maps (keys.Tree key) ≡ look tables now no_maps (keys.Tree key)
+  look-same h alike = go (source_of tables key.id) h
+    where
+      go : (o : Option SourcePlaceValue) → is_path path (option_and_then path_of o) ≡ true → of_tree (tree_of_source edited key.krate o) ≡ of_tree (tree_of_source now key.krate o)
+      go None e = clash e refl
+      go (Some source) e = seen-same crates F path there key.krate.0 alike (path_of source) e
 
   -- a key of the file, under a crate for which its tree becomes another
-  pub look-differs : is_path path (path_in paths file) ≡ true
-      → shown crates krate.0 (Some path) there ≢ shown crates krate.0 (Some path) (file_at F path)
-      → look (workspace_in crates paths (edited_at F path there)) no_maps (keys.Tree krate file) ≢ look (workspace_in crates paths F) no_maps (keys.Tree krate file)
-  look-differs h other = seen-differs crates F path there krate.0 other (path_in paths file) h
+  pub look-differs : is_path path (path_in tables key.id) ≡ true
+      → shown crates key.krate.0 (Some path) there ≢ shown crates key.krate.0 (Some path) (file_at F path)
+      → look tables edited no_maps (keys.Tree key) ≢ look tables now no_maps (keys.Tree key)
+  look-differs h other = go (source_of tables key.id) h
+    where
+      go : (o : Option SourcePlaceValue) → is_path path (option_and_then path_of o) ≡ true → of_tree (tree_of_source edited key.krate o) ≢ of_tree (tree_of_source now key.krate o)
+      go None e same = clash e refl
+      go (Some source) e same = seen-differs crates F path there key.krate.0 other (path_of source) e same
 
 -- ---- the variants of enums
 
@@ -166,58 +192,58 @@ module _ (F : Files) (path : List ℕ) (there : Option SourceValue) where
   source-was None h = clash h refl
   source-was (Some q) h = ap (file_at F) ((bytes_decides q path).0 h)
 
-module _ (crates : List CrateValue) (paths : List (List ℕ)) (F : Files) (path : List ℕ) (there : Option SourceValue) (id : EnumId) where
-  -- the variants of an enum of another file, or of a block
-  pub enum-other : is_enum_at paths path (keys.Variants id) ≡ false
-      → look (workspace_in crates paths (edited_at F path there)) no_maps (keys.Variants id) ≡ look (workspace_in crates paths F) no_maps (keys.Variants id)
-  enum-other h = go (is_none id.loc.block) h
+module _ (crates : List CrateValue) (tables : TablesValue) (F : Files) (path : List ℕ) (there : Option SourceValue) (id : EnumId) where
+  -- the variants that a workspace shows of a source
+  abbrev shown_variants : Files → Option SourcePlaceValue → Option (List VariantItem)
+  shown_variants G o = option_and_then entry_variants (option_and_then (λ (source : SourcePlaceValue).
+      entry_of (node_id Enum id.loc.id) (sides_under crates id.loc.container.map.krate.0 (source_at G source))) o)
+
+  abbrev under : Option SourceValue → Option (List VariantItem)
+  under o = variants_under crates id.loc.container.map.krate.0 o id.loc.id
+
+  -- the variants of an enum of another source
+  pub enum-other : is_enum_at tables path (keys.Variants id) ≡ false
+      → look tables (workspace_in crates (edited_at F path there)) no_maps (keys.Variants id) ≡ look tables (workspace_in crates F) no_maps (keys.Variants id)
+  enum-other h = go (source_of tables (enum_tree id)) h
     where
-      go : (b : Bool) → (b && is_path path (path_in paths id.loc.file_id)) ≡ false
-          → of_variants (cond b (variants_under crates id.loc.container.map.krate.0 (source_in paths (edited_at F path there) id.loc.file_id) id.loc.id) None)
-          ≡ of_variants (cond b (variants_under crates id.loc.container.map.krate.0 (source_in paths F id.loc.file_id) id.loc.id) None)
-      go true e = ap (λ (o : Option SourceValue). of_variants (variants_under crates id.loc.container.map.krate.0 o id.loc.id)) (source-other F path there (path_in paths id.loc.file_id) e)
-      go false e = refl
+      go : (o : Option SourcePlaceValue) → is_path path (option_and_then path_of o) ≡ false → of_variants (shown_variants (edited_at F path there) o) ≡ of_variants (shown_variants F o)
+      go None e = refl
+      go (Some source) e = ap (λ (o : Option SourceValue). of_variants (under o)) (source-other F path there (path_of source) e)
 
   -- those of an enum of the file, which stay
-  pub enum-same : is_enum_at paths path (keys.Variants id) ≡ true
-      → variants_under crates id.loc.container.map.krate.0 there id.loc.id ≡ variants_under crates id.loc.container.map.krate.0 (file_at F path) id.loc.id
-      → look (workspace_in crates paths (edited_at F path there)) no_maps (keys.Variants id) ≡ look (workspace_in crates paths F) no_maps (keys.Variants id)
-  enum-same h alike = go (is_none id.loc.block) h
+  pub enum-same : is_enum_at tables path (keys.Variants id) ≡ true → under there ≡ under (file_at F path)
+      → look tables (workspace_in crates (edited_at F path there)) no_maps (keys.Variants id) ≡ look tables (workspace_in crates F) no_maps (keys.Variants id)
+  enum-same h alike = go (source_of tables (enum_tree id)) h
     where
-      go : (b : Bool) → (b && is_path path (path_in paths id.loc.file_id)) ≡ true
-          → of_variants (cond b (variants_under crates id.loc.container.map.krate.0 (source_in paths (edited_at F path there) id.loc.file_id) id.loc.id) None)
-          ≡ of_variants (cond b (variants_under crates id.loc.container.map.krate.0 (source_in paths F id.loc.file_id) id.loc.id) None)
-      go true e =
-          ap (λ (o : Option SourceValue). of_variants (variants_under crates id.loc.container.map.krate.0 o id.loc.id)) (source-there F path there (path_in paths id.loc.file_id) e)
+      go : (o : Option SourcePlaceValue) → is_path path (option_and_then path_of o) ≡ true → of_variants (shown_variants (edited_at F path there) o) ≡ of_variants (shown_variants F o)
+      go None e = clash e refl
+      go (Some source) e =
+          ap (λ (o : Option SourceValue). of_variants (under o)) (source-there F path there (path_of source) e)
           ∙ ap (λ (v : Option (List VariantItem)). of_variants v) alike
-          ∙ sym (ap (λ (o : Option SourceValue). of_variants (variants_under crates id.loc.container.map.krate.0 o id.loc.id)) (source-was F path there (path_in paths id.loc.file_id) e))
-      go false e = clash e refl
+          ∙ sym (ap (λ (o : Option SourceValue). of_variants (under o)) (source-was F path there (path_of source) e))
 
   -- and which become others
-  pub enum-differs : is_enum_at paths path (keys.Variants id) ≡ true
-      → variants_under crates id.loc.container.map.krate.0 there id.loc.id ≢ variants_under crates id.loc.container.map.krate.0 (file_at F path) id.loc.id
-      → look (workspace_in crates paths (edited_at F path there)) no_maps (keys.Variants id) ≢ look (workspace_in crates paths F) no_maps (keys.Variants id)
-  enum-differs h other = go (is_none id.loc.block) h
+  pub enum-differs : is_enum_at tables path (keys.Variants id) ≡ true → under there ≢ under (file_at F path)
+      → look tables (workspace_in crates (edited_at F path there)) no_maps (keys.Variants id) ≢ look tables (workspace_in crates F) no_maps (keys.Variants id)
+  enum-differs h other = go (source_of tables (enum_tree id)) h
     where
-      go : (b : Bool) → (b && is_path path (path_in paths id.loc.file_id)) ≡ true
-          → of_variants (cond b (variants_under crates id.loc.container.map.krate.0 (source_in paths (edited_at F path there) id.loc.file_id) id.loc.id) None)
-          ≢ of_variants (cond b (variants_under crates id.loc.container.map.krate.0 (source_in paths F id.loc.file_id) id.loc.id) None)
-      go true e same = other (
-          sym (ap (λ (o : Option SourceValue). variants_under crates id.loc.container.map.krate.0 o id.loc.id) (source-there F path there (path_in paths id.loc.file_id) e))
+      go : (o : Option SourcePlaceValue) → is_path path (option_and_then path_of o) ≡ true → of_variants (shown_variants (edited_at F path there) o) ≢ of_variants (shown_variants F o)
+      go None e same = clash e refl
+      go (Some source) e same = other (
+          sym (ap under (source-there F path there (path_of source) e))
           ∙ variants-same _ _ same
-          ∙ ap (λ (o : Option SourceValue). variants_under crates id.loc.container.map.krate.0 o id.loc.id) (source-was F path there (path_in paths id.loc.file_id) e))
-      go false e same = clash e refl
+          ∙ ap under (source-was F path there (path_of source) e))
 
 -- ---- numbers of files
 
 -- a number is that of the file exactly where it means its path
-pub numbered : (tables : TablesValue) (path : List ℕ) (number n : ℕ) → slice_get tables.files number ≡ Some path → IsOnce tables.files
-    → nat_eq n number ≡ is_path path (slice_get tables.files n)
+numbered : (tables : TablesValue) (path : List ℕ) (number n : ℕ) → slice_get tables.files number ≡ Some path → IsOnce tables.files
+    → nat_eq n number ≡ is_path path (option_and_then path_of (option_map file (slice_get tables.files n)))
 numbered tables path number n means once = on_bool (nat_eq n number)
-    (λ on. on ∙ sym (ap (is_path path) (ap (slice_get tables.files) (eqb-true n number on) ∙ means) ∙ (bytes_decides path path).1 refl))
+    (λ on. on ∙ sym (ap (λ (o : Option (List ℕ)). is_path path (option_and_then path_of (option_map file o))) (ap (slice_get tables.files) (eqb-true n number on) ∙ means) ∙ (bytes_decides path path).1 refl))
     (λ off. off ∙ sym (go (slice_get tables.files n) refl off))
   where
-    go : (o : Option (List ℕ)) → slice_get tables.files n ≡ o → nat_eq n number ≡ false → is_path path o ≡ false
+    go : (o : Option (List ℕ)) → slice_get tables.files n ≡ o → nat_eq n number ≡ false → is_path path (option_and_then path_of (option_map file o)) ≡ false
     go None s off = refl
     go (Some q) s off = on_bool (pointwise nat_eq q path)
         (λ on.
@@ -226,28 +252,53 @@ numbered tables path number n means once = on_bool (nat_eq n number)
         clash (ap (λ (m : ℕ). nat_eq m number) equal ∙ eq-eqb number number refl) off)
         (λ h. h)
 
--- where no number means the path, no key is of the file
-unnumbered : (tables : TablesValue) (path : List ℕ) → ((id : FileId) → file_at tables id ≢ Some path) → (file : HirFileId) → is_path path (path_in tables.files file) ≡ false
-unnumbered tables path none (Macro call) = refl
-unnumbered tables path none (File f) = go (slice_get tables.files f.file_id.0) refl
+-- so it is of a tree of a file, where that is no block
+pub numbered_tree : (tables : TablesValue) (path : List ℕ) (number : FileId) (f : EditionedFileId) (b : Option BlockId) → IsNumberOf tables path number
+    → (is_none b && nat_eq f.file_id.0 number.0) ≡ is_path path (path_in tables (record { file = File f; block = b }))
+numbered_tree tables path number f None is = numbered tables path number.0 f.file_id.0 is.means is.once
+numbered_tree tables path number f (Some b) is = sym (go (slice_get tables.blocks b.0))
   where
-    go : (o : Option (List ℕ)) → slice_get tables.files f.file_id.0 ≡ o → is_path path o ≡ false
+    go : (o : Option BlockPlace) → is_path path (option_and_then path_of (option_map block o)) ≡ false
+    go None = refl
+    go (Some place) = refl
+
+-- of what a call expands to it is not
+pub call_apart : (tables : TablesValue) (path : List ℕ) (call : MacroCallId) (b : Option BlockId) → is_path path (path_in tables (record { file = Macro call; block = b })) ≡ false
+call_apart tables path call None = go (expansion_of tables call)
+  where
+    go : (o : Option ExpansionValue) → is_path path (option_and_then path_of (option_map expansion o)) ≡ false
+    go None = refl
+    go (Some key) = refl
+call_apart tables path call (Some b) = go (slice_get tables.blocks b.0)
+  where
+    go : (o : Option BlockPlace) → is_path path (option_and_then path_of (option_map block o)) ≡ false
+    go None = refl
+    go (Some place) = refl
+
+-- where no number means the path, no tree is of the file
+unnumbered : (tables : TablesValue) (path : List ℕ) → ((id : FileId) → numbers.file_at tables id ≢ Some path) → (file_id : HirFileId) (b : Option BlockId)
+    → is_path path (path_in tables (record { file = file_id; block = b })) ≡ false
+unnumbered tables path none (Macro call) b = call_apart tables path call b
+unnumbered tables path none (File f) (Some b) = go (slice_get tables.blocks b.0)
+  where
+    go : (o : Option BlockPlace) → is_path path (option_and_then path_of (option_map block o)) ≡ false
+    go None = refl
+    go (Some place) = refl
+unnumbered tables path none (File f) None = go (slice_get tables.files f.file_id.0) refl
+  where
+    go : (o : Option (List ℕ)) → slice_get tables.files f.file_id.0 ≡ o → is_path path (option_and_then path_of (option_map file o)) ≡ false
     go None s = refl
     go (Some q) s = on_bool (pointwise nat_eq q path)
         (λ on. absurd (none f.file_id (s ∙ ap (λ (p : List ℕ). Some p) ((bytes_decides q path).0 on))))
         (λ h. h)
 
 -- and what is seen stays
-pub agrees_unnumbered : (crates : List CrateValue) (tables : TablesValue) (F : Files) (path : List ℕ) (there : Option SourceValue) (keys : List Key)
-    → ((id : FileId) → file_at tables id ≢ Some path)
-    → AgreeOn keys (workspace_in crates tables.files F) no_maps (workspace_in crates tables.files (edited_at F path there)) no_maps
-agrees_unnumbered crates tables F path there asked none = record { crates = refl; same = λ key among. same key }
+pub agrees_unnumbered : (crates : List CrateValue) (tables : TablesValue) (F : Files) (path : List ℕ) (there : Option SourceValue) (asked : List Key)
+    → ((id : FileId) → numbers.file_at tables id ≢ Some path)
+    → AgreeOn tables asked (workspace_in crates F) no_maps (workspace_in crates (edited_at F path there)) no_maps
+agrees_unnumbered crates tables F path there asked none = record { crates = refl; config = λ krate. refl; behind = λ krate. refl; same = λ key among. same key }
   where
-    apart : (b : Bool) (x : Bool) → x ≡ false → (b && x) ≡ false
-    apart true x e = e
-    apart false x e = refl
-
-    same : (key : Key) → look (workspace_in crates tables.files (edited_at F path there)) no_maps key ≡ look (workspace_in crates tables.files F) no_maps key
-    same (keys.Tree krate file) = look-other crates tables.files F path there krate file (unnumbered tables path none file)
-    same (keys.Variants id) = enum-other crates tables.files F path there id (apart (is_none id.loc.block) _ (unnumbered tables path none id.loc.file_id))
+    same : (key : Key) → look tables (workspace_in crates (edited_at F path there)) no_maps key ≡ look tables (workspace_in crates F) no_maps key
+    same (keys.Tree key) = look-other crates tables F path there key (unnumbered tables path none key.id.file key.id.block)
+    same (keys.Variants id) = enum-other crates tables F path there id (unnumbered tables path none id.loc.file_id id.loc.block)
     same (keys.Map id) = refl

@@ -15,7 +15,7 @@ use Rattle.hir_def_map.specs.Inserted.{may_join, IsReason}
 use Rattle.hir_def_map.specs.Named.{is_complete}
 use Rattle.hir_def_map.specs.Removal.{Depends, names_in as names_between, names_of as between_of}
 use Rattle.hir_def_map.specs.Removal.Depends.{itself, through}
-use Rattle.hir_def_map.specs.State.{Local, Map, Maps, Placed, beside, holders_or, holders_under, map_in, no_maps, placed_in}
+use Rattle.hir_def_map.specs.State.{Local, Map, Maps, Placed, holders_or, holders_under, map_in, no_maps, placed_with, with_map}
 use Rattle.hir_def_map.specs.World.{finished_in, local_in, placed_of}
 use Rattle.hir_def_collector.specs.Derivation.{CollectedValue}
 use Rattle.hir_session.specs.declared.kept.KeptRun.{KeptRun}
@@ -95,12 +95,12 @@ none_held maps none = record {
 -- the maps in the world are those of which the list tells
 pub told : (maps : Store) (runs : Runs) → AreUnheld maps → finished_in maps ≡ finished_by (resolutions_in maps runs)
 unfolding finished_in
-told maps runs alone = λ i id. (go id (found_in maps id) refl ∙ sym (ap (option_map (λ (r : CollectedValue). unheld r.map)) (kept_at maps runs id))) i
+told maps runs alone = λ i id. (go id (found_in maps id) refl ∙ sym (ap (option_map (λ (r : CollectedValue). unheld r.map r.local)) (kept_at maps runs id))) i
   where
     go : (id : MapId) (o : Option Finished) → found_in maps id ≡ o
-        → option_map placed_of o ≡ option_map (λ (r : CollectedValue). unheld r.map) (option_map (λ (f : Finished). resolution_at f (run_in runs id)) o)
+        → option_map placed_of o ≡ option_map (λ (r : CollectedValue). unheld r.map r.local) (option_map (λ (f : Finished). resolution_at f (run_in runs id)) o)
     go id None s = refl
-    go id (Some f) s = λ i. Some (record { map = f.map; holders = alone.each id f s i })
+    go id (Some f) s = λ i. Some (record { map = f.map; local = f.local; holders = alone.each id f s i })
 
 -- ---- the same maps
 
@@ -137,7 +137,7 @@ run_aside maps old new id alike none = runs_aside old new id alike maps.entries 
 pub absent : (maps : Store) (runs : Runs) → AreUnheld maps → (kept : Resolutions) → resolutions_in maps runs ≡ kept → (id : MapId) → kept_in kept id ≡ None
     → finished_in maps id ≡ None
 absent maps runs alone kept is id free =
-    ap (λ (all : Maps). all id) (told maps runs alone ∙ ap finished_by is) ∙ ap (option_map (λ (r : CollectedValue). unheld r.map)) free
+    ap (λ (all : Maps). all id) (told maps runs alone ∙ ap finished_by is) ∙ ap (option_map (λ (r : CollectedValue). unheld r.map r.local)) free
 
 -- so a complete one may join
 pub may_join_there : (maps : Store) (runs : Runs) → AreUnheld maps → (kept : Resolutions) → resolutions_in maps runs ≡ kept → (map : Map) (local : Local)
@@ -153,19 +153,19 @@ only_memory may Unchecked joins stays = clash joins stays
 only_memory may Memory joins also = refl
 
 module _ (old new : Store) (runs runs' : Runs) (map : Map) (local : Local) (run : KeptRun)
-    (maps : (id : MapId) → finished_in new id ≡ beside (finished_in old) map id)
+    (maps : (id : MapId) → finished_in new id ≡ with_map (finished_in old) map local id)
     (locals : (id : MapId) → local_in new id ≡ cond (is_at (map_order.ghosts.cmp map.id) id) (Some local) (local_in old id))
     (here : run_in runs' map.id ≡ Some run) (others : (j : MapId) → is_at (map_order.ghosts.cmp map.id) j ≡ false → run_in runs' j ≡ run_in runs j)
     (none : finished_in old map.id ≡ None) where
-  placed_here : finished_in new map.id ≡ Some (placed_in (finished_in old) map)
+  placed_here : finished_in new map.id ≡ Some (placed_with (finished_in old) map local)
   placed_here =
-      maps map.id ∙ ap (λ (b : Bool). cond b (Some (placed_in (finished_in old) map)) (finished_in old map.id)) (same_id map.id)
+      maps map.id ∙ ap (λ (b : Bool). cond b (Some (placed_with (finished_in old) map local)) (finished_in old map.id)) (same_id map.id)
 
   local_here : local_in new map.id ≡ Some local
   local_here = locals map.id ∙ ap (λ (b : Bool). cond b (Some local) (local_in old map.id)) (own_id map.id)
 
   -- what is kept of the place is what was found
-  pub kept_here : kept_in (resolutions_in new runs') map.id ≡ Some (record { map = map; local = local; leftover = run.leftover.items; asked = run.asked.items })
+  pub kept_here : kept_in (resolutions_in new runs') map.id ≡ Some (record { map = map; local = local; leftover = run.leftover.items; round_limit_met = run.round_limit_met; asked = run.asked })
   kept_here =
       sym (kept_from new runs' map.id (Some map) (Some local) (Some run)
       (sym (ap (option_map (λ (p : Placed). p.map)) placed_here)) (sym local_here) (sym here))
@@ -173,7 +173,7 @@ module _ (old new : Store) (runs runs' : Runs) (map : Map) (local : Local) (run 
   placed_else : (id : MapId) → id ≢ map.id → finished_in new id ≡ finished_in old id
   placed_else id ne = on_bool (map_id.ghosts.eq id map.id)
       (λ e. absurd (ne (exact_map id map.id e)))
-      (λ e. maps id ∙ ap (λ (b : Bool). cond b (Some (placed_in (finished_in old) map)) (finished_in old id)) e)
+      (λ e. maps id ∙ ap (λ (b : Bool). cond b (Some (placed_with (finished_in old) map local)) (finished_in old id)) e)
 
   local_else : (id : MapId) → id ≢ map.id → local_in new id ≡ local_in old id
   local_else id ne = locals id ∙ ap (λ (b : Bool). cond b (Some local) (local_in old id)) (other_id map.id id ne)
@@ -194,8 +194,8 @@ module _ (old new : Store) (runs runs' : Runs) (map : Map) (local : Local) (run 
   still_unheld alone was = record {
     each = λ id f e. on_id id map.id
         (λ same.
-        let placed : option_map placed_of (Some f) ≡ Some (placed_in (finished_in old) map) = ap (option_map placed_of) (sym e) ∙ ap (finished_in new) same ∙ placed_here in
-        let is : placed_of f ≡ placed_in (finished_in old) map = cc in
+        let placed : option_map placed_of (Some f) ≡ Some (placed_with (finished_in old) map local) = ap (option_map placed_of) (sym e) ∙ ap (finished_in new) same ∙ placed_here in
+        let is : placed_of f ≡ placed_with (finished_in old) map local = cc in
         ap (λ (p : Placed). p.holders) is ∙ ap (λ (o : Option Placed). holders_or o (holders_under (finished_in old) map.id map.holder)) none ∙ own_holders alone)
         (λ ne. held_by id f e (found_in old id) refl (placed_else id ne));
   }

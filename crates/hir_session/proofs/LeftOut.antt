@@ -42,7 +42,6 @@ use Rattle.hir_def_map.specs.declared.nameres.origin.ModuleOrigin.{ModuleOrigin}
 use Rattle.hir_def_map.specs.declared.nameres.origin.ModuleOrigin.TheVariants as origin
 use Rattle.hir_def_map.specs.declared.world.named.Named.TheVariants as named
 use Rattle.hir_def_collector.specs.Sources.{IsClearOf, RunsBindFromSources}
-use Rattle.hir_def_collector.specs.Start.{root_file}
 use Rattle.hir_def_collector.specs.Whole.{StandsOnWhole}
 use Rattle.hir_wire.specs.declared.answer.AnswerVisibility.{AnswerVisibility}
 use Rattle.hir_wire.specs.declared.answer.Definition.{Definition}
@@ -54,11 +53,11 @@ use Rattle.hir_session.specs.Answers.{answer_in, asking_of}
 use Rattle.hir_session.specs.Behind.{has_crate}
 use Rattle.hir_session.specs.Crates.{behind_in, id_of}
 use Rattle.hir_session.specs.LeavesOut.{LeavesNothingOut}
-use Rattle.hir_session.specs.SessionState.{SessionState, Resolution, finished_of, is_marked, read_of, start_of, workspace_of, IsSound}
+use Rattle.hir_session.specs.SessionState.{SessionState, Resolution, finished_of, is_marked, read_of, beginning_of, workspace_of, IsSound}
 use Rattle.hir_session.specs.SourceItems.{adt_definition, answered_macro, answered_type, answered_value, definition_of, import_source, item_of, macro_definition, maybe_source, module_by, module_definition, source_of, together, value_import_source, visibility_source}
 use Rattle.hir_session.specs.Status.{module_below}
 use Rattle.hir_session.proofs.Names.{among_at, among_there}
-use Rattle.hir_session.proofs.Resolving.{behind_current, behind_extends, behind_whole, own_absent, read_is, stands_on_whole}
+use Rattle.hir_session.proofs.Resolving.{behind_current, behind_extends, behind_whole, own_absent, stands_on_whole}
 use Rattle.hir_session.proofs.Following.{follows_unmarked}
 use Rattle.hir_session.proofs.Worlds.{AgreeOn-refl, StandsOn-below, StandsOn-holds}
 
@@ -87,7 +86,7 @@ own_apart s sound k off = ap (read_of s (id_of k)) (sound.current (id_of k) off)
 -- ---- what current crates bind, under a test of sources that holds of nothing that a root file writes
 
 module _ (runs : RunsBindFromSources) (s : SessionState) (sound : IsSound s) (t : SourceTest)
-    (written : (j : ℕ) → j < length s.crates → t.holder (root_file (start_of s (id_of j))) None ≡ false) where
+    (written : (j : ℕ) → j < length s.crates → t.holder (beginning_of s (id_of j)).tree.file None ≡ false) where
   -- it holds of no module that is there beside the maps that a crate reads
   abbrev ShowsThere : ℕ → Resolution → Type 0
   ShowsThere j r = (m : ModuleId) → ModuleIsThere (beside (read_of s (id_of j)) r.map) m → t.shown m ≡ false
@@ -101,11 +100,11 @@ module _ (runs : RunsBindFromSources) (s : SessionState) (sound : IsSound s) (t 
   reads j off shows below id placed e =
       let own : Resolution = current_of s sound j off in
       let unmarked = unmarked_behind s sound j off in
-      let there = among_there (behind_in s.crates j) (finished_of s) id (ap (λ (o : Option Placed). is_some o) e) in
+      let there = among_there (behind_in s.crates j) (finished_of s) id placed e in
       let w = behind_current s j sound unmarked id.krate there.1 in
       let same : id ≡ crate_map id.krate = λ i. record { krate = id.krate; block = there.0 i } in
-      let is : placed ≡ unheld w.found.map =
-      (let both : Some placed ≡ Some (unheld w.found.map) = sym e ∙ ap (read_of s (id_of j)) same ∙ among_at (behind_in s.crates j) s.kept id.krate w.found there.1 w.is in cc) in
+      let is : placed ≡ unheld w.found.map w.found.local =
+      (let both : Some placed ≡ Some (unheld w.found.map w.found.local) = sym e ∙ ap (read_of s (id_of j)) same ∙ among_at (behind_in s.crates j) s.kept id.krate w.found there.1 w.is in cc) in
       let lower : id.krate.0 < j = StandsOn-below sound.below ((sound.behind j id.krate).0 there.1) in
       let seen : ShowsThere id.krate.0 w.found =
       λ m h. shows m (Extends-beside (read_of s (id_of j)) own.map (own_apart s sound j off) (named.Module m) (behind_extends s j sound unmarked id.krate there.1 (named.Module m) h)) in
@@ -118,14 +117,13 @@ module _ (runs : RunsBindFromSources) (s : SessionState) (sound : IsSound s) (t 
       let now = sound.current (id_of j) off in
       let unmarked = unmarked_behind s sound j off in
       let within : j < length s.crates = (sound.placed (id_of j) off).within in
-      let same = read_is s (id_of j) in
-      let clear : IsClearOf t (read_of s (id_of j)) (start_of s (id_of j)) now.found.map =
+      let clear : IsClearOf t (read_of s (id_of j)) (beginning_of s (id_of j)).tree now.found.map =
       record { written = written j within; shown = shows; read = reads j off shows (λ i lower still seen. binds n i (omega arith) still seen) } in
-      runs t (workspace_of s) (finished_of s) (start_of s (id_of j)) now.found
-      (subst AreWhole same (behind_whole s j sound unmarked))
-      (subst (λ (maps : Maps). StandsOnWhole (workspace_of s) maps (start_of s (id_of j))) same (stands_on_whole s j sound unmarked))
+      runs t s.tables (workspace_of s) (finished_of s) (beginning_of s (id_of j)) now.found
+      (behind_whole s j sound unmarked)
+      (stands_on_whole s j sound unmarked)
       (now.gives.resolved.ends (workspace_of s) (finished_of s) AgreeOn-refl)
-      (subst (λ (maps : Maps). IsClearOf t maps (start_of s (id_of j)) now.found.map) same clear)
+      clear
 
 -- ---- source items of what such a test doesn't hold of
 
@@ -309,7 +307,7 @@ whole runs answers leads s sound k off elements at path shadow style is =
     let r : Resolution = now.found in
     let maps : Maps = beside (read_of s (id_of k)) r.map in
     let test : SourceTest = unsourced s.tables.files maps in
-    let written : (j : ℕ) → j < length s.crates → test.holder (root_file (start_of s (id_of j))) None ≡ false = λ j within. ap not (mapped_some _ _ ∙ ap (λ (o : Option (List ℕ)). is_some o) (sound.rooted j within)) in
+    let written : (j : ℕ) → j < length s.crates → test.holder (beginning_of s (id_of j)).tree.file None ≡ false = λ j within. ap not (mapped_some _ _ ∙ ap (λ (o : Option (List ℕ)). is_some o) (sound.rooted j within)) in
     let shows : (m : ModuleId) → ModuleIsThere maps m → test.shown m ≡ false = λ m there. ap not there in
     let own = binds runs s sound test written (suc k) k (omega arith) off shows in
     let nowhere : HoldsNowhere test maps = HoldsNowhere-beside test (read_of s (id_of k)) r.map (reads runs s sound test written k off shows (binds runs s sound test written k)) own.0 in

@@ -1,5 +1,5 @@
 -- What a map names is there, also among more maps.
-use Rattle.std.proofs.Common.{◌≡◌, ◌∙◌, ap, sym, subst, refl, ℕ, Bool, true, false, not, ◌&&◌, ◌||◌, is_none, is_some, cond, Option, Some, None, List, ◌⊎◌, inl, inr}
+use Rattle.std.proofs.Common.{◌≡◌, ◌∙◌, ap, sym, subst, refl, ℕ, Bool, true, false, not, ◌&&◌, ◌||◌, is_none, is_some, cond, Option, Some, None, List, [], ◌⊎◌, inl, inr}
 use Rattle.std.specs.Option.{option_map, option_and_then}
 use Rattle.std.specs.List.{list_any}
 use Rattle.std.specs.BTreeMap.{is_at}
@@ -10,13 +10,13 @@ use Rattle.hir_base.specs.contracts.ids.MapIdOrd.TheImpl as map_order
 use Rattle.hir_base.specs.contracts.ids.MapIdPartialEq.TheImpl as map_id
 use Rattle.hir_def_map.specs.declared.world.named.Named.{Named}
 use Rattle.hir_def_map.specs.declared.world.named.Named.TheVariants as named
-use Rattle.hir_def_map.specs.Among.{among, is_of_some, unheld}
+use Rattle.hir_def_map.specs.Among.{among, among-only, among-there, are_of_some, is_of_some, unheld}
 use Rattle.hir_def_map.specs.Beside.{exact_map}
 use Rattle.hir_def_map.proofs.Complete.{complete, BeginsOnly-more, NamesOnly-more}
-use Rattle.hir_def_map.specs.Complete.{AreWhole, BeginsOnly, Extends, NamesOnly}
+use Rattle.hir_def_map.specs.Complete.{AreWhole, BeginsOnly, Extends, IsWhole, NamesOnly}
 use Rattle.hir_def_map.specs.Named.{is_complete, is_missing, is_there, lies_in, map_named, named_by, names_in_module, names_map, names_own_crate, names_some, prelude_named, test_child, test_crate, test_extern, test_of, test_type}
 use Rattle.hir_def_map.proofs.NoneOf.{neither, none_of_less, not_first, not_second}
-use Rattle.hir_def_map.specs.State.{Local, Map, Maps, ModuleValue, Placed, beside, crate_map, map_in, module_at, placed_in, variants_at}
+use Rattle.hir_def_map.specs.State.{Local, Map, Maps, ModuleValue, Placed, beside, crate_map, holders_under, map_in, module_at, placed_in, variants_at}
 use Rattle.hir_def_collector.specs.Derivation.{CollectedValue}
 use Rattle.hir_session.specs.Behind.{has_crate}
 use Rattle.hir_session.specs.Kept.{Resolutions, finished_by, kept_in}
@@ -89,12 +89,13 @@ lies_elsewhere maps id gone n e = on_bool (lies_in id n)
     (λ lies. clash (ap (λ (x : MapId). is_some (maps x)) (sym (equal_id (map_named n) id lies)) ∙ there_in maps n (not_missing maps n e)) gone)
     (λ f. f)
 
-module _ (finished : Maps) (map : Map) (local : Local) (names : NamesOnly (beside finished map) map) (begins : BeginsOnly (beside finished map) local) where
+module _ (finished : Maps) (map : Map) (local : Local) (of_crate : map.id.block ≡ None) (alone : map.holder ≡ None) (names : NamesOnly (beside finished map) map)
+    (begins : BeginsOnly (beside finished map) local) where
   named_there : (id : MapId) → names_some (lies_in id) map local ≡ true → is_some (beside finished map id) ≡ true
   named_there id some = on_bool (is_some (beside finished map id))
       (λ e. e)
       (λ gone. clash some (names_less (is_missing (beside finished map)) (lies_in id) (lies_elsewhere (beside finished map) id gone) map local
-      names.of_crate names.unheld names.modules names.prelude names.dependencies begins))
+      of_crate alone names.modules names.prelude names.dependencies begins))
 
   -- each other map that a map names is finished
   pub names-within : (id : MapId) → names_map map local id ≡ true → is_some (finished id) ≡ true
@@ -111,23 +112,35 @@ module _ (finished : Maps) (map : Map) (local : Local) (names : NamesOnly (besid
 
 -- ---- maps of some crates
 
--- what is there among the maps of some crates is the map of one of those
-pub among_there : (crates : List Crate) (f : Maps) (id : MapId) → is_some (among crates f id) ≡ true
-    → (id.block ≡ None) × (has_crate crates id.krate ≡ true) × (is_some (f id) ≡ true)
-unfolding among
-among_there crates f id e = go id.block (has_crate crates id.krate) (f id) e
+-- an id that is of some crates, and of no holder, is that of the map of one of those
+pub of_some : (crates : List Crate) (id : MapId) → is_of_some crates [] id ≡ true → (id.block ≡ None) × (has_crate crates id.krate ≡ true)
+of_some crates id e = go id.block (has_crate crates id.krate) e
   where
-    go : (x : Option BlockId) (b : Bool) (o : Option Placed) → is_some (cond (is_none x && b) (option_map unheld (option_map (λ (p : Placed). p.map) o)) None) ≡ true
-        → (x ≡ None) × (b ≡ true) × (is_some o ≡ true)
-    go (Some x) b o f = clash f refl
-    go None false o f = clash f refl
-    go None true None f = clash f refl
-    go None true (Some p) f = (refl, refl, refl)
+    go : (x : Option BlockId) (b : Bool) → ((is_none x && b) || false) ≡ true → (x ≡ None) × (b ≡ true)
+    go (Some x) b f = clash f refl
+    go None false f = clash f refl
+    go None true f = (refl, refl)
+
+-- and those are such ids
+pub is_some_crate : (crates : List Crate) (krate : Crate) → has_crate crates krate ≡ true → is_of_some crates [] (crate_map krate) ≡ true
+is_some_crate crates krate has = ap (λ (b : Bool). (true && b) || false) has
+
+-- what is there among the maps of some crates is the map of one of those
+pub among_there : (crates : List Crate) (f : Maps) (id : MapId) (placed : Placed) → among crates [] f id ≡ Some placed
+    → (id.block ≡ None) × (has_crate crates id.krate ≡ true) × (f id ≡ Some placed)
+among_there crates f id placed e =
+    let only = among-only crates [] f id placed e in
+    let of = of_some crates id only.0 in
+    (of.0, of.1, only.1)
 
 -- a map beside those of some crates names only maps of those
-pub among-names : (crates : List Crate) (f : Maps) (map : Map) (local : Local) → NamesOnly (beside (among crates f) map) map → BeginsOnly (beside (among crates f) map) local
-    → (id : MapId) → names_map map local id ≡ true → (id.block ≡ None) × (has_crate crates id.krate ≡ true) × (is_some (f id) ≡ true)
-among-names crates f map local names begins id e = among_there crates f id (names-within (among crates f) map local names begins id e)
+pub among-names : (crates : List Crate) (f : Maps) (map : Map) (local : Local) → map.id.block ≡ None → map.holder ≡ None → NamesOnly (beside (among crates [] f) map) map
+    → BeginsOnly (beside (among crates [] f) map) local → (id : MapId) → names_map map local id ≡ true → (id.block ≡ None) × (has_crate crates id.krate ≡ true)
+among-names crates f map local of_crate alone names begins id e = go (among crates [] f id) refl (names-within (among crates [] f) map local of_crate alone names begins id e)
+  where
+    go : (o : Option Placed) → among crates [] f id ≡ o → is_some o ≡ true → (id.block ≡ None) × (has_crate crates id.krate ≡ true)
+    go None s there = clash there refl
+    go (Some p) s there = let found = among_there crates f id p s in (found.0, found.1)
 
 -- ---- more maps
 
@@ -152,34 +165,30 @@ Extends-by one other same (named.Enum n) e = alike (λ (x : Map). variants_at x 
 Extends-by one other same (named.Map id) e = alike_there (one id) (other id) (same id) e
 
 -- a map among those of some crates is as it is among all
-among_or : (crates : List Crate) (f : Maps) (id : MapId) → (map_in (among crates f) id ≡ map_in f id) ⊎ (among crates f id ≡ None)
-unfolding among
-among_or crates f id = go (is_of_some crates id) (f id)
+among_or : (crates : List Crate) (f : Maps) (id : MapId) → (map_in (among crates [] f) id ≡ map_in f id) ⊎ (among crates [] f id ≡ None)
+among_or crates f id = go (among crates [] f id) refl
   where
-    go : (b : Bool) (o : Option Placed)
-        → (option_map (λ (p : Placed). p.map) (cond b (option_map unheld (option_map (λ (p : Placed). p.map) o)) None) ≡ option_map (λ (p : Placed). p.map) o)
-        ⊎ (cond b (option_map unheld (option_map (λ (p : Placed). p.map) o)) None ≡ None)
-    go true None = inl refl
-    go true (Some p) = inl refl
-    go false o = inr refl
+    go : (o : Option Placed) → among crates [] f id ≡ o → (map_in (among crates [] f) id ≡ map_in f id) ⊎ (among crates [] f id ≡ None)
+    go None s = inr s
+    go (Some p) s = inl (ap (option_map (λ (x : Placed). x.map)) (s ∙ sym (among_there crates f id p s).2))
 
 -- what is there beside the maps of some crates is there beside all
-pub Extends-all : (crates : List Crate) (f : Maps) (map : Map) → Extends (beside (among crates f) map) (beside f map)
-Extends-all crates f map = Extends-by (beside (among crates f) map) (beside f map) (λ id. go id (map_id.ghosts.eq id map.id))
+pub Extends-all : (crates : List Crate) (f : Maps) (map : Map) → Extends (beside (among crates [] f) map) (beside f map)
+Extends-all crates f map = Extends-by (beside (among crates [] f) map) (beside f map) (λ id. go id (map_id.ghosts.eq id map.id))
   where
     go : (id : MapId) (b : Bool)
-        → (option_map (λ (p : Placed). p.map) (cond b (Some (placed_in (among crates f) map)) (among crates f id)) ≡ option_map (λ (p : Placed). p.map) (cond b (Some (placed_in f map)) (f id)))
-        ⊎ (cond b (Some (placed_in (among crates f) map)) (among crates f id) ≡ None)
+        → (option_map (λ (p : Placed). p.map) (cond b (Some (placed_in (among crates [] f) map)) (among crates [] f id)) ≡ option_map (λ (p : Placed). p.map) (cond b (Some (placed_in f map)) (f id)))
+        ⊎ (cond b (Some (placed_in (among crates [] f) map)) (among crates [] f id) ≡ None)
     go id true = inl refl
     go id false = among_or crates f id
 
 -- a map that names only what is there among the maps of some crates may stand beside all
-pub joins : (crates : List Crate) (f : Maps) (map : Map) (local : Local) → NamesOnly (beside (among crates f) map) map → BeginsOnly (beside (among crates f) map) local
+pub joins : (crates : List Crate) (f : Maps) (map : Map) (local : Local) → NamesOnly (beside (among crates [] f) map) map → BeginsOnly (beside (among crates [] f) map) local
     → is_complete f map local ≡ true
 joins crates f map local names begins =
     complete f map local
-    (NamesOnly-more (beside (among crates f) map) (beside f map) (Extends-all crates f map) map names)
-    (BeginsOnly-more (beside (among crates f) map) (beside f map) (Extends-all crates f map) local begins)
+    (NamesOnly-more (beside (among crates [] f) map) (beside f map) (Extends-all crates f map) map names)
+    (BeginsOnly-more (beside (among crates [] f) map) (beside f map) (Extends-all crates f map) local begins)
 
 -- ---- the maps of the crates on which a crate stands
 
@@ -188,66 +197,79 @@ pub record IsKeptWhole (behind : List Crate) (kept : Resolutions) (krate : Crate
   pub found : CollectedValue
   pub is : kept_in kept (crate_map krate) ≡ Some found
   pub own : found.map.id ≡ crate_map krate
-  pub names : NamesOnly (beside (among behind (finished_by kept)) found.map) found.map
-
--- a map among those of some crates is as it is among more
-among_more : (few more : List Crate) (f : Maps) (id : MapId) → (has_crate few id.krate ≡ true → has_crate more id.krate ≡ true)
-    → (map_in (among few f) id ≡ map_in (among more f) id) ⊎ (among few f id ≡ None)
-unfolding among
-among_more few more f id grows = go id.block (has_crate few id.krate) (has_crate more id.krate) grows
-  where
-    go : (x : Option BlockId) (b c : Bool) → (b ≡ true → c ≡ true)
-        → (option_map (λ (p : Placed). p.map) (cond (is_none x && b) (option_map unheld (map_in f id)) None) ≡ option_map (λ (p : Placed). p.map) (cond (is_none x && c) (option_map unheld (map_in f id)) None))
-        ⊎ (cond (is_none x && b) (option_map unheld (map_in f id)) None ≡ None)
-    go (Some x) b c s = inr refl
-    go None false c s = inr refl
-    go None true false s = clash (s refl) refl
-    go None true true s = inl refl
+  pub unheld : found.map.holder ≡ None
+  pub names : NamesOnly (beside (among behind [] (finished_by kept)) found.map) found.map
+  pub begins : BeginsOnly (beside (among behind [] (finished_by kept)) found.map) found.local
 
 -- the map of a crate among those of some
 pub among_at : (crates : List Crate) (kept : Resolutions) (krate : Crate) (found : CollectedValue) → has_crate crates krate ≡ true → kept_in kept (crate_map krate) ≡ Some found
-    → among crates (finished_by kept) (crate_map krate) ≡ Some (unheld found.map)
-unfolding among
+    → among crates [] (finished_by kept) (crate_map krate) ≡ Some (unheld found.map found.local)
 among_at crates kept krate found has is =
-    λ i. cond (has i) (option_map unheld (option_map (λ (p : Placed). p.map) (option_map (λ (r : CollectedValue). unheld r.map) (is i)))) None
+    among-there crates [] (finished_by kept) (crate_map krate) (unheld found.map found.local) (is_some_crate crates krate has)
+    (ap (option_map (λ (r : CollectedValue). unheld r.map r.local)) is) refl
+
+-- a map among those of some crates is as it is among more
+among_more : (few more : List Crate) (f : Maps) (id : MapId) → ((p : Placed) → f id ≡ Some p → p.holders ≡ []) → (has_crate few id.krate ≡ true → has_crate more id.krate ≡ true)
+    → (map_in (among few [] f) id ≡ map_in (among more [] f) id) ⊎ (among few [] f id ≡ None)
+among_more few more f id alone grows = go (among few [] f id) refl
+  where
+    go : (o : Option Placed) → among few [] f id ≡ o → (map_in (among few [] f) id ≡ map_in (among more [] f) id) ⊎ (among few [] f id ≡ None)
+    go None s = inr s
+    go (Some p) s =
+        let there = among_there few f id p s in
+        let is : among more [] f id ≡ Some p =
+        among-there more [] f id p (of_crate id.block there.0 (grows there.1)) there.2 (ap (are_of_some more []) (alone p there.2)) in
+        inl (ap (option_map (λ (x : Placed). x.map)) (s ∙ sym is))
+      where
+        of_crate : (x : Option BlockId) → x ≡ None → has_crate more id.krate ≡ true → ((is_none x && has_crate more id.krate) || false) ≡ true
+        of_crate x none has = λ i. (is_none (none i) && has i) || false
+
+-- nothing holds a map of which what is kept tells
+finished_alone : (kept : Resolutions) (id : MapId) (p : Placed) → finished_by kept id ≡ Some p → p.holders ≡ []
+finished_alone kept id p e = go (kept_in kept id) e
+  where
+    go : (o : Option CollectedValue) → option_map (λ (r : CollectedValue). unheld r.map r.local) o ≡ Some p → p.holders ≡ []
+    go None f = absurd (let wrong : ⊥ = cc in wrong)
+    go (Some r) f = let same : unheld r.map r.local ≡ p = cc in sym (ap (λ (x : Placed). x.holders) same)
 
 module _ (behind : ℕ → List Crate) (kept : Resolutions) (crates : List Crate)
     (whole : (krate : Crate) → has_crate crates krate ≡ true → IsKeptWhole (behind krate.0) kept krate)
     (closed : (krate c : Crate) → has_crate crates krate ≡ true → has_crate (behind krate.0) c ≡ true → has_crate crates c ≡ true) where
   -- what a crate's map names is there among the maps of the crates
-  pub Extends-behind : (krate : Crate) (has : has_crate crates krate ≡ true) → Extends (beside (among (behind krate.0) (finished_by kept)) (whole krate has).found.map) (among crates (finished_by kept))
-  Extends-behind krate has = Extends-by (beside (among (behind krate.0) (finished_by kept)) (whole krate has).found.map) (among crates (finished_by kept)) each
+  pub Extends-behind : (krate : Crate) (has : has_crate crates krate ≡ true)
+      → Extends (beside (among (behind krate.0) [] (finished_by kept)) (whole krate has).found.map) (among crates [] (finished_by kept))
+  Extends-behind krate has = Extends-by (beside (among (behind krate.0) [] (finished_by kept)) (whole krate has).found.map) (among crates [] (finished_by kept)) each
     where
-      each : (id : MapId) → (map_in (beside (among (behind krate.0) (finished_by kept)) (whole krate has).found.map) id ≡ map_in (among crates (finished_by kept)) id)
-          ⊎ (beside (among (behind krate.0) (finished_by kept)) (whole krate has).found.map id ≡ None)
+      each : (id : MapId) → (map_in (beside (among (behind krate.0) [] (finished_by kept)) (whole krate has).found.map) id ≡ map_in (among crates [] (finished_by kept)) id)
+          ⊎ (beside (among (behind krate.0) [] (finished_by kept)) (whole krate has).found.map id ≡ None)
       each id =
           let w = whole krate has in
           let m : Map = w.found.map in
-          let below : Maps = among (behind krate.0) (finished_by kept) in
-          let all : Maps = among crates (finished_by kept) in
+          let below : Maps = among (behind krate.0) [] (finished_by kept) in
+          let all : Maps = among crates [] (finished_by kept) in
           on_bool (map_id.ghosts.eq id m.id)
           (λ e. inl (
           ap (λ (b : Bool). option_map (λ (p : Placed). p.map) (cond b (Some (placed_in below m)) (below id))) e
           ∙ sym (ap (map_in all) (exact_map id m.id e ∙ w.own) ∙ ap (option_map (λ (p : Placed). p.map)) (among_at crates kept krate w.found has w.is))))
           (λ e.
           let here : beside below m id ≡ below id = ap (λ (b : Bool). cond b (Some (placed_in below m)) (below id)) e in
-          elim (among_more (behind krate.0) crates (finished_by kept) id (closed krate id.krate has)) [
+          elim (among_more (behind krate.0) crates (finished_by kept) id (finished_alone kept id) (closed krate id.krate has)) [
             | inl same ↦ inl (ap (option_map (λ (p : Placed). p.map)) here ∙ same)
             | inr none ↦ inr (here ∙ none)
           ])
 
   -- each of the maps names only what is there
-  pub whole-among : AreWhole (among crates (finished_by kept))
+  pub whole-among : AreWhole (among crates [] (finished_by kept))
   whole-among id placed e =
-      let all : Maps = among crates (finished_by kept) in
-      let there = among_there crates (finished_by kept) id (ap (λ (o : Option Placed). is_some o) e) in
+      let all : Maps = among crates [] (finished_by kept) in
+      let there = among_there crates (finished_by kept) id placed e in
       let w = whole id.krate there.1 in
       let same : id ≡ crate_map id.krate = λ i. record { krate = id.krate; block = there.0 i } in
-      let is : placed ≡ unheld w.found.map =
-      (let both : Some placed ≡ Some (unheld w.found.map) = sym e ∙ ap all same ∙ among_at crates kept id.krate w.found there.1 w.is in cc) in
-      record {
-        own = ap (λ (p : Placed). p.map.id) is ∙ w.own ∙ sym same;
-        unheld = ap (λ (p : Placed). p.holders) is;
-        names = subst (λ (p : Placed). NamesOnly all p.map) (sym is)
-            (NamesOnly-more (beside (among (behind id.krate.0) (finished_by kept)) w.found.map) all (Extends-behind id.krate there.1) w.found.map w.names);
-      }
+      let is : placed ≡ unheld w.found.map w.found.local =
+      (let both : Some placed ≡ Some (unheld w.found.map w.found.local) = sym e ∙ ap all same ∙ among_at crates kept id.krate w.found there.1 w.is in cc) in
+      subst (λ (p : Placed). IsWhole all id p) (sym is) (record {
+        own = w.own ∙ sym same;
+        holders = sym (ap (holders_under all id) w.unheld);
+        names = NamesOnly-more (beside (among (behind id.krate.0) [] (finished_by kept)) w.found.map) all (Extends-behind id.krate there.1) w.found.map w.names;
+        begins = BeginsOnly-more (beside (among (behind id.krate.0) [] (finished_by kept)) w.found.map) all (Extends-behind id.krate there.1) w.found.local w.begins;
+      })

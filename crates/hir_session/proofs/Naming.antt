@@ -14,13 +14,13 @@ use Rattle.hir_def_map.specs.declared.world.named.Named.TheVariants as named
 use Rattle.hir_def_collector.specs.Derivation.{Ends}
 use Rattle.hir_session.specs.Behind.{has_crate}
 use Rattle.hir_session.specs.Crates.{behind_in, id_of}
-use Rattle.hir_session.specs.SessionState.{SessionState, Resolution, workspace_of, finished_of, follows, start_of, IsResolutionOf, IsSound}
+use Rattle.hir_session.specs.SessionState.{SessionState, Resolution, workspace_of, finished_of, follows, beginning_of, IsResolutionOf, IsSound}
 use Rattle.hir_session.specs.StandsOn.StandsOn.{directly}
 use Rattle.hir_session.proofs.Following.{dependency_behind}
 use Rattle.hir_session.proofs.Ids.{other_id, own_id}
 use Rattle.hir_session.proofs.Stands.{found-any}
 use Rattle.hir_session.proofs.Truth.{both_true, or_left, or_right}
-use Rattle.hir_session.proofs.Worlds.{AgreeOn-refl, own_behind}
+use Rattle.hir_session.proofs.Worlds.{AgreeOn-refl}
 use Rattle.std.proofs.lemmas.Bool.{eqb-true}
 
 -- a map names the other maps of the crates in its data
@@ -51,9 +51,9 @@ listed_crate crates c has =
 pub names-behind : (s : SessionState) → IsSound s → (id : MapId) (r : Resolution) → IsResolutionOf s id r → (d : MapId) → Contains (follows s id) d → names_map r.map r.local d ≡ true
 names-behind s sound id r gives d among =
     let c = dependency_behind s.crates id d among in
-    let ended : Ends (workspace_of s) (finished_of s) (start_of s id) r = gives.resolved.ends (workspace_of s) (finished_of s) AgreeOn-refl in
+    let ended : Ends s.tables (workspace_of s) (finished_of s) (beginning_of s id) r = gives.resolved.ends (workspace_of s) (finished_of s) AgreeOn-refl in
     let behind : has_crate (behind_in s.crates id.krate.0) c.0 ≡ true = (sound.behind id.krate.0 c.0).1 (directly id.krate.0 c.0 c.1) in
-    let data : r.map.crate_data.dependencies ≡ behind_in s.crates id.krate.0 = ended.behind_is ∙ own_behind s.crates id.krate.0 in
+    let data : r.map.crate_data.dependencies ≡ behind_in s.crates id.krate.0 = ended.behind_is in
     let lower : c.0.0 < id.krate.0 = sound.below id.krate.0 c.0 c.1 in
     subst (λ (x : MapId). names_map r.map r.local x ≡ true) (sym c.2)
     (names_data r.map r.local c.0 (subst (λ (cs : List Crate). Contains cs c.0) (sym data) (listed_crate (behind_in s.crates id.krate.0) c.0 behind))

@@ -1,24 +1,36 @@
 -- What a run gives for a crate is its resolution, where all on which the crate stands is current.
-use Rattle.std.specs.Prelude.{is_some, map}
+use Rattle.std.specs.Prelude.{is_none, is_some, map}
 use Rattle.std.specs.List.{list_any}
-use Rattle.std.proofs.Common.{◌≡◌, ℕ, zero, suc, ◌<◌, Bool, true, false, List, [], ◌∷◌, length, arith, not, Option, Some, None, refl, sym, ap, subst, Contains}
+use Rattle.std.proofs.Common.{◌≡◌, ℕ, zero, suc, ◌<◌, Bool, true, false, ◌&&◌, ◌||◌, List, [], ◌∷◌, length, arith, not, cond, Option, Some, None, option_map, slice_get, refl, sym, ap, ◌∙◌, subst, Contains}
+use Rattle.hir_base.specs.declared.ast_id.BlockId.{BlockId}
 use Rattle.hir_base.specs.declared.ids.Crate.{Crate}
 use Rattle.hir_base.specs.declared.ids.MapId.{MapId}
+use Rattle.hir_base.specs.declared.ids.ModuleId.{ModuleId}
+use Rattle.hir_base.specs.contracts.ids.MapIdPartialEq.TheImpl as map_id
+use Rattle.hir_scope.specs.ModuleTree.{same_crate}
+use Rattle.std.proofs.lemmas.Bool.{eqb-true}
+use Rattle.hir_tables.specs.Tables.{KeepsTables, TablesValue, file_at}
 use Rattle.hir_def_map.specs.Among.{among}
-use Rattle.hir_def_map.specs.Complete.{AreWhole, BeginsOnly, Extends, NamesOnly}
-use Rattle.hir_def_map.specs.Named.{crate_map, is_complete, is_missing, test_crate}
-use Rattle.hir_def_map.specs.State.{Maps, beside}
-use Rattle.hir_def_collector.specs.Derivation.{Ends, read_by}
+use Rattle.hir_def_map.specs.Complete.{AreWhole, BeginsOnly, Extends, NamesOnly, is_held_outside}
+use Rattle.hir_def_map.specs.Named.{is_complete, is_holder_for, is_missing, test_crate}
+use Rattle.hir_def_map.specs.State.{Map, Maps, ModuleValue, Placed, beside, crate_map, module_at, module_in, placed_in}
+use Rattle.hir_tables.specs.SourcePlaces.{file}
+use Rattle.std.specs.Option.{IsSome, option_and_then}
+use Rattle.hir_def_collector.specs.Derivation.{Ends}
+use Rattle.hir_def_collector.specs.Growth.{AnswersStand, AskedKeysHaveMeaning, LooksStand}
+use Rattle.hir_def_collector.specs.Keys.{AgreeOn, HasMeaning, look}
+use Rattle.hir_def_collector.specs.Start.{root_key}
 use Rattle.hir_def_collector.specs.Whole.{RunsNameWhatIsThere, StandsOnWhole}
-use Rattle.hir_def_collector.specs.declared.collector.Start.{Start}
+use Rattle.hir_def_collector.specs.Workspace.{ConfigValue, Workspace, dependencies_of as named_by}
 use Rattle.hir_def_collector.specs.declared.source_database.Dependency.{Dependency}
+use Rattle.hir_def_collector.specs.declared.source_database.Key.{Key}
 use Rattle.hir_session.specs.Behind.{has_crate}
-use Rattle.hir_session.specs.Crates.{behind_in, crate_in, id_of}
-use Rattle.hir_session.specs.SessionState.{SessionState, Resolution, workspace_of, start_of, finished_of, read_of, is_marked, IsResolved, IsResolutionOf, IsCurrent, IsSound}
+use Rattle.hir_session.specs.Crates.{CrateValue, behind_in, crate_in, id_of}
+use Rattle.hir_session.specs.SessionState.{SessionState, Resolution, workspace_of, beginning_of, finished_of, read_of, is_marked, IsResolved, IsResolutionOf, IsCurrent, IsPlace, IsSound}
 use Rattle.hir_session.specs.StandsOn.StandsOn.{directly}
-use Rattle.hir_session.proofs.Names.{Extends-behind, IsKeptWhole, joins, whole-among}
-use Rattle.hir_session.proofs.Truth.{on_bool}
-use Rattle.hir_session.proofs.Worlds.{AgreeOn-refl, StandsOn-below, StandsOn-trans, has_listed, own_behind, own_dependencies}
+use Rattle.hir_session.proofs.Names.{Extends-behind, IsKeptWhole, among_at, among_there, joins, of_some, whole-among}
+use Rattle.hir_session.proofs.Truth.{clash, on_bool}
+use Rattle.hir_session.proofs.Worlds.{AgreeOn-refl, StandsOn-below, StandsOn-trans, has_listed}
 
 -- ---- what a session keeps
 
@@ -38,29 +50,36 @@ mapped (x ∷ xs) d (suc n, within, is) =
     let rest = mapped xs d (n, omega arith, is) in
     (suc rest.0, (let below : rest.0 < length (map (λ d. d.krate) xs) = rest.1 in omega arith), rest.2)
 
--- the finished maps that a crate reads are those that a run sees
-pub read_is : (s : SessionState) (id : MapId) → read_of s id ≡ read_by (workspace_of s) (finished_of s) (start_of s id)
-read_is s id = ap (λ (cs : List Crate). among cs (finished_of s)) (sym (own_behind s.crates id.krate.0))
+-- a run sees the dependencies of its crate
+own_dependencies : (crates : List CrateValue) (k : ℕ) → named_by (option_map (λ (c : CrateValue). c.config) (slice_get crates k)) ≡ (crate_in crates k).config.dependencies
+own_dependencies [] k = refl
+own_dependencies (c ∷ cs) zero = refl
+own_dependencies (c ∷ cs) (suc k) = own_dependencies cs k
 
--- the crate's own map isn't one of them
+-- the crate's own map isn't one of those that it reads
 pub own_absent : (s : SessionState) (k : ℕ) → IsSound s → read_of s (id_of k) (id_of k) ≡ None
-unfolding among
-own_absent s k sound = on_bool (has_crate (behind_in s.crates k) (record { 0 = k }))
-    (λ on. let lower : k < k = StandsOn-below sound.below ((sound.behind k (record { 0 = k })).0 on) in absurd (omega arith))
-    (λ off. rw off refl)
+own_absent s k sound = go (read_of s (id_of k) (id_of k)) refl
+  where
+    go : (o : Option Placed) → read_of s (id_of k) (id_of k) ≡ o → read_of s (id_of k) (id_of k) ≡ None
+    go None e = e
+    go (Some p) e =
+        let there = among_there (behind_in s.crates k) (finished_of s) (id_of k) p e in
+        let lower : k < k = StandsOn-below sound.below ((sound.behind k (record { 0 = k })).0 there.1) in
+        absurd (omega arith)
 
 module _ (s : SessionState) (k : ℕ) (sound : IsSound s) (unmarked : (c : Crate) → has_crate (behind_in s.crates k) c ≡ true → is_marked s (crate_map c) ≡ false) where
   -- what a crate stands on is current
   abbrev pub behind_current : (c : Crate) → has_crate (behind_in s.crates k) c ≡ true → IsCurrent s (crate_map c)
   behind_current c behind = sound.current (crate_map c) (unmarked c behind)
 
+  abbrev kept_whole : (c : Crate) → has_crate (behind_in s.crates k) c ≡ true → IsKeptWhole (behind_in s.crates c.0) s.kept c
+  kept_whole c behind =
+      let now = behind_current c behind in
+      record { found = now.found; is = now.is; own = now.gives.own; unheld = now.gives.unheld; names = now.gives.names; begins = now.gives.begins }
+
   -- and its map is finished
   map_there : (c : Crate) → has_crate (behind_in s.crates k) c ≡ true → is_some (read_of s (id_of k) (crate_map c)) ≡ true
-  unfolding among
-  map_there c behind = let now = behind_current c behind in rw (behind, now.is) refl
-
-  abbrev kept_whole : (c : Crate) → has_crate (behind_in s.crates k) c ≡ true → IsKeptWhole (behind_in s.crates c.0) s.kept c
-  kept_whole c behind = let now = behind_current c behind in record { found = now.found; is = now.is; own = now.gives.own; names = now.gives.names }
+  map_there c behind = ap (λ (o : Option Placed). is_some o) (among_at (behind_in s.crates k) s.kept c (behind_current c behind).found behind (behind_current c behind).is)
 
   behind_closed : (j c : Crate) → has_crate (behind_in s.crates k) j ≡ true → has_crate (behind_in s.crates j.0) c ≡ true → has_crate (behind_in s.crates k) c ≡ true
   behind_closed j c one other = (sound.behind k c).1 (StandsOn-trans ((sound.behind k j).0 one) ((sound.behind j.0 c).0 other))
@@ -75,33 +94,107 @@ module _ (s : SessionState) (k : ℕ) (sound : IsSound s) (unmarked : (c : Crate
   not_missing : (c : Crate) → has_crate (behind_in s.crates k) c ≡ true → test_crate (is_missing (read_of s (id_of k))) c ≡ false
   not_missing c behind = ap not (map_there c behind)
 
-  pub stands_on_whole : StandsOnWhole (workspace_of s) (read_of s (id_of k)) (start_of s (id_of k))
+  pub stands_on_whole : StandsOnWhole (workspace_of s) (read_of s (id_of k)) (beginning_of s (id_of k)).start
   stands_on_whole = record {
     apart = own_absent s k sound;
-    behind = subst (λ (cs : List Crate). list_any (test_crate (is_missing (read_of s (id_of k)))) cs ≡ false) (sym (own_behind s.crates k))
-        (none_of (test_crate (is_missing (read_of s (id_of k)))) (behind_in s.crates k) (λ c among. not_missing c (has_listed (behind_in s.crates k) c among)));
+    behind = none_of (test_crate (is_missing (read_of s (id_of k)))) (behind_in s.crates k) (λ c among. not_missing c (has_listed (behind_in s.crates k) c among));
     direct = subst (λ (ds : List Dependency). list_any (λ (d : Dependency). test_crate (is_missing (read_of s (id_of k))) d.krate) ds ≡ false) (sym (own_dependencies s.crates k))
-        (none_of (λ (d : Dependency). test_crate (is_missing (read_of s (id_of k))) d.krate) (crate_in s.crates k).own.dependencies (λ d among. not_missing d.krate
-        ((sound.behind k d.krate).1 (directly k d.krate (subst (λ (cs : List Crate). Contains cs d.krate) (sound.named k) (mapped (crate_in s.crates k).own.dependencies d among))))));
+        (none_of (λ (d : Dependency). test_crate (is_missing (read_of s (id_of k))) d.krate) (crate_in s.crates k).config.dependencies (λ d among. not_missing d.krate
+        ((sound.behind k d.krate).1 (directly k d.krate (mapped (crate_in s.crates k).config.dependencies d among)))));
   }
+
+-- nothing holds the map of a crate that stands on others alone
+unheld_map : (s : SessionState) (k : ℕ) → IsSound s → (m : Map) → m.id ≡ id_of k → NamesOnly (beside (read_of s (id_of k)) m) m → m.holder ≡ None
+unheld_map s k sound m own names = go m.holder refl names.held names.outside
+  where
+    none_there : (h : ModuleId) → (same_crate h.map.krate m.id.krate && is_some (module_in (beside (read_of s (id_of k)) m) h)) ≡ true → map_id.ghosts.eq h.map m.id ≡ false
+        → (o : Option Placed) → read_of s (id_of k) h.map ≡ o → m.holder ≡ None
+    none_there h e out None s_none = absurd (let wrong : ⊥ = elsewhere (same_crate h.map.krate m.id.krate) e in wrong)
+      where
+        elsewhere : (b : Bool) → (b && is_some (module_in (beside (read_of s (id_of k)) m) h)) ≡ true → ⊥
+        elsewhere false f = clash f refl
+        elsewhere true f = clash f (ap (λ (o : Option Placed). is_some (module_of o)) (ap (λ (b : Bool). cond b (Some (placed_in (read_of s (id_of k)) m)) (read_of s (id_of k) h.map)) out ∙ s_none))
+          where
+            module_of : Option Placed → Option ModuleValue
+            module_of o = option_and_then (λ (p : Placed). module_at p.map h.index) o
+    none_there h e out (Some p) s_some =
+        let there = among_there (behind_in s.crates k) (finished_of s) h.map p s_some in
+        let same : h.map.krate.0 ≡ m.id.krate.0 = eqb-true h.map.krate.0 m.id.krate.0 (and_first (same_crate h.map.krate m.id.krate) _ e) in
+        let number : m.id.krate.0 ≡ k = ap (λ (x : MapId). x.krate.0) own in
+        let lower : h.map.krate.0 < k = StandsOn-below sound.below ((sound.behind k h.map.krate).0 there.1) in
+        absurd (omega arith)
+      where
+        and_first : (a b : Bool) → (a && b) ≡ true → a ≡ true
+        and_first true b f = refl
+        and_first false b f = f
+
+    go : (o : Option ModuleId) → m.holder ≡ o → is_holder_for (beside (read_of s (id_of k)) m) m.id m.holder ≡ true → is_held_outside m.id m.holder ≡ true → m.holder ≡ None
+    go None e held outside = e
+    go (Some h) e held outside =
+        none_there h (ap (is_holder_for (beside (read_of s (id_of k)) m) m.id) (sym e) ∙ held) (off (map_id.ghosts.eq h.map m.id) (ap (is_held_outside m.id) (sym e) ∙ outside)) (read_of s (id_of k) h.map) refl
+      where
+        off : (b : Bool) → not b ≡ true → b ≡ false
+        off true f = clash f refl
+        off false f = refl
 
 -- what a run gives for a crate that comes after no marked one
 pub resolution_of : (s : SessionState) (k : ℕ) → IsSound s → ((j : ℕ) → j < k → is_marked s (id_of j) ≡ false) → (r : Resolution) → RunsNameWhatIsThere
-    → IsResolved (workspace_of s) (finished_of s) (start_of s (id_of k)) r → IsResolutionOf s (id_of k) r
+    → IsResolved s.tables (workspace_of s) (finished_of s) (beginning_of s (id_of k)) r → IsResolutionOf s (id_of k) r
 resolution_of s k sound first r law resolved =
     let unmarked : (c : Crate) → has_crate (behind_in s.crates k) c ≡ true → is_marked s (crate_map c) ≡ false =
     λ c behind. first c.0 (StandsOn-below sound.below ((sound.behind k c).0 behind)) in
-    let ended : Ends (workspace_of s) (finished_of s) (start_of s (id_of k)) r = resolved.ends (workspace_of s) (finished_of s) AgreeOn-refl in
-    let same : read_of s (id_of k) ≡ read_by (workspace_of s) (finished_of s) (start_of s (id_of k)) = read_is s (id_of k) in
-    let there = law (workspace_of s) (finished_of s) (start_of s (id_of k)) r (subst AreWhole same (behind_whole s k sound unmarked))
-    (subst (λ (maps : Maps). StandsOnWhole (workspace_of s) maps (start_of s (id_of k))) same (stands_on_whole s k sound unmarked)) ended in
+    let ended : Ends s.tables (workspace_of s) (finished_of s) (beginning_of s (id_of k)) r = resolved.ends (workspace_of s) (finished_of s) AgreeOn-refl in
+    let there = law s.tables (workspace_of s) (finished_of s) (beginning_of s (id_of k)) r (behind_whole s k sound unmarked) (stands_on_whole s k sound unmarked) ended in
     record {
       resolved = resolved;
       own = ended.own;
-      names = subst (λ (maps : Maps). NamesOnly (beside maps r.map) r.map) (sym same) there.0;
-      begins = subst (λ (maps : Maps). BeginsOnly (beside maps r.map) r.local) (sym same) there.1;
+      unheld = unheld_map s k sound r.map ended.own there.0;
+      names = there.0;
+      begins = there.1;
     }
 
 -- a resolution may join what is kept
 pub may_join : (s : SessionState) (id : MapId) (r : Resolution) → IsResolutionOf s id r → is_complete (finished_of s) r.map r.local ≡ true
 may_join s id r p = joins (behind_in s.crates id.krate.0) (finished_of s) r.map r.local p.names p.begins
+
+-- ---- tables that grow
+
+module _ (looks : LooksStand) (meaning : AskedKeysHaveMeaning) (answers : AnswersStand) (s : SessionState) (T : TablesValue) (keeps : KeepsTables s.tables T) where
+  -- a resolution stays where the number of its root file means something
+  grown_resolution : (id : MapId) (r : Resolution) → HasMeaning s.tables (root_key (beginning_of s id).start (beginning_of s id).tree) → IsResolutionOf s id r
+      → IsResolutionOf (record s { tables = T }) id r
+  grown_resolution id r means p = record {
+    resolved = record {
+      ends = λ v finished agree. answers s.tables T v finished (beginning_of s id) r keeps means
+          (p.resolved.ends v finished (record {
+            crates = agree.crates;
+            config = agree.config;
+            behind = agree.behind;
+            same = λ key among.
+                let has = meaning s.tables (workspace_of s) (finished_of s) (beginning_of s id) r means (p.resolved.ends (workspace_of s) (finished_of s) AgreeOn-refl) key among in
+                sym (looks s.tables T v finished key keeps has) ∙ agree.same key among ∙ looks s.tables T (workspace_of s) (finished_of s) key keeps has;
+          }));
+    };
+    own = p.own;
+    unheld = p.unheld;
+    names = p.names;
+    begins = p.begins;
+  }
+
+  -- the number of a crate's root file means something
+  root_means : IsSound s → (id : MapId) → IsPlace s id → HasMeaning s.tables (root_key (beginning_of s id).start (beginning_of s id).tree)
+  root_means sound id place = subst (λ (o : Option (List ℕ)). IsSome (option_map file o)) (sym (sound.rooted id.krate.0 place.within)) refl
+
+  -- tables may grow
+  pub grown_sound : IsSound s → IsSound (record s { tables = T })
+  grown_sound sound = record {
+    few = sound.few;
+    below = sound.below;
+    behind = sound.behind;
+    placed = λ id off. let was = sound.placed id off in record { of_crate = was.of_crate; within = was.within };
+    closed = sound.closed;
+    current = λ id off.
+        let now = sound.current id off in
+        record { found = now.found; is = now.is; gives = grown_resolution id now.found (root_means sound id (sound.placed id off)) now.gives };
+    rooted = λ k within. keeps.files (crate_in s.crates k).file.0 (crate_in s.crates k).own.root (sound.rooted k within);
+  }

@@ -21,7 +21,7 @@ use Rattle.hir_session.specs.Marks.{IsTouched}
 use Rattle.hir_session.specs.Marks.IsTouched.{before, asked_for}
 use Rattle.hir_session.specs.Marking.{AreHit}
 use Rattle.hir_session.specs.Changes.{with_files, Becomes}
-use Rattle.hir_session.specs.Due.{Resolved}
+use Rattle.hir_session.specs.Due.{Grows, Resolved}
 use Rattle.hir_session.proofs.Following.{dependency_behind, followed, follows_unmarked, spread_on}
 use Rattle.hir_session.proofs.Ids.{of_number, on_id}
 use Rattle.hir_session.proofs.Names.{among-names}
@@ -63,7 +63,8 @@ module _ (s : SessionState) (sound : IsSound s) where
       → (other ≡ id_of other.krate.0) × (has_crate (behind_in s.crates id.krate.0) other.krate ≡ true)
   names_stand id other r is names =
       let p = gives id r is in
-      let among = among-names (behind_in s.crates id.krate.0) (finished_of s) r.map r.local p.names p.begins other names in
+      let of_crate : r.map.id.block ≡ None = ap (λ (x : MapId). x.block) p.own ∙ (sound.placed id (some_unmarked (kept_of s id) r is)).of_crate in
+      let among = among-names (behind_in s.crates id.krate.0) (finished_of s) r.map r.local of_crate p.unheld p.names p.begins other names in
       (of_number other among.0, among.1)
 
   -- and those that it follows
@@ -113,15 +114,15 @@ any_of {P} (x ∷ xs) each = elim (each x (zero, omega arith, refl)) [
 -- ---- an edit
 
 module _ (s : SessionState) (sound : IsSound s) (F : Files) (hits : List MapId) (K : Resolutions)
-    (hit : AreHit (workspace_of s) (workspace_in s.crates s.tables.files F) s.kept (length s.crates) hits) (forgotten : AreForgotten s.kept hits K) where
+    (hit : AreHit s.tables (workspace_of s) (workspace_in s.crates F) s.kept (length s.crates) hits) (forgotten : AreForgotten s.kept hits K) where
   abbrev edited : Workspace
-  edited = workspace_in s.crates s.tables.files F
+  edited = workspace_in s.crates F
 
   abbrev IsReached : MapId → Type 0
   IsReached id = Spread (follows s) (IsTouched s edited) id
 
   -- a place of which something is kept is hit, or what it asked for is as it was
-  judged : (id : MapId) (r : Resolution) → kept_of s id ≡ Some r → Contains hits id ⊎ AgreeOn r.asked (workspace_of s) no_maps edited no_maps
+  judged : (id : MapId) (r : Resolution) → kept_of s id ≡ Some r → Contains hits id ⊎ AgreeOn s.tables r.asked (workspace_of s) no_maps edited no_maps
   judged id r is =
       let place = sound.placed id (some_unmarked (kept_of s id) r is) in
       let own = of_number id place.of_crate in
@@ -141,7 +142,7 @@ module _ (s : SessionState) (sound : IsSound s) (F : Files) (hits : List MapId) 
         | inr alike ↦ inr (untouched id r is alike)
       ])
     where
-      untouched : (id : MapId) (r : Resolution) → kept_of s id ≡ Some r → AgreeOn r.asked (workspace_of s) no_maps edited no_maps → ¬ IsTouched s edited id
+      untouched : (id : MapId) (r : Resolution) → kept_of s id ≡ Some r → AgreeOn s.tables r.asked (workspace_of s) no_maps edited no_maps → ¬ IsTouched s edited id
       untouched id r is alike (before m) = clash m (some_unmarked (kept_of s id) r is)
       untouched id r is alike (asked_for key q there has ne) =
           let same : q ≡ r = (let both : Some q ≡ Some r = sym there ∙ is in cc) in
@@ -211,8 +212,7 @@ module _ (s : SessionState) (sound : IsSound s) (F : Files) (hits : List MapId) 
     few = sound.few;
     below = sound.below;
     behind = sound.behind;
-    named = sound.named;
-    placed = λ id off. let was = sound.placed id (was_unmarked id off) in record { of_crate = was.of_crate; within = was.within };
+      placed = λ id off. let was = sound.placed id (was_unmarked id off) in record { of_crate = was.of_crate; within = was.within };
     closed = closed_still;
     current = λ id off.
         let now = sound.current id (was_unmarked id off) in
@@ -224,7 +224,7 @@ module _ (s : SessionState) (sound : IsSound s) (F : Files) (hits : List MapId) 
     rooted = sound.rooted;
   }
     where
-      unhit : (id : MapId) → is_none (kept_in K id) ≡ false → (r : Resolution) → kept_of s id ≡ Some r → AgreeOn r.asked (workspace_of s) no_maps edited no_maps
+      unhit : (id : MapId) → is_none (kept_in K id) ≡ false → (r : Resolution) → kept_of s id ≡ Some r → AgreeOn s.tables r.asked (workspace_of s) no_maps edited no_maps
       unhit id off r is = elim (judged id r is) [
         | inl yes ↦ clash (none_marked (kept_in K id) (forgotten.gone id yes)) off
         | inr alike ↦ alike
@@ -245,21 +245,21 @@ module _ (s : SessionState) (sound : IsSound s) (F : Files) (hits : List MapId) 
 module _ (s view : SessionState) (F : Files) (file : List ℕ) (there : Option SourceValue) (hits : List MapId) (K : Resolutions) where
   -- what is judged of the view of a session is judged of it
   hit_of : s ≡ view → F ≡ edited_at s.files file there
-      → AreHit (workspace_of view) (workspace_of (with_files view (edited_at view.files file there))) view.kept (length view.crates) hits
-      → AreHit (workspace_of s) (workspace_in s.crates s.tables.files F) s.kept (length s.crates) hits
+      → AreHit view.tables (workspace_of view) (workspace_of (with_files view (edited_at view.files file there))) view.kept (length view.crates) hits
+      → AreHit s.tables (workspace_of s) (workspace_in s.crates F) s.kept (length s.crates) hits
   hit_of seen is hit =
-      let own = subst (λ (v : SessionState). AreHit (workspace_of v) (workspace_of (with_files v (edited_at v.files file there))) v.kept (length v.crates) hits) (sym seen) hit in
-      subst (λ (G : Files). AreHit (workspace_of s) (workspace_in s.crates s.tables.files G) s.kept (length s.crates) hits) (sym is) own
+      let own = subst (λ (v : SessionState). AreHit v.tables (workspace_of v) (workspace_of (with_files v (edited_at v.files file there))) v.kept (length v.crates) hits) (sym seen) hit in
+      subst (λ (G : Files). AreHit s.tables (workspace_of s) (workspace_in s.crates G) s.kept (length s.crates) hits) (sym is) own
 
   -- an edit of one file leaves a sound session
   pub edited_sound : s ≡ view → IsSound s → F ≡ edited_at s.files file there
-      → AreHit (workspace_of view) (workspace_of (with_files view (edited_at view.files file there))) view.kept (length view.crates) hits
+      → AreHit view.tables (workspace_of view) (workspace_of (with_files view (edited_at view.files file there))) view.kept (length view.crates) hits
       → AreForgotten s.kept hits K → IsSound (record s { files = F; kept = K })
   edited_sound seen sound is hit forgotten = applied_sound s sound F hits K (hit_of seen is hit) forgotten
 
   -- and it has its effect
   pub edited_becomes : s ≡ view → IsSound s → F ≡ edited_at s.files file there
-      → AreHit (workspace_of view) (workspace_of (with_files view (edited_at view.files file there))) view.kept (length view.crates) hits
+      → AreHit view.tables (workspace_of view) (workspace_of (with_files view (edited_at view.files file there))) view.kept (length view.crates) hits
       → AreForgotten s.kept hits K → Becomes view (edited_at view.files file there) (record s { files = F; kept = K })
   edited_becomes seen sound is hit forgotten =
       let new : SessionState = record s { files = F; kept = K } in
@@ -273,16 +273,15 @@ pub free_own : (s : SessionState) (id : MapId) (r : Resolution) → r.map.id ≡
 free_own s id r own on = ap (kept_of s) own ∙ marked_none (kept_of s id) on
 
 -- the place is resolved once its resolution is kept
-pub resolved_of : (s view : SessionState) (K : Resolutions) (id : MapId) (r : Resolution) → s ≡ view → r.map.id ≡ id → kept_in K r.map.id ≡ Some r
-    → ((j : MapId) → j ≢ r.map.id → kept_in K j ≡ kept_of s j) → Resolved view id r (record s { kept = K })
-resolved_of s view K id r seen own here others =
-    subst (λ (v : SessionState). Resolved v id r (record s { kept = K })) seen (record {
-      crates = refl;
-      tables = refl;
-      files = refl;
-      here = ap (kept_in K) (sym own) ∙ here;
-      others = λ j ne. others j (λ e. ne (e ∙ own));
-    })
+pub resolved_of : (old s : SessionState) (K : Resolutions) (id : MapId) (r : Resolution) → Grows old s → r.map.id ≡ id → kept_in K r.map.id ≡ Some r
+    → ((j : MapId) → j ≢ r.map.id → kept_in K j ≡ kept_of s j) → Resolved old id r (record s { kept = K })
+resolved_of old s K id r grown own here others = record {
+  crates = grown.crates;
+  tables = grown.tables;
+  files = grown.files;
+  here = ap (kept_in K) (sym own) ∙ here;
+  others = λ j ne. others j (λ e. ne (e ∙ own)) ∙ ap (λ (kept : Resolutions). kept_in kept j) grown.kept;
+}
 
 module _ (s : SessionState) (k : ℕ) (r : Resolution) (K : Resolutions) (sound : IsSound s) (within : k < length s.crates)
     (first : (j : ℕ) → j < k → is_marked s (id_of j) ≡ false) (on : is_marked s (id_of k) ≡ true) (found : IsResolutionOf s (id_of k) r)
@@ -318,8 +317,7 @@ module _ (s : SessionState) (k : ℕ) (r : Resolution) (K : Resolutions) (sound 
     few = sound.few;
     below = sound.below;
     behind = sound.behind;
-    named = sound.named;
-    placed = λ j off. on_id j (id_of k)
+      placed = λ j off. on_id j (id_of k)
         (λ e. subst (λ (x : MapId). IsPlace (record s { kept = K }) x) (sym e) (record { of_crate = refl; within = within }))
         (λ ne. let old = sound.placed j (was j ne off) in record { of_crate = old.of_crate; within = old.within });
     closed = λ j d off among. still_unmarked d (on_id j (id_of k)

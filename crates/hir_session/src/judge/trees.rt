@@ -131,7 +131,7 @@ fn is_altered(
         (workspace_in crates.now.items (edited_at files.now file.now.path.now (option_map (λ s. source_view s.now) new.entry))) key) }
 {
     match key {
-        Key::Tree(krate, id) => { is_tree_altered(alloc, crates, files, file, new, krate, id) }
+        Key::Tree(key) => is_tree_altered(alloc, crates, files, file, new, key),
         Key::Variants(_) | Key::Map(_) => Ok(false),
     }
 }

@@ -10,6 +10,6 @@ use Rattle.hir_session.proofs.judge.enums.is_any_enum_altered.Given as goal
 -- no key so far of an enum in the file is altered
 abbrev pub invariant-loop-key : goal.invariant-loop-key
 invariant-loop-key l =
-    (j : ℕ) (key : Key) → j < l.key-index → is_enum_at l.file.tables.now.files l.file.path.now (get_or l.keys j key) ≡ true
-    → look (workspace_in l.crates.items l.file.tables.now.files (edited_at l.files l.file.path.now (option_map (λ s. source_view s.now) l.new))) no_maps (get_or l.keys j key)
-    ≡ look (workspace_in l.crates.items l.file.tables.now.files l.files) no_maps (get_or l.keys j key)
+    (j : ℕ) (key : Key) → j < l.key-index → is_enum_at l.file.tables.now l.file.path.now (get_or l.keys j key) ≡ true
+    → look l.file.tables.now (workspace_in l.crates.items (edited_at l.files l.file.path.now (option_map (λ s. source_view s.now) l.new))) no_maps (get_or l.keys j key)
+    ≡ look l.file.tables.now (workspace_in l.crates.items l.files) no_maps (get_or l.keys j key)
