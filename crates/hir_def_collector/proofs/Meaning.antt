@@ -1,5 +1,5 @@
 -- The numbers in a run's keys mean something, and what is seen at them stays as tables grow.
-use Rattle.std.proofs.Common.{◌≡◌, ℕ, ◌<◌, Bool, true, false, List, [], ◌∷◌, ◌++◌, Option, Some, None, inl, inr, refl, sym, ap, subst, arith, Contains}
+use Rattle.std.proofs.Common.{◌≡◌, ◌<◌, Bool, true, false, List, [], ◌∷◌, ◌++◌, Option, Some, None, inl, inr, refl, sym, ap, subst, arith, Contains}
 use Rattle.std.specs.Prelude.{IsSome}
 use Rattle.std.specs.Option.{option_and_then}
 use Rattle.std.proofs.lemmas.List.Elements.{Contains-append_cases}
@@ -22,7 +22,7 @@ use Rattle.hir_def_collector.specs.State.{State, Visit, at_rest, visits}
 use Rattle.hir_def_collector.specs.Start.{Beginning, krate_of, root_key, root_site, root_tree, start_of, tree_visits}
 use Rattle.hir_def_collector.specs.Changes.{Change, lists, pushes, makes, gives_variants, begins_paths, reaches, takes, goes_on, act}
 use Rattle.hir_def_collector.specs.Steps.{Rule, drops_item, passes_over, declares_item, declares_enum, lists_constant, lists_impl, opens_module, enters_block, reaches_imports, reaches_crate, takes_import, May, acts, asking, inside_block, inside_module, keys_read, reads, Step, Steps, none, more}
-use Rattle.hir_def_collector.specs.Derivation.{CollectedValue, Ends, begin_of, read_by}
+use Rattle.hir_def_collector.specs.Derivation.{begin_of, read_by}
 use Rattle.hir_def_collector.specs.Growth.{AnswersStand, AskedKeysHaveMeaning, LooksStand}
 use Rattle.hir_def_collector.proofs.Asked.{mapped_from}
 use Rattle.hir_def_collector.proofs.Asks.{only}

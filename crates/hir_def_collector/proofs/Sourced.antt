@@ -8,6 +8,7 @@ use mathlib.Core.Bool.{true≢false}
 use Rattle.hir_base.specs.contracts.ids.MapIdPartialEq.TheImpl as map_id
 use Rattle.hir_base.specs.declared.ids.AdtId.TheVariants as adts
 use Rattle.hir_base.specs.declared.ids.EnumId.{EnumId}
+use Rattle.hir_base.specs.declared.ids.Crate.{Crate}
 use Rattle.hir_base.specs.declared.ids.MapId.{MapId}
 use Rattle.hir_base.specs.declared.ids.ModuleDefId.{ModuleDefId}
 use Rattle.hir_base.specs.declared.ids.ModuleDefId.TheVariants as definitions
@@ -45,6 +46,7 @@ use Rattle.hir_def_map.proofs.StaysComplete.{IsClosed-beside, LocalIsThere-begin
 use Rattle.hir_def_map.proofs.StaysSourced.{HoldsNowhere-beside, HoldsNowhereIn-enum, HoldsNowhereIn-listed, HoldsNowhereIn-made, HoldsNowhereIn-prelude, HoldsNowhereIn-pushed}
 use Rattle.hir_def_map.specs.Visibilities.{by_visibility, module_seen, path_seen, type_seen}
 use Rattle.hir_def_collector.specs.declared.collector.Start.{Start}
+use Rattle.hir_def_collector.specs.declared.collector.Start.TheVariants as starts
 use Rattle.hir_def_collector.specs.declared.collector.declaration.Declaration.{Declaration}
 use Rattle.hir_def_collector.specs.declared.collector.imports.ImportSource.{ImportSource}
 use Rattle.hir_def_collector.specs.declared.collector.imports.ImportSource.TheVariants as sources
@@ -58,7 +60,7 @@ use Rattle.hir_def_collector.specs.ItemIds.{enum_id, module_id, use_id}
 use Rattle.hir_def_collector.specs.Items.{constructor_of, declaration_of, declared_by, declared_by_leaf, declared_struct, declared_type, lesser_in, meet_of, own_visibility, visibility_in}
 use Rattle.hir_def_collector.specs.Preludes.{extern_prelude, joins, prelude_of, with_dependency}
 use Rattle.hir_def_collector.specs.Sources.{IsClearOf}
-use Rattle.hir_def_collector.specs.Start.{Beginning, krate_of, root_map, root_site, root_tree, start_data, start_of}
+use Rattle.hir_def_collector.specs.Start.{Beginning, krate_of, origin_of, root_map, root_site, root_tree, start_data, start_of}
 use Rattle.hir_def_collector.specs.State.{State, Visit, visits}
 use Rattle.hir_def_collector.specs.Changes.{Change, lists, pushes, makes, gives_variants, begins_paths, reaches, takes, goes_on, act, on_map}
 use Rattle.hir_def_collector.specs.Steps.{Rule, drops_item, passes_over, declares_item, declares_enum, lists_constant, lists_impl, opens_module, enters_block, reaches_imports, reaches_crate, takes_import, May, acts, asking, Step, Steps, none, more, inside_block, inside_module}
@@ -490,6 +492,10 @@ module _ (t : SourceTest) where
       go true = none_inserted (on_extern_entry t) (slice_cmp nat_cmp) local d.name (crate_root d.krate, None) f refl
       go false = f
 
+  -- a root module is written nowhere
+  root_nowhere : (start : Start) → on_origin t (origin_of start) ≡ false
+  root_nowhere (starts.Crate krate root) = refl
+
   first_sourced : (finished : Maps) (tables : TablesValue) (w : Workspace) (from : Beginning) → t.holder from.tree.file from.tree.block ≡ false → IsSourced t (start_of tables w finished from)
   first_sourced finished tables w from written =
       let tree = root_tree tables w from in
@@ -498,7 +504,7 @@ module _ (t : SourceTest) where
       let one : Map = root_map crate_data from.start in
       let local : Local = extern_prelude crate_data [] (dependencies_in w krate) in
       record {
-        map = HoldsNowhereIn-prelude t one (prelude_of finished one local) (record { origins = refl; types = refl; values = refl; macros = refl; legacy = refl; enums = refl; macro_use = refl });
+        map = HoldsNowhereIn-prelude t one (prelude_of finished one local) (record { origins = neither (on_origin t (origin_of from.start)) false (root_nowhere from.start) refl; types = refl; values = refl; macros = refl; legacy = refl; enums = refl; macro_use = refl });
         local = local_begins crate_data [] (dependencies_in w krate) refl;
         visits = go (is_enabled tree.attributes) tree.items;
         reached = refl;

@@ -66,10 +66,7 @@ use walk::walk_all;
 #[derive(Clone, Copy, Debug, PartialEq, Eq, Hash)]
 pub enum Start {
     /// A crate, and its root file in the crate's edition.
-    Crate {
-        krate: Crate,
-        root: EditionedFileId,
-    },
+    Crate { krate: Crate, root: EditionedFileId },
 }
 
 impl Start {
@@ -163,7 +160,16 @@ pub fn collect_defs<D: SourceDatabase>(
     let behind = behind_of(alloc, db.behind(krate))?;
     let world = WorldPart::among(world, &behind, &[]);
     let dependencies = dependencies_of(db.config(krate));
-    let mut run = begin(alloc, db, world, locations, dependencies, &behind, start, tree)?;
+    let mut run = begin(
+        alloc,
+        db,
+        world,
+        locations,
+        dependencies,
+        &behind,
+        start,
+        tree,
+    )?;
     settle(&mut run, world)?;
     let leftover = run.leftover(alloc)?;
     Ok(run.finish(leftover, behind))
@@ -215,7 +221,12 @@ fn fresh(
 ) -> Result<Run, AllocError>
     ensures value { IfOk result (λ run. run ≡ core_of (part_of world.entry) tree.now dependencies.now behind.now.value.keys start id) }
 {
-    let data = top_data(alloc, start.edition(), tree.top_level_attrs(), behind.clone()?)?;
+    let data = top_data(
+        alloc,
+        start.edition(),
+        tree.top_level_attrs(),
+        behind.clone()?,
+    )?;
     let local = extern_prelude(alloc, &data, dependencies)?;
     let copies = cloned(alloc, dependencies)?;
     Run::start(alloc, world, data, local, copies, start, id)
@@ -272,6 +283,14 @@ fn walk_root<D: SourceDatabase>(
         tree: id,
         extern_block: None,
     };
-    walk_all(run, db, world, locations, tree, site, tree.top_level_items())?;
+    walk_all(
+        run,
+        db,
+        world,
+        locations,
+        tree,
+        site,
+        tree.top_level_items(),
+    )?;
     Ok(())
 }

@@ -95,7 +95,12 @@ pub trait SourceDatabase {
         ensures value { unwrap_or (option_map (λ crates. crates.now.value.keys) result) [] ≡ (workspace self.now).behind krate };
 
     /// The items of a source under a crate; one that is absent has none.
-    fn tree(&self, alloc: Global, krate: Crate, source: SourcePlace<'_>) -> Result<ItemTree, AllocError>
+    fn tree(
+        &self,
+        alloc: Global,
+        krate: Crate,
+        source: SourcePlace<'_>,
+    ) -> Result<ItemTree, AllocError>
         ensures value { IfOk result (λ tree. tree ≡ ((workspace self.now).tree krate (source_value source.entry)).tree) };
 
     /// Whether a source is there.
@@ -103,7 +108,13 @@ pub trait SourceDatabase {
         ensures value { result ≡ ((workspace self.now).tree krate (source_value source.entry)).present };
 
     /// The variants of the enum of a node, where it is there, but for those that a condition disables.
-    fn variants(&self, alloc: Global, krate: Crate, source: SourcePlace<'_>, id: SyntaxId) -> Result<Option<Vec<VariantItem>>, AllocError>
+    fn variants(
+        &self,
+        alloc: Global,
+        krate: Crate,
+        source: SourcePlace<'_>,
+        id: SyntaxId,
+    ) -> Result<Option<Vec<VariantItem>>, AllocError>
         ensures value { IfOk result (λ found. option_map (λ vs. vs.items) found
             ≡ option_and_then entry_variants ((workspace self.now).side krate (source_value source.entry) (node_id kinds.Enum id))) };
 }

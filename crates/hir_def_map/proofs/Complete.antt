@@ -1,5 +1,5 @@
 -- A map that names only what is there.
-use Rattle.std.specs.Prelude.{◌≡◌, ◌≢◌, Bool, true, false, not, ◌||◌, Option, None, Some, option_map, ℕ, List, map as list_map, slice_get, option_and_then, zero, suc, ◌<◌, ◌≤◌, [], ◌∷◌, length, ◌&&◌, is_some, cond}
+use Rattle.std.specs.Prelude.{◌≡◌, Bool, true, false, not, ◌||◌, Option, None, Some, option_map, ℕ, List, map as list_map, slice_get, option_and_then, zero, suc, ◌<◌, ◌≤◌, [], ◌∷◌, length, ◌&&◌, is_some, cond}
 use Rattle.std.specs.BTreeMap.{is_at}
 use Rattle.std.specs.Cmp.Lexicographic.{slice_cmp}
 use Rattle.std.specs.Cmp.{first_so, second_so}
@@ -20,7 +20,7 @@ use Rattle.hir_scope.specs.ModuleTree.{same_crate}
 use Rattle.hir_scope.specs.declared.imports.ImportOrExternCrate.{ImportOrExternCrate}
 use Rattle.hir_scope.specs.PerNs.{Item}
 use Rattle.hir_def_map.specs.Beside.{same_id, exact_crate, frame_holders}
-use Rattle.hir_def_map.specs.Chains.{ends_from, ends_within, leads_to_root, number_in, own_frame, parent_number, frame_of, frames_of, holders_in, holders_of_frame}
+use Rattle.hir_def_map.specs.Chains.{ends_from, ends_within, leads_to_root, number_in, own_frame, parent_number, frames_of}
 use Rattle.hir_def_map.specs.Closed.{AreThere, IsClosed, MapIsThere, ModuleIsThere, TypeIsThere}
 use Rattle.hir_def_map.specs.Complete.{NamesOnly, BeginsOnly, Extends, AreWhole, is_held_outside}
 use Rattle.hir_def_map.specs.Named.{is_missing, is_there, named_by, names_in_module, prelude_named, test_child, test_crate, test_extern, test_of, test_type, all_below, has_its_parents, is_parent_in, each_leads_to_root, is_complete, is_holder_for, names_own_crate, names_some}

@@ -2,24 +2,22 @@
 use Rattle.std.proofs.Common.{◌≡◌, ◌∙◌, ap, sym, subst, refl, Bool, true, false, not, ◌&&◌, ◌||◌, is_some, cond, Option, Some, None, List, [], ◌∷◌, ◌⊎◌, inl, inr}
 use mathlib.Core.Bool.{true≢false}
 use Rattle.std.specs.Option.{option_map}
-use Rattle.std.specs.Cmp.{first_so, second_so}
 use Rattle.std.specs.List.{list_any}
 use Rattle.std.specs.BTreeMap.{BTreeMap, get, is_at, Updates}
 use Rattle.hir_base.specs.declared.ids.MapId.{MapId}
 use Rattle.hir_base.specs.declared.ids.ModuleId.{ModuleId}
 use Rattle.hir_base.specs.contracts.ids.MapIdOrd.TheImpl as map_order
-use Rattle.hir_base.specs.contracts.ids.MapIdPartialEq.TheImpl as map_id
 use Rattle.hir_scope.specs.ModuleTree.{same_crate}
 use Rattle.hir_def_map.specs.declared.world.finished.Finished.{Finished}
-use Rattle.hir_def_map.specs.State.{Maps, Placed, beside, holders_of, holders_under, placed_in}
+use Rattle.hir_def_map.specs.State.{Maps, Placed, holders_of, holders_under}
 use Rattle.hir_def_map.specs.Chains.{HolderLeads, IsPlaced, frame_of, frames_of, holders_of_frame}
-use Rattle.hir_def_map.specs.Beside.{exact_map}
-use Rattle.hir_def_map.specs.Named.{is_missing, is_there, lies_in, map_named, names_map, names_some}
+use Rattle.hir_def_map.specs.Named.{lies_in, names_map, names_some}
 use Rattle.hir_def_map.specs.World.{IsChecked, IsFinished, finished_in, placed_of}
 use Rattle.hir_def_map.specs.Removal.{Depends, FallsWith, IsClosed, IsFalling, IsUpward, lacks_some, lists_in, lists_of, names_in, names_of}
 use Rattle.hir_def_map.specs.Removal.Depends.{itself, through}
 use Rattle.hir_def_map.proofs.Depending.{depends_still, falls_by}
-use Rattle.hir_def_map.proofs.Joined.{finds_some, finished_kept, holder_named, nothing_missing, own_id, same_id, there_in}
+use Rattle.hir_def_map.proofs.Joined.{finished_kept, holder_named, own_id, same_id}
+use Rattle.hir_def_map.proofs.Naming.{names_finished}
 
 abbrev pub Store : Type 0
 Store = BTreeMap MapId Finished
@@ -187,23 +185,7 @@ module _ (old : Store) (checked : IsChecked old) where
   -- a map that is named is there
   named_there : (k : MapId) (f : Finished) → at old k ≡ Some f → (j : MapId) → names_map f.map f.local j ≡ true → is_some (at old j) ≡ true
   unfolding finished_in
-  named_there k f s j e =
-      let h = finds_some f.map f.local (lies_in j) (second_so (not (is_at (map_order.ghosts.cmp f.map.id) j)) (names_some (lies_in j) f.map f.local) e) in
-      let P : MapId → Type 0 = λ x. is_some (beside (finished_in old) f.map x) ≡ true in
-      found (map_id.ghosts.eq j f.map.id) refl (subst P (same_id (map_named h.0) j h.1) (there_in (beside (finished_in old) f.map) h.0 (there h.0 h.2 (is_there (beside (finished_in old) f.map) h.0) refl)))
-    where
-      there : (n : _) → ((other : _ → Bool) → other n ≡ true → names_some other f.map f.local ≡ true) → (b : Bool) → is_there (beside (finished_in old) f.map) n ≡ b → is_there (beside (finished_in old) f.map) n ≡ true
-      there n named true t = t
-      there n named false t = absurd (true≢false (sym (named (is_missing (beside (finished_in old) f.map)) (ap not t)) ∙ nothing_missing (finished_in old) f.map f.local (checked.each k f s).complete))
-
-      other : not (is_at (map_order.ghosts.cmp f.map.id) j) ≡ true
-      other = first_so (not (is_at (map_order.ghosts.cmp f.map.id) j)) (names_some (lies_in j) f.map f.local) e
-
-      found : (b : Bool) → map_id.ghosts.eq j f.map.id ≡ b → is_some (cond b (Some (placed_in (finished_in old) f.map)) (option_map placed_of (at old j))) ≡ true → is_some (at old j) ≡ true
-      found true u v =
-          let Q : MapId → Type 0 = λ x. is_at (map_order.ghosts.cmp f.map.id) x ≡ true in
-          absurd (true≢false (sym other ∙ ap not (subst Q (sym (exact_map j f.map.id u)) (own_id f.map.id))))
-      found false u v = placed_some (at old j) v
+  named_there k f s j e = placed_some (at old j) (names_finished (finished_in old) f.map f.local (checked.each k f s).complete j e)
 
   pub checked_closed : IsClosed old
   checked_closed k = go (lacks_some old (at old k)) refl

@@ -16,11 +16,13 @@ pub mod Branches
 pub mod Modules
 pub mod Rewrites
 pub mod Parts
+pub mod Copies
 -- worlds
 pub mod Gaining
 pub mod Depending
 pub mod Joined
 pub mod Kept
+pub mod Naming
 pub mod Falling
 pub mod Entries
 pub mod FallingSteps

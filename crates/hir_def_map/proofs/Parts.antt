@@ -1,5 +1,5 @@
 -- What look-ups find in a part of a world.
-use Rattle.std.proofs.Common.{◌≡◌, refl, ap, sym, ◌∙◌, Bool, true, false, Option, Some, None, cond, List, [], ◌∷◌}
+use Rattle.std.proofs.Common.{◌≡◌, refl, ap, ◌∙◌, Bool, true, false, Option, Some, None, cond, List, [], ◌∷◌}
 use Rattle.std.specs.Option.{option_and_then, option_copied}
 use Rattle.std.specs.BTreeSet.{BTreeSet}
 use Rattle.hir_base.specs.declared.ids.Crate.{Crate}
@@ -7,7 +7,7 @@ use Rattle.hir_base.specs.declared.ids.MapId.{MapId}
 use Rattle.hir_base.specs.declared.ids.ModuleId.{ModuleId}
 use Rattle.hir_def_map.specs.declared.world.part.WorldPart.{WorldPart}
 use Rattle.hir_def_map.specs.State.{Maps, Placed}
-use Rattle.hir_def_map.specs.Among.{among, among-there, is_of_some, are_of_some, with_its_holders}
+use Rattle.hir_def_map.specs.Among.{among, among-there, is_of_some, with_its_holders}
 use Rattle.hir_def_map.specs.Parts.{are_within, is_within, limited_to, part_of}
 use Rattle.hir_def_map.specs.World.{finished_in}
 

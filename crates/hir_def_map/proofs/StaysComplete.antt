@@ -1,5 +1,5 @@
 -- Building leaves a map that names only what is there.
-use Rattle.std.specs.Prelude.{◌≡◌, ◌⊎◌, ℕ, zero, suc, ◌<◌, ◌≤◌, ◌+◌, ◌++◌, List, [], ◌∷◌, length, Bool, true, false, ◌&&◌, ◌||◌, not, is_some, Option, None, Some, cond, slice_get, option_and_then, option_map}
+use Rattle.std.specs.Prelude.{◌≡◌, ◌⊎◌, ℕ, zero, suc, ◌<◌, ◌+◌, ◌++◌, List, [], ◌∷◌, length, Bool, true, false, ◌&&◌, ◌||◌, not, is_some, Option, None, Some, cond, slice_get, option_and_then, option_map}
 use Rattle.std.specs.List.{list_any}
 use Rattle.std.specs.Ordering.{nat_cmp}
 use Rattle.std.specs.Cmp.Lexicographic.{slice_cmp}
@@ -33,14 +33,14 @@ use Rattle.hir_def_map.specs.declared.nameres.origin.ModuleOrigin.{ModuleOrigin}
 use Rattle.hir_def_map.specs.declared.world.named.Named.{Named}
 use Rattle.hir_def_map.specs.declared.world.named.Named.TheVariants as named
 use Rattle.hir_def_map.specs.Declaration.{listed}
-use Rattle.hir_def_map.specs.State.{Local, Map, Maps, ModuleValue, Placed, at_name, beside, changed_at, holders_of, holders_or, holders_under, module_at, module_in, new_id, new_module, numbered, parent_of, placed_in, place_at, pushed, variants_at, variants_in, with_child, with_module, with_module_scope, with_name, with_prelude, with_scope, IsBefore, IsInOrder}
+use Rattle.hir_def_map.specs.State.{Local, Map, Maps, ModuleValue, Placed, at_name, beside, changed_at, holders_of, holders_or, holders_under, module_at, module_in, new_id, new_module, numbered, parent_of, placed_in, place_at, pushed, variants_at, with_child, with_module, with_module_scope, with_name, with_prelude, with_scope, IsBefore}
 use Rattle.hir_def_map.specs.Beside.{exact_map, same_id}
 use Rattle.hir_def_map.proofs.Grown.{kept, length-changed}
 use Rattle.hir_def_map.specs.Named.{is_holder_for, is_missing, is_there, named_by, names_in_module, prelude_named, test_child, test_of, test_type}
 use Rattle.hir_def_map.specs.Closed.{AreThere, IsClosed, LocalIsThere, ModuleIsThere, TypeIsThere}
 use Rattle.hir_def_map.specs.Complete.{AreWhole, BeginsOnly, Extends, IsWhole, NamesOnly, is_held_outside}
-use Rattle.hir_def_map.proofs.Complete.{BeginsOnly-more, IsClosed-whole, NamesOnly-more, none_missing}
-use Rattle.hir_def_map.proofs.NoneOf.{neither, none_changed, none_found, none_inserted, none_more, none_of_less, none_with_entry, not_first, not_second}
+use Rattle.hir_def_map.proofs.Complete.{BeginsOnly-more, IsClosed-whole, NamesOnly-more}
+use Rattle.hir_def_map.proofs.NoneOf.{neither, none_changed, none_found, none_inserted, none_more, none_with_entry, not_first, not_second}
 
 -- ---- more is there
 
@@ -314,7 +314,7 @@ NamesOnly-prelude finished map prelude there f =
     NamesOnly-more (beside finished map) (beside finished new) more new (record {
       own_crate = f.own_crate;
       held = f.held;
-        outside = f.outside;
+      outside = f.outside;
       root = f.root;
       in_order = f.in_order;
       modules = f.modules;

@@ -3,7 +3,7 @@ use Rattle.std.specs.Prelude.{◌≡◌, ℕ, ◌||◌, Bool, true, false, List,
 use Rattle.std.specs.List.{list_any}
 use Rattle.std.specs.Ordering.{nat_cmp}
 use Rattle.std.specs.Cmp.Lexicographic.{slice_cmp}
-use Rattle.std.proofs.Common.{ap, refl, subst, ◌∙◌}
+use Rattle.std.proofs.Common.{refl, subst}
 use Rattle.hir_base.specs.contracts.ids.EnumIdOrd.TheImpl as enum_order
 use Rattle.hir_base.specs.contracts.ids.MapIdPartialEq.TheImpl as map_id
 use Rattle.hir_base.specs.contracts.ids.ModuleDefIdPartialEq.TheImpl as module_def
@@ -33,7 +33,7 @@ use Rattle.hir_def_map.specs.declared.nameres.origin.ModuleOrigin.{ModuleOrigin}
 use Rattle.hir_def_map.specs.Declaration.{listed}
 use Rattle.hir_def_map.proofs.NoneOf.{neither, none_changed, none_inserted, none_more, none_with_entry, not_first, not_second}
 use Rattle.hir_def_map.specs.Sources.{SourceTest, HoldsOfNone, HoldsNowhere, HoldsNowhereIn, on_def, on_import, on_legacy_in, on_macro, on_macro_item, on_macros_in, on_origin, on_some, on_type, on_types_in, on_value, on_value_def, on_value_import, on_values, on_values_in, on_variant, on_visibility}
-use Rattle.hir_def_map.specs.State.{Map, Maps, ModuleValue, Placed, Variants, beside, changed_at, new_id, new_module, place_at, placed_in, pushed, pushed_module, with_child, with_enum, with_module, with_module_scope, with_prelude, with_scope}
+use Rattle.hir_def_map.specs.State.{Map, Maps, ModuleValue, Placed, Variants, beside, changed_at, new_id, new_module, place_at, placed_in, pushed, with_child, with_enum, with_module, with_module_scope, with_prelude, with_scope}
 
 -- an item by another import
 by_import : (d v i j : Bool) → (d || (v || i)) ≡ false → j ≡ false → (d || (v || j)) ≡ false

@@ -8,7 +8,7 @@ use Rattle.hir_base.specs.declared.ids.MapId.{MapId}
 use Rattle.hir_base.specs.declared.ids.ModuleId.{ModuleId}
 use Rattle.hir_base.specs.contracts.ids.MapIdPartialEq.TheImpl as map_id
 use Rattle.hir_scope.specs.ModuleTree.{same_crate}
-use Rattle.hir_def_map.specs.State.{Local, Map, Maps, Placed, holders_of}
+use Rattle.hir_def_map.specs.State.{Local, Map, Maps, Placed}
 use Rattle.hir_def_map.specs.Chains.{HolderLeads, IsPlaced, frame_of, frames_of, holders_of_frame}
 
 -- a map by itself

@@ -1,5 +1,5 @@
 -- When does all that is named lie among the maps?
-use Rattle.std.specs.Prelude.{◌≡◌, ℕ, Bool, true, false, is_some, List, Option, None, Some}
+use Rattle.std.specs.Prelude.{◌≡◌, ℕ, true, false, is_some, List, Option, None, Some}
 use Rattle.std.specs.List.{All}
 use Rattle.hir_base.specs.ModPath.{Path}
 use Rattle.hir_base.specs.declared.ids.Crate.{Crate}

@@ -3,7 +3,9 @@ use Rattle.std.specs.Prelude.{ℕ, List, length, slice_set}
 use Rattle.std.specs.Borrow.{Lends, MutBor, Fml, Array}
 use Rattle.std.specs.List.{refill}
 use Rattle.hir_base.specs.declared.ids.ModuleId.{ModuleId}
-use Rattle.hir_def_map.specs.State.{CrateData, Map, ModuleValue}
+use Rattle.hir_scope.specs.Scope.{ScopeValue}
+use Rattle.hir_scope.specs.contracts.item_scope.ItemScope as item_scope
+use Rattle.hir_def_map.specs.State.{CrateData, Map, ModuleValue, with_scope}
 use Rattle.hir_def_map.specs.contracts.nameres.DefMap as def_map
 use Rattle.hir_def_map.specs.contracts.nameres.crate_data.DefMapCrateData as crate_data
 use Rattle.hir_def_map.specs.contracts.nameres.module_data.ModuleData as module_data
@@ -25,3 +27,7 @@ LendsModule lender id lent = LendsModuleAt lender id.index lent
 abbrev pub LendsModules : MutBor Map → MutBor (List ModuleValue) → Fml
 LendsModules lender lent = Lends def_map.the_row (Array module_data.the_row 0) lender lent
     (λ left. record lender.now { modules = refill (length lender.now.modules) lender.now.modules left })
+
+-- the map has what is left behind the scope of the module of a number, and is as it was besides
+abbrev pub LendsScopeAt : MutBor Map → ℕ → MutBor ScopeValue → Fml
+LendsScopeAt lender at lent = Lends def_map.the_row item_scope.the_row lender lent (λ left. with_scope lender.now at (λ s. left))

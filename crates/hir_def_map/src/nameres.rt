@@ -1,11 +1,11 @@
 //! The def map of a crate, after rust-analyzer's `nameres.rs`.
-ghost use Rattle.std.specs.Prelude.{◌≡◌, ◌<◌, ◌++◌, [], ◌∷◌, length, slice_get, IfOk, OnOk, OnErr, IfSome, is_some, option_map};
+ghost use Rattle.std.specs.Prelude.{◌≡◌, ◌<◌, ◌++◌, [], ◌∷◌, length, slice_get, IfOk, OnOk, OnErr, IfSome, Some, is_some, option_map};
 ghost use Rattle.std.specs.Borrow.{sem};
 ghost use Rattle.hir_base.specs.Refusal.{Gives};
 ghost use Rattle.hir_def_map.specs.State.{at_name, child_at, entry_at, parent_at, module_at, empty_map, scope_at, root_of, variants_at, with_child, with_enum, with_macro_use, with_module, with_prelude, changed_at, changes_module, globs_in, globs_after, pushed_module, pushed, push_changes, IsNumbered};
 ghost use Rattle.hir_def_map.specs.Scoping.FirstSegment.{legacy_of};
 ghost use Rattle.hir_def_map.specs.Building.{new_module_verdict, IsMemory};
-ghost use Rattle.hir_def_map.specs.Lending.{LendsCrateData, LendsModules};
+ghost use Rattle.hir_def_map.specs.Lending.{LendsCrateData, LendsModules, LendsScopeAt};
 
 pub mod crate_data;
 pub mod declaration;
@@ -183,6 +183,19 @@ impl DefMap {
         ensures* lends { sem 𝓛 (LendsModules self.entry result) }
     {
         &mut self.modules
+    }
+
+    /// What the names of a module stand for, to be changed: each write of `ItemScope` can be made on it. The names that
+    /// globs brought are kept by the caller.
+    #[tactic(auto, using(crate::specs::Beside::same_id))]
+    pub fn scope_mut(&mut self, at: u32) -> &mut ItemScope
+        requires in_range { at < length self.old.modules }
+        ensures value { Some result.now ≡ scope_at self.old at }
+        ensures* lends { sem 𝓛 (LendsScopeAt self.entry at result) }
+    {
+        let map = self.id();
+        let id = ModuleId { map, index: at };
+        self.modules[id].scope_mut()
     }
 
     /// Whether the map has a module of this number.

@@ -61,11 +61,11 @@ data-dependency (Some map) c = refl
 
 -- ---- what is read of a prelude
 
-abbrev bound_in : (AnyModule → PerNs) → Option AnyModule → PerNs
+abbrev pub bound_in : (AnyModule → PerNs) → Option AnyModule → PerNs
 bound_in entry None = nothing
 bound_in entry (Some m) = entry m
 
-bound-in : (maps : Maps) (o : Option Map) (name : List ℕ) → prelude_bound maps (prelude_of o) name ≡ bound_in (λ m. entry_in maps m name) (prelude_module_of o)
+pub bound-in : (maps : Maps) (o : Option Map) (name : List ℕ) → prelude_bound maps (prelude_of o) name ≡ bound_in (λ m. entry_in maps m name) (prelude_module_of o)
 bound-in maps o name = go (prelude_of o)
   where
     go : (p : Option (AnyModule × Option UseId)) → prelude_bound maps p name ≡ bound_in (λ m. entry_in maps m name) (option_map (λ x. x.0) p)

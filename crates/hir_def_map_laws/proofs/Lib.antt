@@ -2,3 +2,11 @@ pub mod Agreement
 pub mod SeenSegments
 pub mod Steps
 pub mod Holders
+-- what a path reads
+pub mod SameAbove
+pub mod Fails
+pub mod Grown
+pub mod ReadOutside
+pub mod ReadLaw
+pub mod Whole
+pub mod SlotChanges

@@ -11,11 +11,11 @@ use Rattle.hir_def_map.specs.State.{Map, ModuleValue, module_at, numbered, paren
 use Rattle.hir_def_map.specs.Chains.{Frame, frame_of, frames_of, leads_to_root, number_in, step_in, step_of, step_to, up_in}
 
 -- a step is one to the number of the parent
-step_listed : (placed : Placed) (at : ℕ) → step_in (frame_of placed) at ≡ step_to (frame_of placed) at (number_in placed.map.id (parent_of (module_at placed.map at)))
+pub step_listed : (placed : Placed) (at : ℕ) → step_in (frame_of placed) at ≡ step_to (frame_of placed) at (number_in placed.map.id (parent_of (module_at placed.map at)))
 step_listed placed at = ap (λ (o : Option ModuleId). step_to (frame_of placed) at (number_in placed.map.id o)) (parent_listed placed.map.modules at)
 
 -- the number of a parent that is a module of the map
-number_there : (id : MapId) (p : ModuleId) → p.map ≡ id → number_in id (Some p) ≡ Some p.index
+pub number_there : (id : MapId) (p : ModuleId) → p.map ≡ id → number_in id (Some p) ≡ Some p.index
 number_there id p e = ap (λ (b : Bool). cond b (Some p.index) None) (ap (map_id.ghosts.eq p.map) (sym e) ∙ same_id p.map)
 
 or-true : (b : Bool) → (b || true) ≡ true

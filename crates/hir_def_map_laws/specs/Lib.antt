@@ -1,2 +1,5 @@
 pub mod Paths
 pub mod Building
+pub mod Slots
+pub mod ReadLaw
+pub mod SlotChanges

@@ -10,6 +10,8 @@ ghost use Rattle.hir_def_map.specs.Complete.{AreWhole, BeginsOnly, NamesOnly};
 ghost use Rattle.hir_def_map.specs.Closed.{IsClosed};
 ghost use Rattle.hir_def_map.specs.State.{Local, Map};
 ghost use Rattle.hir_def_map_laws.specs.Building.{DeclarationsKeepNames, DeclarationsKeepPlaces, DeclarationsNameWhatIsThere, EnumsKeepToSources, ListsKeepToSources, ModulesKeepToSources, ModulesNameWhatIsThere, PushesKeepPlaces, PushesKeepToSources, PushesNameWhatIsThere};
+ghost use Rattle.hir_def_map_laws.specs.ReadLaw.{ImportsReadAlike, ReadsDecide, WholeMapsStandBeside};
+ghost use Rattle.hir_def_map_laws.specs.SlotChanges.{CratesChangeTheirSlot, EnumsChangeNoSlot, ListsChangeNoSlot, MacroUsesChangeTheirSlot, ModulesChangeNoSlot, OtherSlotsDoNotMatter, PushesChangeTheirSlot};
 ghost use Rattle.hir_def_map_laws.specs.Paths.{BlocksAskHolders, CratesAskThemselves, InnerModulesAskPreludes, LaterSegmentsAreSeen, RootedStepsLeadToParents, SegmentsAreSeen, StepsLeadToParents, UnnamedBindingsDoNotMatter};
 
 use hir_def_map::nameres::local_def_map::LocalDefMap;
@@ -19,6 +21,24 @@ use std::hash::Hash;
 /// A path means the same over maps that agree on its names.
 pub fn unnamed_bindings_do_not_matter()
     ensures alike { UnnamedBindingsDoNotMatter }
+{}
+
+/// A path means the same while a map grows, as long as no slot changes that it looks at.
+pub fn reads_decide_answers()
+    ensures paths { ReadsDecide }
+    ensures imports { ImportsReadAlike }
+    ensures whole { WholeMapsStandBeside }
+{}
+
+/// A change of a map changes one slot, or none; paths that don't look at it mean the same.
+pub fn changes_keep_to_their_slot()
+    ensures others { OtherSlotsDoNotMatter }
+    ensures pushed { PushesChangeTheirSlot }
+    ensures listed { ListsChangeNoSlot }
+    ensures made { ModulesChangeNoSlot }
+    ensures enums { EnumsChangeNoSlot }
+    ensures macro_uses { MacroUsesChangeTheirSlot }
+    ensures crates { CratesChangeTheirSlot }
 {}
 
 /// Each segment after a module is a name of that module which the asking module may see; past a module of another

@@ -1,15 +1,42 @@
-use crate::sources::{attributes, put_numbers, with_x};
 use crate::units::source_of;
 use hir_base::ast_id::AttrId;
+use hir_base::cfg::CfgAtom;
 use hir_base::cfg_options::CfgOptions;
-use hir_base::limit::Limit;
+use hir_base::name::Name;
 use hir_item_tree::attr_query::{AttrQuery, Attrs};
 use hir_item_tree::attrs::{AttrsOrCfg, collected};
-use hir_item_tree::check::{CheckError, check};
-use hir_item_tree::raw_attr::TokenTree;
+use hir_item_tree::raw_attr::{RawAttr, TokenTree};
+use hir_item_tree::source::Source;
 use std::alloc::Global;
 use std::fmt::Write;
 use std::test::Fail;
+
+/// These attributes, as they stand at the top of a unit.
+fn attributes(alloc: Global, attrs: &str) -> Result<Vec<RawAttr>, Fail> {
+    let unit = format!(in alloc; "{{\"attrs\":{attrs}}}")?;
+    match source_of(alloc, unit.as_str())? {
+        Source::Unit(unit) => Ok(unit.attrs),
+        Source::Broken => Err(Fail::new("broken")),
+    }
+}
+
+/// The options with `x`.
+fn with_x(alloc: Global) -> Result<CfgOptions, Fail> {
+    let name = Name::new(alloc, "x")?;
+    let mut options = CfgOptions::new(alloc);
+    options.insert(CfgAtom::Flag(name))?;
+    Ok(options)
+}
+
+/// Adds the number and path of each attribute.
+fn put_numbers(text: &mut String, attrs: &AttrsOrCfg) -> Result<(), Fail> {
+    for attr in attrs.attrs().iter() {
+        let id = attr.id.0;
+        let path = attr.meta.path.display_verbatim();
+        write!(text, "{id} {path}; ")?;
+    }
+    Ok(())
+}
 
 /// No options, or those with `x`.
 fn options(alloc: Global, x: bool) -> Result<CfgOptions, Fail> {
@@ -49,13 +76,6 @@ fn same_again(alloc: Global, attrs: &str) -> Result<bool, Fail> {
     Ok(left.same(&again))
 }
 
-/// Whether what is left is the same without and with `x`.
-fn same_with(alloc: Global, attrs: &str) -> Result<bool, Fail> {
-    let without = left(alloc, attrs, false)?;
-    let with = left(alloc, attrs, true)?;
-    Ok(without.same(&with))
-}
-
 /// Attributes, and what is left of them without and with the option `x`.
 const ATTRS: &[(&str, &str, &str, &str)] = &[
     (
@@ -93,8 +113,6 @@ fn attrs(rt: HostRuntime) -> Result<(), Fail> {
             assert_eq!(rt; text.as_str(), expected, "{row}, with x: {x}");
         }
         assert!(rt; same_again(rt.alloc(), attrs)?, "{row}, again");
-        let same = same_with(rt.alloc(), attrs)?;
-        assert_eq!(rt; same, expected == expected_with, "{row}, differing");
     }
     Ok(())
 }
@@ -196,74 +214,5 @@ fn numbers(rt: HostRuntime) -> Result<(), Fail> {
         assert_eq!(rt; count_after(rt.alloc(), after)?, expected);
     }
     assert_eq!(rt; Attrs::empty().as_slice().len(), 0);
-    Ok(())
-}
-
-/// `true` behind so many of these, each closed again.
-fn nested(alloc: Global, open: &str, close: &str, levels: u32) -> Result<String, Fail> {
-    let mut text = String::new(alloc);
-    for _ in 0..levels {
-        write!(text, "{open}")?;
-    }
-    write!(text, "true")?;
-    for _ in 0..levels {
-        write!(text, "{close}")?;
-    }
-    Ok(text)
-}
-
-/// Whether a file with this attribute at its top passes the limit of conditions, or else none.
-fn is_too_deep(alloc: Global, attr: &str) -> Result<bool, Fail> {
-    let unit = format!(in alloc; "{{\"attrs\":[{attr}]}}")?;
-    let source = source_of(alloc, unit.as_str())?;
-    match check(alloc, &source) {
-        Ok(()) => Ok(false),
-        Err(CheckError::TooLarge(Limit::Cfg)) => Ok(true),
-        Err(_) => Err(Fail::new("another refusal")),
-    }
-}
-
-/// The same of a condition, alone or in a `cfg_attr`.
-fn passes_limit(alloc: Global, cfg: &str, inside: bool) -> Result<bool, Fail> {
-    let attr = if inside {
-        format!(in alloc;
-            "{{\"path\":\"cfg_attr\",\"cfg\":true,\"attrs\":[{{\"path\":\"cfg\",\"cfg\":{cfg}}}]}}"
-        )?
-    } else {
-        format!(in alloc; "{{\"path\":\"cfg\",\"cfg\":{cfg}}}")?
-    };
-    is_too_deep(alloc, attr.as_str())
-}
-
-/// The same of `true` behind so many of these.
-fn levels_pass_limit(
-    alloc: Global,
-    open: &str,
-    close: &str,
-    levels: u32,
-    inside: bool,
-) -> Result<bool, Fail> {
-    let cfg = nested(alloc, open, close, levels)?;
-    passes_limit(alloc, cfg.as_str(), inside)
-}
-
-/// Conditions nest 16 deep at most, a `cfg_attr` around them included.
-#[test]
-fn nested_conditions(rt: HostRuntime) -> Result<(), Fail> {
-    for (open, close) in [
-        ("{\"not\":", "}"),
-        ("{\"all\":[", "]}"),
-        ("{\"any\":[", "]}"),
-    ] {
-        for (levels, inside, expected) in [
-            (16, false, false),
-            (17, false, true),
-            (15, true, false),
-            (16, true, true),
-        ] {
-            let deep = levels_pass_limit(rt.alloc(), open, close, levels, inside)?;
-            assert_eq!(rt; deep, expected, "{open} {levels}");
-        }
-    }
     Ok(())
 }

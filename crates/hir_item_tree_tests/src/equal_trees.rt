@@ -97,6 +97,28 @@ const STRUCTS: &[Row<'_>] = &[
     ),
 ];
 
+/// `mod m { fn f() { 1 } }`, and modules beside it.
+const MODULES: &[Row<'_>] = &[
+    (
+        "equal_ids_with_other_bodies",
+        r#"{"kind":"Module","id":[9,0],"name":"m","nodes":[{"kind":"Fn","id":[1,0],"name":"f","body":"{ 1 }"}]}"#,
+        r#"{"kind":"Module","id":[9,0],"name":"m","nodes":[{"kind":"Fn","id":[1,0],"name":"f","body":"{ 2 }"}]}"#,
+        true,
+    ),
+    (
+        "another name",
+        r#"{"kind":"Module","id":[9,0],"name":"m","nodes":[{"kind":"Fn","id":[1,0],"name":"f","body":"{ 1 }"}]}"#,
+        r#"{"kind":"Module","id":[9,0],"name":"m","nodes":[{"kind":"Fn","id":[1,0],"name":"g","body":"{ 1 }"}]}"#,
+        false,
+    ),
+    (
+        "another id",
+        r#"{"kind":"Module","id":[9,0],"name":"m","nodes":[{"kind":"Fn","id":[1,0],"name":"f","body":"{ 1 }"}]}"#,
+        r#"{"kind":"Module","id":[9,0],"name":"m","nodes":[{"kind":"Fn","id":[2,0],"name":"f","body":"{ 1 }"}]}"#,
+        false,
+    ),
+];
+
 /// Functions under attributes.
 const ATTRIBUTES: &[Row<'_>] = &[
     (
@@ -216,7 +238,7 @@ const SIDES: &[Row<'_>] = &[
 /// Trees are equal where what is kept of the items is.
 #[test]
 fn equal_items(rt: HostRuntime) -> Result<(), Fail> {
-    for rows in [STRUCTS, ATTRIBUTES, SIDES] {
+    for rows in [STRUCTS, MODULES, ATTRIBUTES, SIDES] {
         for &(row, first, second, equal) in rows {
             assert_eq!(rt;
                 are_equal(rt.alloc(), first, second)?,

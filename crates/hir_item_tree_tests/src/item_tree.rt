@@ -1,10 +1,7 @@
-use crate::units::{tree_of, tree_of_source};
-use hir_item_tree::item_tree::ItemTree;
+use crate::units::tree_of;
 use hir_item_tree::kinds::{Function, Mod, ModItemKind, RawVisibilityId};
 use hir_item_tree::raw_visibility::RawVisibility;
 use hir_item_tree::rows::ModItemId;
-use hir_item_tree::source::Source;
-use std::alloc::Global;
 use std::test::Fail;
 
 /// `mod inline { use super::*; fn fn_in_module() {} } mod outline;`.
@@ -43,41 +40,6 @@ fn items_by_number(rt: HostRuntime) -> Result<(), Fail> {
         _ => false,
     };
     assert!(rt; implicit);
-    Ok(())
-}
-
-/// The tree of `mod m` with a function.
-fn module_of(alloc: Global, called: &str, body: &str, hash: u16) -> Result<ItemTree, Fail> {
-    let function = format!(in alloc;
-        "{{\"kind\":\"Fn\",\"id\":[{hash},0],\"name\":\"{called}\",\"body\":\"{body}\"}}"
-    )?;
-    let unit = format!(in alloc;
-        "{{\"nodes\":[{{\"kind\":\"Module\",\"id\":[9,0],\"name\":\"m\",\"nodes\":[{function}]}}]}}"
-    )?;
-    tree_of(alloc, unit.as_str())
-}
-
-/// Whether it is the tree of `mod m { fn f() { 1 } }`.
-fn is_first(alloc: Global, called: &str, body: &str, hash: u16) -> Result<bool, Fail> {
-    let first = module_of(alloc, "f", "{ 1 }", 1)?;
-    Ok(first == module_of(alloc, called, body, hash)?)
-}
-
-/// Which sources have the tree of `mod m { fn f() { 1 } }`.
-#[test]
-fn equal_trees(rt: HostRuntime) -> Result<(), Fail> {
-    let rows = [
-        ("the same", "f", "{ 1 }", 1, true),
-        ("equal_ids_with_other_bodies", "f", "{ 2 }", 1, true),
-        ("another name", "g", "{ 1 }", 1, false),
-        ("another id", "f", "{ 1 }", 2, false),
-    ];
-    for (row, called, body, hash, equal) in rows {
-        assert_eq!(rt; is_first(rt.alloc(), called, body, hash)?, equal, "{row}");
-    }
-    assert!(rt;
-        tree_of_source(rt.alloc(), &Source::Broken)? == ItemTree::empty(rt.alloc()),
-        "broken"
-    );
+    assert!(rt; tree == tree.clone()?);
     Ok(())
 }

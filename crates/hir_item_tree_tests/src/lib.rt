@@ -1,12 +1,12 @@
 //! Tests of `hir_item_tree`, over what it makes public; apart from it, so that it is proved once.
+//!
+//! Pages and limits that the text of a source can reach are rows of `hir_session_rows`.
 #![tactic(auto)]
 
 #[cfg(test)]
 mod attributes;
 #[cfg(test)]
 mod equal_trees;
-#[cfg(test)]
-mod first_limits;
 #[cfg(test)]
 mod item_tree;
 #[cfg(test)]
@@ -17,8 +17,6 @@ mod limits;
 mod lowered_use_trees;
 #[cfg(test)]
 mod pages;
-#[cfg(test)]
-mod sources;
 #[cfg(test)]
 mod trees;
 #[cfg(test)]

@@ -1,6 +1,6 @@
 //! Use trees as they are kept, and the places in them.
 
-use crate::use_trees::{USE_TREES, expanded, tree_of, use_item};
+use crate::use_trees::{tree_of, use_item};
 use hir_base::edition::Edition;
 use hir_item_tree::lower_use_tree::lower_use_tree;
 use hir_item_tree::use_tree::{UseTree, UseTreeKind};
@@ -54,17 +54,6 @@ fn places_of_item(alloc: Global, tree: &str) -> Result<String, Fail> {
     places(alloc, tree_of(&source).ok_or("no use item")?)
 }
 
-/// What the kept tree hands out.
-fn kept(alloc: Global, tree: &UseTree) -> Result<String, Fail> {
-    let (kept, _) = lower_use_tree(alloc, tree)?;
-    expanded(alloc, &kept)
-}
-
-fn kept_of_item(alloc: Global, tree: &str) -> Result<String, Fail> {
-    let source = use_item(alloc, tree)?;
-    kept(alloc, tree_of(&source).ok_or("no use item")?)
-}
-
 /// Use trees, and what stands at each place: the tree itself at 0, and then each list before what is in it.
 const PLACES: &[(&str, &str, &str)] = &[
     (
@@ -95,15 +84,6 @@ fn places_in_preorder(rt: HostRuntime) -> Result<(), Fail> {
             expected,
             "{row}"
         );
-    }
-    Ok(())
-}
-
-/// The kept tree hands out what the written one does.
-#[test]
-fn kept_trees(rt: HostRuntime) -> Result<(), Fail> {
-    for &(row, tree, expected) in USE_TREES {
-        assert_eq!(rt; kept_of_item(rt.alloc(), tree)?.as_str(), expected, "{row}");
     }
     Ok(())
 }

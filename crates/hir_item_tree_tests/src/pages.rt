@@ -1,10 +1,5 @@
-use crate::units::{source_of, tree_of};
-use hir_base::cfg_options::CfgOptions;
-use hir_base::edition::Edition::{Edition2015, Edition2021};
-use hir_base::mod_path::ModPath;
-use hir_item_tree::item_tree::{ItemTree, source_tree};
-use hir_item_tree::raw_attr::{Meta, RawAttr};
-use std::alloc::Global;
+use crate::units::tree_of;
+use hir_base::edition::Edition::Edition2021;
 use std::test::Fail;
 
 /// Some kinds, and a name that edition 2021 reserves.
@@ -18,7 +13,7 @@ const OTHERS: &str = r#"{"nodes":[
     {"kind":"Enum","id":[7,0],"name":"E","variants":[]}
 ]}"#;
 
-/// The page of each source in an edition.
+/// The page of each source.
 #[test]
 fn pretty(rt: HostRuntime) -> Result<(), Fail> {
     let rows = [
@@ -87,51 +82,6 @@ fn pretty(rt: HostRuntime) -> Result<(), Fail> {
     for (row, unit, page) in rows {
         let tree = tree_of(rt.alloc(), unit)?;
         assert_eq!(rt; tree.pretty_print(Edition2021)?.as_str(), page, "{row}");
-        assert!(rt; tree == tree.clone()?, "{row}, again");
-    }
-    Ok(())
-}
-
-/// Names that an edition leaves free are not raw.
-#[test]
-fn editions(rt: HostRuntime) -> Result<(), Fail> {
-    let tree = tree_of(rt.alloc(), OTHERS)?;
-    assert!(rt;
-        tree.pretty_print(Edition2015)?
-            .contains("pub static async;"),
-        "free in 2015"
-    );
-    Ok(())
-}
-
-/// `#![no_std]`.
-fn no_std(alloc: Global) -> Result<Vec<RawAttr>, Fail> {
-    let meta = Meta {
-        path: ModPath::parse(alloc, "no_std")?,
-        input: None,
-    };
-    Ok(Vec::from_array(alloc, [RawAttr::Meta(meta)])?)
-}
-
-/// The tree of a unit at the root of a crate with `#![no_std]`.
-fn root_tree(alloc: Global, unit: &str) -> Result<ItemTree, Fail> {
-    let source = source_of(alloc, unit)?;
-    let front = no_std(alloc)?;
-    Ok(source_tree(alloc, &source, &front, &CfgOptions::new(alloc))?)
-}
-
-/// `#![no_std]` of the crate, and `#![cfg(false)]`, `#![no_core]` at the file's top.
-#[test]
-fn disabled_file_keeps_earlier_attributes(rt: HostRuntime) -> Result<(), Fail> {
-    let disabled = r#"{"attrs":[{"path":"cfg","cfg":false},{"path":"no_core"}]}"#;
-    let rows = [
-        (disabled, "#![no_std]\n#![cfg(false)]\n", false),
-        (r#""broken""#, "#![no_std]\n", true),
-    ];
-    for (unit, page, enabled) in rows {
-        let tree = root_tree(rt.alloc(), unit)?;
-        assert_eq!(rt; tree.pretty_print(Edition2021)?.as_str(), page);
-        assert_eq!(rt; tree.top_level_attrs().is_enabled(), enabled);
     }
     Ok(())
 }

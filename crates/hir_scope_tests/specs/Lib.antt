@@ -1,2 +1,1 @@
-pub mod FlatTree
 pub mod SmallTree

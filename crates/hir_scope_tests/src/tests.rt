@@ -1,8 +1,6 @@
-//! What all tests stand on: ids, imports and pushes of a small crate.
-mod dump;
-mod flat_tree;
+//! What all tests stand on: ids, imports and pushes of a small crate. What pushes bind and how a scope prints are rows of
+//! `hir_def_map_rows`.
 mod import_chains;
-mod item_scope;
 mod small_tree;
 mod tables;
 mod visibility;
@@ -15,7 +13,7 @@ use hir_base::ids::{
 use hir_base::macro_kind::{MacroCallStyles, MacroExpander, MacroId, MacroLoc, MacroRulesId};
 use hir_base::name::Name;
 use hir_scope::glob_imports::PerNsGlobImports;
-use hir_scope::imports::{GlobId, ImportId, ImportOrExternCrate};
+use hir_scope::imports::{ImportId, ImportOrExternCrate};
 use hir_scope::item_scope::ItemScope;
 use hir_scope::per_ns::PerNs;
 use hir_scope::visibility::Visibility;
@@ -89,17 +87,6 @@ fn import(at: u32, number: u16) -> ImportId {
     }
 }
 
-fn by_import(number: u16) -> Option<ImportOrExternCrate> {
-    Some(ImportOrExternCrate::Import(import(0, number)))
-}
-
-fn by_glob(number: u16) -> Option<ImportOrExternCrate> {
-    Some(ImportOrExternCrate::Glob(GlobId {
-        use_: use_item(0, number),
-        idx: 0,
-    }))
-}
-
 fn extern_crate(number: u16) -> ExternCrateId {
     ExternCrateId {
         loc: ItemLoc {
@@ -109,10 +96,6 @@ fn extern_crate(number: u16) -> ExternCrateId {
             id: node(number),
         },
     }
-}
-
-fn by_extern_crate(number: u16) -> Option<ImportOrExternCrate> {
-    Some(ImportOrExternCrate::ExternCrate(extern_crate(number)))
 }
 
 /// A scope behind a box, so that a test moves a pointer and not the scope.
@@ -134,14 +117,6 @@ fn push(
 
 fn a_type(number: u16) -> PerNs {
     PerNs::types(structure(number), Visibility::Public, None)
-}
-
-fn a_value(number: u16) -> PerNs {
-    PerNs::values(structure(number), Visibility::Public, None)
-}
-
-fn a_macro(number: u16, styles: MacroCallStyles) -> PerNs {
-    PerNs::macros(macro_of(number, styles), Visibility::Public, None)
 }
 
 /// Asserts items; of all tests, so that their comparison is proved once.

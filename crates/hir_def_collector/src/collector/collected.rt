@@ -9,8 +9,7 @@ use hir_base::ids::{Crate, MapId};
 use hir_def_map::nameres::DefMap;
 use hir_def_map::nameres::local_def_map::LocalDefMap;
 use hir_scope::imports::ImportOrExternCrate;
-use std::collections::BTreeSet;
-use std::collections::btree_set;
+use std::collections::{BTreeSet, btree_set};
 use std::marker::Model;
 use std::rc::Rc;
 

@@ -1,8 +1,9 @@
 //! What a crate's top says.
-ghost use Rattle.std.specs.Prelude.{◌≡◌, ◌++◌, ◌∷◌, [], OnOk, OnErr};
+ghost use Rattle.std.specs.Prelude.{◌≡◌, ◌++◌, ◌∷◌, [], IfOk, OnOk, OnErr};
 ghost use Rattle.std.specs.Ordering.{nat_cmp};
 ghost use Rattle.std.specs.Cmp.Lexicographic.{slice_cmp};
 ghost use Rattle.std.specs.List.{list_any};
+ghost use Rattle.std.specs.List.Sorted.{IsStrictlySortedBy};
 ghost use Rattle.std.specs.BTreeSet.{insert_key};
 ghost use Rattle.hir_scope.specs.ModuleTree.{same_crate};
 ghost use Rattle.hir_def_map.specs.State.{new_data};
@@ -67,6 +68,22 @@ impl DefMapCrateData {
             recursion_limit: 128,
             dependencies,
         }
+    }
+
+    /// The same data; no text is copied.
+    pub fn clone(&self, alloc: Global) -> Result<DefMapCrateData, AllocError>
+        ensures value { IfOk result (λ d. d ≡ self.now) }
+    {
+        Ok(DefMapCrateData {
+            edition: self.edition,
+            registered_tools: copied_tools(alloc, self.registered_tools.as_slice())?,
+            features: copied_features(alloc, &self.features)?,
+            rustc_coherence_is_core: self.rustc_coherence_is_core,
+            no_core: self.no_core,
+            no_std: self.no_std,
+            recursion_limit: self.recursion_limit,
+            dependencies: self.dependencies.clone()?,
+        })
     }
 
     pub fn edition(&self) -> Edition
@@ -174,6 +191,35 @@ impl DefMapCrateData {
         self.features.insert(name)?;
         Ok(())
     }
+}
+
+fn copied_tools(alloc: Global, tools: &[Name]) -> Result<Vec<Name>, AllocError>
+    ensures value { IfOk result (λ copy. copy.items ≡ tools.now) }
+{
+    let mut copy = Vec::new(alloc);
+    for tool in tools {
+        copy.push(tool.clone()?)?;
+    }
+    Ok(copy)
+}
+
+/// The features are in order.
+fn features_ascend(features: &BTreeSet<Name>)
+    ensures ordered { IsStrictlySortedBy (slice_cmp nat_cmp) features.now.keys }
+{
+    let _ = features.len();
+}
+
+fn copied_features(alloc: Global, features: &BTreeSet<Name>) -> Result<BTreeSet<Name>, AllocError>
+    ensures value { IfOk result (λ copy. copy.keys ≡ features.now.keys) }
+{
+    features_ascend(features);
+    let mut copy = BTreeSet::new(alloc);
+    let mut left = features.iter();
+    'next: while let Some(name) = left.next() {
+        copy.insert(name.clone()?)?;
+    }
+    Ok(copy)
 }
 
 impl PartialEq for DefMapCrateData {

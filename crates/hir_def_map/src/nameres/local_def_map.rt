@@ -1,5 +1,9 @@
 //! The crates that a crate's paths may begin with.
-ghost use Rattle.std.specs.Prelude.{◌≡◌, [], OnOk, OnErr};
+ghost use Rattle.std.specs.Prelude.{◌≡◌, [], IfOk, OnOk, OnErr};
+ghost use Rattle.std.specs.Ordering.{nat_cmp};
+ghost use Rattle.std.specs.Cmp.Lexicographic.{slice_cmp};
+ghost use Rattle.std.specs.BTreeMap.{keys};
+ghost use Rattle.std.specs.List.Sorted.{IsStrictlySortedBy};
 ghost use Rattle.hir_def_map.specs.State.{at_name, with_name};
 
 use hir_base::ids::{ExternCrateId, ModuleId};
@@ -33,6 +37,15 @@ impl LocalDefMap {
         }
     }
 
+    /// An equal extern prelude; no text is copied.
+    pub fn clone(&self, alloc: Global) -> Result<LocalDefMap, AllocError>
+        ensures value { IfOk result (λ l. l ≡ self.now) }
+    {
+        Ok(LocalDefMap {
+            extern_prelude: copied(alloc, &self.extern_prelude)?,
+        })
+    }
+
     /// The root of the crate of a name, and the `extern crate` that names it, if one does.
     pub fn extern_crate(&self, name: &Name) -> Option<(ModuleId, Option<ExternCrateId>)>
         ensures value { result ≡ at_name self.now name.now }
@@ -60,6 +73,28 @@ impl LocalDefMap {
         self.extern_prelude.insert(name, (module, extern_crate))?;
         Ok(())
     }
+}
+
+/// The names of a prelude are in order.
+fn names_ascend(entries: &BTreeMap<Name, (ModuleId, Option<ExternCrateId>)>)
+    ensures ordered { IsStrictlySortedBy (slice_cmp nat_cmp) (keys entries.now) }
+{
+    let _ = entries.len();
+}
+
+fn copied(
+    alloc: Global,
+    entries: &BTreeMap<Name, (ModuleId, Option<ExternCrateId>)>,
+) -> Result<BTreeMap<Name, (ModuleId, Option<ExternCrateId>)>, AllocError>
+    ensures value { IfOk result (λ copy. copy.entries ≡ entries.now.entries) }
+{
+    names_ascend(entries);
+    let mut copy = BTreeMap::new(alloc);
+    let mut left = entries.iter();
+    'next: while let Some((name, entry)) = left.next() {
+        copy.insert(name.clone()?, *entry)?;
+    }
+    Ok(copy)
 }
 
 impl PartialEq for LocalDefMap {

@@ -1,7 +1,7 @@
-//! What a map keeps besides its modules, and what is asked of several maps in turn.
-use super::{FILE, module, node, sample};
+//! What a map keeps besides its modules, and who may see fields and associated items.
+use super::{FILE, item, module, node, sample};
 use either::Either;
-use hir_base::ast_id::{AstId, AstKind, HirFileId, MacroCallId};
+use hir_base::ast_id::{AstKind, HirFileId, MacroCallId};
 use hir_base::ids::{FunctionId, ItemContainerId, ItemLoc};
 use hir_base::macro_kind::{
     MacroExpander, MacroId, MacroLoc, MacroRulesId, ProcMacroId, ProcMacroLoc, ProcMacroStyle,
@@ -19,15 +19,6 @@ use hir_scope::visibility::Visibility;
 use std::alloc::Global;
 use std::process::Abort;
 use std::test::Fail;
-
-fn item(kind: AstKind, number: u16) -> AstId {
-    AstId {
-        file_id: HirFileId::File(FILE),
-        block: None,
-        kind,
-        id: node(number),
-    }
-}
 
 fn exporter() -> FunctionId {
     FunctionId {
@@ -130,20 +121,6 @@ fn keeps_helpers(rt: &impl Abort, alloc: Global, map: &mut DefMap) -> Result<(),
     Ok(())
 }
 
-fn asks_outwards(rt: &impl Abort, map: &DefMap, maps: DefMaps<'_>) {
-    let found = maps.with_ancestor_maps(module(2), |asked: &DefMap, at| {
-        if asked.id() == at.map {
-            Some(at.index)
-        } else {
-            None
-        }
-    });
-    assert_eq!(rt; found, Some(2));
-    let count = map.module_count();
-    let missing: Option<u32> = maps.with_ancestor_maps(module(2), |_, _| None);
-    assert_eq!(rt; missing, None, "of {count} modules");
-}
-
 fn fields(rt: &impl Abort, alloc: Global, maps: DefMaps<'_>) -> Result<(), Fail> {
     let raws = [RawVisibility::Public, RawVisibility::PubCrate];
     let seen = maps.field_visibilities(alloc, None, module(1), &raws)?;
@@ -164,6 +141,5 @@ fn reports(rt: HostRuntime) -> Result<(), Fail> {
     keeps_helpers(&rt, alloc, &mut map)?;
     let world = World::new(alloc);
     let maps = DefMaps::new(WorldPart::all(&world), &map);
-    asks_outwards(&rt, &map, maps);
     fields(&rt, alloc, maps)
 }

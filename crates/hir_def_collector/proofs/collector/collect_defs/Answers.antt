@@ -1,4 +1,4 @@
-use Rattle.std.proofs.Common.{◌≡◌, ◌∙◌, ℕ, List, [], rules, option_map, refl, ap, subst}
+use Rattle.std.proofs.Common.{◌≡◌, ◌∙◌, ℕ, [], rules, option_map, refl, ap, subst}
 use Rattle.std.specs.BTreeSet.{BTreeSet}
 use Rattle.hir_base.specs.declared.ids.Crate.{Crate}
 use Rattle.hir_def_map.specs.Among.{among}
@@ -8,7 +8,7 @@ use Rattle.hir_def_map.specs.World.{finished_in}
 use Rattle.hir_def_collector.specs.Workspace.{dependencies_in, dependencies_of}
 use Rattle.hir_def_collector.specs.Keys.{environment}
 use Rattle.hir_def_collector.specs.Start.{beginning, krate_of}
-use Rattle.hir_def_collector.specs.State.{State, at_rest}
+use Rattle.hir_def_collector.specs.State.{at_rest}
 use Rattle.hir_def_collector.specs.Steps.{Steps}
 use Rattle.hir_def_collector.specs.Derivation.{IsSettled, IsSpent, collected_view}
 use Rattle.hir_def_collector.proofs.Moves.{Steps-append, spent_after}

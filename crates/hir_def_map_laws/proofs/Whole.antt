@@ -1,0 +1,90 @@
+-- A map that names only what is there stands beside finished maps that do.
+use Rattle.std.proofs.Common.{◌≡◌, ◌∙◌, ap, sym, subst, refl, ℕ, List, Bool, true, false, ◌&&◌, cond, Option, None, Some}
+use Rattle.std.specs.Option.{option_and_then, option_map}
+use Rattle.std.specs.Prelude.{is_some, not}
+use Rattle.std.proofs.lemmas.List.Elements.{All-weaker}
+use mathlib.Core.Bool.{true≢false}
+use Rattle.hir_base.specs.declared.ids.MapId.{MapId}
+use Rattle.hir_base.specs.declared.ids.ModuleId.{ModuleId}
+use Rattle.hir_base.specs.declared.ids.UseId.{UseId}
+use Rattle.hir_base.specs.contracts.ids.MapIdPartialEq.TheImpl as map_id
+use Rattle.hir_def_map.specs.Beside.{exact_map, same_id}
+use Rattle.hir_def_map.specs.Chains.{holders_in}
+use Rattle.hir_def_map.specs.Closed.{AreThere, ModuleIsThere}
+use Rattle.hir_def_map.specs.Complete.{AreWhole, NamesOnly}
+use Rattle.hir_def_map.specs.Named.{is_missing, is_there, map_named, prelude_named, test_of}
+use Rattle.hir_def_map.specs.State.{Map, Maps, Placed, beside, entry_at, entry_in, entry_of, module_at, numbered, placed_in, variants_at}
+use Rattle.hir_def_map.specs.declared.world.named.Named.{Named}
+use Rattle.hir_def_map.specs.declared.world.named.Named.TheVariants as named
+use Rattle.hir_def_map.proofs.Complete.{IsClosed-whole}
+use Rattle.hir_def_map.proofs.StaysComplete.{IsClosed-beside}
+use Rattle.hir_def_map_laws.proofs.Fails.{Fails-weaker}
+use Rattle.hir_def_map_laws.specs.Paths.{prelude_module_of}
+use Rattle.hir_def_map_laws.specs.ReadLaw.{KeepApart, StandsBeside, has_no_variants, is_named_in}
+use Rattle.hir_def_map_laws.specs.Slots.{is_in}
+
+missing-not : (b : Bool) → not b ≡ false → b ≡ true
+missing-not true e = refl
+missing-not false e = absurd (true≢false e)
+
+module _ (finished : Maps) (own : MapId) (whole : AreWhole finished) (absent : finished own ≡ None) where
+  -- what is among the finished maps doesn't lie in the map of the id
+  elsewhere : (n : Named) → is_missing finished n ≡ false → is_named_in own n ≡ false
+  elsewhere n e = go (map_id.ghosts.eq (map_named n) own) refl
+    where
+      gone : (k : Named) → finished (map_named k) ≡ None → is_there finished k ≡ false
+      gone (named.Module m) f = ap (λ (o : Option Placed). is_some (option_and_then (λ (placed : Placed). module_at placed.map m.index) o)) f
+      gone (named.Enum id) f = ap (λ (o : Option Placed). is_some (option_and_then (λ (placed : Placed). variants_at placed.map id) o)) f
+      gone (named.Map id) f = ap is_some f
+
+      go : (b : Bool) → map_id.ghosts.eq (map_named n) own ≡ b → is_named_in own n ≡ false
+      go true s = absurd (true≢false (sym (missing-not (is_there finished n) e) ∙ gone n (ap finished (exact_map (map_named n) own s) ∙ absent)))
+      go false s = s
+
+  there_apart : (m : ModuleId) → ModuleIsThere finished m → is_in own m ≡ false
+  there_apart m there = elsewhere (named.Module m) (ap not there)
+
+  prelude_apart : (o : Option Placed) → ((placed : Placed) → o ≡ Some placed → test_of (is_missing finished) (prelude_named placed.map.prelude) ≡ false)
+      → (p : ModuleId) → prelude_module_of (option_map (λ (placed : Placed). placed.map) o) ≡ Some p → is_in own p ≡ false
+  prelude_apart None names p e = absurd cc
+  prelude_apart (Some placed) names p e = go placed.map.prelude (names placed refl) e
+    where
+      go : (o : Option (ModuleId × Option UseId)) → test_of (is_missing finished) (prelude_named o) ≡ false → option_map (λ x. x.0) o ≡ Some p → is_in own p ≡ false
+      go None f g = absurd cc
+      go (Some prelude) f g = let same : prelude.0 ≡ p = cc in subst (λ (m : ModuleId). is_in own m ≡ false) same (elsewhere (named.Module prelude.0) f)
+
+  pub KeepApart-whole : KeepApart finished own
+  KeepApart-whole =
+      let closed = IsClosed-whole finished whole in
+      record {
+        absent = absent;
+        types = λ m name. Fails-weaker (is_missing finished) (is_named_in own) elsewhere (entry_in finished m name) (closed.types m name);
+        parents = λ m p e. there_apart p (closed.parents m p e);
+        holders = λ m. All-weaker (ModuleIsThere finished) (λ (h : ModuleId). is_in own h ≡ false) there_apart (holders_in finished m) (closed.holders m);
+        preludes = λ id p e. prelude_apart (finished id) (λ placed f. (whole id placed f).names.prelude) p e;
+      }
+
+module _ (finished : Maps) (map : Map) (whole : AreWhole finished) (absent : finished map.id ≡ None) (names : NamesOnly (beside finished map) map) where
+  has_variants : (n : Named) → is_missing (beside finished map) n ≡ false → has_no_variants map n ≡ false
+  has_variants (named.Module m) e = refl
+  has_variants (named.Enum id) e = go (map_id.ghosts.eq id.loc.container.map map.id) refl
+    where
+      go : (b : Bool) → map_id.ghosts.eq id.loc.container.map map.id ≡ b → (b && not (is_some (variants_at map id))) ≡ false
+      go true s =
+          ap (λ (c : Bool). not (is_some (option_and_then (λ (placed : Placed). variants_at placed.map id) (cond c (Some (placed_in finished map)) (finished id.loc.container.map))))) (sym s) ∙ e
+      go false s = refl
+  has_variants (named.Map id) e = refl
+
+  entry_own : (at : ℕ) (name : List ℕ) → entry_in (beside finished map) (numbered map.id at) name ≡ entry_at map at name
+  entry_own at name =
+      ap (λ (c : Bool). entry_of (option_and_then (λ (placed : Placed). module_at placed.map at) (cond c (Some (placed_in finished map)) (finished map.id))) name) (same_id map.id)
+
+  pub StandsBeside-whole : StandsBeside finished map
+  StandsBeside-whole =
+      let closed = IsClosed-beside finished map absent whole names in
+      record {
+        apart = KeepApart-whole finished map.id whole absent;
+        in_order = names.in_order;
+        enums = λ at name. Fails-weaker (is_missing (beside finished map)) (has_no_variants map) has_variants (entry_at map at name)
+            (subst (AreThere (beside finished map)) (entry_own at name) (closed.types (numbered map.id at) name));
+      }
