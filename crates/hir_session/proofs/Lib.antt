@@ -11,6 +11,7 @@ pub mod Gaining
 pub mod Stands
 pub mod Start
 pub mod Due
+pub mod Verdicts
 pub mod Judging
 pub mod EntryLemmas
 pub mod OptionLemmas
