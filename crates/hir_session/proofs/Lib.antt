@@ -16,8 +16,9 @@ pub mod Judging
 pub mod EntryLemmas
 pub mod OptionLemmas
 pub mod FileLemmas
-pub mod Differ
 pub mod LeftOut
+pub mod Growing
+pub mod Differ
 pub mod Stand
 pub mod Replies
 pub mod Histories
