@@ -85,7 +85,7 @@ module _ (s : SessionState) (sound : IsSound s) where
       let stands = names_stand id other r is n in
       let own = of_number id (sound.placed id (some_unmarked (kept_of s id) r is)).of_crate in
       subst (λ (x : MapId). Spread (follows s) P x) (sym own)
-      (spread_on ((sound.behind id.krate.0 other.krate).0 stands.1) (subst (λ (x : MapId). Spread (follows s) P x) stands.0 (spread_named d sp))))
+      (spread_on s.crates ((sound.behind id.krate.0 other.krate).0 stands.1) (subst (λ (x : MapId). Spread (follows s) P x) stands.0 (spread_named d sp))))
 
 -- what is in a spread set is in it for a reason
 spread_cases : {A : Type 0} {follows : MapId → List MapId} {P : MapId → Type 0} {id : MapId} → (P id → A) → ((d : MapId) → Contains (follows id) d → Spread follows P d → A)
