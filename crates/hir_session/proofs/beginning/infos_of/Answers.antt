@@ -7,7 +7,7 @@ pub loop-input-init : goal.loop-input-init
 loop-input-init c = beginning-start _ _ _ c.new-infos.ensures.items
 
 pub loop-input-preserved : goal.loop-input-preserved
-loop-input-preserved c = ?
-
-pub returns : goal.returns
-returns c = ?
+loop-input-preserved c =
+    let within : c.loop-input.input-index < length c.args.inputs.now.items = omega (arith, c.loop-input-test.true, c.deref-input-items.ensures.len) in
+    beginning-more c.loop-input.input-index c.args.inputs.now.items _ _ _ _ c.input-item.result.now c.input-item.result.now within c.input-item.is
+    c.in_ok-add_crate.ensures.added c.loop-input.invariant
