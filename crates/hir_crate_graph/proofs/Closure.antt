@@ -1,5 +1,5 @@
 -- What is reached in steps to direct dependencies, and what is depended on.
-use Rattle.std.proofs.Common.{◌≡◌, ◌↔◌, ◌⊎◌, inl, inr, nat_eq, nat_le, nat_lt, ℕ, ◌+◌, ◌<◌, ◌≤◌, zero, suc, Bool, true, false, ◌||◌, List, [], ◌∷◌, ◌++◌, length, Option, Some, None, cond, refl, sym, ap, ap₂, ◌∙◌, arith, subst, Contains, get_or, length-append}
+use Rattle.std.proofs.Common.{◌≡◌, ◌⊎◌, inl, inr, nat_eq, nat_le, ℕ, ◌<◌, ◌≤◌, zero, suc, Bool, true, false, ◌||◌, List, [], ◌∷◌, ◌++◌, length, Option, Some, None, Result, Ok, Err, map, cond, refl, sym, ap, ap₂, ◌∙◌, arith, subst, Contains, get_or}
 use Rattle.std.specs.Cmp.{unsigned_Decides}
 use Rattle.std.specs.List.{list_any}
 use Rattle.std.proofs.lemmas.Bool.{cases_eq, cases_lt}
@@ -7,13 +7,15 @@ use Rattle.std.proofs.lemmas.Bool.Decides.{nat_tests}
 use Rattle.std.proofs.lemmas.Map.Views.{list_any-from_Contains, Contains-from_any}
 use Rattle.hir_base.specs.declared.ids.Crate.{Crate}
 use Rattle.hir_base.specs.contracts.ids.CrateEq.TheImpl.Laws.{laws-law as crate_laws}
-use Rattle.hir_crate_graph.specs.CrateSet.{same_crate, has_crate, IsAscending, crate_of, crates_from}
+use Rattle.hir_crate_graph.specs.CrateSet.{same_crate, has_crate, crate_of}
 use Rattle.hir_crate_graph.specs.Dependencies.DependsOn.{directly, through}
 use Rattle.hir_crate_graph.specs.Dependencies.{DependsOn, is_reached, transitive_dependencies, transitive_below, has_late, IsOrderedBelow, AreTransitive}
 use Rattle.std.proofs.lemmas.List.{get_or_push}
-use Rattle.hir_crate_graph.specs.Graph.{crates_at, comes_by, IsUnionOf, Adds, first_late, or_late}
+use Rattle.hir_crate_graph.specs.Graph.{crates_at, comes_by, Adds, first_late, given, or_late, transitive_of, verdict_of_push}
+use Rattle.hir_crate_graph.specs.declared.transitive.CrateGraphError.{CrateGraphError}
+use Rattle.hir_crate_graph.specs.declared.transitive.CrateGraphError.TheVariants.{DependencyOrder}
 use Rattle.hir_crate_graph.specs.Laws.{ListsWhatIsDependedOn, ListsAscend}
-use Rattle.hir_crate_graph.proofs.CrateLists.{clash, length_one_more, or_true, exact_crate, same_number, other_number, ascending_alike, IsAscending-crates_from, has_above, has_within}
+use Rattle.hir_crate_graph.proofs.CrateLists.{clash, length_one_more, or_true, exact_crate, same_number, ascending_alike, IsAscending-crates_from, has_above, has_within}
 
 -- ---- dependencies that come before their crate
 
@@ -172,9 +174,9 @@ module _ (direct : ℕ → List Crate) where
   reached_by_union (suc n) sets is ordered c =
       any_alike (suc n) (λ d. nat_eq c.0 d.0 || is_reached direct n d.0 c.0) (λ d. comes_by sets d c) (direct (suc n)) (ordered (suc n) (omega arith))
       (λ d lt. ap (λ (t : Bool). nat_eq c.0 d.0 || t) (
-        same_steps direct n d.0 d.0 c.0 (omega arith) (omega arith) (less direct (suc d.0) (suc (suc n)) (omega arith) ordered)
-        ∙ sym (has-transitive direct d.0 c (less direct (suc d.0) (suc (suc n)) (omega arith) ordered))
-        ∙ ap (λ (cs : List Crate). has_crate cs c) (sym (transitive_at (suc n) d.0 lt) ∙ ap (λ (all : List (List Crate)). crates_at all d.0) (sym is))))
+      same_steps direct n d.0 d.0 c.0 (omega arith) (omega arith) (less direct (suc d.0) (suc (suc n)) (omega arith) ordered)
+      ∙ sym (has-transitive direct d.0 c (less direct (suc d.0) (suc (suc n)) (omega arith) ordered))
+      ∙ ap (λ (cs : List Crate). has_crate cs c) (sym (transitive_at (suc n) d.0 lt) ∙ ap (λ (all : List (List Crate)). crates_at all d.0) (sym is))))
 
   pub AreTransitive-adds : (old new : List (List Crate)) (dependencies : List Crate) → AreTransitive direct old → direct (length old) ≡ dependencies → Adds old new dependencies
       → AreTransitive direct new
@@ -182,9 +184,9 @@ module _ (direct : ℕ → List Crate) where
       let longer : length new ≡ suc (length old) = ap (λ (xs : List (List Crate)). length xs) adds.is ∙ length_one_more old adds.union in
       let ordered : IsOrderedBelow direct (suc (length old)) = λ j lt. go j (cases_eq j (length old)) lt in
       let same : adds.union ≡ transitive_dependencies direct (length old) =
-          ascending_alike adds.union (transitive_dependencies direct (length old)) adds.is_union.ascending (IsAscending-transitive direct (length old))
-          (λ c. adds.is_union.has c ∙ ap (λ (ds : List Crate). list_any (λ d. comes_by old d c) ds) (sym now)
-          ∙ sym (reached_by_union (length old) old are.each ordered c) ∙ sym (has-transitive direct (length old) c ordered)) in
+      ascending_alike adds.union (transitive_dependencies direct (length old)) adds.is_union.ascending (IsAscending-transitive direct (length old))
+      (λ c. adds.is_union.has c ∙ ap (λ (ds : List Crate). list_any (λ d. comes_by old d c) ds) (sym now)
+      ∙ sym (reached_by_union (length old) old are.each ordered c) ∙ sym (has-transitive direct (length old) c ordered)) in
       record {
         ordered = subst (IsOrderedBelow direct) (sym longer) ordered;
         each = adds.is ∙ ap₂ (λ (xs : List (List Crate)) (x : List Crate). xs ++ x ∷ []) are.each same ∙ ap (transitive_below direct) (sym longer);
@@ -210,3 +212,30 @@ first_late-some direct (suc n) k ordered late lt = go (first_late-some direct n 
         ap₂ (λ (o : Option Crate) (b : Bool). or_late o b n) (first_late-none direct n (subst (IsOrderedBelow direct) e ordered)) (subst (λ (m : ℕ). has_late m (direct m) ≡ true) e late)
         ∙ ap (λ (m : ℕ). Some (crate_of m)) (sym e)
     go before (inr ne) = ap (λ (o : Option Crate). or_late o (has_late n (direct n)) n) (before (omega arith))
+
+-- the list of an item
+pub crates_at-map : {V : Type 0} (f : V → List Crate) (xs : List V) (i : ℕ) (x : V) → i < length xs → x ≡ get_or xs i x → crates_at (map f xs) i ≡ f x
+crates_at-map f [] i x lt is = absurd (omega arith)
+crates_at-map f (y ∷ ys) zero x lt is = ap f (sym is)
+crates_at-map f (y ∷ ys) (suc i) x lt is = crates_at-map f ys i x (omega arith) is
+
+-- all crates are taken
+pub transitive_of-done : (lists sets : List (List Crate)) → AreTransitive (crates_at lists) sets → length sets ≡ length lists → transitive_of lists ≡ Ok sets
+transitive_of-done lists sets are long =
+    ap₂ given (first_late-none (crates_at lists) (length lists) (subst (IsOrderedBelow (crates_at lists)) long are.ordered))
+    (ap (transitive_below (crates_at lists)) (sym long) ∙ sym are.each)
+
+-- the next one isn't
+pub transitive_of-late : (lists sets : List (List Crate)) (dependencies : List Crate) (error : CrateGraphError) → AreTransitive (crates_at lists) sets
+    → crates_at lists (length sets) ≡ dependencies → length sets < length lists → verdict_of_push sets dependencies ≡ Err error → transitive_of lists ≡ Err error
+transitive_of-late lists sets dependencies error are now lt verdict = go (has_late (length sets) dependencies) refl verdict
+  where
+    go : (b : Bool) → has_late (length sets) dependencies ≡ b
+        → (let answer : Result (Unit {0}) CrateGraphError = cond b (Err (DependencyOrder (crate_of (length sets)))) (Ok tt) in answer) ≡ Err error
+        → transitive_of lists ≡ Err error
+    go true s e =
+        let same : DependencyOrder (crate_of (length sets)) ≡ error = cc in
+        ap (λ (o : Option Crate). given o (transitive_below (crates_at lists) (length lists)))
+        (first_late-some (crates_at lists) (length lists) (length sets) are.ordered (ap (has_late (length sets)) now ∙ s) lt)
+        ∙ ap Err same
+    go false s e = absurd cc

@@ -1,10 +1,10 @@
 -- Lists of crates in ascending order, and those that pass a test.
 use Rattle.std.proofs.Common.{◌≡◌, ◌⊎◌, inl, inr, nat_eq, ℕ, ◌+◌, ◌-◌, ◌<◌, ◌≤◌, zero, suc, Bool, true, false, ◌||◌, ◌&&◌, List, [], ◌∷◌, ◌++◌, length, cond, refl, sym, ap, ap₂, ◌∙◌, arith, subst}
 use Rattle.std.specs.Cmp.{unsigned_Decides}
-use Rattle.std.specs.List.{AllByRecursion, list_any}
+use Rattle.std.specs.List.{AllByRecursion}
 use Rattle.std.proofs.lemmas.Bool.{cases_eq, cases_lt}
 use Rattle.hir_base.specs.declared.ids.Crate.{Crate}
-use Rattle.hir_crate_graph.specs.CrateSet.{same_crate, has_crate, IsAscending, crate_of, crates_from, crates_below}
+use Rattle.hir_crate_graph.specs.CrateSet.{same_crate, has_crate, IsAscending, crate_of, crates_from}
 use mathlib.Core.Bool.{true≢false}
 
 pub clash : {A : Type 0} {b : Bool} → b ≡ true → b ≡ false → A

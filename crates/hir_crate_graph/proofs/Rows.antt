@@ -1,5 +1,5 @@
 -- Rows of bits, and the crates that they have.
-use Rattle.std.proofs.Common.{◌≡◌, ◌⊎◌, inl, inr, nat_eq, nat_lt, ℕ, ◌+◌, ◌*◌, ◌/◌, ◌%◌, ◌^◌, ◌<◌, ◌≤◌, zero, suc, Bool, true, false, ◌||◌, ◌&&◌, List, [], ◌∷◌, ◌++◌, Result, Ok, Err, OnErr, cond, length, get_or, set, max, refl, sym, ap, ap₂, ◌∙◌, arith, w64}
+use Rattle.std.proofs.Common.{◌≡◌, ◌⊎◌, inl, inr, nat_eq, ℕ, ◌+◌, ◌*◌, ◌/◌, ◌%◌, ◌^◌, ◌<◌, ◌≤◌, zero, suc, Bool, false, ◌||◌, List, [], ◌∷◌, ◌++◌, Result, Ok, Err, OnErr, length, get_or, set, max, refl, sym, ap, ap₂, ◌∙◌, arith, w64}
 use Rattle.std.specs.Int.{bit_at}
 use Rattle.std.specs.Int.RustNames.{bit_and, bit_or}
 use Rattle.std.proofs.lemmas.Bool.{cases_eq, cases_lt}
@@ -7,7 +7,7 @@ use Rattle.std.proofs.lemmas.List.{get_or_past, get_or-set_same, get_or-set_othe
 use Rattle.std.proofs.lemmas.Nat.Bits.{bit_at-zero, bit_at_or, bit_at_set_same, bit_at_set_other, shr_and_one, bit_at-lt}
 use Rattle.hir_base.specs.declared.ids.Crate.{Crate}
 use Rattle.hir_crate_graph.specs.Bits.{has_bit, members}
-use Rattle.hir_crate_graph.specs.CrateSet.{has_crate, IsAscending, Gains, crates_from}
+use Rattle.hir_crate_graph.specs.CrateSet.{has_crate, IsAscending, Gains}
 use Rattle.hir_crate_graph.proofs.CrateLists.{or_true, or_false, same_number, other_number, ascending_alike, IsAscending-crates_from, length-crates_from, has_above, has_within}
 
 -- a row whose word is 0 there has no bit there

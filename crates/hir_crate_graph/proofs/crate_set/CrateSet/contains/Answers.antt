@@ -1,6 +1,5 @@
 use Rattle.std.proofs.Common.{ℕ, List, ap, sym, ◌∙◌}
 use Rattle.hir_crate_graph.specs.Bits.{has_bit}
-use Rattle.hir_crate_graph.specs.CrateSet.{has_crate}
 use Rattle.hir_crate_graph.proofs.Rows.{has-members}
 use Rattle.hir_crate_graph.proofs.crate_set.CrateSet.contains.Goals as goal
 
