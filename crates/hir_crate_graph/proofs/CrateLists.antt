@@ -1,14 +1,26 @@
 -- Lists of crates in ascending order, and those that pass a test.
-use Rattle.std.proofs.Common.{◌≡◌, ◌⊎◌, inl, inr, nat_eq, ℕ, ◌+◌, ◌-◌, ◌<◌, ◌≤◌, zero, suc, Bool, true, false, ◌||◌, ◌&&◌, List, [], ◌∷◌, ◌++◌, cond, refl, sym, ap, ap₂, ◌∙◌, arith, subst}
+use Rattle.std.proofs.Common.{◌≡◌, ◌⊎◌, inl, inr, nat_eq, ℕ, ◌+◌, ◌-◌, ◌<◌, ◌≤◌, zero, suc, Bool, true, false, ◌||◌, ◌&&◌, List, [], ◌∷◌, ◌++◌, length, cond, refl, sym, ap, ap₂, ◌∙◌, arith, subst}
 use Rattle.std.specs.Cmp.{unsigned_Decides}
-use Rattle.std.specs.List.{AllByRecursion, list_any}
+use Rattle.std.specs.List.{AllByRecursion}
 use Rattle.std.proofs.lemmas.Bool.{cases_eq, cases_lt}
 use Rattle.hir_base.specs.declared.ids.Crate.{Crate}
-use Rattle.hir_crate_graph.specs.CrateSet.{same_crate, has_crate, IsAscending, crate_of, crates_from, crates_below}
+use Rattle.hir_crate_graph.specs.CrateSet.{same_crate, has_crate, IsAscending, crate_of, crates_from}
 use mathlib.Core.Bool.{true≢false}
 
 pub clash : {A : Type 0} {b : Bool} → b ≡ true → b ≡ false → A
 clash on off = absurd (true≢false (sym on ∙ off))
+
+pub length_one_more : {A : Type 0} (xs : List A) (x : A) → length (xs ++ x ∷ []) ≡ suc (length xs)
+length_one_more [] x = refl
+length_one_more (y ∷ ys) x = ap suc (length_one_more ys x)
+
+pub or_true : (b : Bool) → (b || true) ≡ true
+or_true true = refl
+or_true false = refl
+
+pub or_false : (b : Bool) → (b || false) ≡ b
+or_false true = refl
+or_false false = refl
 
 pub exact_crate : (a b : Crate) → same_crate a b ≡ true → a ≡ b
 exact_crate a b e = λ i. record { 0 = (unsigned_Decides a.0 b.0).0 e i }
@@ -129,10 +141,6 @@ module _ (p : ℕ → Bool) where
   has_above start zero c le = refl
   has_above start (suc n) c le = has_other start n c (λ e. absurd (omega arith)) ∙ has_above (suc start) n c (omega arith)
 
-  or_false : (b : Bool) → (b || false) ≡ b
-  or_false true = refl
-  or_false false = refl
-
   pub has_within : (start count : ℕ) (c : Crate) → start ≤ c.0 → c.0 < start + count → has_crate (crates_from p start count) c ≡ p c.0
   has_within start zero c le lt = absurd (omega arith)
   has_within start (suc n) c le lt = go (has_within (suc start) n c) (cases_eq c.0 start)
@@ -143,6 +151,15 @@ module _ (p : ℕ → Bool) where
           has_step start n c ∙ ap₂ (λ (t r : Bool). (t && p start) || r) (same_number c.0 start e) (has_below (suc start) n c (omega arith))
           ∙ or_false (p start) ∙ ap p (sym e)
       go behind (inr ne) = has_other start n c ne ∙ behind (omega arith) (omega arith)
+
+  -- no more pass than there are
+  pub length-crates_from : (start count : ℕ) → length (crates_from p start count) ≤ count
+  length-crates_from start zero = omega arith
+  length-crates_from start (suc n) = go (p start) (crates_from p (suc start) n) (length-crates_from (suc start) n)
+    where
+      go : (b : Bool) (rest : List Crate) → length rest ≤ n → length (cond b (crate_of start ∷ rest) rest) ≤ suc n
+      go true rest le = omega arith
+      go false rest le = omega arith
 
   -- none passes
   pub crates_from-none : (start count : ℕ) → ((n : ℕ) → start ≤ n → n < start + count → p n ≡ false) → crates_from p start count ≡ []

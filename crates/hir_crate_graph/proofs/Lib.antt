@@ -1,0 +1,3 @@
+pub mod CrateLists
+mod Rows
+pub mod Closure

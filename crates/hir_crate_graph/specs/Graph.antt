@@ -15,14 +15,15 @@ IsMemory e = e ≡ Memory
 abbrev pub crates_at : List (List Crate) → ℕ → List Crate
 crates_at lists k = slice_index_or lists k []
 
+-- the crate that is there, and without one that of this number where it is late
+abbrev pub or_late : Option Crate → Bool → ℕ → Option Crate
+or_late (Some c) late k = Some c
+or_late None late k = if late then Some (crate_of k) else None
+
 -- the first crate below a number that has a dependency that doesn't come before it
 abbrev pub first_late : (ℕ → List Crate) → ℕ → Option Crate
 first_late direct zero = None
-first_late direct (suc count) = later (first_late direct count) (has_late count (direct count)) count
-  where
-    later : Option Crate → Bool → ℕ → Option Crate
-    later (Some c) late k = Some c
-    later None late k = if late then Some (crate_of k) else None
+first_late direct (suc count) = or_late (first_late direct count) (has_late count (direct count)) count
 
 abbrev pub given : Option Crate → List (List Crate) → Result (List (List Crate)) CrateGraphError
 given (Some c) sets = Err (DependencyOrder c)

@@ -1,9 +1,9 @@
 //! Sets of crates.
-ghost use Rattle.std.specs.Prelude.{◌≡◌, ◌↔◌, ℕ, ◌||◌, [], length, IsTrue, OnOk, OnErr, IfOk};
+ghost use Rattle.std.specs.Prelude.{◌≡◌, ◌↔◌, ◌≤◌, ◌^◌, [], length, IsTrue, OnOk, OnErr, IfOk};
 ghost use Rattle.hir_crate_graph.specs.CrateSet.{same_crate, has_crate, Gains, IsAscending};
 
 use crate::crates::Crates;
-use crate::words::{first_from, has_bit, lengthen, set_all, set_bit};
+use crate::words::{has_bit, lengthen, set_all, set_bit};
 use hir_base::ids::Crate;
 use std::alloc::{AllocError, Global};
 use std::marker::Model;
@@ -70,6 +70,7 @@ impl CrateSet {
     pub fn iter(&self) -> Crates<'_>
         ensures value { result ≡ self.now }
         ensures ascending { IsAscending self.now }
+        ensures few { length self.now ≤ 2 ^ 32 }
     {
         Crates::new(self.words.as_slice())
     }
@@ -85,8 +86,7 @@ impl CrateSet {
     pub fn is_empty(&self) -> bool
         ensures value { IsTrue result ↔ (self.now ≡ []) }
     {
-        let words = self.words.as_slice();
-        first_from(words, 0, 64 * words.len()).is_none()
+        self.iter().next().is_none()
     }
 
     /// The same set.

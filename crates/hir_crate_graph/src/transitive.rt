@@ -79,12 +79,17 @@ impl TransitiveDependencies {
     }
 
     /// Those of crates with these direct dependencies, by number.
-    pub fn of(alloc: Global, direct: &[Vec<Crate>]) -> Result<TransitiveDependencies, CrateGraphError>
+    pub fn of(
+        alloc: Global,
+        direct: &[Vec<Crate>],
+    ) -> Result<TransitiveDependencies, CrateGraphError>
         ensures answer { Gives IsMemory result (transitive_of (map (λ crates. crates.items) direct.now)) }
     {
         let mut transitive = TransitiveDependencies::new(alloc);
         for crates in direct {
-            transitive.push(crates.as_slice())?;
+            if let Err(error) = transitive.push(crates.as_slice()) {
+                return Err(error);
+            }
         }
         Ok(transitive)
     }

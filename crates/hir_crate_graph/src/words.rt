@@ -5,13 +5,14 @@ ghost use Rattle.hir_crate_graph.specs.Bits.{has_bit, IsFirstBit, IsLastBit};
 use std::alloc::AllocError;
 
 /// Whether the bit at a place is set.
+#[tactic(auto, using(crate::proofs::Rows::tested))]
 pub(crate) fn has_bit(words: &[u64], place: usize) -> bool
     ensures value { result ≡ has_bit words.now place }
 {
-    match words.get(place / 64) {
-        Some(word) => (*word >> (place % 64)) & 1 == 1,
-        None => false,
+    if place / 64 >= words.len() {
+        return false;
     }
+    (words[place / 64] >> (place % 64)) & 1 == 1
 }
 
 /// Makes the row so long, by bits that are not set.

@@ -1,0 +1,27 @@
+-- The words grow by zeros, and the crate's bit is set.
+use Rattle.std.proofs.Common.{◌≡◌, nat_eq, ℕ, List, Bool, ◌||◌, ap, ◌∙◌, length, arith}
+use Rattle.std.specs.Vec.{with_items}
+use Rattle.std.proofs.lemmas.List.{with_items_is}
+use Rattle.hir_crate_graph.specs.Bits.{has_bit}
+use Rattle.hir_crate_graph.proofs.Rows.{IsAscending-members, members-alike, Gains-members, on_err}
+use Rattle.hir_crate_graph.proofs.crate_set.CrateSet.insert.Goals as goal
+
+pub returns-in_err-lengthen-clause-ascending : goal.returns-in_err-lengthen-clause-ascending
+returns-in_err-lengthen-clause-ascending c = IsAscending-members c.lengthen.new.words.items
+
+pub returns-in_err-lengthen-clause-err : goal.returns-in_err-lengthen-clause-err
+returns-in_err-lengthen-clause-err c = rw (← c.self.view_is)
+    (on_err c.from_residual.result (members-alike c.lengthen.new.words.items c.self.inside.words.items c.lengthen.ensures.same))
+
+pub returns-clause-ok : goal.returns-clause-ok
+returns-clause-ok c =
+    let kept = c.set_bit.auto.words in
+    let lent : length c.as_mut_slice.result.now ≡ length c.lengthen.new.words.items = ap length c.as_mut_slice.ensures.value in
+    let own = c.lengthen.new.words.ok.0 in
+    let written : (with_items c.lengthen.new.words c.set_bit.new.words).items ≡ c.set_bit.new.words = with_items_is c.lengthen.new.words c.set_bit.new.words (omega arith) in
+    rw (← c.self.view_is) (Gains-members c.self.inside.words.items (with_items c.lengthen.new.words c.set_bit.new.words).items (λ n. nat_eq n c.args.krate.0) (λ n.
+    ap (λ (ws : List ℕ). has_bit ws n) written ∙ c.set_bit.ensures.value n
+    ∙ ap (λ (b : Bool). b || nat_eq n c.args.krate.0) (ap (λ (ws : List ℕ). has_bit ws n) c.as_mut_slice.ensures.value ∙ c.lengthen.ensures.same n)))
+
+pub returns-clause-ascending : goal.returns-clause-ascending
+returns-clause-ascending c = IsAscending-members (with_items c.lengthen.new.words c.set_bit.new.words).items
