@@ -1,8 +1,6 @@
 //! Modules by the file that holds them, and parts of a map that are changed in place.
 use super::{FILE, add, inline, is_module, item, lone, module, node};
-use hir_base::ast_id::{
-    AstKind, BlockId, EditionedFileId, FileId, HirFileId, InFile, MacroCallId,
-};
+use hir_base::ast_id::{AstKind, BlockId, EditionedFileId, FileId, HirFileId, InFile, MacroCallId};
 use hir_base::edition::Edition;
 use hir_base::name::Name;
 use hir_def_map::nameres::DefMap;
