@@ -1,7 +1,8 @@
 //! Which items have equal trees.
 
-use crate::units::tree_of;
+use crate::units::{tree_of, tree_of_source};
 use hir_item_tree::item_tree::ItemTree;
+use hir_item_tree::source::Source;
 use std::alloc::Global;
 use std::test::Fail;
 
@@ -247,5 +248,13 @@ fn equal_items(rt: HostRuntime) -> Result<(), Fail> {
             );
         }
     }
+    Ok(())
+}
+
+/// A source that can't be read has no items.
+#[test]
+fn broken_source(rt: HostRuntime) -> Result<(), Fail> {
+    let tree = tree_of_source(rt.alloc(), &Source::Broken)?;
+    assert!(rt; tree == ItemTree::empty(rt.alloc()));
     Ok(())
 }
