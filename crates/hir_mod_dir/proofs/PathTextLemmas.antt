@@ -1,17 +1,16 @@
 -- What cutting a text at a slash, and writing slashes into it, does.
-use Rattle.std.proofs.Common.{◌≡◌, ◌≢◌, ◌≤◌, ◌<◌, ◌-◌, ◌+◌, ◌==◌, ◌||◌, ℕ, zero, suc, Bool, true, false, not, cond, List, [], ◌∷◌, ◌++◌, Some, None, Option, refl, ap, sym, subst, ◌∙◌, inl, inr, length, take, drop, map, codes, get_or, nat_eq, slice_index, lit<, eq-eqb, arith}
-use Rattle.std.specs.Prelude.{MatchOption}
-use Rattle.std.specs.Borrow.{Bor}
-use Rattle.std.specs.List.{starts_with, suffix_len}
-use Rattle.std.specs.Str.{NoCharPasses, IsCharBoundary}
-use Rattle.std.specs.Str.Pattern.{FindsChar, RFindsChar, HasCharAt, FindsTextPrefix, StripsPrefix, SplitsAroundMatch}
+use Rattle.std.proofs.Common.{◌≡◌, ◌≢◌, ◌≤◌, ◌<◌, ◌-◌, ◌+◌, ◌==◌, ℕ, zero, suc, Bool, true, false, not, List, [], ◌∷◌, ◌++◌, refl, ap, sym, subst, ◌∙◌, inl, inr, length, take, drop, map, get_or, lit<, arith}
+use Rattle.std.specs.List.{suffix_len}
+use Rattle.std.specs.Str.{NoCharPasses}
+use Rattle.std.specs.Str.Pattern.{FindsChar, RFindsChar, HasCharAt, SplitsAroundMatch}
 use Rattle.std.specs.Str.Replace.{ReplacesMatches}
-use Rattle.std.proofs.lemmas.List.{take-append-drop, map-append, take_all, take_at, take_more, get_or-drop, get_or_push, length_push, length-drop}
+use Rattle.std.proofs.lemmas.List.{take-append-drop, map-append, take_all, take_more, get_or-drop, length-drop}
 use Rattle.std.proofs.lemmas.List.Sums.{suffix_len_is}
+use Rattle.std.proofs.lemmas.Bool.{eqb-true, or_cases}
 use Rattle.std.proofs.lemmas.Bool.Decides.{nat_tests}
-use Rattle.std.proofs.lemmas.Str.Pattern.{NoCharPasses-char, drop_at_char, starts_text}
+use Rattle.std.proofs.lemmas.Str.Pattern.{NoCharPasses-char, drop_at_char}
 use Rattle.hir_mod_dir.specs.Directory.{is_directory_path}
-use Rattle.hir_mod_dir.specs.PathText.{directory_of, parent_of, slash_for_backslash, with_slash}
+use Rattle.hir_mod_dir.specs.PathText.{directory_of, parent_of, slash_for_backslash}
 
 -- another byte than `\` stays
 other_stays : (b : ℕ) → b ≢ 92 → slash_for_backslash b ≡ b
@@ -43,15 +42,6 @@ replaced (suc n) c s out e h =
     ∙ ap (λ l. l ++ 47 ∷ map slash_for_backslash (drop b s)) (sym (unchanged (take a s) (λ i l. NoCharPasses-char 92 (take a s) i none (lit< tt) l)))
     ∙ sym (map-append slash_for_backslash (take a s) (92 ∷ drop b s))
     ∙ ap (map slash_for_backslash) parts
-
--- a text that stands at the front is cut off it
-pub stripped : (n s x : List ℕ) → StripsPrefix (FindsTextPrefix n) s x → (starts_with nat_eq s n ≡ true) × (x ≡ drop (length n) s)
-stripped n s x h =
-    (sym (starts_text true n s (h.0, h.1, subst (IsCharBoundary s) (sym h.1.0) h.1.2)), h.2 ∙ ap (λ k. drop k s) h.1.0)
-
--- a text that doesn't stand at the front
-pub not_stripped : (n s : List ℕ) → FindsTextPrefix n s None → starts_with nat_eq s n ≡ false
-not_stripped n s h = sym (starts_text false n s h)
 
 -- each byte but a slash
 abbrev no_slash : ℕ → Bool
@@ -90,33 +80,23 @@ directory_of_split s front back h =
     let cut : length s - suffix_len no_slash s ≡ i + 1 = omega (arith, left, next, fits) in
     ap (λ n. take n s) cut ∙ take_more s i 0 (omega arith) ∙ ap (λ b. take i s ++ b ∷ []) is ∙ ap (λ l. l ++ 47 ∷ []) (sym h.3)
 
-or_true : (a b : Bool) → b ≡ true → (a || b) ≡ true
-or_true true b h = refl
-or_true false b h = h
+-- the last byte of a directory's path, unless it is empty, is a slash
+last_is_slash : (path : List ℕ) → is_directory_path path ≡ true → 0 < length path → get_or path (length path - 1) 0 ≡ 47
+last_is_slash path h some =
+    elim (or_cases (length path == 0) (get_or path (length path - 1) 0 == 47) h) [
+      inl none ↦ absurd (omega (arith, eqb-true (length path) 0 none))
+    | inr last ↦ eqb-true (get_or path (length path - 1) 0) 47 last
+    ]
 
--- a text that a slash ends is a directory's path
-pub ends_with_slash : (xs : List ℕ) → is_directory_path (xs ++ 47 ∷ []) ≡ true
-ends_with_slash xs =
-    let last : get_or (xs ++ 47 ∷ []) (length (xs ++ 47 ∷ []) - 1) 0 ≡ 47 = get_or_push xs 47 0 (length (xs ++ 47 ∷ []) - 1) (omega (arith, length_push xs 47)) in
-    or_true _ _ (eq-eqb _ 47 last)
-
-by_case : (text : List ℕ) (b : Bool) → is_directory_path text ≡ b → is_directory_path (cond b text (text ++ 47 ∷ [])) ≡ true
-by_case text true h = h
-by_case text false h = ends_with_slash text
-
--- a directory's path, or with a slash behind it
-pub with_slash_is : (text : List ℕ) → is_directory_path (with_slash text) ≡ true
-with_slash_is text = by_case text (is_directory_path text) refl
-
--- the directory above one whose path ends with a slash
-pub parent_of_slash : (path front : List ℕ) → path ≡ front ++ 47 ∷ [] → parent_of path ≡ directory_of front
-parent_of_slash path front e =
-    let short : length path - 1 ≡ length front = omega (arith, ap length e ∙ length_push front 47) in
-    ap directory_of (ap (λ n. take n path) short ∙ ap (take (length front)) e ∙ take_at front (47 ∷ []) (length front) refl)
+-- a list that isn't empty is its front and its last element
+front_and_last : (path : List ℕ) → 0 < length path → path ≡ take (length path - 1) path ++ get_or path (length path - 1) 0 ∷ []
+front_and_last path some =
+    sym (take_all (length path - 1 + 1) path (omega arith)) ∙ take_more path (length path - 1) 0 (omega arith)
 
 -- above the empty path is the empty path
 pub parent_of_none : (path : List ℕ) → is_directory_path path ≡ true → ((front : List ℕ) → path ≢ front ++ 47 ∷ []) → parent_of path ≡ []
 parent_of_none [] h none = refl
 parent_of_none (x ∷ xs) h none =
-    let last : get_or (x ∷ xs) (length xs) 0 ≡ 47 = grind (arith, nat_tests, h) in
-    absurd (none (take (length xs) (x ∷ xs)) (sym (take_all (length xs + 1) (x ∷ xs) (omega arith)) ∙ take_more (x ∷ xs) (length xs) 0 (omega arith) ∙ ap (λ b. take (length xs) (x ∷ xs) ++ b ∷ []) last))
+    let some : 0 < length (x ∷ xs) = omega arith in
+    absurd (none (take (length (x ∷ xs) - 1) (x ∷ xs))
+    (front_and_last (x ∷ xs) some ∙ ap (λ b. take (length (x ∷ xs) - 1) (x ∷ xs) ++ b ∷ []) (last_is_slash (x ∷ xs) h some)))

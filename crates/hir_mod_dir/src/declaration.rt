@@ -31,7 +31,6 @@ pub struct Declaration {
 
 /// Asks for the files of candidates, in order, up to the first that is there. They are seen from the file that declares
 /// the module.
-#[tactic(auto, using(crate::proofs::DeclarationLemmas::position_found, crate::proofs::DeclarationLemmas::position_missing))]
 pub fn resolve_declaration<F: PresentFiles>(
     alloc: Global,
     files: &F,
