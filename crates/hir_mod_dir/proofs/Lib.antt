@@ -1,2 +1,2 @@
 pub mod PathTextLemmas
-pub mod DeclarationLemmas
+pub mod PlaceLemmas

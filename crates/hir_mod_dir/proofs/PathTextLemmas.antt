@@ -34,9 +34,9 @@ replaced (suc n) c s out e h =
     let none : NoCharPasses (λ d. d == 92) (take a s) = subst (λ k. NoCharPasses (λ d. d == k) (take a s)) e h.4.0 in
     let at : HasCharAt 92 s a b = subst (λ k. HasCharAt k s a b) e h.4.1 in
     let parts : take a s ++ 92 ∷ drop b s ≡ s =
-        ap (λ l. take a s ++ l) (sym (drop_at_char 92 s a b at (lit< tt))) ∙ take-append-drop a s in
+    ap (λ l. take a s ++ l) (sym (drop_at_char 92 s a b at (lit< tt))) ∙ take-append-drop a s in
     let rest : h.3 ≡ map slash_for_backslash (drop b s) =
-        elim h.6 [ inl on ↦ replaced n h.2 (drop b s) h.3 (h.5 ∙ e) on.1 | inr same ↦ absurd (omega (arith, same.0, at.ends)) ] in
+    elim h.6 [ inl on ↦ replaced n h.2 (drop b s) h.3 (h.5 ∙ e) on.1 | inr same ↦ absurd (omega (arith, same.0, at.ends)) ] in
     h.7
     ∙ ap (λ l. take a s ++ 47 ∷ l) rest
     ∙ ap (λ l. l ++ 47 ∷ map slash_for_backslash (drop b s)) (sym (unchanged (take a s) (λ i l. NoCharPasses-char 92 (take a s) i none (lit< tt) l)))
@@ -57,7 +57,7 @@ slash_is_none b h = grind (arith, nat_tests)
 pub directory_of_none : (s : List ℕ) → NoCharPasses (λ d. d == 47) s → directory_of s ≡ []
 directory_of_none s h =
     let all : suffix_len no_slash s ≡ length s - 0 = suffix_len_is no_slash s 0 0 (omega arith)
-        (λ k low high. other_is_no_slash (get_or s k 0) (NoCharPasses-char 47 s k h (lit< tt) high)) (λ pos. absurd (omega arith)) in
+    (λ k low high. other_is_no_slash (get_or s k 0) (NoCharPasses-char 47 s k h (lit< tt) high)) (λ pos. absurd (omega arith)) in
     let none : length s - suffix_len no_slash s ≡ 0 = omega (arith, all) in
     ap (λ n. take n s) none
 
@@ -70,12 +70,12 @@ directory_of_split s front back h =
     let next : j ≡ i + 1 = at.ends in
     let fits : j ≤ length s = omega (arith, h.7) in
     let after : (k : ℕ) → j ≤ k → k < length s → no_slash (get_or s k 0) ≡ true = λ (k : ℕ) (low : j ≤ k) (high : k < length s).
-        let within : k - j < length (drop j s) = omega (arith, length-drop j s) in
-        let same : get_or (drop j s) (k - j) 0 ≡ get_or s k 0 = get_or-drop j s (k - j) 0 ∙ ap (λ m. get_or s m 0) (omega arith) in
-        subst (λ b. no_slash b ≡ true) same (other_is_no_slash (get_or (drop j s) (k - j) 0) (NoCharPasses-char 47 (drop j s) (k - j) h.2.0 (lit< tt) within)) in
+    let within : k - j < length (drop j s) = omega (arith, length-drop j s) in
+    let same : get_or (drop j s) (k - j) 0 ≡ get_or s k 0 = get_or-drop j s (k - j) 0 ∙ ap (λ m. get_or s m 0) (omega arith) in
+    subst (λ b. no_slash b ≡ true) same (other_is_no_slash (get_or (drop j s) (k - j) 0) (NoCharPasses-char 47 (drop j s) (k - j) h.2.0 (lit< tt) within)) in
     let is : get_or s i 0 ≡ 47 = at.byte (lit< tt) in
     let before : 0 < j → no_slash (get_or s (j - 1) 0) ≡ false = λ (pos : 0 < j).
-        slash_is_none (get_or s (j - 1) 0) (ap (λ m. get_or s m 0) (omega arith) ∙ is) in
+    slash_is_none (get_or s (j - 1) 0) (ap (λ m. get_or s m 0) (omega arith) ∙ is) in
     let left : suffix_len no_slash s ≡ length s - j = suffix_len_is no_slash s j 0 fits after before in
     let cut : length s - suffix_len no_slash s ≡ i + 1 = omega (arith, left, next, fits) in
     ap (λ n. take n s) cut ∙ take_more s i 0 (omega arith) ∙ ap (λ b. take i s ++ b ∷ []) is ∙ ap (λ l. l ++ 47 ∷ []) (sym h.3)
@@ -84,8 +84,8 @@ directory_of_split s front back h =
 last_is_slash : (path : List ℕ) → is_directory_path path ≡ true → 0 < length path → get_or path (length path - 1) 0 ≡ 47
 last_is_slash path h some =
     elim (or_cases (length path == 0) (get_or path (length path - 1) 0 == 47) h) [
-      inl none ↦ absurd (omega (arith, eqb-true (length path) 0 none))
-    | inr last ↦ eqb-true (get_or path (length path - 1) 0) 47 last
+      | inl none ↦ absurd (omega (arith, eqb-true (length path) 0 none))
+      | inr last ↦ eqb-true (get_or path (length path - 1) 0) 47 last
     ]
 
 -- a list that isn't empty is its front and its last element

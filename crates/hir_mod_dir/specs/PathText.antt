@@ -1,5 +1,5 @@
 -- How are the texts of paths cut and joined?
-use Rattle.std.specs.Prelude.{ℕ, ◌-◌, ◌==◌, nat_eq, Bool, not, List, ◌++◌, length, take, drop, map, codes, if◌then◌else◌}
+use Rattle.std.specs.Prelude.{ℕ, ◌-◌, ◌==◌, nat_eq, not, List, ◌++◌, length, take, drop, map, codes, if◌then◌else◌}
 use Rattle.std.specs.List.{starts_with, suffix_len}
 use Rattle.hir_mod_dir.specs.Directory.{Directory, is_directory_path}
 
@@ -23,8 +23,8 @@ without_dot text = if starts_with nat_eq text (codes "./") then drop 2 text else
 abbrev pub slash_for_backslash : ℕ → ℕ
 slash_for_backslash b = if b == 92 then 47 else b
 
--- the text that a `path` attribute means in a directory: a file that stands beside its directory has its attributes
--- from where it stands
+-- the text of a `path` attribute, behind the directory that it is relative to: where a file stands beside its own
+-- directory, as `n.rs` beside `n/`, that is the directory in which the file stands
 abbrev pub joined : Directory → List ℕ → List ℕ
 joined directory text = (if directory.root_non_dir_owner then parent_of directory.path else directory.path)
     ++ map slash_for_backslash (without_dot text)

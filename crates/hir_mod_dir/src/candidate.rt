@@ -1,5 +1,5 @@
 //! Files in which an outline module may be.
-ghost use Rattle.std.specs.Prelude.{◌≡◌, ◌++◌, IfOk, string_bytes, option_copied};
+ghost use Rattle.std.specs.Prelude.{◌≡◌, IfOk, string_bytes, option_copied};
 ghost use Rattle.std.specs.Result.{result_ok};
 ghost use Rattle.hir_base.specs.ParseFile.{folded_path};
 ghost use Rattle.hir_mod_dir.specs.ModuleFiles.{candidate, candidates_of, file_beside, is_mod_rs};
@@ -17,9 +17,9 @@ use std::alloc::{AllocError, Global};
 pub struct Candidate {
     /// Its path from the directory of the file that declares the module: not folded.
     pub text: Text,
-    /// Whether it is the `mod.rs` of a directory.
+    /// Whether it is the `mod.rs` of a directory: the text ends with `/mod.rs`, as rust-analyzer has it.
     pub is_mod_rs: bool,
-    /// The directory of the module's own submodules. There is none where they are too deep: the file isn't taken then.
+    /// The directory of the module's own submodules. There is none where it is too deep, and the file isn't taken then.
     pub dir: Option<ModDir>,
 }
 

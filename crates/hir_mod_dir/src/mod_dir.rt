@@ -2,7 +2,7 @@
 ghost use Rattle.std.specs.Prelude.{◌≡◌, ◌<◌, ◌++◌, true, [], length, IfOk, string_bytes, unwrap_or, option_copied, if◌then◌else◌};
 ghost use Rattle.hir_mod_dir.specs.Directory.{IsDirectory, is_directory_path};
 ghost use Rattle.hir_mod_dir.specs.PathText.{joined, parent_of};
-ghost use Rattle.hir_mod_dir.specs.ModuleFiles.{root, child, file_directory, inline_directory, inline_path, is_mod_rs};
+ghost use Rattle.hir_mod_dir.specs.ModuleFiles.{root, child, file_directory, inline_directory, inline_path};
 
 use crate::path_text::{push_parent_of, with_slash, with_slashes, without_dot};
 use hir_base::name::Name;
@@ -10,7 +10,7 @@ use hir_base::text::Text;
 use std::alloc::{AllocError, Global};
 use std::marker::Model;
 
-/// How many modules deep the files of modules are looked for.
+/// How deep modules whose files are looked for may be nested.
 pub const MAX_DEPTH: u32 = 32;
 
 /// The directory in which the files of a module's submodules are looked for. Its path is relative to the directory of
@@ -25,7 +25,6 @@ pub struct ModDir {
 
 impl Model for ModDir {
     ghost use Rattle.std.specs.Prelude.{[], unwrap_or};
-
     ghost use Rattle.hir_mod_dir.specs.Directory.{Directory, IsDirectory};
 
     ghost Value = { Directory };

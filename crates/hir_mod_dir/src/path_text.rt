@@ -1,5 +1,5 @@
 //! Texts of paths.
-ghost use Rattle.std.specs.Prelude.{◌≡◌, ◌++◌, true, IfOk, OnOk, map, codes, string_bytes};
+ghost use Rattle.std.specs.Prelude.{◌≡◌, ◌++◌, true, IfOk, OnOk, map, string_bytes};
 ghost use Rattle.hir_mod_dir.specs.Directory.{is_directory_path};
 ghost use Rattle.hir_mod_dir.specs.PathText.{directory_of, parent_of, slash_for_backslash, with_slash, without_dot};
 

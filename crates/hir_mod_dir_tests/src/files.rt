@@ -109,7 +109,12 @@ fn put(text: &mut String, word: &str) -> Result<(), Fail> {
     Ok(())
 }
 
-fn put_file(text: &mut String, alloc: Global, site: &Site, candidate: &Candidate) -> Result<(), Fail> {
+fn put_file(
+    text: &mut String,
+    alloc: Global,
+    site: &Site,
+    candidate: &Candidate,
+) -> Result<(), Fail> {
     match resolve_candidate(alloc, &site.file, candidate.text.as_str())? {
         Some(file) => put(text, file.as_str()),
         None => put(text, "-"),
@@ -220,7 +225,11 @@ const PRESENT: &[(&str, &str, Option<usize>, usize)] = &[
     ("b.rs", "a/b.rs", None, 2),
 ];
 
-fn resolves(rt: &impl Abort, alloc: Global, row: &(&'static str, &'static str, Option<usize>, usize)) -> Result<(), Fail> {
+fn resolves(
+    rt: &impl Abort,
+    alloc: Global,
+    row: &(&'static str, &'static str, Option<usize>, usize),
+) -> Result<(), Fail> {
     let (first, second, place, asked) = *row;
     let site = root(alloc, "lib.rs")?;
     let candidates = candidates(alloc, &site, "a")?;

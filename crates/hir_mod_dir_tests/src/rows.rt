@@ -7,28 +7,58 @@
 pub(crate) const FILES: &[(&str, &str)] = &[
     // the reference's own
     ("src/lib.rs util", "src/util.rs src/util/mod.rs"),
-    ("src/lib.rs util.rs config", "src/util/config.rs src/util/config/mod.rs"),
-    ("src/lib.rs util/mod.rs config", "src/util/config.rs src/util/config/mod.rs"),
+    (
+        "src/lib.rs util.rs config",
+        "src/util/config.rs src/util/config/mod.rs",
+    ),
+    (
+        "src/lib.rs util/mod.rs config",
+        "src/util/config.rs src/util/config/mod.rs",
+    ),
     ("src/lib.rs c=foo.rs", "src/foo.rs"),
     ("src/lib.rs a.rs b.rs c=foo.rs", "src/a/foo.rs"),
     ("src/lib.rs a/mod.rs c=foo.rs", "src/a/foo.rs"),
-    ("src/lib.rs a.rs b.rs {inline} inner=other.rs", "src/a/b/inline/other.rs"),
-    ("src/lib.rs a/mod.rs {inline} inner=other.rs", "src/a/inline/other.rs"),
-    ("src/lib.rs {thread=thread_files} local_data=tls.rs", "src/thread_files/tls.rs"),
-    ("src/lib.rs {thread=thread_files} local_data", "src/thread_files/local_data.rs src/thread_files/local_data/mod.rs"),
+    (
+        "src/lib.rs a.rs b.rs {inline} inner=other.rs",
+        "src/a/b/inline/other.rs",
+    ),
+    (
+        "src/lib.rs a/mod.rs {inline} inner=other.rs",
+        "src/a/inline/other.rs",
+    ),
+    (
+        "src/lib.rs {thread=thread_files} local_data=tls.rs",
+        "src/thread_files/tls.rs",
+    ),
+    (
+        "src/lib.rs {thread=thread_files} local_data",
+        "src/thread_files/local_data.rs src/thread_files/local_data/mod.rs",
+    ),
     // inline modules in a file beside its directory, in one in its directory and in one that an attribute names
     ("src/lib.rs a.rs {b} c", "src/a/b/c.rs src/a/b/c/mod.rs"),
     ("src/lib.rs a/mod.rs {b} c", "src/a/b/c.rs src/a/b/c/mod.rs"),
     ("src/lib.rs a=x/y.rs {b} c", "src/x/b/c.rs src/x/b/c/mod.rs"),
     ("src/lib.rs a.rs {b=t} c", "src/t/c.rs src/t/c/mod.rs"),
-    ("src/lib.rs a/mod.rs {b=t} c", "src/a/t/c.rs src/a/t/c/mod.rs"),
-    ("src/lib.rs a=x/y.rs {b=t} c", "src/x/t/c.rs src/x/t/c/mod.rs"),
+    (
+        "src/lib.rs a/mod.rs {b=t} c",
+        "src/a/t/c.rs src/a/t/c/mod.rs",
+    ),
+    (
+        "src/lib.rs a=x/y.rs {b=t} c",
+        "src/x/t/c.rs src/x/t/c/mod.rs",
+    ),
     ("src/lib.rs a.rs {b} {c=t} d=e.rs", "src/a/b/t/e.rs"),
     ("src/lib.rs a.rs {b=t} {c} d=e.rs", "src/t/c/e.rs"),
     ("src/lib.rs a.rs {b=t/} c=d.rs", "src/t/d.rs"),
     ("src/lib.rs a.rs {b=t/..} c", "src/c.rs src/c/mod.rs"),
-    ("src/lib.rs {a} {b} {c} d", "src/a/b/c/d.rs src/a/b/c/d/mod.rs"),
-    ("src/lib.rs {a} b.rs {c} d", "src/a/b/c/d.rs src/a/b/c/d/mod.rs"),
+    (
+        "src/lib.rs {a} {b} {c} d",
+        "src/a/b/c/d.rs src/a/b/c/d/mod.rs",
+    ),
+    (
+        "src/lib.rs {a} b.rs {c} d",
+        "src/a/b/c/d.rs src/a/b/c/d/mod.rs",
+    ),
     ("src/lib.rs {a} b/mod.rs {c} d=e.rs", "src/a/b/c/e.rs"),
     ("src/lib.rs {a} b.rs c=e.rs", "src/a/e.rs"),
     // a root file at the top
@@ -64,60 +94,165 @@ pub(crate) const FILES: &[(&str, &str)] = &[
         "-",
     ),
     // three modules, each in a `mod.rs`, in a file beside its directory or where an attribute says
-    ("src/lib.rs a/mod.rs b/mod.rs c/mod.rs d", "src/a/b/c/d.rs src/a/b/c/d/mod.rs"),
-    ("src/lib.rs a/mod.rs b/mod.rs c/mod.rs d=y.rs", "src/a/b/c/y.rs"),
-    ("src/lib.rs a/mod.rs b/mod.rs c.rs d", "src/a/b/c/d.rs src/a/b/c/d/mod.rs"),
+    (
+        "src/lib.rs a/mod.rs b/mod.rs c/mod.rs d",
+        "src/a/b/c/d.rs src/a/b/c/d/mod.rs",
+    ),
+    (
+        "src/lib.rs a/mod.rs b/mod.rs c/mod.rs d=y.rs",
+        "src/a/b/c/y.rs",
+    ),
+    (
+        "src/lib.rs a/mod.rs b/mod.rs c.rs d",
+        "src/a/b/c/d.rs src/a/b/c/d/mod.rs",
+    ),
     ("src/lib.rs a/mod.rs b/mod.rs c.rs d=y.rs", "src/a/b/y.rs"),
-    ("src/lib.rs a/mod.rs b/mod.rs c=x/c.rs d", "src/a/b/x/d.rs src/a/b/x/d/mod.rs"),
-    ("src/lib.rs a/mod.rs b/mod.rs c=x/c.rs d=y.rs", "src/a/b/x/y.rs"),
-    ("src/lib.rs a/mod.rs b.rs c/mod.rs d", "src/a/b/c/d.rs src/a/b/c/d/mod.rs"),
+    (
+        "src/lib.rs a/mod.rs b/mod.rs c=x/c.rs d",
+        "src/a/b/x/d.rs src/a/b/x/d/mod.rs",
+    ),
+    (
+        "src/lib.rs a/mod.rs b/mod.rs c=x/c.rs d=y.rs",
+        "src/a/b/x/y.rs",
+    ),
+    (
+        "src/lib.rs a/mod.rs b.rs c/mod.rs d",
+        "src/a/b/c/d.rs src/a/b/c/d/mod.rs",
+    ),
     ("src/lib.rs a/mod.rs b.rs c/mod.rs d=y.rs", "src/a/b/c/y.rs"),
-    ("src/lib.rs a/mod.rs b.rs c.rs d", "src/a/b/c/d.rs src/a/b/c/d/mod.rs"),
+    (
+        "src/lib.rs a/mod.rs b.rs c.rs d",
+        "src/a/b/c/d.rs src/a/b/c/d/mod.rs",
+    ),
     ("src/lib.rs a/mod.rs b.rs c.rs d=y.rs", "src/a/b/y.rs"),
-    ("src/lib.rs a/mod.rs b.rs c=x/c.rs d", "src/a/x/d.rs src/a/x/d/mod.rs"),
+    (
+        "src/lib.rs a/mod.rs b.rs c=x/c.rs d",
+        "src/a/x/d.rs src/a/x/d/mod.rs",
+    ),
     ("src/lib.rs a/mod.rs b.rs c=x/c.rs d=y.rs", "src/a/x/y.rs"),
-    ("src/lib.rs a/mod.rs b=x/b.rs c/mod.rs d", "src/a/x/c/d.rs src/a/x/c/d/mod.rs"),
-    ("src/lib.rs a/mod.rs b=x/b.rs c/mod.rs d=y.rs", "src/a/x/c/y.rs"),
-    ("src/lib.rs a/mod.rs b=x/b.rs c.rs d", "src/a/x/c/d.rs src/a/x/c/d/mod.rs"),
+    (
+        "src/lib.rs a/mod.rs b=x/b.rs c/mod.rs d",
+        "src/a/x/c/d.rs src/a/x/c/d/mod.rs",
+    ),
+    (
+        "src/lib.rs a/mod.rs b=x/b.rs c/mod.rs d=y.rs",
+        "src/a/x/c/y.rs",
+    ),
+    (
+        "src/lib.rs a/mod.rs b=x/b.rs c.rs d",
+        "src/a/x/c/d.rs src/a/x/c/d/mod.rs",
+    ),
     ("src/lib.rs a/mod.rs b=x/b.rs c.rs d=y.rs", "src/a/x/y.rs"),
-    ("src/lib.rs a/mod.rs b=x/b.rs c=x/c.rs d", "src/a/x/x/d.rs src/a/x/x/d/mod.rs"),
-    ("src/lib.rs a/mod.rs b=x/b.rs c=x/c.rs d=y.rs", "src/a/x/x/y.rs"),
-    ("src/lib.rs a.rs b/mod.rs c/mod.rs d", "src/a/b/c/d.rs src/a/b/c/d/mod.rs"),
+    (
+        "src/lib.rs a/mod.rs b=x/b.rs c=x/c.rs d",
+        "src/a/x/x/d.rs src/a/x/x/d/mod.rs",
+    ),
+    (
+        "src/lib.rs a/mod.rs b=x/b.rs c=x/c.rs d=y.rs",
+        "src/a/x/x/y.rs",
+    ),
+    (
+        "src/lib.rs a.rs b/mod.rs c/mod.rs d",
+        "src/a/b/c/d.rs src/a/b/c/d/mod.rs",
+    ),
     ("src/lib.rs a.rs b/mod.rs c/mod.rs d=y.rs", "src/a/b/c/y.rs"),
-    ("src/lib.rs a.rs b/mod.rs c.rs d", "src/a/b/c/d.rs src/a/b/c/d/mod.rs"),
+    (
+        "src/lib.rs a.rs b/mod.rs c.rs d",
+        "src/a/b/c/d.rs src/a/b/c/d/mod.rs",
+    ),
     ("src/lib.rs a.rs b/mod.rs c.rs d=y.rs", "src/a/b/y.rs"),
-    ("src/lib.rs a.rs b/mod.rs c=x/c.rs d", "src/a/b/x/d.rs src/a/b/x/d/mod.rs"),
+    (
+        "src/lib.rs a.rs b/mod.rs c=x/c.rs d",
+        "src/a/b/x/d.rs src/a/b/x/d/mod.rs",
+    ),
     ("src/lib.rs a.rs b/mod.rs c=x/c.rs d=y.rs", "src/a/b/x/y.rs"),
-    ("src/lib.rs a.rs b.rs c/mod.rs d", "src/a/b/c/d.rs src/a/b/c/d/mod.rs"),
+    (
+        "src/lib.rs a.rs b.rs c/mod.rs d",
+        "src/a/b/c/d.rs src/a/b/c/d/mod.rs",
+    ),
     ("src/lib.rs a.rs b.rs c/mod.rs d=y.rs", "src/a/b/c/y.rs"),
-    ("src/lib.rs a.rs b.rs c.rs d", "src/a/b/c/d.rs src/a/b/c/d/mod.rs"),
+    (
+        "src/lib.rs a.rs b.rs c.rs d",
+        "src/a/b/c/d.rs src/a/b/c/d/mod.rs",
+    ),
     ("src/lib.rs a.rs b.rs c.rs d=y.rs", "src/a/b/y.rs"),
-    ("src/lib.rs a.rs b.rs c=x/c.rs d", "src/a/x/d.rs src/a/x/d/mod.rs"),
+    (
+        "src/lib.rs a.rs b.rs c=x/c.rs d",
+        "src/a/x/d.rs src/a/x/d/mod.rs",
+    ),
     ("src/lib.rs a.rs b.rs c=x/c.rs d=y.rs", "src/a/x/y.rs"),
-    ("src/lib.rs a.rs b=x/b.rs c/mod.rs d", "src/x/c/d.rs src/x/c/d/mod.rs"),
+    (
+        "src/lib.rs a.rs b=x/b.rs c/mod.rs d",
+        "src/x/c/d.rs src/x/c/d/mod.rs",
+    ),
     ("src/lib.rs a.rs b=x/b.rs c/mod.rs d=y.rs", "src/x/c/y.rs"),
-    ("src/lib.rs a.rs b=x/b.rs c.rs d", "src/x/c/d.rs src/x/c/d/mod.rs"),
+    (
+        "src/lib.rs a.rs b=x/b.rs c.rs d",
+        "src/x/c/d.rs src/x/c/d/mod.rs",
+    ),
     ("src/lib.rs a.rs b=x/b.rs c.rs d=y.rs", "src/x/y.rs"),
-    ("src/lib.rs a.rs b=x/b.rs c=x/c.rs d", "src/x/x/d.rs src/x/x/d/mod.rs"),
+    (
+        "src/lib.rs a.rs b=x/b.rs c=x/c.rs d",
+        "src/x/x/d.rs src/x/x/d/mod.rs",
+    ),
     ("src/lib.rs a.rs b=x/b.rs c=x/c.rs d=y.rs", "src/x/x/y.rs"),
-    ("src/lib.rs a=x/a.rs b/mod.rs c/mod.rs d", "src/x/b/c/d.rs src/x/b/c/d/mod.rs"),
-    ("src/lib.rs a=x/a.rs b/mod.rs c/mod.rs d=y.rs", "src/x/b/c/y.rs"),
-    ("src/lib.rs a=x/a.rs b/mod.rs c.rs d", "src/x/b/c/d.rs src/x/b/c/d/mod.rs"),
+    (
+        "src/lib.rs a=x/a.rs b/mod.rs c/mod.rs d",
+        "src/x/b/c/d.rs src/x/b/c/d/mod.rs",
+    ),
+    (
+        "src/lib.rs a=x/a.rs b/mod.rs c/mod.rs d=y.rs",
+        "src/x/b/c/y.rs",
+    ),
+    (
+        "src/lib.rs a=x/a.rs b/mod.rs c.rs d",
+        "src/x/b/c/d.rs src/x/b/c/d/mod.rs",
+    ),
     ("src/lib.rs a=x/a.rs b/mod.rs c.rs d=y.rs", "src/x/b/y.rs"),
-    ("src/lib.rs a=x/a.rs b/mod.rs c=x/c.rs d", "src/x/b/x/d.rs src/x/b/x/d/mod.rs"),
-    ("src/lib.rs a=x/a.rs b/mod.rs c=x/c.rs d=y.rs", "src/x/b/x/y.rs"),
-    ("src/lib.rs a=x/a.rs b.rs c/mod.rs d", "src/x/b/c/d.rs src/x/b/c/d/mod.rs"),
+    (
+        "src/lib.rs a=x/a.rs b/mod.rs c=x/c.rs d",
+        "src/x/b/x/d.rs src/x/b/x/d/mod.rs",
+    ),
+    (
+        "src/lib.rs a=x/a.rs b/mod.rs c=x/c.rs d=y.rs",
+        "src/x/b/x/y.rs",
+    ),
+    (
+        "src/lib.rs a=x/a.rs b.rs c/mod.rs d",
+        "src/x/b/c/d.rs src/x/b/c/d/mod.rs",
+    ),
     ("src/lib.rs a=x/a.rs b.rs c/mod.rs d=y.rs", "src/x/b/c/y.rs"),
-    ("src/lib.rs a=x/a.rs b.rs c.rs d", "src/x/b/c/d.rs src/x/b/c/d/mod.rs"),
+    (
+        "src/lib.rs a=x/a.rs b.rs c.rs d",
+        "src/x/b/c/d.rs src/x/b/c/d/mod.rs",
+    ),
     ("src/lib.rs a=x/a.rs b.rs c.rs d=y.rs", "src/x/b/y.rs"),
-    ("src/lib.rs a=x/a.rs b.rs c=x/c.rs d", "src/x/x/d.rs src/x/x/d/mod.rs"),
+    (
+        "src/lib.rs a=x/a.rs b.rs c=x/c.rs d",
+        "src/x/x/d.rs src/x/x/d/mod.rs",
+    ),
     ("src/lib.rs a=x/a.rs b.rs c=x/c.rs d=y.rs", "src/x/x/y.rs"),
-    ("src/lib.rs a=x/a.rs b=x/b.rs c/mod.rs d", "src/x/x/c/d.rs src/x/x/c/d/mod.rs"),
-    ("src/lib.rs a=x/a.rs b=x/b.rs c/mod.rs d=y.rs", "src/x/x/c/y.rs"),
-    ("src/lib.rs a=x/a.rs b=x/b.rs c.rs d", "src/x/x/c/d.rs src/x/x/c/d/mod.rs"),
+    (
+        "src/lib.rs a=x/a.rs b=x/b.rs c/mod.rs d",
+        "src/x/x/c/d.rs src/x/x/c/d/mod.rs",
+    ),
+    (
+        "src/lib.rs a=x/a.rs b=x/b.rs c/mod.rs d=y.rs",
+        "src/x/x/c/y.rs",
+    ),
+    (
+        "src/lib.rs a=x/a.rs b=x/b.rs c.rs d",
+        "src/x/x/c/d.rs src/x/x/c/d/mod.rs",
+    ),
     ("src/lib.rs a=x/a.rs b=x/b.rs c.rs d=y.rs", "src/x/x/y.rs"),
-    ("src/lib.rs a=x/a.rs b=x/b.rs c=x/c.rs d", "src/x/x/x/d.rs src/x/x/x/d/mod.rs"),
-    ("src/lib.rs a=x/a.rs b=x/b.rs c=x/c.rs d=y.rs", "src/x/x/x/y.rs"),
+    (
+        "src/lib.rs a=x/a.rs b=x/b.rs c=x/c.rs d",
+        "src/x/x/x/d.rs src/x/x/x/d/mod.rs",
+    ),
+    (
+        "src/lib.rs a=x/a.rs b=x/b.rs c=x/c.rs d=y.rs",
+        "src/x/x/x/y.rs",
+    ),
 ];
 
 /// Texts of candidates, as a diagnostic gives them: not folded, and from the file that declares the module. A `!` stands

@@ -9,7 +9,7 @@ invariant-candidates g l = record {
   low : l.place ≤ length l.candidates;
   before : (k : ℕ) (d : Candidate) → k < l.place → is_there (g.F.PresentFiles.present l.files) l.file (get_or l.candidates k d) ≡ false;
   so_far : l.asked.items ++ asked_files (g.F.PresentFiles.present l.files) l.file (drop l.place l.candidates)
-    ≡ asked_files (g.F.PresentFiles.present l.files) l.file l.candidates;
+      ≡ asked_files (g.F.PresentFiles.present l.files) l.file l.candidates;
 }
 
 abbrev pub decreases-candidates : goal.decreases-candidates

@@ -1,7 +1,6 @@
 -- What stands before the last slash is written with that slash.
-use Rattle.std.proofs.Common.{◌≡◌, ◌∙◌, ◌++◌, ◌∷◌, [], sym, ap, string_bytes}
+use Rattle.std.proofs.Common.{◌∙◌, ◌++◌, ◌∷◌, [], sym, ap, string_bytes}
 use Rattle.std.proofs.lemmas.List.{append_assoc, append-nil}
-use Rattle.hir_mod_dir.specs.PathText.{directory_of}
 use Rattle.hir_mod_dir.proofs.PathTextLemmas.{directory_of_none, directory_of_split}
 use Rattle.hir_mod_dir.proofs.path_text.push_directory_of.Goals as goal
 

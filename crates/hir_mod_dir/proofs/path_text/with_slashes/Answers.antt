@@ -10,8 +10,8 @@ use Rattle.hir_mod_dir.proofs.path_text.with_slashes.Goals as goal
 pub returns : goal.returns
 returns c = record {
   ok = IfOk-weaker _
-    (λ t. (n : ℕ) × ReplacesMatches FindsChar (λ p q. q ≡ p) (47 ∷ []) n 92 c.args.text.now (string_bytes t))
-    (λ t. string_bytes t ≡ map slash_for_backslash c.args.text.now)
-    (λ t h. replaced h.0 92 c.args.text.now (string_bytes t) refl h.1)
-    c.replace.ensures.ok;
+      (λ t. (n : ℕ) × ReplacesMatches FindsChar (λ p q. q ≡ p) (47 ∷ []) n 92 c.args.text.now (string_bytes t))
+      (λ t. string_bytes t ≡ map slash_for_backslash c.args.text.now)
+      (λ t h. replaced h.0 92 c.args.text.now (string_bytes t) refl h.1)
+      c.replace.ensures.ok;
 }
