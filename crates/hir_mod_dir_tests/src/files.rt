@@ -88,16 +88,22 @@ fn below(alloc: Global, site: &Site, word: &'static str) -> Result<Site, Fail> {
     }
 }
 
+/// The site that these modules lead to.
+fn walked(alloc: Global, file: &'static str, modules: &'static str) -> Result<Site, Fail> {
+    let mut site = root(alloc, file)?;
+    for word in modules.split(' ') {
+        site = below(alloc, &site, word)?;
+    }
+    Ok(site)
+}
+
 /// Where the last module of a row is declared, and its word.
 fn last(alloc: Global, row: &'static str) -> Result<(Site, &'static str), Fail> {
     let (file, modules) = row.split_once(' ').ok_or(row)?;
-    let mut site = root(alloc, file)?;
-    let mut rest = modules;
-    while let Some((word, words)) = rest.split_once(' ') {
-        site = below(alloc, &site, word)?;
-        rest = words;
+    match modules.rsplit_once(' ') {
+        Some((modules, word)) => Ok((walked(alloc, file, modules)?, word)),
+        None => Ok((root(alloc, file)?, modules)),
     }
-    Ok((site, rest))
 }
 
 /// Adds a word behind the others.
