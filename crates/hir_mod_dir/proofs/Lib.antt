@@ -1,0 +1,2 @@
+pub mod PathTextLemmas
+pub mod PlaceLemmas

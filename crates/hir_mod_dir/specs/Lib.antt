@@ -1,0 +1,4 @@
+pub mod Directory
+pub mod PathText
+pub mod ModuleFiles
+pub mod Declaration
