@@ -107,8 +107,9 @@ fn change(rt: &impl Abort, alloc: Global, map: &mut DefMap) -> Result<(), Fail> 
     map.crate_data_mut().set_no_std(true);
     assert!(rt; map.is_no_std(), "crate data");
     let name = Name::new(alloc, "c")?;
-    if map.contains(module(4)) {
-        map[module(4)].add_child(name.clone()?, module(5))?;
+    let at = module(4);
+    if map.contains(at) {
+        map[at].add_child(name.clone()?, module(5))?;
     }
     change_each(map, &name)?;
     is_module(rt, map.child(4, &name), Some(module(5)), "one");
