@@ -27,7 +27,7 @@ fn tree_behind(
     path: Option<&FilePath>,
     source: &Source,
 ) -> Result<ItemTree, AllocError>
-    ensures value { IfOk result (λ t. t ≡ tree_of (is_set info.now.options) (front_in info.now (option_map (λ p. p.now) path.entry)) (source_view source.now)) }
+    ensures value { IfOk result (λ t. t ≡ tree_of (is_set info.now.config.options) (front_in info.now (option_map (λ p. p.now) path.entry)) (source_view source.now)) }
 {
     match info.front(path) {
         Some(front) => source_tree(alloc, source, front, info.options()),
