@@ -11,7 +11,7 @@ pub loop-id-preserved : goal.loop-id-preserved
 loop-id-preserved c =
     let within : c.loop-id.id-index < length c.args.ids.now.items = omega (arith, c.loop-id-test.true, c.deref-id-items.ensures.len) in
     forgetting-more c.args.self.now c.loop-id.self c.forget_one.new.self c.args.ids.now.items c.loop-id.id-index _ within c.loop-id.invariant
-    (λ d. item_at c.args.ids.now.items c.loop-id.id-index d _ within)
+    (λ d. rw (← c.deref-id-items.ensures.value) (item_at c.deref-id-items.result.now c.loop-id.id-index d _ (omega (arith, c.loop-id-test.true))))
     c.forget_one.ensures.gone c.forget_one.ensures.stay
 
 pub returns : goal.returns
