@@ -1,19 +1,30 @@
-use Rattle.std.proofs.Common.{◌≡◌, ◌⊎◌, inl, inr, ℕ, false, List, Option, option_map, refl, sym, subst, ap, ◌∙◌, Contains}
+-- What is behind a place stays, or an edit altered a key that was asked for there.
+use Rattle.std.specs.Prelude.{is_none, is_some, if◌then◌else◌}
+use Rattle.std.proofs.Common.{◌≡◌, ◌⊎◌, inl, inr, ℕ, nat_lt, false, List, [], length, Option, None, Some, Result, Ok, option_map, refl, sym, subst, ap, ◌∙◌, Contains}
 use Rattle.hir_base.specs.ModPath.{Path}
 use Rattle.hir_base.specs.Place.{PlaceValue}
 use Rattle.hir_base.specs.declared.ids.Crate.{Crate}
 use Rattle.hir_base.specs.declared.ids.MapId.{MapId}
+use Rattle.hir_base.specs.declared.ids.ModuleId.{ModuleId}
+use Rattle.hir_tables.specs.Tables.{KeepsTables, TablesValue}
+use Rattle.hir_tables.proofs.Growth.{KeepsTables-refl, KeepsTables-trans}
 use Rattle.hir_def_map.specs.Among.{among, among_agrees, unheld}
-use Rattle.hir_def_map.specs.State.{Placed, crate_map, no_maps}
+use Rattle.hir_def_map.specs.Closed.{PathsLeadToWhatIsThere}
+use Rattle.hir_def_map.specs.Sources.{PathsAnswerFromSources}
+use Rattle.hir_def_map.specs.State.{Maps, Placed, beside, crate_map, no_maps, root_of}
 use Rattle.hir_def_collector.specs.Workspace.{Workspace}
 use Rattle.hir_def_collector.specs.Keys.{look}
+use Rattle.hir_def_collector.specs.Sources.{RunsBindFromSources}
 use Rattle.hir_def_collector.specs.declared.source_database.Key.{Key}
 use Rattle.hir_wire.specs.Edits.{EditValue}
+use Rattle.hir_wire.specs.declared.answer.Answer.{Answer}
 use Rattle.hir_wire.specs.declared.command.Shadow.{Shadow}
 use Rattle.hir_wire.specs.declared.command.MacroStyle.{MacroStyle}
+use Rattle.hir_wire.specs.declared.reply.Status.TheVariants as status
+use Rattle.hir_session.specs.declared.error.QueryError.{QueryError}
 use Rattle.hir_session.specs.Crates.{CrateValue, behind_in, follows_in, id_of}
 use Rattle.hir_session.specs.Files.{Files}
-use Rattle.hir_session.specs.SessionState.{SessionState, Resolution, workspace_of, dependencies_of, finished_of, follows, read_of, kept_of, is_marked, IsSound}
+use Rattle.hir_session.specs.SessionState.{SessionState, Resolution, workspace_of, dependencies_of, finished_of, follows, read_of, kept_of, is_marked, IsCurrent, IsSound}
 use Rattle.hir_session.specs.StandsOn.{StandsOn}
 use Rattle.hir_session.specs.StandsOn.StandsOn.{directly, through}
 use Rattle.hir_session.specs.Spread.{Spread}
@@ -23,13 +34,15 @@ use Rattle.hir_session.specs.Marks.IsTouched.{before, asked_for}
 use Rattle.hir_session.specs.Due.{IsBehind, IsAskedBehind}
 use Rattle.hir_session.specs.Due.IsBehind.{itself, next}
 use Rattle.hir_session.specs.Changes.{Becomes, Applies, Resolves, edited_files, with_files}
-use Rattle.hir_session.specs.Status.{map_of}
-use Rattle.hir_session.specs.Answers.{answer_of}
+use Rattle.hir_session.specs.Status.{map_of, module_below, module_in_kept, status_of}
+use Rattle.hir_session.specs.Answers.{answer_by, answer_from, answer_of}
 use Rattle.hir_session.specs.Histories.{History, WasAltered, DifferOnlyWhereAltered}
 use Rattle.hir_session.specs.Histories.History.{none, edit, refresh}
 use Rattle.hir_session.proofs.Following.{followed}
+use Rattle.hir_session.proofs.Growing.{kept_answer}
+use Rattle.hir_session.proofs.LeftOut.{whole}
+use Rattle.hir_session.proofs.Names.{of_some}
 use Rattle.hir_session.proofs.Truth.{clash, on_bool}
-use Rattle.std.specs.Prelude.{is_none}
 
 -- what is behind the place is as it was
 pub record IsSame (from to : SessionState) (id : MapId) : Type 0 where
@@ -72,7 +85,7 @@ what_marked w same (depends j d among sp) behind =
 
 -- the workspace that an accepted edit leaves is the edited one
 workspace-becomes : {old new : SessionState} {files : Files} → Becomes old files new → workspace_of new ≡ workspace_of (with_files old files)
-workspace-becomes is = rw (is.crates, is.tables.files, is.files_are) refl
+workspace-becomes is = rw (is.crates, is.files_are) refl
 
 -- an edit leaves all that is behind the crate as it was, or alters a key that was asked for there
 pub same_after_edit : {from mid to : SessionState} {k : MapId} (e : EditValue) → IsSame from mid k → Applies mid e to
@@ -84,7 +97,7 @@ same_after_edit {from} {mid} {to} {k} e same is = on_bool (is_marked to k)
     let off = λ (j : MapId) (behind : IsBehind from k j). unmarked_still (is.crates ∙ same.crates) (closed_after is) still behind in
     inl (record {
       crates = is.crates ∙ same.crates;
-      paths = is.tables.files ∙ same.paths;
+      tables = subst (λ (t : TablesValue). KeepsTables from.tables t) (sym is.tables) same.tables;
       off = off;
       kept = λ j behind. is.kept j (off j behind) ∙ same.kept j behind;
     }))
@@ -93,7 +106,7 @@ same_after_edit {from} {mid} {to} {k} e same is = on_bool (is_marked to k)
 pub same_after_refresh : {from mid to : SessionState} {k : MapId} {done : List PlaceValue} → IsSame from mid k → Resolves mid done to → IsSame from to k
 same_after_refresh same is = record {
   crates = is.crates ∙ same.crates;
-  paths = is.tables.files ∙ same.paths;
+  tables = KeepsTables-trans _ _ _ same.tables is.tables;
   off = λ j behind. ap (λ (o : Option Resolution). is_none o) (is.others j (same.off j behind)) ∙ same.off j behind;
   kept = λ j behind. is.others j (same.off j behind) ∙ same.kept j behind;
 }
@@ -136,17 +149,48 @@ on_option : {A X : Type 0} (o : Option X) → (o ≡ None → A) → ((x : X) �
 on_option None f g = f refl
 on_option (Some x) f g = g x refl
 
--- and then a query has the same answer
-pub same_answer : RunsBindFromSources → PathsAnswerFromSources → PathsLeadToWhatIsThere → {from to : SessionState} (place : PlaceValue) (path : Path) (shadow : Shadow) (style : Option MacroStyle)
-    → IsSound from → is_marked from (map_of place) ≡ false → IsSame from to (map_of place) → answer_of to place path shadow style ≡ answer_of from place path shadow style
-same_answer runs answers leads {from} {to} place path shadow style sound off same =
-    rw (same_read place.krate.0 sound same, same.crates, same.kept (map_of place) itself)
-    (on_option (module_of from place)
-    (λ none. rw none refl)
-    (λ m some. over m some))
-  where
-    now : IsCurrent from (map_of place)
+-- what a query is answered over these crates, this table of files and what is kept
+abbrev answer_over : (place : PlaceValue) (path : Path) (shadow : Shadow) (style : Option MacroStyle) → List CrateValue → List (List ℕ) → Maps → Option Resolution → Result Answer QueryError
+answer_over place path shadow style crates files read kept =
+    answer_by
+    (if nat_lt place.krate.0 (length crates) then
+    (if is_none kept then status.Stale else (if is_some (module_in_kept kept place.elements) then status.Current else status.Unknown)) else
+    status.Unknown)
+    (answer_from files read kept (module_in_kept kept place.elements) path shadow style)
+
+module _ {from to : SessionState} (place : PlaceValue) (path : Path) (shadow : Shadow) (style : Option MacroStyle) (sound : IsSound from) (same : IsSame from to (map_of place)) where
+  -- but for the table of files a query has the same answer
+  over_files : answer_of to place path shadow style ≡ answer_over place path shadow style from.crates to.tables.files (read_of from (map_of place)) (kept_of from (map_of place))
+  over_files = λ i. answer_over place path shadow style (same.crates i) to.tables.files (same_read place.krate.0 sound same i) (same.kept (map_of place) itself i)
+
+  -- where the tables are the same it has the same answer
+  pub alike_answer : to.tables ≡ from.tables → answer_of to place path shadow style ≡ answer_of from place path shadow style
+  alike_answer tables = over_files ∙ ap (λ (t : TablesValue). answer_over place path shadow style from.crates t.files (read_of from (map_of place)) (kept_of from (map_of place))) tables
+
+  module _ (runs : RunsBindFromSources) (answers : PathsAnswerFromSources) (leads : PathsLeadToWhatIsThere) (off : is_marked from (map_of place) ≡ false) where
+    abbrev now : IsCurrent from (map_of place)
     now = sound.current (map_of place) off
 
-    maps : Maps
-    maps = beside (read_of from (map_of place)) now.found.map
+    found_answer : (o : Option ModuleId) → module_below now.found.map (root_of now.found.map.id) place.elements ≡ o
+        → answer_from to.tables.files (read_of from (map_of place)) (Some now.found) o path shadow style ≡ answer_from from.tables.files (read_of from (map_of place)) (Some now.found) o path shadow style
+    found_answer None s = refl
+    found_answer (Some m) s = ap (λ (a : Answer). Ok a)
+        (kept_answer from.tables.files to.tables.files same.tables.files (beside (read_of from (map_of place)) now.found.map) now.found.local m path shadow style
+        (whole runs answers leads from sound place.krate.0 off place.elements m path shadow style s))
+
+    kept_answer_from : answer_from to.tables.files (read_of from (map_of place)) (kept_of from (map_of place)) (module_in_kept (kept_of from (map_of place)) place.elements) path shadow style
+        ≡ answer_from from.tables.files (read_of from (map_of place)) (kept_of from (map_of place)) (module_in_kept (kept_of from (map_of place)) place.elements) path shadow style
+    kept_answer_from = subst
+        (λ (o : Option Resolution). answer_from to.tables.files (read_of from (map_of place)) o (module_in_kept o place.elements) path shadow style
+        ≡ answer_from from.tables.files (read_of from (map_of place)) o (module_in_kept o place.elements) path shadow style) (sym now.is)
+        (found_answer (module_below now.found.map (root_of now.found.map.id) place.elements) refl)
+
+    -- and so it has where they grew
+    pub same_answer : answer_of to place path shadow style ≡ answer_of from place path shadow style
+    same_answer = over_files ∙ ap (answer_by (status_of from place)) kept_answer_from
+
+pub differ_only : RunsBindFromSources → PathsAnswerFromSources → PathsLeadToWhatIsThere → DifferOnlyWhereAltered
+differ_only runs answers leads from to place path shadow style sound off h = elim (same_or_altered sound off h) [
+  | inl same ↦ inl (same_answer place path shadow style sound same runs answers leads off)
+  | inr hit ↦ inr hit
+]

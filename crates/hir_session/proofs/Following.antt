@@ -38,6 +38,6 @@ pub follows_unmarked : {s : SessionState} → IsSound s → (k : ℕ) (d : Crate
 follows_unmarked {s} sound k d off among = sound.closed (id_of k) (crate_map d) off (followed s.crates (id_of k) d among)
 
 -- what is spread to the map of a crate is spread to those of all that stand on it
-pub spread_on : {crates : List CrateValue} {P : MapId → Type 0} {k i : ℕ} → StandsOn (dependencies_in crates) k i → Spread (follows_in crates) P (id_of i) → Spread (follows_in crates) P (id_of k)
-spread_on {crates} (directly k d among) sp = depends (id_of k) (crate_map d) (followed crates (id_of k) d among) sp
-spread_on {crates} (through k j d among rest) sp = depends (id_of k) (crate_map d) (followed crates (id_of k) d among) (spread_on rest sp)
+pub spread_on : (crates : List CrateValue) {P : MapId → Type 0} {k i : ℕ} → StandsOn (dependencies_in crates) k i → Spread (follows_in crates) P (id_of i) → Spread (follows_in crates) P (id_of k)
+spread_on crates (directly k d among) sp = depends (id_of k) (crate_map d) (followed crates (id_of k) d among) sp
+spread_on crates (through k j d among rest) sp = depends (id_of k) (crate_map d) (followed crates (id_of k) d among) (spread_on crates rest sp)

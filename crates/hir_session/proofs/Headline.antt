@@ -33,6 +33,7 @@ use Rattle.hir_session.proofs.Truth.{on_bool, clash}
 use Rattle.hir_session.proofs.Differ.{IsSame, same_after_edit, same_after_refresh, same_at_first, same_answer}
 use Rattle.hir_session.proofs.Histories.{after_input, begun_input, history_sound, one_value}
 use Rattle.hir_session.proofs.Stand.{stands}
+use Rattle.hir_session.specs.Histories.History.{none as nothing_yet}
 
 -- ---- what a reply with an answer says
 
@@ -175,7 +176,7 @@ good_next {old} {new} line answer good done = go old refl
       | inr begun ↦ subst IsSound (one_value (sym begun.is ∙ there)) begun.sound
     ]
     go (Some t) is = λ s there.
-        let next = after_input line answer none (subst (λ (m : MachineState). AnswersInput m line answer new) is done) in
+        let next = after_input line answer nothing_yet (subst (λ (m : MachineState). AnswersInput m line answer new) is done) in
         subst IsSound (one_value (sym next.1 ∙ there)) (history_sound (good t is) next.2)
 
 -- ---- positions
@@ -248,15 +249,15 @@ answered_at zero q a old (line ∷ lines) (answer ∷ answers) new done asks tol
 answered_at (suc n) q a old (line ∷ lines) (answer ∷ answers) new done asks told =
     answered_at n q a done.0 lines answers new done.2 (record { line = asks.line; is = asks.is; read = asks.read }) told
 
-differ_at : (m n : ℕ) (q : Query) (one other : Answer) (old : MachineState) (lines : List (List ℕ)) (answers : List Reply) (new : MachineState) (done : AnswersLines old lines answers new)
+differ_at : RunsBindFromSources → PathsAnswerFromSources → PathsLeadToWhatIsThere → (m n : ℕ) (q : Query) (one other : Answer) (old : MachineState) (lines : List (List ℕ)) (answers : List Reply) (new : MachineState) (done : AnswersLines old lines answers new)
     → IsGood old → m < n → Asks lines m q → Asks lines n q → slice_get answers m ≡ Some (reply.Answer one) → slice_get answers n ≡ Some (reply.Answer other)
     → (other ≡ one) ⊎ IsAlteredBetween old lines answers new done m n q.place
-differ_at m n q one other old [] [] new done good low first second told again = absurd (let wrong = told in cc)
-differ_at m n q one other old [] (answer ∷ answers) new done good low first second told again = absurd done
-differ_at m n q one other old (line ∷ lines) [] new done good low first second told again = absurd done
-differ_at m zero q one other old (line ∷ lines) (answer ∷ answers) new done good low first second told again = absurd (omega arith)
-differ_at (suc m) (suc n) q one other old (line ∷ lines) (answer ∷ answers) new done good low first second told again =
-    elim (differ_at m n q one other done.0 lines answers new done.2 (good_next line answer good done.1) (omega arith)
+differ_at runs paths leads m n q one other old [] [] new done good low first second told again = absurd (let wrong = told in cc)
+differ_at runs paths leads m n q one other old [] (answer ∷ answers) new done good low first second told again = absurd done
+differ_at runs paths leads m n q one other old (line ∷ lines) [] new done good low first second told again = absurd done
+differ_at runs paths leads m zero q one other old (line ∷ lines) (answer ∷ answers) new done good low first second told again = absurd (omega arith)
+differ_at runs paths leads (suc m) (suc n) q one other old (line ∷ lines) (answer ∷ answers) new done good low first second told again =
+    elim (differ_at runs paths leads m n q one other done.0 lines answers new done.2 (good_next line answer good done.1) (omega arith)
     (record { line = first.line; is = first.is; read = first.read }) (record { line = second.line; is = second.is; read = second.read }) told again) [
       | inl same ↦ inl same
       | inr hit ↦ inr (record {
@@ -270,7 +271,7 @@ differ_at (suc m) (suc n) q one other old (line ∷ lines) (answer ∷ answers) 
         alters = hit.alters;
       })
     ]
-differ_at zero (suc n) q one other old (line ∷ lines) (answer ∷ answers) new done good low first second told again =
+differ_at runs paths leads zero (suc n) q one other old (line ∷ lines) (answer ∷ answers) new done good low first second told again =
     let read : reading_of line ≡ Ok (resolve q.place q.path q.shadow q.style) = ap reading_of (first_of first.is) ∙ first.read in
     let was = answered_within (nat_le (length line) LINE_LIMIT) line read (subst (λ (r : Reply). AnswersInput old line r done.0) (first_of told) done.1) in
     let sound = good was.at was.before in
@@ -279,7 +280,7 @@ differ_at zero (suc n) q one other old (line ∷ lines) (answer ∷ answers) new
     elim (kept_up_to was.at (map_of q.place) n done.0 lines answers new done.2 was.at was.after (same_at_first sound off) (within_list lines n second.is)) [
       | inl kept ↦
           let there : kept.session ≡ now.0 = one_value (sym kept.is ∙ now.1) in
-          let alike = same_answer q.place q.path q.shadow q.style sound off (subst (λ (x : SessionState). IsSame was.at x (map_of q.place)) there kept.same) in
+          let alike = same_answer q.place q.path q.shadow q.style sound (subst (λ (x : SessionState). IsSame was.at x (map_of q.place)) there kept.same) runs paths leads off in
           inl (let given : (Ok other) ≡ (Ok one) = sym now.2 ∙ alike ∙ was.is in cc)
       | inr hit ↦ inr (record {
         key = hit.key;
@@ -296,5 +297,5 @@ differ_at zero (suc n) q one other old (line ∷ lines) (answer ∷ answers) new
 pub headline : RunsBindFromSources → PathsAnswerFromSources → PathsLeadToWhatIsThere → RepliesHoldTheHeadline
 headline runs paths leads lines answers last done = record {
   stands = λ n query answer asks told. stands_at runs paths leads n query answer first_state lines answers last done good_first asks told;
-  differ = λ m n query one other low first second told again. differ_at m n query one other first_state lines answers last done good_first low first second told again;
+  differ = λ m n query one other low first second told again. differ_at runs paths leads m n query one other first_state lines answers last done good_first low first second told again;
 }

@@ -11,12 +11,14 @@ pub mod Gaining
 pub mod Stands
 pub mod Start
 pub mod Due
+pub mod Verdicts
 pub mod Judging
 pub mod EntryLemmas
 pub mod OptionLemmas
 pub mod FileLemmas
-pub mod Differ
 pub mod LeftOut
+pub mod Growing
+pub mod Differ
 pub mod Stand
 pub mod Replies
 pub mod Histories

@@ -53,8 +53,8 @@ names-behind s sound id r gives d among =
     let c = dependency_behind s.crates id d among in
     let ended : Ends s.tables (workspace_of s) (finished_of s) (beginning_of s id) r = gives.resolved.ends (workspace_of s) (finished_of s) AgreeOn-refl in
     let behind : has_crate (behind_in s.crates id.krate.0) c.0 ≡ true = (sound.behind id.krate.0 c.0).1 (directly id.krate.0 c.0 c.1) in
-    let data : r.map.crate_data.dependencies ≡ behind_in s.crates id.krate.0 = ended.behind_is in
+    let stood : r.map.crate_data.dependencies ≡ behind_in s.crates id.krate.0 = ended.behind_is in
     let lower : c.0.0 < id.krate.0 = sound.below id.krate.0 c.0 c.1 in
     subst (λ (x : MapId). names_map r.map r.local x ≡ true) (sym c.2)
-    (names_data r.map r.local c.0 (subst (λ (cs : List Crate). Contains cs c.0) (sym data) (listed_crate (behind_in s.crates id.krate.0) c.0 behind))
+    (names_data r.map r.local c.0 (subst (λ (cs : List Crate). Contains cs c.0) (sym stood) (listed_crate (behind_in s.crates id.krate.0) c.0 behind))
     (λ same. let number : c.0.0 ≡ id.krate.0 = ap (λ (x : MapId). x.krate.0) (same ∙ gives.own) in omega arith))

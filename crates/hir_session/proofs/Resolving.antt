@@ -27,6 +27,7 @@ use Rattle.hir_def_collector.specs.declared.source_database.Key.{Key}
 use Rattle.hir_session.specs.Behind.{has_crate}
 use Rattle.hir_session.specs.Crates.{CrateValue, behind_in, crate_in, id_of}
 use Rattle.hir_session.specs.SessionState.{SessionState, Resolution, workspace_of, beginning_of, finished_of, read_of, is_marked, IsResolved, IsResolutionOf, IsCurrent, IsPlace, IsSound}
+use Rattle.hir_session.specs.Due.{Grows}
 use Rattle.hir_session.specs.StandsOn.StandsOn.{directly}
 use Rattle.hir_session.proofs.Names.{Extends-behind, IsKeptWhole, among_at, among_there, joins, of_some, whole-among}
 use Rattle.hir_session.proofs.Truth.{clash, on_bool}
@@ -198,3 +199,21 @@ module _ (looks : LooksStand) (meaning : AskedKeysHaveMeaning) (answers : Answer
         record { found = now.found; is = now.is; gives = grown_resolution id now.found (root_means sound id (sound.placed id off)) now.gives };
     rooted = λ k within. keeps.files (crate_in s.crates k).file.0 (crate_in s.crates k).own.root (sound.rooted k within);
   }
+
+  -- and nothing else changes then
+  pub grown_of : (view : SessionState) → s ≡ view → IsSound s → Grows view (record s { tables = T })
+  grown_of view seen sound = subst (λ (v : SessionState). Grows v (record s { tables = T })) seen (record {
+    crates = refl;
+    tables = keeps;
+    files = refl;
+    kept = refl;
+    sound = grown_sound sound;
+  })
+
+  -- what the run gave is the crate's resolution
+  pub found_of : (view : SessionState) → s ≡ view → IsSound s → RunsNameWhatIsThere → (k : ℕ) → ((j : ℕ) → j < k → is_marked view (id_of j) ≡ false) → (r : Resolution) (finished : Maps)
+      → finished ≡ finished_of s → IsResolved T (workspace_of s) finished (beginning_of s (id_of k)) r → IsResolutionOf (record s { tables = T }) (id_of k) r
+  found_of view seen sound law k first r finished is resolved =
+      let back = subst (λ (v : SessionState). (j : ℕ) → j < k → is_marked v (id_of j) ≡ false) (sym seen) first in
+      resolution_of (record s { tables = T }) k (grown_sound sound) back r law
+      (subst (λ (maps : Maps). IsResolved T (workspace_of s) maps (beginning_of s (id_of k)) r) is resolved)

@@ -85,7 +85,7 @@ module _ (s : SessionState) (sound : IsSound s) where
       let stands = names_stand id other r is n in
       let own = of_number id (sound.placed id (some_unmarked (kept_of s id) r is)).of_crate in
       subst (λ (x : MapId). Spread (follows s) P x) (sym own)
-      (spread_on ((sound.behind id.krate.0 other.krate).0 stands.1) (subst (λ (x : MapId). Spread (follows s) P x) stands.0 (spread_named d sp))))
+      (spread_on s.crates ((sound.behind id.krate.0 other.krate).0 stands.1) (subst (λ (x : MapId). Spread (follows s) P x) stands.0 (spread_named d sp))))
 
 -- what is in a spread set is in it for a reason
 spread_cases : {A : Type 0} {follows : MapId → List MapId} {P : MapId → Type 0} {id : MapId} → (P id → A) → ((d : MapId) → Contains (follows id) d → Spread follows P d → A)
@@ -334,3 +334,21 @@ module _ (s : SessionState) (k : ℕ) (r : Resolution) (K : Resolutions) (sound 
         record { found = now.found; is = kept_else j ne ∙ now.is; gives = stays_resolved j now.found (behind_it j (was j ne off)) now.gives });
     rooted = sound.rooted;
   }
+
+-- ---- a resolution over tables that grew
+
+module _ (old s : SessionState) (k : ℕ) (r : Resolution) (grown : Grows old s) (found : IsResolutionOf s (id_of k) r)
+    (first : (j : ℕ) → j < k → is_marked old (id_of j) ≡ false) (on : is_marked old (id_of k) ≡ true) where
+  -- what was marked is marked
+  same_mark : (id : MapId) → is_marked s id ≡ is_marked old id
+  same_mark id = ap (λ (kept : Resolutions). is_none (kept_in kept id)) grown.kept
+
+  pub free_grown : kept_of s r.map.id ≡ None
+  free_grown = free_own s (id_of k) r found.own (same_mark (id_of k) ∙ on)
+
+  -- the session stays sound
+  pub resolved_grown : (K : Resolutions) → k < length old.crates → kept_in K r.map.id ≡ Some r → ((j : MapId) → j ≢ r.map.id → kept_in K j ≡ kept_of s j) → IsSound (record s { kept = K })
+  resolved_grown K within here others =
+      resolved_sound s k r K grown.sound (subst (λ (cs : List CrateValue). k < length cs) (sym grown.crates) within)
+      (λ j low. same_mark (id_of j) ∙ first j low) (same_mark (id_of k) ∙ on) found
+      (ap (kept_in K) (sym found.own) ∙ here) (λ j ne. others j (λ e. ne (e ∙ found.own)))

@@ -1,5 +1,5 @@
 -- What is found to be behind a crate is what it stands on.
-use Rattle.std.proofs.Common.{◌≡◌, ◌↔◌, ℕ, zero, suc, ◌+◌, ◌<◌, ◌≤◌, Bool, true, List, [], ◌∷◌, ◌++◌, length, take, refl, sym, ap, subst, ◌∙◌, Contains, arith, inl, inr, eq-eqb}
+use Rattle.std.proofs.Common.{◌≡◌, ◌↔◌, ℕ, zero, suc, ◌+◌, ◌<◌, ◌≤◌, Bool, true, List, [], ◌∷◌, ◌++◌, length, take, map, refl, sym, ap, subst, ◌∙◌, Contains, arith, inl, inr, eq-eqb}
 use Rattle.std.specs.List.{list_any}
 use Rattle.std.proofs.lemmas.Bool.{cases_lt, eqb-true}
 use Rattle.std.proofs.lemmas.List.{get_or_past, get_or_append_left, get_or_push, get_or-take, take-append-le}
@@ -29,7 +29,7 @@ in_none : {A : Type 0} (d : Crate) → Contains [] d → A
 in_none d h = absurd (let past : h.0 < 0 = h.1 in omega arith)
 
 -- one more crate is built
-pub built_more : (crates next : List CrateValue) (c : CrateValue) → next ≡ crates ++ c ∷ [] → AreBuilt crates → AreBehind crates c.dependencies c.own.behind → AreBuilt next
+pub built_more : (crates next : List CrateValue) (c : CrateValue) → next ≡ crates ++ c ∷ [] → AreBuilt crates → AreBehind crates (map (λ d. d.krate) c.config.dependencies) c.behind → AreBuilt next
 built_more crates next c longer built behind = subst (λ (cs : List CrateValue). AreBuilt cs) (sym longer) (record {
   each = λ k under. on_same k (length crates)
       (λ e.
@@ -46,10 +46,10 @@ built_more crates next c longer built behind = subst (λ (cs : List CrateValue).
 })
   where
     put : (k : ℕ) {x : CrateValue} {front : List CrateValue} → crate_in (crates ++ c ∷ []) k ≡ x → take k (crates ++ c ∷ []) ≡ front
-        → AreBehind front x.dependencies x.own.behind → AreBehind (take k (crates ++ c ∷ [])) (dependencies_in (crates ++ c ∷ []) k) (behind_in (crates ++ c ∷ []) k)
+        → AreBehind front (map (λ d. d.krate) x.config.dependencies) x.behind → AreBehind (take k (crates ++ c ∷ [])) (dependencies_in (crates ++ c ∷ []) k) (behind_in (crates ++ c ∷ []) k)
     put k {front = front} here is h =
         subst (λ (cs : List CrateValue). AreBehind cs (dependencies_in (crates ++ c ∷ []) k) (behind_in (crates ++ c ∷ []) k)) (sym is)
-        (subst (λ (y : CrateValue). AreBehind front y.dependencies y.own.behind) (sym here) h)
+        (subst (λ (y : CrateValue). AreBehind front (map (λ d. d.krate) y.config.dependencies) y.behind) (sym here) h)
 
     length_more : (cs : List CrateValue) → length (cs ++ c ∷ []) ≡ length cs + 1
     length_more [] = refl
@@ -65,7 +65,7 @@ built_more crates next c longer built behind = subst (λ (cs : List CrateValue).
 module _ (crates : List CrateValue) (built : AreBuilt crates) (below : (k : ℕ) (d : Crate) → Contains (dependencies_in crates k) d → d.0 < k) where
   -- what the crates before one say of a dependency is what all say
   said : (k : ℕ) (d : Crate) → d.0 < k → behind_in (take k crates) d.0 ≡ behind_in crates d.0
-  said k d under = ap (λ (c : CrateValue). c.own.behind) (get_or-take k crates d.0 no_crate under)
+  said k d under = ap (λ (c : CrateValue). c.behind) (get_or-take k crates d.0 no_crate under)
 
   -- what is found behind a crate is what it stands on
   stands_from : (n k : ℕ) (c : Crate) → k < n → has_crate (behind_in crates k) c ≡ true → StandsOn (dependencies_in crates) k c.0
@@ -78,14 +78,14 @@ module _ (crates : List CrateValue) (built : AreBuilt crates) (below : (k : ℕ)
         (λ same. subst (λ (j : ℕ). StandsOn (dependencies_in crates) k j) (sym (eqb-true c.0 found.0.0 same)) (directly k found.0 found.1))
         (λ other. through k c.0 found.0 found.1 (stands_from n found.0.0 c (omega arith)
         (ap (λ (cs : List Crate). has_crate cs c) (sym (said k found.0 lower)) ∙ or_first _ _ found.2 other)))
-    | inr past ↦ clash h (ap (λ (x : CrateValue). has_crate x.own.behind c) (get_or_past crates k no_crate past))
+    | inr past ↦ clash h (ap (λ (x : CrateValue). has_crate x.behind c) (get_or_past crates k no_crate past))
   ]
 
   -- what a dependency brings is found
   brought : (k : ℕ) (d c : Crate) → Contains (dependencies_in crates k) d → comes_by (take k crates) d c ≡ true → has_crate (behind_in crates k) c ≡ true
   brought k d c among comes = elim (cases_lt k (length crates)) [
     | inl there ↦ (built.each k there).has c ∙ any-found (λ e. comes_by (take k crates) e c) (dependencies_in crates k) d among comes
-    | inr past ↦ in_none d (subst (λ (x : CrateValue). Contains x.dependencies d) (get_or_past crates k no_crate past) among)
+    | inr past ↦ in_none d (subst (λ (x : CrateValue). Contains (map (λ e. e.krate) x.config.dependencies) d) (get_or_past crates k no_crate past) among)
   ]
 
   stands_to : {k j : ℕ} → StandsOn (dependencies_in crates) k j → has_crate (behind_in crates k) (record { 0 = j }) ≡ true

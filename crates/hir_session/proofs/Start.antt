@@ -1,4 +1,4 @@
-use Rattle.std.proofs.Common.{◌≡◌, ℕ, zero, suc, ◌+◌, ◌<◌, ◌≤◌, Bool, true, false, List, [], ◌∷◌, ◌++◌, length, map, is_none, is_some, slice_get, drop, get_or, drop-cons, add-one, append_assoc, append-nil, drop_of_length-le, Option, None, refl, sym, ap, subst, ◌∙◌, Contains, arith, nat_le}
+use Rattle.std.proofs.Common.{◌≡◌, ℕ, zero, suc, ◌+◌, ◌<◌, ◌≤◌, Bool, true, false, List, [], ◌∷◌, ◌++◌, length, map, is_none, is_some, slice_get, drop, get_or, drop-cons, add-one, append_assoc, append-nil, drop_of_length-le, Option, None, Some, refl, sym, ap, subst, ◌∙◌, Contains, arith, nat_le}
 use Rattle.std.proofs.lemmas.List.{length-map}
 use Rattle.std.proofs.lemmas.List.Folds.{list_any_at}
 use Rattle.hir_base.specs.declared.ast_id.EditionedFileId.{EditionedFileId}
@@ -14,8 +14,9 @@ use Rattle.hir_session.specs.Kept.{Resolutions, kept_in}
 use Rattle.hir_session.specs.SessionState.{SessionState, Resolution, is_marked, IsSound}
 use Rattle.hir_session.specs.Refusals.{dependency_crates, has_late, first_out_of_order}
 use Rattle.hir_session.specs.Beginning.{dependency_of, IsAdded, IsMade, AreMade, AreRooted, Begins}
-use Rattle.hir_tables.specs.Tables.{TablesValue, file_at}
-use Rattle.hir_session.specs.Behind.{AreBuilt}
+use Rattle.hir_base.specs.declared.ast_id.FileId.{FileId}
+use Rattle.hir_tables.specs.Tables.{KeepsTables, TablesValue, file_at}
+use Rattle.hir_session.specs.Behind.{AreBehind, AreBuilt}
 use Rattle.hir_session.proofs.Stands.{built_more, stands}
 use Rattle.hir_session.proofs.Truth.{clash, on_bool, on_same}
 use Rattle.std.proofs.lemmas.List.{get_or_append_left, get_or_push}
@@ -61,12 +62,12 @@ beginning-more k inputs crates next before after i other within is added so_far 
       let count : length (crates ++ added.made ∷ []) ≡ length crates + 1 = length_more crates in
       let below : j < length crates = omega arith in
       number_of j (crate_in crates j) (sym (get_or_append_left crates (added.made ∷ []) no_crate j below))
-      (added.kept.files (crate_in crates j).own.root.file_id.0 (crate_in crates j).root_path (so_far.rooted j below))));
+      (added.kept.files (crate_in crates j).file.0 (crate_in crates j).own.root (so_far.rooted j below))));
 }
   where
-    number_of : (j : ℕ) (c : CrateValue) → c ≡ crate_in (crates ++ added.made ∷ []) j → file_at after c.own.root.file_id ≡ Some c.root_path
-        → file_at after (crate_in (crates ++ added.made ∷ []) j).own.root.file_id ≡ Some (crate_in (crates ++ added.made ∷ []) j).root_path
-    number_of j c same h = subst (λ (x : CrateValue). file_at after x.own.root.file_id ≡ Some x.root_path) same h
+    number_of : (j : ℕ) (c : CrateValue) → c ≡ crate_in (crates ++ added.made ∷ []) j → file_at after c.file ≡ Some c.own.root
+        → file_at after (crate_in (crates ++ added.made ∷ []) j).file ≡ Some (crate_in (crates ++ added.made ∷ []) j).own.root
+    number_of j c same h = subst (λ (x : CrateValue). file_at after x.file ≡ Some x.own.root) same h
 
     length_more : (cs : List CrateValue) → length (cs ++ added.made ∷ []) ≡ length cs + 1
     length_more [] = refl
@@ -90,6 +91,24 @@ before_all n crates d none among =
     (λ late. clash (list_any_at (λ (c : Crate). nat_le n c.0) crates among.0 d among.1 (rw among.2 late)) none)
     (λ early. below_of n d.0 early)
 
+-- dependencies as a run sees them are of the crates that are named
+crates_named : (ds : List HandedIn) → map (λ d. d.krate) (map dependency_of ds) ≡ dependency_crates ds
+crates_named [] = refl
+crates_named (d ∷ ds) = ap (λ (cs : List Crate). d.krate ∷ cs) (crates_named ds)
+
+-- a crate that is made with the number of its root file is added
+pub added_by : (input : CrateInputValue) (old new : List CrateValue) (before after : TablesValue) (c : CrateValue) → IsMade input c
+    → AreBehind old (dependency_crates input.deps) c.behind → (number : FileId) (root : List ℕ) → root ≡ input.root → file_at after number ≡ Some root → c.file ≡ number
+    → new ≡ old ++ c ∷ [] → KeepsTables before after → IsAdded input old new before after
+added_by input old new before after c made behind number root is_root found is_number longer kept = record {
+  made = c;
+  is = made;
+  behind = subst (λ (ds : List Crate). AreBehind old ds c.behind) (sym (ap (λ (ds : List Dependency). map (λ d. d.krate) ds) made.config.dependencies ∙ crates_named input.deps)) behind;
+  number = ap (file_at after) is_number ∙ found ∙ ap (λ (p : List ℕ). Some p) (is_root ∙ sym made.root);
+  longer = longer;
+  kept = kept;
+}
+
 -- where no crate is out of order, each dependency comes before its crate
 pub below_from : (n : ℕ) (inputs : List CrateInputValue) (crates : List CrateValue) → AreMade inputs crates → first_out_of_order n inputs ≡ None
     → (k : ℕ) (d : Crate) → Contains (dependencies_in crates k) d → d.0 < n + k
@@ -99,25 +118,10 @@ below_from n (i ∷ is) [] made none k d among = absurd made
 below_from n (i ∷ is) (c ∷ cs) made none zero d among = on_bool (has_late n (dependency_crates i.deps))
     (λ late. absurd (let wrong : ⊥ = cc (rw late at none) in wrong))
     (λ early. let lower : d.0 < n = before_all n (dependency_crates i.deps) d early
-    (subst (λ (ds : List Crate). Contains ds d) made.0.dependencies among) in omega arith)
+    (subst (λ (ds : List Crate). Contains ds d) (ap (λ (ds : List Dependency). map (λ d. d.krate) ds) made.0.config.dependencies ∙ crates_named i.deps) among) in omega arith)
 below_from n (i ∷ is) (c ∷ cs) made none (suc k) d among = on_bool (has_late n (dependency_crates i.deps))
     (λ late. absurd (let wrong : ⊥ = cc (rw late at none) in wrong))
     (λ early. let lower : d.0 < n + 1 + k = below_from (n + 1) is cs made.1 (rw early at none) k d among in omega arith)
-
--- dependencies as a run sees them are of the crates that are named
-crates_named : (ds : List HandedIn) → map (λ d. d.krate) (map dependency_of ds) ≡ dependency_crates ds
-crates_named [] = refl
-crates_named (d ∷ ds) = ap (λ (cs : List Crate). d.krate ∷ cs) (crates_named ds)
-
--- a crate's own dependencies are those that it names
-named_from : (n : ℕ) (inputs : List CrateInputValue) (crates : List CrateValue) → AreMade inputs crates
-    → (k : ℕ) → map (λ d. d.krate) (crate_in crates k).own.dependencies ≡ dependencies_in crates k
-named_from n [] [] made k = refl
-named_from n [] (c ∷ cs) made k = absurd made
-named_from n (i ∷ is) [] made k = absurd made
-named_from n (i ∷ is) (c ∷ cs) made zero =
-    ap (λ (ds : List Dependency). map (λ d. d.krate) ds) made.0.named ∙ crates_named i.deps ∙ sym made.0.dependencies
-named_from n (i ∷ is) (c ∷ cs) made (suc k) = named_from (n + 1) is cs made.1 k
 
 -- a session is sound when it begins
 pub begins_sound : (inputs : List CrateInputValue) (s : SessionState) → length inputs ≤ 10000 → first_out_of_order 0 inputs ≡ None → Begins inputs s → IsSound s
@@ -128,7 +132,6 @@ begins_sound inputs s few ordered is =
       few = omega arith;
       below = λ k d among. let lower : d.0 < 0 + k = below_from 0 inputs s.crates is.crates ordered k d among in omega arith;
       behind = is.behind;
-      named = named_from 0 inputs s.crates is.crates;
       placed = λ id off. clash (on id) off;
       closed = λ id d off among. clash (on id) off;
       current = λ id off. clash (on id) off;

@@ -10,7 +10,11 @@ use hir_item_tree::laws::body_texts_leave_the_tree;
 /// Two answers to one query differ only where an edit between them altered something that was asked for behind the first.
 pub fn answers_differ_only_where_altered()
     ensures law { DifferOnlyWhereAltered }
-{}
+{
+    runs_bind_from_sources();
+    paths_answer_from_sources();
+    paths_lead_to_what_is_there();
+}
 
 /// Where lines are answered from the first state on, a session begins, and then has a history of edits and refreshes.
 pub fn lines_begin_histories()

@@ -20,8 +20,8 @@ module _ (crates : List CrateValue) (tables : TablesValue) (F : Files) (path : L
   of_enum = subst (λ (k : Key). is_enum_at tables path k ≡ true) is at
 
   key-same : variants_under crates id.loc.container.map.krate.0 there id.loc.id ≡ variants_under crates id.loc.container.map.krate.0 (file_at F path) id.loc.id
-      → look tables (workspace_in crates (edited_at F path there)) no_maps key ≡ look l.file.tables.now (workspace_in crates F) no_maps key
-  key-same alike = subst (λ (k : Key). look tables (workspace_in crates (edited_at F path there)) no_maps k ≡ look l.file.tables.now (workspace_in crates F) no_maps k) (sym is)
+      → look tables (workspace_in crates (edited_at F path there)) no_maps key ≡ look tables (workspace_in crates F) no_maps key
+  key-same alike = subst (λ (k : Key). look tables (workspace_in crates (edited_at F path there)) no_maps k ≡ look tables (workspace_in crates F) no_maps k) (sym is)
       (enum-same crates tables F path there id of_enum alike)
 
   key-differs : variants_under crates id.loc.container.map.krate.0 there id.loc.id ≢ variants_under crates id.loc.container.map.krate.0 (file_at F path) id.loc.id

@@ -17,12 +17,12 @@ use Rattle.hir_session.proofs.judge.trees.is_altered.Goals as goal
 
 elsewhere : (crates : List CrateValue) (tables : TablesValue) (F : Files) (path : List ℕ) (there : Option SourceValue) (key : Key)
     → ((id : EnumId) × (key ≡ keys.Variants id)) ⊎ ((id : MapId) × (key ≡ keys.Map id)) → is_enum_at tables path key ≡ false
-    → look tables (workspace_in crates (edited_at F path there)) no_maps key ≡ look l.file.tables.now (workspace_in crates F) no_maps key
+    → look tables (workspace_in crates (edited_at F path there)) no_maps key ≡ look tables (workspace_in crates F) no_maps key
 elsewhere crates tables F path there key (inl v) apart =
-    subst (λ (k : Key). look tables (workspace_in crates (edited_at F path there)) no_maps k ≡ look l.file.tables.now (workspace_in crates F) no_maps k) (sym v.1)
+    subst (λ (k : Key). look tables (workspace_in crates (edited_at F path there)) no_maps k ≡ look tables (workspace_in crates F) no_maps k) (sym v.1)
     (enum-other crates tables F path there v.0 (subst (λ (k : Key). is_enum_at tables path k ≡ false) v.1 apart))
 elsewhere crates tables F path there key (inr m) apart =
-    subst (λ (k : Key). look tables (workspace_in crates (edited_at F path there)) no_maps k ≡ look l.file.tables.now (workspace_in crates F) no_maps k) (sym m.1) refl
+    subst (λ (k : Key). look tables (workspace_in crates (edited_at F path there)) no_maps k ≡ look tables (workspace_in crates F) no_maps k) (sym m.1) refl
 
 pub returns-in-Variants : goal.returns-in-Variants
 returns-in-Variants c = record {
