@@ -1,5 +1,5 @@
 -- What maps in a world, and what else is kept of each run, tell together.
-use Rattle.std.proofs.Common.{◌≡◌, ◌≢◌, ◌∙◌, ap, sym, subst, refl, ℕ, zero, suc, ◌<◌, ◌+◌, Bool, true, false, not, is_some, cond, Option, Some, None, Result, Ok, Err, OnErr, List, [], ◌∷◌, ◌⊎◌, inl, inr, length, get_or, map, arith, Contains}
+use Rattle.std.proofs.Common.{◌≡◌, ◌≢◌, ◌∙◌, ap, sym, subst, refl, ℕ, zero, suc, ◌<◌, ◌+◌, Bool, true, false, not, is_some, cond, Option, Some, None, List, [], ◌∷◌, ◌⊎◌, inl, inr, length, get_or, map, arith, Contains}
 use Rattle.std.specs.Option.{option_map}
 use Rattle.std.specs.BTreeMap.{BTreeMap, get, is_at, IsUnchanged}
 use Rattle.std.specs.Map.{lookup}
@@ -35,25 +35,20 @@ found_in maps id = get map_order.ghosts.cmp maps id
 abbrev pub run_in : Runs → MapId → Option KeptRun
 run_in runs id = get map_order.ghosts.cmp runs id
 
--- what holds holds where a call fails
-pub when_err : {P : Type 0} {T E : Type 0} (r : Result T E) → P → OnErr r P
-when_err (Ok x) p = tt
-when_err (Err e) p = p
-
 -- ---- one of them
 
 found_from : (runs : Runs) (id : MapId) (es : List (MapId × Finished))
     → lookup (is_at (map_order.ghosts.cmp id)) (map (entry_with runs) es)
     ≡ option_map (λ (f : Finished). resolution_at f (run_in runs id)) (lookup (is_at (map_order.ghosts.cmp id)) es)
 found_from runs id [] = refl
-found_from runs id (e ∷ es) = go (is_at (map_order.ghosts.cmp id) e.0) refl (found_from runs id es)
+found_from runs id (e ∷ es) = go (found_from runs id es) (is_at (map_order.ghosts.cmp id) e.0) refl
   where
-    go : (b : Bool) → is_at (map_order.ghosts.cmp id) e.0 ≡ b
-        → lookup (is_at (map_order.ghosts.cmp id)) (map (entry_with runs) es) ≡ option_map (λ (f : Finished). resolution_at f (run_in runs id)) (lookup (is_at (map_order.ghosts.cmp id)) es)
+    go : lookup (is_at (map_order.ghosts.cmp id)) (map (entry_with runs) es) ≡ option_map (λ (f : Finished). resolution_at f (run_in runs id)) (lookup (is_at (map_order.ghosts.cmp id)) es)
+        → (b : Bool) → is_at (map_order.ghosts.cmp id) e.0 ≡ b
         → cond b (Some (resolution_at e.1 (run_in runs e.0))) (lookup (is_at (map_order.ghosts.cmp id)) (map (entry_with runs) es))
         ≡ option_map (λ (f : Finished). resolution_at f (run_in runs id)) (cond b (Some e.1) (lookup (is_at (map_order.ghosts.cmp id)) es))
-    go true on rest = ap (λ (j : MapId). Some (resolution_at e.1 (run_in runs j))) (sym (equal_id id e.0 on))
-    go false off rest = rest
+    go rest true on = ap (λ (j : MapId). Some (resolution_at e.1 (run_in runs j))) (sym (equal_id id e.0 on))
+    go rest false off = rest
 
 -- what is kept of a place stands under its id
 kept_at : (maps : Store) (runs : Runs) (id : MapId)
@@ -334,10 +329,10 @@ module _ (old mid new : Resolutions) (ids : List MapId) (n : ℕ) (on : MapId) (
   }
 
 -- within a list the default doesn't matter
-pub item_at : (xs : List MapId) (k : ℕ) (a b : MapId) → k < length xs → get_or xs k a ≡ get_or xs k b
-item_at [] k a b h = absurd (omega arith)
-item_at (x ∷ xs) zero a b h = refl
-item_at (x ∷ xs) (suc k) a b h = item_at xs k a b (omega arith)
+pub listed : (xs : List MapId) (k : ℕ) (a b : MapId) → k < length xs → get_or xs k b ≡ get_or xs k a
+listed [] k a b h = absurd (omega arith)
+listed (x ∷ xs) zero a b h = refl
+listed (x ∷ xs) (suc k) a b h = listed xs k a b (omega arith)
 
 pub forgetting-end : (old new : Resolutions) (ids : List MapId) (n : ℕ) → IsForgetting old ids n new → length ids ≡ n → AreForgotten old ids new
 forgetting-end old new ids n done all = record {
@@ -345,5 +340,5 @@ forgetting-end old new ids n done all = record {
       subst (λ (x : MapId). kept_in new x ≡ None) among.2 (done.gone among.0 id (omega arith));
   named = done.named;
   fewer = done.fewer;
-  stay = λ id none. done.stay id (λ k d below. none (get_or ids k d) (k, (let within : k < length ids = omega arith in within), item_at ids k (get_or ids k d) d (omega arith)));
+  stay = λ id none. done.stay id (λ k d below. none (get_or ids k d) (k, (let within : k < length ids = omega arith in within), listed ids k d (get_or ids k d) (omega arith)));
 }

@@ -1,18 +1,18 @@
--- One place after another.
-use Rattle.std.proofs.Common.{arith, get_or, length, refl, sym, ◌≡◌, ◌<◌, ◌∙◌}
+-- One more place is gone.
+use Rattle.std.proofs.Common.{◌∙◌, ap, sym, subst, ◌<◌, List, length, get_or, None}
 use Rattle.hir_base.specs.declared.ids.MapId.{MapId}
-use Rattle.hir_session.proofs.KeptLemmas.{forgetting-start, forgetting-more, forgetting-end, item_at}
+use Rattle.hir_session.proofs.KeptLemmas.{forgetting-more, listed}
 use Rattle.hir_session.proofs.kept.Kept.forget.Goals as goal
 
-pub loop-id-init : goal.loop-id-init
-loop-id-init c = forgetting-start _ _
+-- what stands where there is no element
+abbrev no_place : MapId
+no_place = record { krate = record { 0 = 0 }; block = None }
 
 pub loop-id-preserved : goal.loop-id-preserved
 loop-id-preserved c =
-    let within : c.loop-id.id-index < length c.args.ids.now.items = omega (arith, c.loop-id-test.true, c.deref-id-items.ensures.len) in
-    forgetting-more c.args.self.now c.loop-id.self c.forget_one.new.self c.args.ids.now.items c.loop-id.id-index _ within c.loop-id.invariant
-    (λ d. rw (← c.deref-id-items.ensures.value) (item_at c.deref-id-items.result.now c.loop-id.id-index d _ (omega (arith, c.loop-id-test.true))))
+    let ids : List MapId = c.args.ids.now.items in
+    let at = c.loop-id.id-index in
+    let within : at < length ids = subst (λ (xs : List MapId). at < length xs) c.deref-id-items.ensures.value c.loop-id-test.true in
+    forgetting-more c.args.self.now c.loop-id.self c.forget_one.new.self ids at _ within c.loop-id.invariant
+    (λ d. listed ids at no_place d within ∙ ap (λ (xs : List MapId). get_or xs at no_place) (sym c.deref-id-items.ensures.value))
     c.forget_one.ensures.gone c.forget_one.ensures.stay
-
-pub returns : goal.returns
-returns c = record { forgotten = forgetting-end _ _ _ c.loop-id.id-index c.loop-id.invariant (omega (arith, c.deref-id-items.ensures.len, c.loop-id-test.false)) }

@@ -4,7 +4,7 @@ use Rattle.hir_session.specs.Crates.{CrateValue}
 use Rattle.std.specs.Prelude.{is_none}
 use Rattle.hir_session.specs.Crates.{id_of}
 use Rattle.hir_session.specs.Kept.{Resolutions, kept_in}
-use Rattle.hir_session.proofs.KeptLemmas.{when_err}
+use Rattle.hir_scope.proofs.Rewrites.{on_err}
 use Rattle.hir_session.proofs.Due.{refreshing-start, refreshing-grown, refreshing-more, refreshing-skip, refreshing-end, passed_on, overlong_first}
 use Rattle.hir_session.proofs.session.Session.refresh.Goals as goal
 use Rattle.hir_session.proofs.session.Session.refresh.Goals.{then-is_marked_at+in_ok-note+in_ok-resolve_at, else-is_marked_at}
@@ -27,7 +27,7 @@ returns-in_err-resolve_at-clause-many c = λ many.
     (c.resolve_at.ensures.many (passed_on _ _ _ _ c.in_err-resolve_at.was c.from_residual-in_err-resolve_at.ensures.1 many))
 
 pub returns-in_err-resolve_at-clause-err : goal.returns-in_err-resolve_at-clause-err
-returns-in_err-resolve_at-clause-err c = when_err _ (record {
+returns-in_err-resolve_at-clause-err c = on_err _ (record {
   done = _;
   resolves = (refreshing-grown c.loop-k.k c.loop-k.invariant c.in_err-resolve_at.ensures.err).so_far;
 })

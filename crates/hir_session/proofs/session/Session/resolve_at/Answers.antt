@@ -5,7 +5,6 @@ use Rattle.hir_session.specs.Crates.{id_of}
 use Rattle.hir_session.specs.Kept.{Resolutions}
 use Rattle.hir_session.specs.SessionState.{SessionState, IsResolutionOf, IsSound}
 use Rattle.hir_session.specs.Due.{Grows}
-use Rattle.hir_session.proofs.KeptLemmas.{when_err}
 use Rattle.hir_session.proofs.Resolving.{may_join}
 use Rattle.hir_session.proofs.Sound.{free_grown, resolved_grown, resolved_of}
 use Rattle.hir_session.proofs.session.Session.resolve_at.Goals as goal
@@ -23,6 +22,20 @@ keep-requires-clause-complete c =
 
 pub invariant_of-self-2 : goal.invariant_of-self-2
 invariant_of-self-2 c =
+    let back = sym c.self.view_is in
+    let grown = subst (λ (s : SessionState). Grows c.args.self.now s) back c.in_ok-found.ensures.grown in
+    let found = subst (λ (s : SessionState). IsResolutionOf s (id_of c.args.k) (collected_view c.in_ok-found.found)) back c.in_ok-found.ensures.found in
+    resolved_grown c.args.self.now _ c.args.k _ grown found c.requires.first c.requires.marked c.keep.new.self c.requires.within c.in_ok-keep.ensures.here c.in_ok-keep.ensures.others
+
+pub returns-clause-ok : goal.returns-clause-ok
+returns-clause-ok c =
+    let back = sym c.self.view_is in
+    let grown = subst (λ (s : SessionState). Grows c.args.self.now s) back c.in_ok-found.ensures.grown in
+    let found = subst (λ (s : SessionState). IsResolutionOf s (id_of c.args.k) (collected_view c.in_ok-found.found)) back c.in_ok-found.ensures.found in
+    (collected_view c.in_ok-found.found, resolved_of c.args.self.now _ c.keep.new.self (id_of c.args.k) _ grown found.own c.in_ok-keep.ensures.here c.in_ok-keep.ensures.others)
+
+pub returns-clause-sound : goal.returns-clause-sound
+returns-clause-sound c =
     let back = sym c.self.view_is in
     let grown = subst (λ (s : SessionState). Grows c.args.self.now s) back c.in_ok-found.ensures.grown in
     let found = subst (λ (s : SessionState). IsResolutionOf s (id_of c.args.k) (collected_view c.in_ok-found.found)) back c.in_ok-found.ensures.found in
