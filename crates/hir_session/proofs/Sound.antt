@@ -212,7 +212,7 @@ module _ (s : SessionState) (sound : IsSound s) (F : Files) (hits : List MapId) 
     few = sound.few;
     below = sound.below;
     behind = sound.behind;
-      placed = λ id off. let was = sound.placed id (was_unmarked id off) in record { of_crate = was.of_crate; within = was.within };
+    placed = λ id off. let was = sound.placed id (was_unmarked id off) in record { of_crate = was.of_crate; within = was.within };
     closed = closed_still;
     current = λ id off.
         let now = sound.current id (was_unmarked id off) in
@@ -317,7 +317,7 @@ module _ (s : SessionState) (k : ℕ) (r : Resolution) (K : Resolutions) (sound 
     few = sound.few;
     below = sound.below;
     behind = sound.behind;
-      placed = λ j off. on_id j (id_of k)
+    placed = λ j off. on_id j (id_of k)
         (λ e. subst (λ (x : MapId). IsPlace (record s { kept = K }) x) (sym e) (record { of_crate = refl; within = within }))
         (λ ne. let old = sound.placed j (was j ne off) in record { of_crate = old.of_crate; within = old.within });
     closed = λ j d off among. still_unmarked d (on_id j (id_of k)
