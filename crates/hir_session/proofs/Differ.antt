@@ -168,7 +168,7 @@ module _ {from to : SessionState} (place : PlaceValue) (path : Path) (shadow : S
   alike_answer tables = over_files ∙ ap (λ (t : TablesValue). answer_over place path shadow style from.crates t.files (read_of from (map_of place)) (kept_of from (map_of place))) tables
 
   module _ (runs : RunsBindFromSources) (answers : PathsAnswerFromSources) (leads : PathsLeadToWhatIsThere) (off : is_marked from (map_of place) ≡ false) where
-    now : IsCurrent from (map_of place)
+    abbrev now : IsCurrent from (map_of place)
     now = sound.current (map_of place) off
 
     found_answer : (o : Option ModuleId) → module_below now.found.map (root_of now.found.map.id) place.elements ≡ o

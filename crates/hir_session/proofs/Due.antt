@@ -7,7 +7,8 @@ use Rattle.hir_def_collector.specs.Derivation.{IsOverlong}
 use Rattle.hir_session.specs.Crates.{CrateValue, id_of}
 use Rattle.hir_session.specs.SessionState.{SessionState, Resolution, workspace_of, finished_of, kept_of, beginning_of, is_marked, IsSound}
 use Rattle.hir_tables.proofs.Growth.{KeepsTables-refl, KeepsTables-trans}
-use Rattle.hir_session.specs.Due.{due, due_places, places_from, root_place, Resolved, HasOverlongRun}
+use Rattle.hir_session.specs.Kept.{Resolutions, kept_in}
+use Rattle.hir_session.specs.Due.{due, due_places, places_from, root_place, Grows, Resolved, HasOverlongRun}
 use Rattle.hir_session.specs.Changes.{Resolves, Refreshes}
 use Rattle.hir_session.proofs.Truth.{clash, on_bool}
 
@@ -102,6 +103,22 @@ refreshing-more {old} {mid} {done} k r new p sound within on is =
       below = below_more _ k
           (λ j h. ap (λ (o : Option Resolution). is_none o) (stays (id_of j) (p.below j h)) ∙ p.below j h)
           (ap (λ (o : Option Resolution). is_none o) is.here);
+    }
+
+-- tables that grew change nothing of it
+pub refreshing-grown : {old mid new : SessionState} {done : List PlaceValue} (k : ℕ) → IsRefreshing old mid done k → Grows mid new → IsRefreshing old new done k
+refreshing-grown {old} {mid} {new} {done} k p grown =
+    let marks : (id : MapId) → is_marked new id ≡ is_marked mid id = λ id. ap (λ (kept : Resolutions). is_none (kept_in kept id)) grown.kept in
+    record {
+      so_far = record {
+        crates = grown.crates ∙ p.so_far.crates;
+        tables = KeepsTables-trans _ _ _ p.so_far.tables grown.tables;
+        files = grown.files ∙ p.so_far.files;
+        due = p.so_far.due ∙ (λ i. done ++ map root_place (filter (λ (id : MapId). is_none (kept_in (sym grown.kept i) id)) (places_from 0 (sym grown.crates i))));
+        others = λ id off. ap (λ (kept : Resolutions). kept_in kept id) grown.kept ∙ p.so_far.others id off;
+        sound = grown.sound;
+      };
+      below = λ j low. marks (id_of j) ∙ p.below j low;
     }
 
 -- the end: nothing is due

@@ -51,7 +51,29 @@ unspread {s} sound same (depends k d among sp) = on_bool (is_marked s k)
     (λ off. clash (unspread sound same sp) (sound.closed k d off among))
 
 -- an edit that leaves each key as it was changes no mark
-unaltered_marks : {old new : SessionState} (path : List ℕ) (there : Option SourceValue) (k : MapId) (found : Resolution) (key : TreeKey)
+unaltered_marks : {old new : SessionState} {files : Files} → IsSound old → Becomes old files new
+    → ((key : Key) → look old.tables (workspace_in old.crates files) no_maps key ≡ look old.tables (workspace_of old) no_maps key) → (k : MapId) → is_marked new k ≡ is_marked old k
+unaltered_marks {old} {new} sound is same k = on_bool (is_marked new k)
+    (λ on. on ∙ sym (unspread sound same (is.only k on)))
+    (λ off. on_bool (is_marked old k)
+    (λ on. clash (is.all k (here k (before on))) off)
+    (λ too. off ∙ sym too))
+
+-- a file whose trees become what they were leaves the workspace as it was
+same_looks : (s : SessionState) (path : List ℕ) (there : Option SourceValue)
+    → ((k : ℕ) → shown s.crates k (Some path) there ≡ shown s.crates k (Some path) (file_at s.files path))
+    → ((k : ℕ) (id : SyntaxId) → variants_under s.crates k there id ≡ variants_under s.crates k (file_at s.files path) id)
+    → (key : Key) → look s.tables (workspace_in s.crates (edited_at s.files path there)) no_maps key ≡ look s.tables (workspace_of s) no_maps key
+same_looks s path there same alike (keys.Tree key) = on_bool (is_path path (path_in s.tables key.id))
+    (λ on. look-same s.crates s.tables s.files path there key on (same key.krate.0))
+    (λ off. look-other s.crates s.tables s.files path there key off)
+same_looks s path there same alike (keys.Variants id) = on_bool (is_enum_at s.tables path (keys.Variants id))
+    (λ on. enum-same s.crates s.tables s.files path there id on (alike id.loc.container.map.krate.0 id.loc.id))
+    (λ off. enum-other s.crates s.tables s.files path there id off)
+same_looks s path there same alike (keys.Map id) = refl
+
+-- a file whose trees become others marks what asked for it
+altered_marks : {old new : SessionState} (path : List ℕ) (there : Option SourceValue) (k : MapId) (found : Resolution) (key : TreeKey)
     → (shown old.crates key.krate.0 (Some path) there ≢ shown old.crates key.krate.0 (Some path) (file_at old.files path))
     → Becomes old (edited_at old.files path there) new → kept_of old k ≡ Some found → Contains found.asked (keys.Tree key)
     → path_in old.tables key.id ≡ Some path → is_marked new k ≡ true

@@ -1,10 +1,11 @@
-use Rattle.std.proofs.Common.{◌≡◌, ◌⊎◌, inl, inr, ℕ, zero, suc, ◌+◌, ◌<◌, Bool, true, false, List, [], ◌∷◌, ◌++◌, length, slice_index_or, arith, Option, refl, sym, ap, ◌∙◌, subst, Contains}
+use Rattle.std.proofs.Common.{◌≡◌, ◌≢◌, Some, ◌⊎◌, inl, inr, ℕ, zero, suc, ◌+◌, ◌<◌, Bool, true, false, List, [], ◌∷◌, ◌++◌, length, slice_index_or, arith, Option, refl, sym, ap, ◌∙◌, subst, Contains}
 use Rattle.std.proofs.lemmas.List.Elements.{Contains-append_left, Contains-append_right, Contains-append_cases}
 use Rattle.hir_base.specs.declared.ids.MapId.{MapId}
 use Rattle.hir_item_tree.specs.Source.{SourceValue}
 use Rattle.hir_def_map.specs.State.{no_maps}
 use Rattle.hir_base.specs.declared.ids.Crate.{Crate}
-use Rattle.hir_tables.specs.Tables.{TablesValue}
+use Rattle.hir_tables.specs.Tables.{TablesValue, file_at}
+use Rattle.hir_base.specs.declared.ast_id.FileId.{FileId}
 use Rattle.hir_def_collector.specs.Asked.{IsOwnPart}
 use Rattle.hir_def_collector.specs.Keys.{AgreeOn, look, map_keys}
 use Rattle.hir_def_collector.specs.declared.source_database.Key.{Key}
@@ -15,6 +16,7 @@ use Rattle.hir_session.specs.Files.{Files, edited_at, workspace_in}
 use Rattle.hir_session.specs.SessionState.{Resolution}
 use Rattle.hir_session.specs.Marking.{AgreeAt, AreHit, HasAltered, IsAsked, IsJudged, is_enum_at}
 use Rattle.hir_session.specs.Marking.IsJudged.{hit, missed}
+use Rattle.hir_session.proofs.FileLemmas.{agrees_unnumbered}
 use Rattle.hir_session.proofs.Truth.{on_bool, on_same}
 
 -- the crates below were judged
@@ -49,6 +51,15 @@ judging-more tables v w kept k old new so_far (missed alike is) = subst (λ (ids
       (λ e. inr (alike r (ap (λ (n : ℕ). kept_in kept (id_of n)) (sym e) ∙ found)))
       (λ ne. so_far.missed j r (omega arith) found);
 })
+
+-- no run names a file without a number
+pub unnumbered_hit : (crates : List CrateValue) (tables : TablesValue) (F : Files) (path : List ℕ) (there : Option SourceValue) (kept : Resolutions) (hits : List MapId) → hits ≡ []
+    → ((id : FileId) → file_at tables id ≢ Some path) → AreHit tables (workspace_in crates F) (workspace_in crates (edited_at F path there)) kept (length crates) hits
+unnumbered_hit crates tables F path there kept hits none apart =
+    subst (λ (ids : List MapId). AreHit tables (workspace_in crates F) (workspace_in crates (edited_at F path there)) kept (length crates) ids) (sym none) (record {
+      asked = λ id among. absurd (let past : among.0 < 0 = among.1 in omega arith);
+      missed = λ k r below is. inr (agrees_unnumbered crates tables F path there r.asked apart);
+    })
 
 -- ---- the keys of a run
 

@@ -94,13 +94,13 @@ spread_cases f g (here id p) = f p
 spread_cases f g (depends id d among sp) = g d among sp
 
 -- one in a list is in the set, or none is
-any_of : {P : MapId → Type 0} (ids : List MapId) → ((d : MapId) → Contains ids d → P d ⊎ (¬ P d)) → ((d : MapId) × Contains ids d × P d) ⊎ ((d : MapId) → Contains ids d → ¬ P d)
-any_of [] each = inr (λ d among. absurd (let past : among.0 < 0 = among.1 in omega arith))
-any_of {P} (x ∷ xs) each = elim (each x (zero, omega arith, refl)) [
-  | inl yes ↦ inl (x, (zero, omega arith, refl), yes)
-  | inr no ↦ elim (any_of {P} xs (λ d among. each d (later d among))) [
+any_of : (P : MapId → Type 0) (ids : List MapId) → ((d : MapId) → Contains ids d → P d ⊎ (¬ P d)) → ((d : MapId) × Contains ids d × P d) ⊎ ((d : MapId) → Contains ids d → ¬ P d)
+any_of P [] each = inr (λ d among. absurd (let past : among.0 < 0 = among.1 in omega arith))
+any_of P (x ∷ xs) each = elim (each x (zero, omega arith, refl)) [
+  | inl does ↦ inl (x, (zero, omega arith, refl), does)
+  | inr hasnt ↦ elim (any_of P xs (λ d among. each d (later d among))) [
     | inl found ↦ inl (found.0, later found.0 found.1, found.2)
-    | inr none ↦ inr (λ d among. first_or d among no none)
+    | inr none ↦ inr (λ d among. first_or d among hasnt none)
   ]
 ]
   where
@@ -108,8 +108,8 @@ any_of {P} (x ∷ xs) each = elim (each x (zero, omega arith, refl)) [
     later d among = (suc among.0, (let below : among.0 < length xs = among.1 in omega arith), among.2)
 
     first_or : (d : MapId) → Contains (x ∷ xs) d → (¬ P x) → ((e : MapId) → Contains xs e → ¬ P e) → ¬ P d
-    first_or d (zero, within, is) no none = λ p. no (subst P (sym is) p)
-    first_or d (suc n, within, is) no none = none d (n, (omega arith), is)
+    first_or d (zero, within, is) hasnt none = λ p. hasnt (subst P (sym is) p)
+    first_or d (suc n, within, is) hasnt none = none d (n, (omega arith), is)
 
 -- ---- an edit
 
@@ -127,7 +127,7 @@ module _ (s : SessionState) (sound : IsSound s) (F : Files) (hits : List MapId) 
       let place = sound.placed id (some_unmarked (kept_of s id) r is) in
       let own = of_number id place.of_crate in
       elim (hit.missed id.krate.0 r place.within (ap (kept_of s) (sym own) ∙ is)) [
-        | inl yes ↦ inl (subst (λ (x : MapId). Contains hits x) (sym own) yes)
+        | inl does ↦ inl (subst (λ (x : MapId). Contains hits x) (sym own) does)
         | inr alike ↦ inr alike
       ]
 
@@ -138,7 +138,7 @@ module _ (s : SessionState) (sound : IsSound s) (F : Files) (hits : List MapId) 
   touched_or id = on_kept (kept_of s id)
       (λ none. inl (before (none_marked (kept_of s id) none)))
       (λ r is. elim (judged id r is) [
-        | inl yes ↦ inl (hit_touched id yes)
+        | inl does ↦ inl (hit_touched id does)
         | inr alike ↦ inr (untouched id r is alike)
       ])
     where
@@ -151,14 +151,14 @@ module _ (s : SessionState) (sound : IsSound s) (F : Files) (hits : List MapId) 
   reached_or : (n : ℕ) (id : MapId) → id.krate.0 < n → IsReached id ⊎ (¬ IsReached id)
   reached_or zero id low = absurd (omega arith)
   reached_or (suc n) id low = elim (touched_or id) [
-    | inl yes ↦ inl (here id yes)
-    | inr no ↦ elim (any_of {P = IsReached} (follows s id) (λ d among.
+    | inl does ↦ inl (here id does)
+    | inr hasnt ↦ elim (any_of IsReached (follows s id) (λ d among.
         let c = dependency_behind s.crates id d among in
         let lower : c.0.0 < id.krate.0 = sound.below id.krate.0 c.0 c.1 in
         let number : d.krate.0 ≡ c.0.0 = ap (λ (x : MapId). x.krate.0) c.2 in
         reached_or n d (omega arith))) [
           | inl found ↦ inl (depends id found.0 found.1 found.2)
-          | inr none ↦ inr (λ sp. spread_cases no (λ d among rest. none d among rest) sp)
+          | inr none ↦ inr (λ sp. spread_cases hasnt (λ d among rest. none d among rest) sp)
         ]
   ]
 
@@ -168,8 +168,8 @@ module _ (s : SessionState) (sound : IsSound s) (F : Files) (hits : List MapId) 
 
   gone_reached : (id : MapId) → kept_in K id ≡ None → IsReached id
   gone_reached id none = elim (reached_or (suc id.krate.0) id (omega arith)) [
-    | inl yes ↦ yes
-    | inr no ↦ here id (before (none_marked (kept_of s id) (sym (unreached_stays id no) ∙ none)))
+    | inl does ↦ does
+    | inr hasnt ↦ here id (before (none_marked (kept_of s id) (sym (unreached_stays id hasnt) ∙ none)))
   ]
 
   still_none : (id : MapId) → kept_of s id ≡ None → kept_in K id ≡ None
@@ -178,7 +178,7 @@ module _ (s : SessionState) (sound : IsSound s) (F : Files) (hits : List MapId) 
   reached_gone : {id : MapId} → IsReached id → kept_in K id ≡ None
   reached_gone (here id (before m)) = still_none id (marked_none (kept_of s id) m)
   reached_gone (here id (asked_for key r is has ne)) = elim (judged id r is) [
-    | inl yes ↦ forgotten.gone id yes
+    | inl does ↦ forgotten.gone id does
     | inr alike ↦ absurd (ne (alike.same key has))
   ]
   reached_gone (depends id d among sp) = on_kept (kept_of s id)
@@ -212,7 +212,7 @@ module _ (s : SessionState) (sound : IsSound s) (F : Files) (hits : List MapId) 
     few = sound.few;
     below = sound.below;
     behind = sound.behind;
-      placed = λ id off. let was = sound.placed id (was_unmarked id off) in record { of_crate = was.of_crate; within = was.within };
+    placed = λ id off. let was = sound.placed id (was_unmarked id off) in record { of_crate = was.of_crate; within = was.within };
     closed = closed_still;
     current = λ id off.
         let now = sound.current id (was_unmarked id off) in
@@ -226,7 +226,7 @@ module _ (s : SessionState) (sound : IsSound s) (F : Files) (hits : List MapId) 
     where
       unhit : (id : MapId) → is_none (kept_in K id) ≡ false → (r : Resolution) → kept_of s id ≡ Some r → AgreeOn s.tables r.asked (workspace_of s) no_maps edited no_maps
       unhit id off r is = elim (judged id r is) [
-        | inl yes ↦ clash (none_marked (kept_in K id) (forgotten.gone id yes)) off
+        | inl does ↦ clash (none_marked (kept_in K id) (forgotten.gone id does)) off
         | inr alike ↦ alike
       ]
 
@@ -275,11 +275,11 @@ free_own s id r own on = ap (kept_of s) own ∙ marked_none (kept_of s id) on
 -- the place is resolved once its resolution is kept
 pub resolved_of : (old s : SessionState) (K : Resolutions) (id : MapId) (r : Resolution) → Grows old s → r.map.id ≡ id → kept_in K r.map.id ≡ Some r
     → ((j : MapId) → j ≢ r.map.id → kept_in K j ≡ kept_of s j) → Resolved old id r (record s { kept = K })
-resolved_of old s K id r grown own here others = record {
+resolved_of old s K id r grown own kept_here others = record {
   crates = grown.crates;
   tables = grown.tables;
   files = grown.files;
-  here = ap (kept_in K) (sym own) ∙ here;
+  here = ap (kept_in K) (sym own) ∙ kept_here;
   others = λ j ne. others j (λ e. ne (e ∙ own)) ∙ ap (λ (kept : Resolutions). kept_in kept j) grown.kept;
 }
 
@@ -317,7 +317,7 @@ module _ (s : SessionState) (k : ℕ) (r : Resolution) (K : Resolutions) (sound 
     few = sound.few;
     below = sound.below;
     behind = sound.behind;
-      placed = λ j off. on_id j (id_of k)
+    placed = λ j off. on_id j (id_of k)
         (λ e. subst (λ (x : MapId). IsPlace (record s { kept = K }) x) (sym e) (record { of_crate = refl; within = within }))
         (λ ne. let old = sound.placed j (was j ne off) in record { of_crate = old.of_crate; within = old.within });
     closed = λ j d off among. still_unmarked d (on_id j (id_of k)
@@ -348,7 +348,7 @@ module _ (old s : SessionState) (k : ℕ) (r : Resolution) (grown : Grows old s)
 
   -- the session stays sound
   pub resolved_grown : (K : Resolutions) → k < length old.crates → kept_in K r.map.id ≡ Some r → ((j : MapId) → j ≢ r.map.id → kept_in K j ≡ kept_of s j) → IsSound (record s { kept = K })
-  resolved_grown K within here others =
+  resolved_grown K within kept_here others =
       resolved_sound s k r K grown.sound (subst (λ (cs : List CrateValue). k < length cs) (sym grown.crates) within)
       (λ j low. same_mark (id_of j) ∙ first j low) (same_mark (id_of k) ∙ on) found
-      (ap (kept_in K) (sym found.own) ∙ here) (λ j ne. others j (λ e. ne (e ∙ found.own)))
+      (ap (kept_in K) (sym found.own) ∙ kept_here) (λ j ne. others j (λ e. ne (e ∙ found.own)))

@@ -126,7 +126,9 @@ fn is_enum_altered(
     match key {
         Key::Variants(id) => {
             let krate = id.loc.container.map.krate;
-            are_variants_altered(alloc, crates, files, file.path, new, sides, krate, id.loc.id)
+            are_variants_altered(
+                alloc, crates, files, file.path, new, sides, krate, id.loc.id,
+            )
         }
         Key::Tree(_) | Key::Map(_) => Ok(false),
     }

@@ -108,7 +108,14 @@ fn is_tree_altered(
         (Tree key)) }
 {
     if is_file_at(file, key.id) {
-        becomes_another(alloc, crates, key.krate, file.path, files.get(file.path), new)
+        becomes_another(
+            alloc,
+            crates,
+            key.krate,
+            file.path,
+            files.get(file.path),
+            new,
+        )
     } else {
         Ok(false)
     }

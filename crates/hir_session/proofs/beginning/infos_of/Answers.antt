@@ -9,5 +9,8 @@ loop-input-init c = beginning-start _ _ _ c.new-infos.ensures.items
 pub loop-input-preserved : goal.loop-input-preserved
 loop-input-preserved c =
     let within : c.loop-input.input-index < length c.args.inputs.now.items = omega (arith, c.loop-input-test.true, c.deref-input-items.ensures.len) in
-    beginning-more c.loop-input.input-index c.args.inputs.now.items _ _ _ _ c.input-item.result.now c.input-item.result.now within c.input-item.is
+    beginning-more c.loop-input.input-index c.args.inputs.now.items _ _ _ _ c.input-item.result c.input-item.result within (rw c.deref-input-items.ensures.value at c.input-item.is)
     c.in_ok-add_crate.ensures.added c.loop-input.invariant
+
+pub returns-clause-made : goal.returns-clause-made
+returns-clause-made c = beginning-end c.loop-input.input-index c.args.inputs.now.items _ _ (omega (arith, c.loop-input-test.false, c.deref-input-items.ensures.len)) c.loop-input.invariant
