@@ -75,7 +75,6 @@ fn note(alloc: Global, done: &mut Vec<Place>, k: u32) -> Result<(), AllocError>
 
 impl Session {
     /// A session over these crates, numbered in this order, without files.
-    #[tactic(auto, using(crate::proofs::Verdicts::accepted))]
     pub fn new(alloc: Global, inputs: Vec<CrateInput>) -> Result<Session, NewSessionError>
         ensures begins { IfOk result (λ s. Begins (map crate_input_view inputs.items) s) }
         ensures accepted { OnOk result (verdict_of_new (map crate_input_view inputs.items) ≡ Ok tt) }

@@ -1,24 +1,14 @@
 -- Each crate in turn is either not due, or the first that still is.
-use Rattle.std.proofs.Common.{ℕ, ◌∙◌, sym, List, length, arith, ap, Result}
-use Rattle.hir_session.specs.Crates.{CrateValue}
-use Rattle.std.specs.Prelude.{is_none, OnErr}
-use Rattle.hir_base.specs.Place.{PlaceValue}
+use Rattle.std.proofs.Common.{◌∙◌, sym, List, length, arith, ap}
 use Rattle.hir_session.specs.Changes.{RefreshesPartly}
+use Rattle.hir_session.specs.Crates.{CrateValue}
+use Rattle.std.specs.Prelude.{is_none}
 use Rattle.hir_session.specs.Crates.{id_of}
-use Rattle.hir_session.specs.Due.{Grows}
-use Rattle.hir_session.specs.SessionState.{SessionState}
 use Rattle.hir_session.specs.Kept.{Resolutions, kept_in}
 use Rattle.hir_scope.proofs.Rewrites.{on_err}
-use Rattle.hir_session.proofs.Due.{IsRefreshing, refreshing-start, refreshing-grown, refreshing-more, refreshing-skip, refreshing-end, passed_on, overlong_first}
+use Rattle.hir_session.proofs.Due.{refreshing-start, refreshing-grown, refreshing-more, refreshing-skip, refreshing-end, passed_on, overlong_first}
 use Rattle.hir_session.proofs.session.Session.refresh.Goals as goal
 use Rattle.hir_session.proofs.session.Session.refresh.Goals.{then-is_marked_at+in_ok-note+in_ok-resolve_at, else-is_marked_at}
-
--- what was resolved stays where tables grew
-partly : {A E : Type 0} {old mid new : SessionState} {done : List PlaceValue} (r : Result A E) (k : ℕ) → IsRefreshing old mid done k → Grows mid new
-    → OnErr r (RefreshesPartly old new)
-partly {old = old} {new = new} {done = done} r k p grown =
-    let part : RefreshesPartly old new = record { done = done; resolves = (refreshing-grown k p grown).so_far } in
-    on_err r part
 
 pub loop-k-init : goal.loop-k-init
 loop-k-init c = rw c.new-done.ensures.items (refreshing-start _ c.sound.ensures.sound)
@@ -38,7 +28,12 @@ returns-in_err-resolve_at-clause-many c = λ many.
     (c.resolve_at.ensures.many (passed_on _ _ _ _ c.in_err-resolve_at.was c.from_residual-in_err-resolve_at.ensures.1 many))
 
 pub returns-in_err-resolve_at-clause-err : goal.returns-in_err-resolve_at-clause-err
-returns-in_err-resolve_at-clause-err c = partly c.from_residual-in_err-resolve_at.result c.loop-k.k c.loop-k.invariant c.in_err-resolve_at.ensures.err
+returns-in_err-resolve_at-clause-err c =
+    let partly : RefreshesPartly c.args.self.now c.resolve_at.new.self = record {
+      done = _;
+      resolves = (refreshing-grown c.loop-k.k c.loop-k.invariant c.in_err-resolve_at.ensures.err).so_far;
+    } in
+    on_err _ partly
 
 pub loop-k-preserved : goal.loop-k-preserved
 loop-k-preserved c =
