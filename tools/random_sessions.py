@@ -5,9 +5,10 @@ Usage, at the top of the repository: tools/random_sessions.py [--sessions N] [--
 Without --program it takes crates/hir_session_main/out/hir_session_main, which `rt run < /dev/null` builds there.
 With --print it runs nothing, and writes the commands of the sessions as they stand in crates/hir_session_rows/stdin.
 
-A session has one to four crates of one file each, edited and refreshed some times. At its end all files are refreshed,
-and a list of paths is asked at each crate. A second session is handed the sources of that moment at once, and asked
-the same. It ends with 1 at the first session whose answers differ, which it writes to standard error.
+A session has one to four crates, each with a root file, and module files that any of them may name, all with imports and globs.
+Files are set, changed, removed and refreshed some times. At its end all files are refreshed, and a list of paths and the diagnostics are asked at
+each crate. A second session is handed the sources of that moment at once, and asked the same. It ends with 1 at the first
+session whose answers differ, which it writes to standard error.
 """
 import argparse
 import json
@@ -18,6 +19,9 @@ import sys
 NAMES = ["a", "b", "c", "m", "x", "S", "T"]
 VISIBILITIES = [None, None, "pub", "pub", "pub", "crate", {"in": "super"}, "self"]
 ROOTS = ["", "", "", "self::", "super::", "crate::", "::"]
+# a file of a `path` attribute has no module files, or it could name itself twice
+LEAF = "leaf.rs"
+FILES = ["a.rs", "a/mod.rs", "a/b.rs", "a/b/mod.rs", "b.rs", "m.rs", LEAF]
 EDITIONS = ["2015", "2018", "2021", "2024"]
 
 
@@ -27,6 +31,7 @@ class Crates:
     def __init__(self, seed):
         self.random = random.Random(seed)
         self.next_id = 0
+        self.leaf = False
 
     def choose(self, things):
         return self.random.choice(things)
@@ -48,14 +53,21 @@ class Crates:
             return {"list": trees, "path": self.choose(NAMES)}
         if depth and self.random.random() < 0.15:
             return {"single": "self"}
+        if self.random.random() < 0.35:
+            return {"glob": self.path() if not depth else self.choose(NAMES + [None])}
         tree = {"single": self.path() if not depth else self.choose(NAMES)}
         if self.random.random() < 0.5:
-            tree["as"] = self.choose(NAMES)
+            tree["as"] = self.choose(NAMES + ["_"])
         return tree
 
     def item(self, depth):
         kind = self.choose(["Module", "Module", "Use", "Use", "Use", "Struct", "Fn", "Enum", "Const", "Trait", "ExternCrate"])
         name = self.choose(NAMES)
+        if kind == "Module" and not self.leaf and self.random.random() < 0.3:
+            declared = self.node("Module", name=self.choose(["a", "b", "m"]))
+            if self.random.random() < 0.2:
+                declared["attrs"] = [{"path": "path", "literal": LEAF}]
+            return declared
         if kind == "Module":
             return self.node("Module", name=name, nodes=self.items(depth + 1) if depth < 3 else [])
         if kind == "Use":
@@ -73,15 +85,19 @@ class Crates:
             return self.node("Trait", name=name, items=[])
         extern_crate = self.node("ExternCrate", name=self.choose(["d0", "d1", "self"]))
         if self.random.random() < 0.5 or extern_crate["name"] == "self":
-            extern_crate["as"] = name
+            extern_crate["as"] = self.choose([name, name, "_"])
         return extern_crate
 
     def items(self, depth):
         return [self.item(depth) for _ in range(self.random.randint(0, 5))]
 
-    def unit(self):
+    def unit(self, file):
         self.next_id = 0
-        return {"nodes": self.items(0)}
+        self.leaf = file == LEAF
+        unit = {"nodes": self.items(0)}
+        if self.random.random() < 0.05:
+            unit["attrs"] = [{"path": "cfg", "cfg": False}]
+        return unit
 
     def crates(self, count):
         found = []
@@ -94,11 +110,11 @@ class Crates:
         return found
 
 
-def edited(unit, drawn):
-    """The unit with its bodies alone changed, or with another last item."""
+def edited(file, unit, drawn):
+    """The unit with its bodies alone changed, or another one."""
     if drawn.random.random() < 0.3:
         return json.loads(json.dumps(unit).replace('"body": "1"', '"body": "2"'))
-    return drawn.unit()
+    return drawn.unit(file)
 
 
 def session(seed):
@@ -107,21 +123,22 @@ def session(seed):
     crates = drawn.crates(drawn.random.randint(1, 4))
     begin = {"do": "crates", "crates": crates}
     files, commands = {}, [begin]
-    for _ in range(drawn.random.randint(2, 8)):
-        file = drawn.choose(crates)["root"]
+    for _ in range(drawn.random.randint(3, 16)):
+        file = drawn.choose(crates)["root"] if drawn.random.random() < 0.5 else drawn.choose(FILES)
         if files.get(file) is not None and drawn.random.random() < 0.15:
             del files[file]
             commands.append({"do": "remove file", "file": file})
         else:
-            files[file] = edited(files[file], drawn) if file in files else drawn.unit()
+            files[file] = edited(file, files[file], drawn) if file in files else drawn.unit(file)
             commands.append({"do": "set file", "file": file, "unit": files[file]})
         if drawn.random.random() < 0.5:
             commands.append({"do": "refresh"})
     asks = []
     for number in range(len(crates)):
         paths = [name for name in NAMES] + [drawn.path() for _ in range(12)]
-        places = [[number]] + [[number, name] for name in NAMES[:3]]
+        places = 6 * [[number]] + [[number, name] for name in NAMES[:3]]
         asks += [{"do": "resolve", "at": drawn.choose(places), "path": path} for path in paths]
+        asks.append({"do": "diagnostics", "crate": number})
     fresh = [begin] + [{"do": "set file", "file": file, "unit": unit} for file, unit in files.items()]
     last = [{"do": "refresh"}] + asks
     return commands + last, fresh + last, len(asks)

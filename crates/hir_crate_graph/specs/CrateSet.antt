@@ -1,7 +1,11 @@
 -- What is a set of crates?
 use Rattle.std.specs.Prelude.{◌≡◌, ◌==◌, ℕ, ◌<◌, zero, suc, Bool, ◌||◌, List, [], ◌∷◌, if◌then◌else◌}
 use Rattle.std.specs.List.{AllByRecursion, list_any}
+use Rattle.std.specs.Cmp.{IsEquivalence}
+use Rattle.std.specs.Cmp.Lexicographic.{lists_equiv, pointwise}
 use Rattle.hir_base.specs.declared.ids.Crate.{Crate}
+use Rattle.hir_base.specs.contracts.ids.CratePartialEq.TheImpl as krate
+use Rattle.hir_base.specs.contracts.ids.CrateEq.TheImpl.Laws.{laws-law as krate_laws}
 
 abbrev pub same_crate : Crate → Crate → Bool
 same_crate a b = a.0 == b.0
@@ -32,3 +36,10 @@ crates_from test start (suc count) =
 -- those of the crates below a number
 abbrev pub crates_below : (ℕ → Bool) → ℕ → List Crate
 crates_below test count = crates_from test 0 count
+
+-- whether two sets list the same crates
+abbrev pub same_crates : List Crate → List Crate → Bool
+same_crates = pointwise krate.ghosts.eq
+
+pub same_crates_equiv : IsEquivalence same_crates
+same_crates_equiv = lists_equiv krate_laws

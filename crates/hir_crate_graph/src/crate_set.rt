@@ -98,3 +98,35 @@ impl CrateSet {
         })
     }
 }
+
+/// Whether two sets have the same crates.
+impl PartialEq for CrateSet {
+    ghost use Rattle.std.specs.Cmp.{partial_equiv_from_equiv};
+    ghost use Rattle.hir_crate_graph.specs.CrateSet.{same_crates, same_crates_equiv};
+
+    ghost eq = { same_crates };
+
+    ghost laws = { partial_equiv_from_equiv same_crates_equiv };
+
+    fn eq(&self, other: &CrateSet) -> bool {
+        let mut left = self.iter();
+        let mut others = other.iter();
+        'next: while let Some(krate) = left.next() {
+            match others.next() {
+                Some(another) => {
+                    if krate != another {
+                        return false;
+                    }
+                }
+                None => return false,
+            }
+        }
+        others.next().is_none()
+    }
+}
+
+impl Eq for CrateSet {
+    ghost use Rattle.hir_crate_graph.specs.CrateSet.{same_crates_equiv};
+
+    ghost laws = { same_crates_equiv };
+}

@@ -7,14 +7,15 @@ use Rattle.hir_base.specs.declared.ast_id.BlockId.{BlockId}
 use Rattle.hir_base.specs.declared.ids.Crate.{Crate}
 use Rattle.hir_base.specs.declared.ids.MapId.{MapId}
 use Rattle.hir_scope.specs.ModuleTree.{same_crate}
-use Rattle.hir_def_map.specs.Among.{among, among_agrees, is_of_some}
-use Rattle.hir_def_map.specs.Named.{crate_map}
-use Rattle.hir_def_map.specs.State.{Maps, Placed}
+use Rattle.hir_def_map.specs.WorldParts.{among, is_of_some}
+use Rattle.hir_def_map.specs.Inner.PartLaws.{among_agrees}
+use Rattle.hir_def_map.specs.References.{crate_map}
+use Rattle.hir_def_map.specs.Overlay.{Maps, Placed}
 use Rattle.hir_def_collector.specs.declared.source_database.Key.{Key}
-use Rattle.hir_def_collector.specs.Workspace.{TreeLook}
-use Rattle.hir_def_collector.specs.Keys.{Environment, Look, of_tree, of_map, of_variants, absent_tree, look, map_key}
-use Rattle.hir_def_collector.specs.Start.{Beginning, krate_of, root_key, root_tree}
-use Rattle.hir_def_collector.specs.Derivation.{read_by}
+use Rattle.hir_def_collector.specs.Workspace.{ConfigValue, TreeLook, seen_of, transitive_by, transitive_dependencies_in}
+use Rattle.hir_def_collector.specs.Keys.{Environment, Look, of_tree, of_map, of_variants, absent_source, look, map_key}
+use Rattle.hir_tables.specs.Tables.{KeepsTables}
+use Rattle.hir_def_collector.specs.Start.{Beginning, krate_of, read_by, root_key, root_tree}
 
 -- ---- lists
 
@@ -45,7 +46,7 @@ is_of_crate crates id h = go id.block refl (list_any (same_crate id.krate) crate
     go (Some b) e true l f = absurd (let no : ⊥ = cc in no)
     go (Some b) e false l f = absurd (let no : ⊥ = cc in no)
 
-abbrev seen_tree : Look → TreeLook → TreeLook
+abbrev pub seen_tree : Look → TreeLook → TreeLook
 seen_tree (of_tree t) other = t
 seen_tree (of_variants vs) other = other
 seen_tree (of_map m) other = other
@@ -55,27 +56,34 @@ seen_map (of_tree t) other = other
 seen_map (of_variants vs) other = other
 seen_map (of_map m) other = m
 
--- a workspace with its finished maps is like another, where both are spoken of by numbers of their own
+-- a workspace with its finished maps is like another, where the numbers that the one is spoken of by mean the same to the other
 pub record Alike (keys : List Key) (env : Environment) (before : Maps) (other : Environment) (finished : Maps) : Type 0 where
+  pub kept : KeepsTables env.tables other.tables
   pub config : (krate : Crate) → other.workspace.config krate ≡ env.workspace.config krate
-  pub behind : (krate : Crate) → other.workspace.behind krate ≡ env.workspace.behind krate
   pub same : (key : Key) → Contains keys key → look other.tables other.workspace finished key ≡ look env.tables env.workspace before key
 
 module _ (from : Beginning) {keys : List Key} {env other : Environment} {before finished : Maps} (alike : Alike keys env before other finished)
     (root_asked : Contains keys (root_key from.start from.tree))
-    (maps_asked : (krate : Crate) → Contains (env.workspace.behind (krate_of from.start)) krate → Contains keys (map_key krate)) where
+    (maps_asked : (krate : Crate) → Contains (transitive_dependencies_in env.workspace (krate_of from.start)) krate → Contains keys (map_key krate)) where
   pub same_tree : root_tree other.tables other.workspace from ≡ root_tree env.tables env.workspace from
-  same_tree = ap (λ (l : Look). (seen_tree l absent_tree).tree) (alike.same (root_key from.start from.tree) root_asked)
+  same_tree = ap (λ (l : Look). (seen_tree l (seen_of absent_source)).tree) (alike.same (root_key from.start from.tree) root_asked)
 
-  same_map : (id : MapId) → is_of_some (env.workspace.behind (krate_of from.start)) [] id ≡ true → finished id ≡ before id
+  same_configs : other.workspace.config ≡ env.workspace.config
+  same_configs = λ i krate. alike.config krate i
+
+  -- the crates on which a crate depends are the same
+  pub same_transitive : (krate : Crate) → transitive_dependencies_in other.workspace krate ≡ transitive_dependencies_in env.workspace krate
+  same_transitive krate = ap (λ (config : Crate → Option ConfigValue). transitive_by config krate) same_configs
+
+  same_map : (id : MapId) → is_of_some (transitive_dependencies_in env.workspace (krate_of from.start)) [] id ≡ true → finished id ≡ before id
   same_map id h =
-      let behind : List Crate = env.workspace.behind (krate_of from.start) in
-      let own = is_of_crate behind id h in
-      let there : Contains behind id.krate = Contains-from_any exact_crate id.krate behind own.0 in
+      let transitive : List Crate = transitive_dependencies_in env.workspace (krate_of from.start) in
+      let own = is_of_crate transitive id h in
+      let there : Contains transitive id.krate = Contains-from_any exact_crate id.krate transitive own.0 in
       subst (λ (k : MapId). finished k ≡ before k) (sym own.1) (ap (λ (l : Look). seen_map l None) (alike.same (map_key id.krate) (maps_asked id.krate there)))
 
   -- the maps that a run reads are the same
   pub same_read : read_by other.workspace finished from.start ≡ read_by env.workspace before from.start
   same_read =
-      ap (λ (crates : List Crate). among crates [] finished) (alike.behind (krate_of from.start))
-      ∙ among_agrees (env.workspace.behind (krate_of from.start)) [] finished before same_map
+      ap (λ (crates : List Crate). among crates [] finished) (same_transitive (krate_of from.start))
+      ∙ among_agrees (transitive_dependencies_in env.workspace (krate_of from.start)) [] finished before same_map

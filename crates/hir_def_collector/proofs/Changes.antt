@@ -1,11 +1,15 @@
 -- What no change alters, and what changes keep that each of them keeps.
-use Rattle.std.proofs.Common.{◌≡◌, ◌∙◌, ◌+◌, ◌++◌, ℕ, List, [], ◌∷◌, None, Some, refl, sym, ap, append-nil, append_assoc}
-use Rattle.hir_def_map.specs.State.{Maps}
+use Rattle.std.proofs.Common.{◌≡◌, ◌∙◌, ◌+◌, ◌++◌, ℕ, List, [], ◌∷◌, map as list_map, refl, sym, ap, append-nil, append_assoc}
+use Rattle.hir_def_map.specs.Overlay.{Maps}
+use Rattle.hir_def_map.specs.State.{Map}
+use Rattle.hir_import_resolution.specs.Changes.{Change as ImportChange}
+use Rattle.hir_import_resolution.specs.State.{ImportState}
 use Rattle.hir_def_collector.specs.declared.source_database.Key.{Key}
 use Rattle.hir_def_collector.specs.Keys.{Environment}
-use Rattle.hir_def_collector.specs.State.{State}
-use Rattle.hir_def_collector.specs.Changes.{Change, lists, pushes, makes, gives_variants, begins_paths, reaches, takes, goes_on, act, perform}
+use Rattle.hir_def_collector.specs.State.{State, import_state}
+use Rattle.hir_def_collector.specs.Changes.{Change, lists, makes, gives_variants, begins_paths, reaches, changes_imports, tells, goes_on, act, perform}
 use Rattle.hir_def_collector.specs.Steps.{Step, Steps, none, more, acts, asking, keys_read, reads, with_keys}
+use Rattle.hir_def_collector.proofs.ImportEdits.{count_after, crate_data_edited, edit_of, id_edited, map_after}
 
 -- ---- what no change alters
 
@@ -27,13 +31,20 @@ Keeps-trans p q = record {
 
 pub Keeps-act : (s : State) (c : Change) → Keeps s (act s c)
 Keeps-act s (lists home d) = record { count = refl; id = refl; crate_data = refl; dependencies = refl; asked = refl }
-Keeps-act s (pushes home None items source) = record { count = refl; id = refl; crate_data = refl; dependencies = refl; asked = refl }
-Keeps-act s (pushes home (Some name) items source) = record { count = refl; id = refl; crate_data = refl; dependencies = refl; asked = refl }
 Keeps-act s (makes home name origin visibility) = record { count = refl; id = refl; crate_data = refl; dependencies = refl; asked = refl }
 Keeps-act s (gives_variants id variants) = record { count = refl; id = refl; crate_data = refl; dependencies = refl; asked = refl }
 Keeps-act s (begins_paths r) = record { count = refl; id = refl; crate_data = refl; dependencies = refl; asked = refl }
 Keeps-act s (reaches rs) = record { count = refl; id = refl; crate_data = refl; dependencies = refl; asked = refl }
-Keeps-act s (takes i t) = record { count = refl; id = refl; crate_data = refl; dependencies = refl; asked = refl }
+Keeps-act s (changes_imports c) =
+    let i : ImportState = import_state s in
+    record {
+      count = count_after i c;
+      id = ap (λ (m : Map). m.id) (map_after i c) ∙ id_edited i (edit_of i c);
+      crate_data = ap (λ (m : Map). m.crate_data) (map_after i c) ∙ crate_data_edited i (edit_of i c);
+      dependencies = refl;
+      asked = refl;
+    }
+Keeps-act s (tells d) = record { count = refl; id = refl; crate_data = refl; dependencies = refl; asked = refl }
 Keeps-act s (goes_on visits) = record { count = refl; id = refl; crate_data = refl; dependencies = refl; asked = refl }
 
 Keeps-perform : (cs : List Change) (s : State) → Keeps s (perform s cs)
@@ -50,6 +61,12 @@ pub perform_keeps : (P : State → Type 0) (Fine : State → Change → Type 0) 
     → (cs : List Change) (s : State) → P s → AllFine Fine s cs → P (perform s cs)
 perform_keeps P Fine keeps [] s p fine = p
 perform_keeps P Fine keeps (c ∷ cs) s p fine = perform_keeps P Fine keeps cs (act s c) (keeps s c p fine.0) fine.1
+
+-- where each change of imports is fine
+pub all_fine : (Fine : State → Change → Type 0) → ((s : State) (c : ImportChange) → Fine s (changes_imports c)) → (cs : List ImportChange) (s : State)
+    → AllFine Fine s (list_map changes_imports cs)
+all_fine Fine fine [] s = tt
+all_fine Fine fine (c ∷ cs) s = (fine s c, all_fine Fine fine cs (act s (changes_imports c)))
 
 -- ---- steps
 

@@ -1,15 +1,9 @@
 -- What a module lists, it goes on listing.
-use Rattle.std.proofs.Common.{ℕ, zero, suc, ◌<◌, ◌++◌, List, [], ◌∷◌, length, slice_get, Option, Some, Bool, true, false, refl, arith, Contains}
-use Rattle.std.specs.Prelude.{cond}
+use Rattle.std.proofs.Common.{ℕ, zero, suc, ◌<◌, ◌++◌, List, [], ◌∷◌, length, slice_get, Option, Some, refl, arith, Contains}
 use Rattle.std.proofs.lemmas.List.Elements.{Contains-append_left, Contains-append_right}
 use Rattle.hir_base.specs.declared.ids.ModuleDefId.{ModuleDefId}
-use Rattle.hir_scope.specs.Globs.{GlobNames, Place}
-use Rattle.hir_scope.specs.PerNs.{is_nothing}
-use Rattle.hir_scope.specs.Scope.Push.{written_scope, taken_candidates, with_unresolved}
-use Rattle.hir_scope.specs.declared.imports.ImportOrExternCrate.{ImportOrExternCrate}
-use Rattle.hir_scope.specs.declared.per_ns.PerNs.{PerNs}
 use Rattle.hir_def_map.specs.Declaration.{listed}
-use Rattle.hir_def_map.specs.State.{ModuleValue, changed_at, pushed_module, with_module_scope}
+use Rattle.hir_def_map.specs.State.{ModuleValue, changed_at, with_module_scope}
 use Rattle.hir_def_map.specs.declared.nameres.declaration.Declaration.{Declaration}
 use Rattle.hir_def_map.specs.declared.nameres.declaration.Declaration.TheVariants as declaration
 use Rattle.hir_def_collector.specs.Causes.{declarations_of}
@@ -42,14 +36,6 @@ module _ (def : ModuleDefId) where
   Lists-listed (declaration.ExternBlock extern_block) m h = h
   Lists-listed (declaration.UnnamedConst konst) m h = h
   Lists-listed (declaration.ExternCrate extern_crate) m h = h
-
-  -- a push
-  pub Lists-pushed : (globs : GlobNames) (place : Place) (items : PerNs) (import : Option ImportOrExternCrate) (m : ModuleValue) → Lists (Some m) → Lists (Some (pushed_module globs place items import m))
-  Lists-pushed globs place items import m h = go (is_nothing items)
-    where
-      go : (b : Bool) → Contains (cond b (with_unresolved m.scope place.1) (written_scope place.1 (taken_candidates m.scope globs place items import) m.scope)).declarations def
-      go true = h
-      go false = h
 
   -- what was declared just now
   pub Lists-now : (ms : List ModuleValue) (at : ℕ) → at < length ms → Lists (slice_get (changed_at ms at (with_module_scope (listed (declaration.Def def)))) at)

@@ -1,29 +1,39 @@
 -- What a derivation comes to, over each workspace and beside finished maps that agree on what was asked for.
-use Rattle.std.proofs.Common.{◌≡◌, ◌∙◌, ℕ, false, List, [], ◌∷◌, ◌++◌, Option, inl, inr, refl, sym, ap, subst, arith, Contains}
+use Rattle.std.proofs.Common.{◌≡◌, ◌∙◌, ◌==◌, ◌||◌, ℕ, zero, suc, ◌<◌, length, Bool, true, false, List, [], ◌∷◌, ◌++◌, map as list_map, Option, None, Some, ◌⊎◌, inl, inr, refl, sym, ap, subst, arith, Contains, if◌then◌else◌}
+use Rattle.std.specs.List.{list_any}
+use Rattle.std.specs.Prelude.{option_map, unwrap_or}
+use Rattle.hir_crate_graph.specs.CrateSet.{crate_of, crates_from}
+use Rattle.hir_crate_graph.specs.Dependencies.{is_reached}
 use Rattle.std.proofs.lemmas.List.Elements.{Contains-append_left, Contains-append_right, Contains-append_cases}
 use Rattle.hir_base.specs.declared.ids.Crate.{Crate}
 use Rattle.hir_item_tree.specs.ItemTree.{Tree}
-use Rattle.hir_tables.specs.Tables.{TablesValue}
-use Rattle.hir_def_map.specs.Among.{among}
-use Rattle.hir_def_map.specs.State.{Maps}
+use Rattle.hir_tables.specs.Tables.{KeepsTables, TablesValue}
+use Rattle.hir_def_map.specs.WorldParts.{among}
+use Rattle.hir_def_map.specs.Overlay.{Maps}
 use Rattle.hir_def_collector.specs.declared.source_database.Dependency.{Dependency}
 use Rattle.hir_def_collector.specs.declared.source_database.Key.{Key}
 use Rattle.hir_def_collector.specs.declared.source_database.Key.TheVariants as keys
-use Rattle.hir_def_collector.specs.Workspace.{ConfigValue, Workspace, dependencies_in, dependencies_of}
+use Rattle.hir_def_collector.specs.Workspace.{ConfigValue, Workspace, dependencies_of, direct_in, transitive_dependencies_in}
 use Rattle.hir_def_collector.specs.Keys.{AgreeOn, Environment, environment, look, map_key, map_keys}
-use Rattle.hir_def_collector.specs.State.{State, Core, at_rest}
-use Rattle.hir_def_collector.specs.Imports.{kind_of, reached_by}
-use Rattle.hir_def_collector.specs.Start.{Beginning, krate_of, root_key, root_tree, start_by}
-use Rattle.hir_def_collector.specs.Steps.{Reading, Sees, Step, Steps, none, more, keys_read, reads}
+use Rattle.hir_def_collector.specs.State.{State, Core, import_state}
+use Rattle.hir_import_resolution.specs.Directives.{kind_of, reached_by}
+use Rattle.hir_import_resolution.specs.Rest.{BroughtStands, IsAtRest, IsClosed, IsRecorded, IsSettled}
+use Rattle.hir_def_collector.specs.ModuleFiles.{Reading}
+use Rattle.hir_def_collector.specs.Reports.{leftover_diagnostics, with_diagnostics}
+use Rattle.hir_def_collector.specs.Start.{Beginning, began, begin_of, krate_of, read_by, root_key, root_tree, start_by}
+use Rattle.hir_def_collector.specs.Steps.{Sees, Step, Steps, none, more, keys_read, reads}
 use Rattle.hir_def_collector.specs.Causes as causes
-use Rattle.hir_def_collector.specs.Derivation.{IsSettled, BindsWhatItReaches, CollectedValue, Ends, begin_of, leftover_among, read_by}
+use Rattle.hir_def_collector.specs.Derivation.{BindsWhatItReaches, CollectedValue, Ends, IsLinked, leftover_among}
+use Rattle.hir_def_collector.proofs.Lists.{get_inside, get_there}
 use Rattle.hir_def_collector.proofs.Bound.{AreAmong-trans}
 use Rattle.hir_def_collector.proofs.Kept.{AreAmong-by_kind}
 use Rattle.hir_def_collector.proofs.Changes.{asked-Step, data-Steps, id-Steps}
 use Rattle.hir_def_collector.proofs.InRange.{IsInRange}
 use Rattle.hir_def_collector.proofs.Holds.{Holds, Holds-start, Holds-Steps, in_range-start}
-use Rattle.hir_def_collector.proofs.Asks.{asked_by, only, still_asked, still_asked-Step}
-use Rattle.hir_def_collector.proofs.Asked.{Alike, mapped, mapped_from, same_read, same_tree}
+use Rattle.hir_def_collector.proofs.Asks.{IsAskedFor, of_candidate, of_enum_listed, asked_by, only, still_asked, still_asked-Step}
+use Rattle.hir_def_collector.proofs.Asked.{Alike, mapped, mapped_from, same_read, same_transitive, same_tree}
+use Rattle.hir_def_collector.proofs.ModuleFiles.{Numbered-kept}
+use Rattle.hir_def_collector.proofs.Numbers.{tables_stay}
 
 -- what is read of a workspace is read of each that has the same at those keys
 Sees-transfer : (env other : Environment) (finished : Maps) (readings : List Reading)
@@ -40,26 +50,53 @@ same_look env other before finished maps (keys.Tree tree) e = e
 same_look env other before finished maps (keys.Variants id) e = e
 same_look env other before finished maps (keys.Map id) e = refl
 
--- so a step is one over each that has the same at what was asked for
-Step-transfer : {env other : Environment} {finished : Maps} {old new : State}
+-- so a step is one over each that has the same at what was asked for, where its numbers mean the same
+Step-transfer : {env other : Environment} {finished : Maps} {old new : State} → KeepsTables env.tables other.tables
     → ((key : Key) → Contains new.core.asked key → look other.tables other.workspace finished key ≡ look env.tables env.workspace finished key)
     → Step env finished old new → Step other finished old new
-Step-transfer {env = env} {other = other} {finished = finished} {old = old} same step = record {
+Step-transfer {env = env} {other = other} {finished = finished} {old = old} kept same step = record {
   rule = step.rule;
   may = step.may;
   sees = Sees-transfer env other finished (reads old step.rule) (λ key h. same key (subst (λ (ks : List Key). Contains ks key) (sym (asked-Step step)) (Contains-append_right old.core.asked (keys_read (reads old step.rule)) key h))) step.sees;
+  numbered = Numbered-kept env.tables other.tables kept step.rule step.numbered;
   is = step.is;
 }
 
-Steps-transfer : {env other : Environment} {finished : Maps} {from to : State}
+Steps-transfer : {env other : Environment} {finished : Maps} {from to : State} → KeepsTables env.tables other.tables
     → ((key : Key) → Contains to.core.asked key → look other.tables other.workspace finished key ≡ look env.tables env.workspace finished key)
     → Steps env finished from to → Steps other finished from to
-Steps-transfer same none = none
-Steps-transfer same (more old new before step) =
-    more old new (Steps-transfer (λ key asked. same key (still_asked-Step step key asked)) before) (Step-transfer same step)
+Steps-transfer kept same none = none
+Steps-transfer kept same (more old new before step) =
+    more old new (Steps-transfer kept (λ key asked. same key (still_asked-Step step key asked)) before) (Step-transfer kept same step)
+
+-- ---- where imports rest
+
+-- no step is left of imports
+pub record Rests (finished : Maps) (s : State) : Type 0 where
+  pub closed : IsClosed finished (import_state s)
+  pub stands : BroughtStands finished (import_state s)
+  pub settled : (i : ℕ) → IsSettled finished (import_state s) i
+  pub linked : (i : ℕ) → IsLinked finished s i
+
+-- what the path of a glob reaches is among what the glob was taken for, and that is the source of a recorded one
+linked_at : (finished : Maps) (s : State) (i : ℕ) → Holds s → IsSettled finished (import_state s) i → IsRecorded (import_state s) i → IsLinked finished s i
+linked_at finished s i h settled recorded = record {
+  linked = λ r by target at is_glob reaches.
+      let there : i < length s.core.taken = subst (λ (n : ℕ). i < n) (sym h.paired) (get_inside s.core.reached i r at) in
+      let t = get_there s.core.taken i there in
+      recorded.each r t.0 target at t.1 (settled.linked r t.0 by target at t.1 is_glob reaches);
+}
+
+pub rests_at : (finished : Maps) (s : State) → Holds s → IsAtRest finished (import_state s) → Rests finished s
+rests_at finished s h rest = record {
+  closed = rest.closed;
+  stands = rest.stands;
+  settled = rest.settled;
+  linked = λ i. linked_at finished s i h (rest.settled i) (rest.recorded i);
+}
 
 -- where each import is settled, each binds what it reaches
-binds_end : (finished : Maps) (s : State) (i : ℕ) → Holds s → IsSettled finished s i → BindsWhatItReaches finished s i
+binds_end : (finished : Maps) (s : State) (i : ℕ) → Holds s → IsSettled finished (import_state s) i → BindsWhatItReaches finished s i
 binds_end finished s i h settled = record {
   binds = λ r t name at before own gives.
       AreAmong-trans (AreAmong-by_kind (kind_of r.source) (reached_by finished s.core.local s.core.map r) t.namespaces (settled.among r t at before))
@@ -68,37 +105,48 @@ binds_end finished s i h settled = record {
 
 -- what a run that came to rest answers
 abbrev pub rested : Core → List Crate → CollectedValue
-rested c behind = record { map = c.map; local = c.local; leftover = leftover_among c.reached c.taken; round_limit_met = false; asked = c.asked ++ map_keys behind }
+rested c transitive = record {
+  map = with_diagnostics c.map (leftover_diagnostics c.map c.reached c.taken);
+  local = c.local;
+  leftover = leftover_among c.reached c.taken;
+  round_limit_met = false;
+  asked = c.asked ++ map_keys transitive;
+}
 
-module _ (tables : TablesValue) (v : Workspace) (before : Maps) (from : Beginning) (c : Core) (answer : CollectedValue)
-    (steps : Steps (environment tables v) (read_by v before from.start) (begin_of tables v before from) (at_rest c)) (is : answer ≡ rested c (v.behind (krate_of from.start))) where
-  abbrev behind : List Crate
-  behind = v.behind (krate_of from.start)
+-- ---- the end of a run
 
-  keys_are : answer.asked ≡ c.asked ++ map_keys behind
+module _ (tables : TablesValue) (v : Workspace) (before : Maps) (from : Beginning) (last : State) (answer : CollectedValue)
+    (steps : Steps (environment tables v) (read_by v before from.start) (begin_of tables v before from) last) (is : answer ≡ rested last.core (transitive_dependencies_in v (krate_of from.start))) where
+  abbrev c : Core
+  c = last.core
+
+  abbrev transitive : List Crate
+  transitive = transitive_dependencies_in v (krate_of from.start)
+
+  keys_are : answer.asked ≡ c.asked ++ map_keys transitive
   keys_are = ap (λ (a : CollectedValue). a.asked) is
 
-  behind_is : answer.map.crate_data.dependencies ≡ behind
-  behind_is = ap (λ (a : CollectedValue). a.map.crate_data.dependencies) is ∙ ap (λ (d : _). d.dependencies) (data-Steps steps)
+  dependencies_are : answer.map.crate_data.dependencies ≡ transitive
+  dependencies_are = ap (λ (a : CollectedValue). a.map.crate_data.dependencies) is ∙ ap (λ (d : _). d.dependencies) (data-Steps steps)
 
-  begun_in_range : IsInRange (begin_of tables v before from)
-  begun_in_range = in_range-start tables v (read_by v before from.start) from
+  begun_in_range : (tables' : TablesValue) (w : Workspace) (finished : Maps) → IsInRange (begin_of tables' w finished from)
+  begun_in_range tables' w finished = in_range-start tables' w (read_by w finished from.start) from
 
   -- what the steps asked for is among the keys
   asked_among : (key : Key) → Contains c.asked key → Contains answer.asked key
-  asked_among key h = subst (λ (ks : List Key). Contains ks key) (sym keys_are) (Contains-append_left c.asked (map_keys behind) key h)
+  asked_among key h = subst (λ (ks : List Key). Contains ks key) (sym keys_are) (Contains-append_left c.asked (map_keys transitive) key h)
 
-  -- so are the tree with which the run begins, and the map of each crate behind
+  -- so are the tree with which the run begins, and the map of each crate on which it depends
   root_among : Contains answer.asked (root_key from.start from.tree)
   root_among = asked_among (root_key from.start from.tree) (still_asked steps (root_key from.start from.tree) (0, omega arith, refl))
 
-  map_among : (krate : Crate) → Contains behind krate → Contains answer.asked (map_key krate)
+  map_among : (krate : Crate) → Contains transitive krate → Contains answer.asked (map_key krate)
   map_among krate h =
-      subst (λ (ks : List Key). Contains ks (map_key krate)) (sym keys_are) (Contains-append_right c.asked (map_keys behind) (map_key krate) (mapped map_key behind krate h))
+      subst (λ (ks : List Key). Contains ks (map_key krate)) (sym keys_are) (Contains-append_right c.asked (map_keys transitive) (map_key krate) (mapped map_key transitive krate h))
 
   module _ {grown : TablesValue} {w : Workspace} {finished : Maps} (alike : Alike answer.asked (environment tables v) before (environment grown w) finished) where
-    same_behind : w.behind (krate_of from.start) ≡ behind
-    same_behind = alike.behind (krate_of from.start)
+    transitive_same : transitive_dependencies_in w (krate_of from.start) ≡ transitive
+    transitive_same = same_transitive from alike root_among map_among (krate_of from.start)
 
     reads_same : read_by w finished from.start ≡ read_by v before from.start
     reads_same = same_read from alike root_among map_among
@@ -106,65 +154,94 @@ module _ (tables : TablesValue) (v : Workspace) (before : Maps) (from : Beginnin
     -- the run over the other workspace begins alike
     begins_same : begin_of grown w finished from ≡ begin_of tables v before from
     begins_same =
-        ap (λ (maps : Maps). start_by maps (root_tree grown w from) (dependencies_of (w.config (krate_of from.start))) (w.behind (krate_of from.start)) from.start from.tree) reads_same
-        ∙ ap (λ (t : Tree). start_by (read_by v before from.start) t (dependencies_of (w.config (krate_of from.start))) (w.behind (krate_of from.start)) from.start from.tree) (same_tree from alike root_among map_among)
-        ∙ ap (λ (o : Option ConfigValue). start_by (read_by v before from.start) (root_tree tables v from) (dependencies_of o) (w.behind (krate_of from.start)) from.start from.tree) (alike.config (krate_of from.start))
-        ∙ ap (λ (crates : List Crate). start_by (read_by v before from.start) (root_tree tables v from) (dependencies_of (v.config (krate_of from.start))) crates from.start from.tree) same_behind
+        ap (λ (maps : Maps). start_by maps (root_tree grown w from) (w.config (krate_of from.start)) (transitive_dependencies_in w (krate_of from.start)) from.start from.tree) reads_same
+        ∙ ap (λ (t : Tree). start_by (read_by v before from.start) t (w.config (krate_of from.start)) (transitive_dependencies_in w (krate_of from.start)) from.start from.tree) (same_tree from alike root_among map_among)
+        ∙ ap (λ (o : Option ConfigValue). start_by (read_by v before from.start) (root_tree tables v from) o (transitive_dependencies_in w (krate_of from.start)) from.start from.tree) (alike.config (krate_of from.start))
+        ∙ ap (λ (crates : List Crate). start_by (read_by v before from.start) (root_tree tables v from) (v.config (krate_of from.start)) crates from.start from.tree) transitive_same
 
-    derived_over : Steps (environment grown w) (read_by w finished from.start) (begin_of grown w finished from) (at_rest c)
+    derived_over : Steps (environment grown w) (read_by w finished from.start) (begin_of grown w finished from) last
     derived_over =
-        subst (λ (maps : Maps). Steps (environment grown w) maps (begin_of grown w finished from) (at_rest c)) (sym reads_same)
-        (subst (λ (s : State). Steps (environment grown w) (read_by v before from.start) s (at_rest c)) (sym begins_same)
-        (Steps-transfer (λ key h. same_look (environment tables v) (environment grown w) before finished (read_by v before from.start) key (alike.same key (asked_among key h))) steps))
+        subst (λ (maps : Maps). Steps (environment grown w) maps (begin_of grown w finished from) last) (sym reads_same)
+        (subst (λ (s : State). Steps (environment grown w) (read_by v before from.start) s last) (sym begins_same)
+        (Steps-transfer alike.kept (λ key h. same_look (environment tables v) (environment grown w) before finished (read_by v before from.start) key (alike.same key (asked_among key h))) steps))
 
-    caused_asked : (key : Key) → Contains c.asked key → causes.HasCause w from (at_rest c) key
-    caused_asked key h = elim (asked_by begun_in_range steps key h) [
+    caused_by : (key : Key) → IsAskedFor grown w (read_by w finished from.start) (begin_of grown w finished from) last key → causes.HasCause grown w finished from last key
+    caused_by key (of_enum_listed p) = causes.declared_enum p.home p.id p.listed p.is
+    caused_by key (of_candidate at before after p) = causes.candidate at (record { before = before; after = after }) p
+
+    caused_asked : (key : Key) → Contains c.asked key → causes.HasCause grown w finished from last key
+    caused_asked key h = elim (asked_by (begun_in_range grown w finished) derived_over key h) [
       | inl first ↦ causes.root_tree (sym (only (root_key from.start from.tree) key first))
-      | inr p ↦ causes.declared_enum p.home p.id p.listed p.is
+      | inr p ↦ caused_by key p
     ]
 
-    caused_over : (key : Key) → Contains answer.asked key → causes.HasCause w from (at_rest c) key
+    caused_over : (key : Key) → Contains answer.asked key → causes.HasCause grown w finished from last key
     caused_over key among =
-        elim (Contains-append_cases c.asked (map_keys behind) key (subst (λ (ks : List Key). Contains ks key) keys_are among)) [
+        elim (Contains-append_cases c.asked (map_keys transitive) key (subst (λ (ks : List Key). Contains ks key) keys_are among)) [
           | inl own ↦ caused_asked key own
           | inr later ↦
-              let found = mapped_from map_key behind key later in
-              causes.dependency found.0 (subst (λ (crates : List Crate). Contains crates found.0) (sym same_behind) found.1) (sym found.2)
+              let found = mapped_from map_key transitive key later in
+              causes.dependency found.0 (subst (λ (crates : List Crate). Contains crates found.0) (sym transitive_same) found.1) (sym found.2)
         ]
 
     -- where a derivation over one workspace ends, one ends over each that is like it at what was asked for
-    pub ends_alike : ((i : ℕ) → IsSettled (read_by v before from.start) (at_rest c) i) → Ends grown w finished from answer
-    ends_alike settled =
-        let all : (i : ℕ) → IsSettled (read_by w finished from.start) (at_rest c) i =
-        subst (λ (maps : Maps). (i : ℕ) → IsSettled maps (at_rest c) i) (sym reads_same) settled in
+    pub ends_alike : last.agenda ≡ [] → Rests (read_by v before from.start) last → Ends grown w finished from answer
+    ends_alike visited rests =
+        let all : Rests (read_by w finished from.start) last = subst (λ (maps : Maps). Rests maps last) (sym reads_same) rests in
         record {
-          last = at_rest c;
+          last = last;
           derived = derived_over;
-          visited = refl;
-          settled = λ unlimited. all;
-          binds = λ unlimited i. binds_end (read_by w finished from.start) (at_rest c) i (Holds-Steps steps begun_in_range (Holds-start tables v (read_by v before from.start) from)) (all i);
+          visited = visited;
+          closed = all.closed;
+          stands = all.stands;
+          settled = λ unlimited. all.settled;
+          binds = λ unlimited i. binds_end (read_by w finished from.start) last i
+              (Holds-Steps steps (begun_in_range tables v before) (Holds-start tables v (read_by v before from.start) from)) (all.settled i);
+          linked = λ unlimited. all.linked;
           unlimited = ap (λ (a : CollectedValue). a.round_limit_met) is;
           own = ap (λ (a : CollectedValue). a.map.id) is ∙ id-Steps steps;
           map_is = ap (λ (a : CollectedValue). a.map) is;
           local_is = ap (λ (a : CollectedValue). a.local) is;
           leftover_is = ap (λ (a : CollectedValue). a.leftover) is;
-          asked_is = keys_are ∙ ap (λ (crates : List Crate). c.asked ++ map_keys crates) (sym same_behind);
-          behind_is = behind_is ∙ sym same_behind;
+          asked_is = keys_are ∙ ap (λ (crates : List Crate). c.asked ++ map_keys crates) (sym transitive_same);
+          dependencies_are = dependencies_are ∙ sym transitive_same;
           caused = caused_over;
         }
 
   -- so it does over each that agrees on it
-  pub ends_over : {w : Workspace} {finished : Maps} → AgreeOn tables answer.asked v before w finished → ((i : ℕ) → IsSettled (read_by v before from.start) (at_rest c) i) → Ends tables w finished from answer
-  ends_over agrees settled = ends_alike (record { config = agrees.config; behind = agrees.behind; same = agrees.same }) settled
+  pub ends_over : {w : Workspace} {finished : Maps} → AgreeOn tables answer.asked v before w finished → last.agenda ≡ [] → IsAtRest (read_by v before from.start) (import_state last)
+      → Ends tables w finished from answer
+  ends_over agrees visited rest =
+      ends_alike (record { kept = tables_stay tables; config = agrees.config; same = agrees.same }) visited
+      (rests_at (read_by v before from.start) last (Holds-Steps steps (begun_in_range tables v before) (Holds-start tables v (read_by v before from.start) from)) rest)
 
--- a run over the parts of a workspace, beside the maps that it may read, is one over the workspace beside all finished maps
-module _ (tables : TablesValue) (w : Workspace) (finished : Maps) (from : Beginning) (part : Maps) (dependencies : List Dependency) (behind : List Crate)
-    (reads : part ≡ among behind [] finished) (depends : dependencies ≡ dependencies_in w (krate_of from.start)) (stands : behind ≡ w.behind (krate_of from.start)) where
+-- a run beside the maps that it may read is one beside all finished maps
+module _ (tables : TablesValue) (w : Workspace) (finished : Maps) (from : Beginning) (part : Maps) (transitive : List Crate)
+    (reads : part ≡ among transitive [] finished) (depends : transitive ≡ transitive_dependencies_in w (krate_of from.start)) where
   pub read_whole : part ≡ read_by w finished from.start
-  read_whole = reads ∙ ap (λ (crates : List Crate). among crates [] finished) stands
+  read_whole = reads ∙ ap (λ (crates : List Crate). among crates [] finished) depends
 
-  pub begun : (P : Maps → State → Type 0) → P part (start_by part (root_tree tables w from) dependencies behind from.start from.tree) → P (read_by w finished from.start) (begin_of tables w finished from)
+  pub begun : (P : Maps → State → Type 0) → P part (began tables w part transitive from.start from.tree) → P (read_by w finished from.start) (begin_of tables w finished from)
   begun P h =
-      subst (λ (maps : Maps). P maps (start_by maps (root_tree tables w from) (dependencies_in w (krate_of from.start)) (w.behind (krate_of from.start)) from.start from.tree)) read_whole
-      (subst (λ (crates : List Crate). P part (start_by part (root_tree tables w from) (dependencies_in w (krate_of from.start)) crates from.start from.tree)) stands
-      (subst (λ (ds : List Dependency). P part (start_by part (root_tree tables w from) ds behind from.start from.tree)) depends h))
+      subst (λ (maps : Maps). P maps (began tables w maps (transitive_dependencies_in w (krate_of from.start)) from.start from.tree)) read_whole
+      (subst (λ (crates : List Crate). P part (began tables w part crates from.start from.tree)) depends h)
+
+-- a crate that isn't there depends on none
+none_reached : (direct : ℕ → List Crate) (k steps j : ℕ) → direct k ≡ [] → is_reached direct steps k j ≡ false
+none_reached direct k zero j e = refl
+none_reached direct k (suc steps) j e = ap (λ (crates : List Crate). list_any (λ (d : Crate). j == d.0 || is_reached direct steps d.0 j) crates) e
+
+none_from : (test : ℕ → Bool) → ((j : ℕ) → test j ≡ false) → (start count : ℕ) → crates_from test start count ≡ []
+none_from test never start zero = refl
+none_from test never start (suc count) =
+    ap (λ (b : Bool). if b then crate_of start ∷ crates_from test (suc start) count else crates_from test (suc start) count) (never start) ∙ none_from test never (suc start) count
+
+pub depends_on : (w : Workspace) (krate : Crate) (o : Option (List Crate)) → o ≡ option_map (λ _. transitive_dependencies_in w krate) (w.config krate)
+    → unwrap_or o [] ≡ transitive_dependencies_in w krate
+depends_on w krate o e = ap (λ (p : Option (List Crate)). unwrap_or p []) e ∙ go (w.config krate) refl
+  where
+    go : (config : Option ConfigValue) → w.config krate ≡ config → unwrap_or (option_map (λ _. transitive_dependencies_in w krate) config) [] ≡ transitive_dependencies_in w krate
+    go None f =
+        let nothing : direct_in w krate.0 ≡ [] = ap (λ (c : Option ConfigValue). list_map (λ (d : Dependency). d.krate) (dependencies_of c)) f in
+        sym (none_from (is_reached (direct_in w) krate.0 krate.0) (λ j. none_reached (direct_in w) krate.0 krate.0 j nothing) 0 krate.0)
+    go (Some c) f = refl

@@ -1,30 +1,35 @@
 -- No step takes a module, a binding or a declaration away.
-use Rattle.std.proofs.Common.{◌≡◌, ℕ, ◌+◌, ◌<◌, ◌≤◌, List, [], ◌∷◌, length, Option, None, Some, sym, ap, subst, arith}
+use Rattle.std.proofs.Common.{◌≡◌, ℕ, ◌+◌, ◌<◌, ◌≤◌, List, [], ◌∷◌, length, Option, None, Some, sym, ap, subst, arith, Contains}
 use Rattle.hir_base.specs.declared.ids.EnumId.{EnumId}
 use Rattle.hir_base.specs.declared.ids.ExternBlockId.{ExternBlockId}
 use Rattle.hir_base.specs.declared.ids.ModuleDefId.{ModuleDefId}
 use Rattle.hir_base.specs.declared.ids.ModuleId.{ModuleId}
+use Rattle.hir_scope.specs.Scope.{ScopeValue}
 use Rattle.hir_scope.specs.declared.per_ns.PerNs.{PerNs}
 use Rattle.hir_scope.specs.declared.visibility.Visibility.{Visibility}
-use Rattle.hir_def_map.specs.State.{Map, Maps, Variants, changed_at, entry_at, module_at, new_id, new_module, no_globs, place_at, pushed_module, with_child, with_declared, with_enum, with_extern_block, with_module, with_module_scope, with_scope}
+use Rattle.hir_def_map.specs.State.{Map, Variants, changed_at, entry_at, module_at, new_id, new_module, no_globs, numbered, with_child, with_declared, with_enum, with_extern_block, with_module, with_module_scope, with_scope}
+use Rattle.hir_def_map.specs.Overlay.{Maps}
 use Rattle.hir_def_map.specs.Declaration.{listed}
-use Rattle.hir_def_map.proofs.Grown.{entry_at-with_module}
+use Rattle.hir_def_map.proofs.Grown.{entry_at-with_module, length-changed}
 use Rattle.hir_def_map.specs.Listed.{KeepsNames}
 use Rattle.hir_def_map.proofs.Listed.{KeepsNames-listed}
-use Rattle.hir_def_map.proofs.StaysComplete.{length-made}
+use Rattle.hir_def_map.proofs.StaysWellFormed.{length-made}
 use Rattle.hir_def_map.specs.declared.nameres.declaration.Declaration.{Declaration as Listing}
 use Rattle.hir_def_map.specs.declared.nameres.declaration.Declaration.TheVariants as declaration
+use Rattle.hir_def_map.specs.Macros.{with_diagnostic}
+use Rattle.hir_def_map.specs.declared.nameres.diagnostics.DefDiagnostic.{DefDiagnostic}
 use Rattle.hir_def_map.specs.declared.nameres.origin.ModuleOrigin.{ModuleOrigin}
 use Rattle.hir_def_collector.specs.declared.collector.declaration.Declaration.{Declaration}
-use Rattle.hir_def_collector.specs.declared.collector.imports.ImportSource.{ImportSource}
 use Rattle.hir_def_collector.specs.Keys.{Environment}
-use Rattle.hir_def_collector.specs.State.{Core, State, counted, with_map}
+use Rattle.hir_def_collector.specs.State.{Core, State, counted, import_state, with_map}
 use Rattle.hir_def_collector.specs.ItemIds.{module_id}
-use Rattle.hir_def_collector.specs.Imports.{AreAmong, namespaces_of, bound_as, bound_in, pushing}
-use Rattle.hir_def_collector.specs.Changes.{Change, lists, pushes, makes, gives_variants, begins_paths, reaches, takes, goes_on, act, perform}
+use Rattle.hir_import_resolution.specs.Directives.{AreAmong, namespaces_of}
+use Rattle.hir_def_collector.specs.Items.{bound_in}
+use Rattle.hir_def_collector.specs.Changes.{Change, lists, makes, gives_variants, begins_paths, reaches, changes_imports, tells, goes_on, act, perform}
 use Rattle.hir_def_collector.specs.Steps.{Step, Steps, none, more, acts, asking, with_declaration}
-use Rattle.hir_def_collector.proofs.Declared.{Lists, Lists-changed, Lists-longer, Lists-listed, Lists-pushed}
-use Rattle.hir_def_collector.proofs.Bound.{AreAmong-same, AreAmong-trans, AreAmong-by, kept-bound_in, kept-bound_as, length-bound_in, length-bound_as}
+use Rattle.hir_def_collector.proofs.Declared.{Lists, Lists-changed, Lists-longer, Lists-listed}
+use Rattle.hir_def_collector.proofs.Bound.{AreAmong-same, AreAmong-trans, AreAmong-by, KeepsBindings, among-changed, keeps-edit}
+use Rattle.hir_def_collector.proofs.ImportEdits.{Edit, edit, edit_of, edited, map_after, pushes_to}
 
 -- the modules, what their names are bound to and what they list stay
 pub record Grows (old new : Map) : Type 0 where
@@ -67,30 +72,20 @@ Grows-with_enum m id variants = record {
 
 -- ---- what is bound
 
-Lists-bound_in : (m : Map) (home : ℕ) (name : List ℕ) (items : PerNs) (source : Option ImportSource) (at : ℕ) (def : ModuleDefId)
-    → Lists def (module_at m at) → Lists def (module_at (bound_in m home name items source) at)
-Lists-bound_in m home name items source at def h =
-    Lists-changed def m.modules home (pushed_module no_globs (place_at m.id home name) items (pushing source))
-    (Lists-pushed def no_globs (place_at m.id home name) items (pushing source)) at h
-
-Lists-bound_as : (m : Map) (home : ℕ) (name : Option (List ℕ)) (items : PerNs) (source : Option ImportSource) (at : ℕ) (def : ModuleDefId)
-    → Lists def (module_at m at) → Lists def (module_at (bound_as m home name items source) at)
-Lists-bound_as m home None items source at def h = h
-Lists-bound_as m home (Some name) items source at def h = Lists-bound_in m home name items source at def h
-
-pub Grows-bound_in : (m : Map) (home : ℕ) (name : List ℕ) (items : PerNs) (source : Option ImportSource) → Grows m (bound_in m home name items source)
-Grows-bound_in m home name items source = record {
-  longer = let same : length (bound_in m home name items source).modules ≡ length m.modules = length-bound_in m home name items source in omega arith;
-  kept = λ at other. kept-bound_in m home name items source at other;
-  listed = λ at def h. Lists-bound_in m home name items source at def h;
+-- a change of one scope that keeps what it binds
+pub Grows-scope : (m : Map) (at : ℕ) (change : ScopeValue → ScopeValue) → KeepsBindings change → Grows m (with_scope m at change)
+Grows-scope m at change keeps = record {
+  longer = let same : length (with_scope m at change).modules ≡ length m.modules = length-changed m.modules at (with_module_scope change) in omega arith;
+  kept = λ k name. among-changed m.modules at change keeps k name;
+  listed = λ k def h. Lists-changed def m.modules at (with_module_scope change) (λ v listed. subst (λ (defs : List ModuleDefId). Contains defs def) (sym (keeps.declared v.scope)) listed) k h;
 }
 
-pub Grows-bound_as : (m : Map) (home : ℕ) (name : Option (List ℕ)) (items : PerNs) (source : Option ImportSource) → Grows m (bound_as m home name items source)
-Grows-bound_as m home name items source = record {
-  longer = let same : length (bound_as m home name items source).modules ≡ length m.modules = length-bound_as m home name items source in omega arith;
-  kept = λ at other. kept-bound_as m home name items source at other;
-  listed = λ at def h. Lists-bound_as m home name items source at def h;
-}
+pub Grows-edited : (m : Map) (o : Option (ℕ × Edit)) → Grows m (edited m o)
+Grows-edited m None = Grows-same m
+Grows-edited m (Some e) = Grows-scope m e.0 (edit (numbered m.id e.0) e.1) (keeps-edit (numbered m.id e.0) e.1)
+
+pub Grows-bound_in : (m : Map) (home : ℕ) (name : List ℕ) (items : PerNs) → Grows m (bound_in m home name items)
+Grows-bound_in m home name items = Grows-edited m (Some (home, pushes_to no_globs name items None))
 
 pub Grows-with_module : (m : Map) (home : ℕ) (name : List ℕ) (origin : ModuleOrigin) (vis : Visibility) (above : Option ModuleId) → Grows m (with_module m home name (new_module origin vis above))
 Grows-with_module m home name origin vis above = record {
@@ -101,16 +96,21 @@ Grows-with_module m home name origin vis above = record {
       (Lists-changed def m.modules home (with_child name (new_id m)) (λ v listed. listed) at h);
 }
 
+-- a diagnostic is added
+pub Grows-told : (m : Map) (d : DefDiagnostic) → Grows m (with_diagnostic m d)
+Grows-told m d = let same : Grows m m = Grows-same m in record { longer = same.longer; kept = same.kept; listed = same.listed }
+
 -- ---- changes
 
 pub Grows-act : (s : State) (c : Change) → Grows s.core.map (act s c).core.map
 Grows-act s (lists home d) = Grows-listed s.core.map home d
-Grows-act s (pushes home name items source) = Grows-bound_as s.core.map home name items source
 Grows-act s (makes home name origin visibility) = Grows-with_module s.core.map home name origin visibility (Some (module_id s.core.map home))
 Grows-act s (gives_variants id variants) = Grows-with_enum s.core.map id variants
 Grows-act s (begins_paths r) = Grows-same s.core.map
 Grows-act s (reaches rs) = Grows-same s.core.map
-Grows-act s (takes i t) = Grows-same s.core.map
+Grows-act s (changes_imports c) =
+    subst (λ (m : Map). Grows s.core.map m) (sym (map_after (import_state s) c)) (Grows-edited s.core.map (edit_of (import_state s) c))
+Grows-act s (tells d) = Grows-told s.core.map d
 Grows-act s (goes_on visits) = Grows-same s.core.map
 
 pub Grows-perform : (cs : List Change) (s : State) → Grows s.core.map (perform s cs).core.map
@@ -135,7 +135,7 @@ longer_by_module old new home name origin vis above d is =
     let made : Map = with_module old.map home name (new_module origin vis above) in
     let one_more : length made.modules ≡ length old.map.modules + 1 = length-made old.map home name (new_module origin vis above) in
     let kept : length made.modules ≤ length (with_declaration made home d).modules =
-    (Grows-trans (Grows-listed made home (declaration.Def d.def)) (Grows-bound_in (with_declared made home d.def) home d.name d.items None)).longer in
+    (Grows-trans (Grows-listed made home (declaration.Def d.def)) (Grows-bound_in (with_declared made home d.def) home d.name d.items)).longer in
     let below : length old.map.modules < length (with_declaration made home d).modules = omega arith in
     rw is below
 

@@ -1,9 +1,11 @@
 -- A run binds only what its root file writes, and what the finished maps bind.
-use Rattle.std.specs.Prelude.{◌≡◌, ◌==◌, ◌&&◌, ◌||◌, ℕ, zero, suc, ◌<◌, ◌≤◌, List, [], ◌∷◌, length, Bool, true, false, is_some, Option, None, Some, cond, fold, not, is_none, map as list_map, option_and_then, option_map, slice_get, unwrap_or, if◌then◌else◌}
+use Rattle.std.specs.Prelude.{◌≡◌, ◌==◌, ◌&&◌, ◌||◌, ℕ, zero, suc, ◌<◌, ◌≤◌, List, [], ◌∷◌, ◌++◌, length, Bool, true, false, is_some, Option, None, Some, cond, fold, not, is_none, map as list_map, option_and_then, option_map, slice_get, unwrap_or, if◌then◌else◌}
 use Rattle.std.specs.List.{list_any}
 use Rattle.std.specs.Ordering.{nat_cmp}
-use Rattle.std.specs.Cmp.Lexicographic.{slice_cmp}
-use Rattle.std.proofs.Common.{ap, refl, subst, sym, ◌∙◌, arith}
+use Rattle.std.specs.Cmp.Lexicographic.{pointwise, slice_cmp}
+use Rattle.std.specs.Prelude.{nat_eq}
+use Rattle.std.proofs.Common.{Contains, ap, refl, subst, sym, ◌∙◌, arith}
+use Rattle.std.proofs.lemmas.List.Elements.{Contains-append_left, Contains-append_right}
 use mathlib.Core.Bool.{true≢false}
 use Rattle.hir_base.specs.contracts.ids.MapIdPartialEq.TheImpl as map_id
 use Rattle.hir_base.specs.declared.ids.AdtId.TheVariants as adts
@@ -13,6 +15,7 @@ use Rattle.hir_base.specs.declared.ids.MapId.{MapId}
 use Rattle.hir_base.specs.declared.ids.ModuleDefId.{ModuleDefId}
 use Rattle.hir_base.specs.declared.ids.ModuleDefId.TheVariants as definitions
 use Rattle.hir_base.specs.declared.ids.ModuleId.{ModuleId}
+use Rattle.hir_base.specs.declared.ids.TraitId.{TraitId}
 use Rattle.hir_base.specs.declared.macro_kind.MacroId.{MacroId}
 use Rattle.hir_item_tree.specs.Collected.{is_enabled}
 use Rattle.hir_item_tree.specs.Imports.{imports_of}
@@ -26,53 +29,86 @@ use Rattle.hir_item_tree.specs.declared.shape.FieldsShape.TheVariants.{Record, T
 use Rattle.hir_use_tree.specs.declared.imports.ImportKind.{ImportKind}
 use Rattle.hir_use_tree.specs.declared.imports.ImportKind.TheVariants as import_kinds
 use Rattle.hir_item_tree.specs.declared.side_lists.VariantItem.{VariantItem}
+use Rattle.hir_item_tree.specs.declared.tree_id.TreeKey.{TreeKey}
+use Rattle.hir_mod_dir.specs.Directory.{Directory}
+use Rattle.hir_mod_dir.specs.ModuleFiles.{inline_directory}
+use Rattle.hir_def_map.specs.declared.nameres.diagnostics.DefDiagnostic.{DefDiagnostic}
+use Rattle.hir_def_map.specs.declared.nameres.origin.ModuleOrigin.{ModuleOrigin}
 use Rattle.hir_scope.specs.ModuleTree.{is_at_or_above, same_crate, same_map, same_module}
 use Rattle.hir_scope.specs.PerNs.{keep_item, Item}
 use Rattle.hir_scope.specs.Visibility.{both_in, either_written, lower_of}
+use Rattle.hir_scope.specs.declared.imports.GlobId.{GlobId}
+use Rattle.hir_scope.specs.declared.imports.ImportId.{ImportId}
 use Rattle.hir_scope.specs.declared.imports.ImportOrExternCrate.{ImportOrExternCrate}
+use Rattle.hir_scope.specs.declared.imports.ImportOrExternCrate.TheVariants as ways
 use Rattle.hir_scope.specs.declared.imports.ImportOrGlob.{ImportOrGlob}
 use Rattle.hir_scope.specs.declared.per_ns.PerNs.{PerNs}
 use Rattle.hir_scope.specs.declared.visibility.Visibility.{Visibility}
 use Rattle.hir_scope.specs.declared.visibility.Visibility.TheVariants as visibilities
-use Rattle.hir_def_map.specs.Chains.{above_in}
+use Rattle.hir_def_map.specs.Ancestors.{above_in}
 use Rattle.hir_def_map.specs.Closed.{AreThere, IsClosed, IsThere, ModuleIsThere, PathsLeadToWhatIsThere, TypeIsThere}
-use Rattle.hir_def_map.specs.Complete.{AreWhole}
-use Rattle.hir_def_map.proofs.NoneOf.{neither, none_at, none_inserted, not_first, not_second}
+use Rattle.hir_def_map.specs.WellFormed.{AreWellFormed}
+use Rattle.hir_def_map.proofs.NoneOf.{neither, none_at, none_inserted, none_inserted_last, not_first, not_second}
 use Rattle.hir_def_map.specs.Reaches.{by_import}
 use Rattle.hir_def_map.specs.Scoping.{Resolution, resolution_of}
 use Rattle.hir_def_map.specs.Sources.{HoldsNowhere, HoldsNowhereIn, HoldsOfNone, HoldsOfNoExtern, PathsAnswerFromSources, SourceTest, on_def, on_extern_entry, on_import, on_macro, on_macro_item, on_origin, on_some, on_type, on_value, on_value_def, on_value_import, on_values, on_variant, on_visibility}
-use Rattle.hir_def_map.specs.State.{CrateData, Local, Map, Maps, Placed, Variants, beside, crate_root, module_at, module_in, new_id, no_globs, placed_in, root_of, with_name}
-use Rattle.hir_def_map.proofs.StaysComplete.{IsClosed-beside, LocalIsThere-begins, module_there}
-use Rattle.hir_def_map.proofs.StaysSourced.{HoldsNowhere-beside, HoldsNowhereIn-enum, HoldsNowhereIn-listed, HoldsNowhereIn-made, HoldsNowhereIn-prelude, HoldsNowhereIn-pushed}
+use Rattle.hir_def_map.specs.State.{CrateData, Local, Map, Variants, crate_root, module_at, new_id, root_of, with_extern}
+use Rattle.hir_def_map.specs.Overlay.{Maps, Placed, entry_in, overlay, module_in, placed_in}
+use Rattle.hir_def_map.proofs.StaysWellFormed.{IsClosed-overlay, LocalIsThere-begins, module_there}
+use Rattle.hir_def_map.proofs.StaysSourced.{HoldsNowhere-overlay, HoldsNowhereIn-enum, HoldsNowhereIn-listed, HoldsNowhereIn-made, HoldsNowhereIn-prelude}
 use Rattle.hir_def_map.specs.Visibilities.{by_visibility, module_seen, path_seen, type_seen}
 use Rattle.hir_def_collector.specs.declared.collector.Start.{Start}
 use Rattle.hir_def_collector.specs.declared.collector.Start.TheVariants as starts
 use Rattle.hir_def_collector.specs.declared.collector.declaration.Declaration.{Declaration}
-use Rattle.hir_def_collector.specs.declared.collector.imports.ImportSource.{ImportSource}
-use Rattle.hir_def_collector.specs.declared.collector.imports.ImportSource.TheVariants as sources
-use Rattle.hir_def_collector.specs.declared.collector.imports.ReachedImport.{ReachedImport}
+use Rattle.hir_glob_imports.specs.Moves.{brought_vis, shown as shown_along}
+use Rattle.hir_glob_imports.specs.Rules.{Rule as GlobRule, May as MayAlong, acts as glob_acts, brings, copies, copies_along, follows, follows_along, raises, raises_along}
+use Rattle.hir_glob_imports.specs.View.{View}
+use Rattle.hir_glob_imports.specs.declared.edge.Bound.{Bound}
+use Rattle.hir_glob_imports.specs.declared.edge.Edge.{Edge}
+use Rattle.hir_glob_imports.specs.declared.edge.Key.{Key as GlobKey}
+use Rattle.hir_glob_imports.specs.declared.edge.Key.TheVariants.{Types, Values, Macros, Unnamed}
+use Rattle.hir_glob_imports.specs.declared.edge.Slot.{Slot}
+use Rattle.hir_glob_imports.specs.declared.edge.Target.{Target}
+use Rattle.hir_glob_imports.specs.declared.edge.Target.TheVariants as targets
+use Rattle.hir_import_resolution.specs.Changes.{Change as ImportChange, act as act_on_imports, along, keeps_trait, pushes, pushing, records, takes}
+use Rattle.hir_import_resolution.specs.Names.{ScopesValue, bound_of, entries_of, is_foreign, scope_table, traits_of, view_of}
+use Rattle.hir_import_resolution.specs.Rules.{Rule as ImportRule, May as MayImport, acts as import_acts, goes_along, takes_glob, takes_import}
+use Rattle.hir_import_resolution.specs.State.{ImportState, glob_state, scopes_of}
+use Rattle.hir_import_resolution.specs.declared.directive.ImportSource.{ImportSource}
+use Rattle.hir_import_resolution.specs.declared.directive.ImportSource.TheVariants as sources
+use Rattle.hir_import_resolution.specs.declared.directive.ImportDirective.{ImportDirective}
 use Rattle.hir_def_collector.specs.declared.collector.site.Site.{Site}
 use Rattle.hir_def_collector.specs.declared.source_database.Dependency.{Dependency}
-use Rattle.hir_def_collector.specs.Derivation.{CollectedValue, Ends, begin_of, read_by}
+use Rattle.hir_def_collector.specs.Derivation.{CollectedValue, Ends}
 use Rattle.hir_def_collector.specs.Enums.{variant_of, variants_of, with_variant}
-use Rattle.hir_def_collector.specs.Imports.{answer_by_kind, answer_by_source, answer_in, answer_to, brought, brought_type, extern_by, imported, is_of_extern_crate, is_one_name, is_public, kept_by_kind, kind_of, name_of, offered_by, open_items, pushing, reached_import, way_of}
+use Rattle.hir_import_resolution.specs.Directives.{answer_by_kind, answer_by_source, answer_in, answer_to, brought, brought_type, edge_to, glob_of, imported, is_of_extern_crate, is_one_name, kept_by_kind, kept_trait, kind_of, leaf_of, name_of, offered_by, open_items, visibility_of, way_of}
+use Rattle.hir_def_collector.specs.Imports.{extern_by, reached_import}
+use Rattle.hir_import_resolution.specs.Visibilities.{is_public, lesser_in, visibility_in}
 use Rattle.hir_def_collector.specs.ItemIds.{enum_id, module_id, use_id}
-use Rattle.hir_def_collector.specs.Items.{constructor_of, declaration_of, declared_by, declared_by_leaf, declared_struct, declared_type, lesser_in, meet_of, own_visibility, visibility_in}
+use Rattle.hir_def_collector.specs.Items.{constructor_of, declaration_of, declared_by, declared_by_leaf, declared_struct, declared_type, file_origin, inline_origin, meet_of, own_visibility}
 use Rattle.hir_def_collector.specs.Preludes.{extern_prelude, joins, prelude_of, with_dependency}
 use Rattle.hir_def_collector.specs.Sources.{IsClearOf}
-use Rattle.hir_def_collector.specs.Start.{Beginning, krate_of, origin_of, root_map, root_site, root_tree, start_data, start_of}
-use Rattle.hir_def_collector.specs.State.{State, Visit, visits}
-use Rattle.hir_def_collector.specs.Changes.{Change, lists, pushes, makes, gives_variants, begins_paths, reaches, takes, goes_on, act, on_map}
-use Rattle.hir_def_collector.specs.Steps.{Rule, drops_item, passes_over, declares_item, declares_enum, lists_constant, lists_impl, opens_module, enters_block, reaches_imports, reaches_crate, takes_import, May, acts, asking, Step, Steps, none, more, inside_block, inside_module}
+use Rattle.hir_def_collector.specs.Start.{Beginning, begin_of, krate_of, origin_of, read_by, root_key, root_map, root_site, root_tree, start_data, start_of, tree_key}
+use Rattle.hir_def_collector.specs.State.{State, Visit, import_state, visits}
+use Rattle.hir_def_collector.specs.Changes.{Change, lists, makes, gives_variants, begins_paths, reaches, changes_imports, tells, goes_on, act, on_map}
+use Rattle.hir_def_collector.specs.Steps.{Rule, drops_item, passes_over, declares_item, declares_enum, lists_constant, lists_impl, opens_module, opens_file, drops_file, misses_file, enters_block, reaches_imports, reaches_crate, resolves_imports, May, acts, asking, keys_read, making, path_of, reads, visits_inside, Step, Steps, none, more, inside_block, inside_file, inside_module}
 use Rattle.hir_def_collector.specs.Whole.{StandsOnWhole}
-use Rattle.hir_def_collector.specs.Workspace.{Workspace, dependencies_in}
+use Rattle.hir_def_collector.specs.Workspace.{Workspace, dependencies_in, transitive_dependencies_in}
 use Rattle.hir_tables.specs.Tables.{TablesValue}
-use Rattle.hir_def_collector.specs.Keys.{Environment, environment}
-use Rattle.hir_def_collector.proofs.Grows.{Grows, Grows-Step}
+use Rattle.hir_def_collector.specs.Keys.{Environment, environment, map_keys}
+use Rattle.hir_def_collector.specs.ModuleFiles.{file_key}
+use Rattle.hir_def_collector.specs.Reports.{leftover_diagnostics}
+use Rattle.hir_def_collector.specs.declared.source_database.Key.{Key}
+use Rattle.hir_def_collector.specs.declared.source_database.Key.TheVariants as keys
+use Rattle.hir_def_collector.proofs.Asks.{still_asked, still_asked-Step}
+use Rattle.hir_def_collector.proofs.Grows.{Grows, Grows-Step, Grows-same}
+use Rattle.hir_def_collector.proofs.ModuleFiles.{found_read}
 use Rattle.hir_def_collector.proofs.Lists.{none_joined}
-use Rattle.hir_def_collector.proofs.Changes.{AllFine, id-Step, perform_keeps}
+use Rattle.hir_def_collector.proofs.Changes.{AllFine, asked-Step, id-Step, perform_keeps}
 use Rattle.hir_def_collector.proofs.InRange.{IsInRange, import_at, in_range-Steps, next_home}
 use Rattle.hir_def_collector.proofs.Holds.{in_range-start}
+use Rattle.hir_def_collector.proofs.ImportEdits.{copy_at, copy_where, edit_of, follow_at, follow_where, imports_after, local_after, map_after}
+use Rattle.hir_def_collector.proofs.SourcedEdits.{EditIsClear, EditsAreClear, IsBoundClear, IsSeenClear, entry_clear, greater_clear, items_clear, key_clear, on_edge, own_clear, recorded_clear, shown_stands, sourced-edited, variants_clear}
 use Rattle.hir_def_collector.proofs.Whole.{NamesWhatIsThere, begins, steps_keep}
 
 -- ---- what is written at sites, and what brings bindings
@@ -80,7 +116,7 @@ use Rattle.hir_def_collector.proofs.Whole.{NamesWhatIsThere, begins, steps_keep}
 abbrev pub on_site : SourceTest → Visit → Bool
 on_site t v = t.holder v.site.tree.file v.site.tree.block
 
-abbrev pub on_reached : SourceTest → ReachedImport → Bool
+abbrev pub on_reached : SourceTest → ImportDirective → Bool
 on_reached t r = on_import t (way_of r.source)
 
 -- a test holds of nothing that a run has come upon
@@ -89,10 +125,15 @@ pub record IsSourced (t : SourceTest) (s : State) : Type 0 where
   pub local : HoldsOfNoExtern t s.core.local
   pub visits : list_any (on_site t) s.agenda ≡ false
   pub reached : list_any (on_reached t) s.core.reached ≡ false
+  pub edges : list_any (on_edge t) s.globs.edges ≡ false
+
+-- nor of a source that was asked for
+abbrev AreClear : SourceTest → State → Type 0
+AreClear t s = (key : TreeKey) → Contains s.core.asked (keys.Tree key) → t.holder key.id.file key.id.block ≡ false
 
 -- nor of a module that is there
 abbrev ShowsThere : SourceTest → Maps → Map → Type 0
-ShowsThere t finished m = (at : ModuleId) → ModuleIsThere (beside finished m) at → t.shown at ≡ false
+ShowsThere t finished m = (at : ModuleId) → ModuleIsThere (overlay finished m) at → t.shown at ≡ false
 
 -- ---- modules stay there
 
@@ -102,7 +143,7 @@ some_at (x ∷ xs) [] low k e = absurd (omega arith)
 some_at (x ∷ xs) (y ∷ ys) low zero e = refl
 some_at (x ∷ xs) (y ∷ ys) low (suc k) e = some_at xs ys (omega arith) k e
 
-stays_there : (finished : Maps) (old new : Map) → new.id ≡ old.id → Grows old new → (m : ModuleId) → ModuleIsThere (beside finished old) m → ModuleIsThere (beside finished new) m
+stays_there : (finished : Maps) (old new : Map) → new.id ≡ old.id → Grows old new → (m : ModuleId) → ModuleIsThere (overlay finished old) m → ModuleIsThere (overlay finished new) m
 stays_there finished old new same grows m e =
     ap (λ (id : MapId). is_some (option_and_then (λ (p : Placed). module_at p.map m.index) (cond (map_id.ghosts.eq m.map id) (Some (placed_in finished new)) (finished m.map)))) same
     ∙ go (map_id.ghosts.eq m.map old.id) e
@@ -210,7 +251,7 @@ module _ (t : SourceTest) where
         go : (b : Bool) → on_some (on_visibility t) (cond b (Some (visibilities.Module x e)) None) ≡ false
         go true = f
         go false = refl
-    lesser (visibilities.Module x d) (visibilities.Module y e) f g = lower (above_in (beside finished m)) x d y e f g
+    lesser (visibilities.Module x d) (visibilities.Module y e) f g = lower (above_in (overlay finished m)) x d y e f g
 
     least_or : (o : Option Visibility) (own : Visibility) → on_some (on_visibility t) o ≡ false → on_visibility t own ≡ false → on_visibility t (unwrap_or o own) ≡ false
     least_or None own f g = g
@@ -280,34 +321,63 @@ module _ (t : SourceTest) where
 
   -- ---- changes
 
+  -- nor of the globs that are recorded
+  abbrev EdgesAreClear : ImportChange → Type 0
+  EdgesAreClear (pushes home name items source) = Unit {0}
+  EdgesAreClear (keeps_trait maps home id vis by) = Unit {0}
+  EdgesAreClear (takes i taken) = Unit {0}
+  EdgesAreClear (records edges) = list_any (on_edge t) edges ≡ false
+  EdgesAreClear (along maps a) = Unit {0}
+
   -- the test holds of nothing that a change brings
   abbrev BringsNone : State → Change → Type 0
   BringsNone s (lists home d) = Unit {0}
-  BringsNone s (pushes home name items source) = HoldsOfNone t items × (on_some (on_import t) (pushing source) ≡ false)
   BringsNone s (makes home name origin visibility) = on_origin t origin ≡ false
   BringsNone s (gives_variants id variants) = on_values (on_variant t) variants ≡ false
   BringsNone s (begins_paths r) = on_reached t r ≡ false
   BringsNone s (reaches rs) = list_any (on_reached t) rs ≡ false
-  BringsNone s (takes i taken) = Unit {0}
+  BringsNone s (changes_imports c) = EditsAreClear t (edit_of (import_state s) c) × EdgesAreClear c
+  BringsNone s (tells d) = Unit {0}
   BringsNone s (goes_on vs) = list_any (on_site t) vs ≡ false
 
+  HoldsNowhereIn-reported : (m : Map) (ds : List DefDiagnostic) → HoldsNowhereIn t m → HoldsNowhereIn t (record m { diagnostics = ds })
+  HoldsNowhereIn-reported m ds f = record { origins = f.origins; types = f.types; values = f.values; macros = f.macros; legacy = f.legacy; enums = f.enums; macro_use = f.macro_use }
+
   on_new_map : (s : State) (m : Map) → HoldsNowhereIn t m → IsSourced t s → IsSourced t (on_map s m)
-  on_new_map s m g f = record { map = g; local = f.local; visits = f.visits; reached = f.reached }
+  on_new_map s m g f = record { map = g; local = f.local; visits = f.visits; reached = f.reached; edges = f.edges }
 
   extern_of : (local : Local) (source : ImportSource) (name : Option (List ℕ)) → HoldsOfNoExtern t local → on_import t (way_of source) ≡ false → HoldsOfNoExtern t (extern_by local source name)
   extern_of local (sources.Use id kind) name f g = f
   extern_of local (sources.ExternCrate id None) name f g = f
   extern_of local (sources.ExternCrate id (Some c)) None f g = f
-  extern_of local (sources.ExternCrate id (Some c)) (Some name) f g = none_inserted (on_extern_entry t) (slice_cmp nat_cmp) local name (crate_root c, Some id) f g
+  extern_of local (sources.ExternCrate id (Some c)) (Some name) f g = none_inserted_last (on_extern_entry t) (pointwise nat_eq) local name (crate_root c, Some id) f g
 
   extern_or : (b : Bool) (local other : Local) → HoldsOfNoExtern t local → HoldsOfNoExtern t other → HoldsOfNoExtern t (cond b local other)
   extern_or true local other f g = f
   extern_or false local other f g = g
 
+  edges_clear : (i : ImportState) (c : ImportChange) → list_any (on_edge t) i.edges ≡ false → EdgesAreClear c → list_any (on_edge t) (act_on_imports i c).edges ≡ false
+  edges_clear i (pushes home None items source) f fine = f
+  edges_clear i (pushes home (Some name) items source) f fine = f
+  edges_clear i (keeps_trait maps home None vis by) f fine = f
+  edges_clear i (keeps_trait maps home (Some id) vis by) f fine = f
+  edges_clear i (takes n taken) f fine = f
+  edges_clear i (records edges) f fine = fine
+  edges_clear i (along maps (copies slot of vis by)) f fine = f
+  edges_clear i (along maps (brings slot by)) f fine = f
+  edges_clear i (along maps (follows slot of vis)) f fine = f
+  edges_clear i (along maps (raises slot vis)) f fine = f
+
+  -- a glob is written where the `use` is of which it is a leaf
+  glob_clear : (source : ImportSource) (by : GlobId) → glob_of source ≡ Some by → on_import t (way_of source) ≡ false → on_import t (ways.Glob by) ≡ false
+  glob_clear (sources.Use id import_kinds.Plain) by e f = absurd cc
+  glob_clear (sources.Use id import_kinds.TypeOnly) by e f = absurd cc
+  glob_clear (sources.Use id import_kinds.Glob) by e f =
+      let same : record { use_ = id.use_; idx = id.idx } ≡ by = cc in subst (λ (x : GlobId). on_import t (ways.Glob x) ≡ false) same f
+  glob_clear (sources.ExternCrate id krate) by e f = absurd cc
+
   sourced-act : (s : State) (c : Change) → IsSourced t s → BringsNone s c → IsSourced t (act s c)
   sourced-act s (lists home d) f fine = on_new_map s _ (HoldsNowhereIn-listed t s.core.map home d f.map) f
-  sourced-act s (pushes home None items source) f fine = record { map = f.map; local = f.local; visits = f.visits; reached = f.reached }
-  sourced-act s (pushes home (Some name) items source) f fine = on_new_map s _ (HoldsNowhereIn-pushed t s.core.map no_globs home name items (pushing source) fine.0 fine.1 f.map) f
   sourced-act s (makes home name origin visibility) f fine = on_new_map s _ (HoldsNowhereIn-made t s.core.map home name origin visibility (Some (module_id s.core.map home)) fine f.map) f
   sourced-act s (gives_variants id variants) f fine = on_new_map s _ (HoldsNowhereIn-enum t s.core.map id variants fine f.map) f
   sourced-act s (begins_paths r) f fine = record {
@@ -315,20 +385,30 @@ module _ (t : SourceTest) where
     local = extern_or ((r.home == 0) && is_none s.core.map.id.block) (extern_by s.core.local r.source (name_of r)) s.core.local (extern_of s.core.local r.source (name_of r) f.local fine) f.local;
     visits = f.visits;
     reached = f.reached;
+    edges = f.edges;
   }
-  sourced-act s (reaches rs) f fine = record { map = f.map; local = f.local; visits = f.visits; reached = none_joined (on_reached t) s.core.reached rs f.reached fine }
-  sourced-act s (takes i taken) f fine = record { map = f.map; local = f.local; visits = f.visits; reached = f.reached }
-  sourced-act s (goes_on vs) f fine = record { map = f.map; local = f.local; visits = fine; reached = f.reached }
+  sourced-act s (reaches rs) f fine = record { map = f.map; local = f.local; visits = f.visits; reached = none_joined (on_reached t) s.core.reached rs f.reached fine; edges = f.edges }
+  sourced-act s (changes_imports c) f fine =
+      let i : ImportState = import_state s in
+      record {
+        map = subst (HoldsNowhereIn t) (sym (map_after i c)) (sourced-edited t s.core.map (edit_of i c) fine.0 f.map);
+        local = subst (HoldsOfNoExtern t) (sym (local_after i c)) f.local;
+        visits = f.visits;
+        reached = subst (λ (rs : List ImportDirective). list_any (on_reached t) rs ≡ false) (sym (imports_after i c)) f.reached;
+        edges = edges_clear i c f.edges fine.1;
+      }
+  sourced-act s (tells d) f fine = on_new_map s _ (HoldsNowhereIn-reported s.core.map (s.core.map.diagnostics ++ d ∷ []) f.map) f
+  sourced-act s (goes_on vs) f fine = record { map = f.map; local = f.local; visits = fine; reached = f.reached; edges = f.edges }
 
   -- ---- rules
 
-  module _ (answers : PathsAnswerFromSources) (paths : PathsLeadToWhatIsThere) (finished : Maps) (whole : AreWhole finished) (nowhere : HoldsNowhere t finished) where
+  module _ (answers : PathsAnswerFromSources) (paths : PathsLeadToWhatIsThere) (finished : Maps) (whole : AreWellFormed finished) (nowhere : HoldsNowhere t finished) where
     module _ (s : State) (inside : IsInRange s) (names : NamesWhatIsThere finished s) (shown : ShowsThere t finished s.core.map) (f : IsSourced t s) where
       abbrev maps : Maps
-      maps = beside finished s.core.map
+      maps = overlay finished s.core.map
 
       closed : IsClosed maps
-      closed = IsClosed-beside finished s.core.map names.apart whole names.names
+      closed = IsClosed-overlay finished s.core.map names.apart whole names.names
 
       -- a visibility that is written in a module of the map
       written : (at : ℕ) → at < length s.core.map.modules → (raw : RawVisibility) → on_visibility t (visibility_in finished s.core.local s.core.map (module_id s.core.map at) raw) ≡ false
@@ -424,11 +504,11 @@ module _ (t : SourceTest) where
           go (holder h k items) g = absurd cc
 
       -- what an import offers
-      answers_none : (r : ReachedImport) → HoldsOfNone t (answer_in finished s.core.local s.core.map (module_id s.core.map r.home) r.path).resolved_def
+      answers_none : (r : ImportDirective) → HoldsOfNone t (answer_in finished s.core.local s.core.map (module_id s.core.map r.home) r.path).resolved_def
       unfolding answer_in
-      answers_none r = answers t maps (by_import s.core.local) (module_id s.core.map r.home) r.path (HoldsNowhere-beside t finished s.core.map nowhere f.map) f.local
+      answers_none r = answers t maps (by_import s.core.local) (module_id s.core.map r.home) r.path (HoldsNowhere-overlay t finished s.core.map nowhere f.map) f.local
 
-      offers : (r : ReachedImport) → r.home < length s.core.map.modules → HoldsOfNone t (offered_by finished s.core.local s.core.map r)
+      offers : (r : ImportDirective) → r.home < length s.core.map.modules → HoldsOfNone t (offered_by finished s.core.local s.core.map r)
       offers r below =
           let answer : Resolution = answer_to finished s.core.local s.core.map r in
           let own : Visibility = visibility_in finished s.core.local s.core.map (module_id s.core.map r.home) r.visibility in
@@ -438,49 +518,195 @@ module _ (t : SourceTest) where
           (open_of answer.prefix_info.differing_crate answer.resolved_def
           (answer_of_source r.source (answer_in finished s.core.local s.core.map (module_id s.core.map r.home) r.path) (answers_none r))))
 
-      -- what is declared alone
-      bare_type : (def : ModuleDefId) (vis : Visibility) → on_def t def ≡ false → on_visibility t vis ≡ false → HoldsOfNone t (declared_type def vis) × (on_some (on_import t) (pushing None) ≡ false)
-      bare_type def vis g h = (type_of def vis g h, refl)
+      -- ---- what globs bring
 
-      brings_none : (r : Rule) → May finished s r → AllFine BringsNone (asking s r) (acts finished s r)
-      brings_none (drops_item v rest) may = (left v rest may.next, tt)
-      brings_none (passes_over site head l rest) may = (left _ rest may.here.next, tt)
-      brings_none (declares_item v d rest) may =
-          (left v rest may.here.next, (tt, ((declares v d (low v rest may.here.next) (file v rest may.here.next) may.declares, refl), tt)))
-      brings_none (declares_enum site head name found rest) may =
+      abbrev names_here : ScopesValue
+      names_here = scopes_of finished (import_state s)
+
+      abbrev view_here : View
+      view_here = view_of names_here
+
+      entries_clear : (of : Target) (name : List ℕ) → HoldsOfNone t (entries_of names_here of name)
+      entries_clear (targets.Own at) name = own_clear t s.core.map f.map at name
+      entries_clear (targets.Module m) name = open_of (is_foreign s.core.map.id m) (entry_in finished m name) (entry_clear t finished nowhere m name)
+      entries_clear (targets.Enum id) name = variants_clear t maps (HoldsNowhere-overlay t finished s.core.map nowhere f.map) id name
+
+      bound_clear : (of : Target) (key : GlobKey) (b : Bound) → bound_of names_here of key ≡ Some b → IsBoundClear t key b
+      bound_clear of key b e = key_clear t (entries_of names_here of) (traits_of names_here of) (entries_clear of) key b e
+
+      edge_at : (j : ℕ) (e : Edge) → slice_get s.globs.edges j ≡ Some e → (on_import t (ways.Glob e.id) ≡ false) × (on_visibility t e.vis ≡ false)
+      edge_at j e at =
+          let here : on_edge t e ≡ false = none_at (on_edge t) s.globs.edges f.edges j e at in
+          (not_first (on_import t (ways.Glob e.id)) (on_visibility t e.vis) here, not_second (on_import t (ways.Glob e.id)) (on_visibility t e.vis) here)
+
+      -- what an edge brings
+      wider : (a b vis : Visibility) → on_visibility t a ≡ false → on_visibility t b ≡ false → view_here.greater a b ≡ Some vis → on_visibility t vis ≡ false
+      wider a b vis g h e = go (view_here.greater a b) e (greater_clear t finished s.core.map a b g h)
+        where
+          go : (o : Option Visibility) → o ≡ Some vis → on_some (on_visibility t) o ≡ false → on_visibility t vis ≡ false
+          go None e k = absurd cc
+          go (Some x) e k = let same : x ≡ vis = cc in subst (λ (v : Visibility). on_visibility t v ≡ false) same k
+
+      brought_clear : (j : ℕ) (e : Edge) (key : GlobKey) (b : Bound) → slice_get s.globs.edges j ≡ Some e → IsBoundClear t key b → IsSeenClear t key (brought_vis view_here e b)
+      brought_clear j e (Types name) b at clear = lesser_or finished s.core.map e.vis b.vis (edge_at j e at).1 clear.1
+      brought_clear j e (Values name) b at clear = lesser_or finished s.core.map e.vis b.vis (edge_at j e at).1 clear.1
+      brought_clear j e (Macros name) b at clear = lesser_or finished s.core.map e.vis b.vis (edge_at j e at).1 clear.1
+      brought_clear j e (Unnamed id) b at clear = tt
+
+      copied_clear : (slot : Slot) (vis : Visibility) (by : GlobId) (o : Option Bound) → ((b : Bound) → o ≡ Some b → IsBoundClear t slot.key b) → IsSeenClear t slot.key vis
+          → on_import t (ways.Glob by) ≡ false → EditsAreClear t (copy_where (import_state s) slot vis by o)
+      copied_clear slot vis by None clear seen_by own = tt
+      copied_clear slot vis by (Some b) clear seen_by own = go slot.key (clear b refl) seen_by
+        where
+          go : (key : GlobKey) → IsBoundClear t key b → IsSeenClear t key vis → EditIsClear t (copy_at (import_state s) key vis by b)
+          go (Types name) g h = (items_clear t b.def vis g.0 h, own)
+          go (Values name) g h = (items_clear t b.def vis g.0 h, own)
+          go (Macros name) g h = (items_clear t b.def vis g.0 h, own)
+          go (Unnamed id) g h = tt
+
+      followed_clear : (slot : Slot) (vis : Visibility) (o : Option Bound) → ((b : Bound) → o ≡ Some b → IsBoundClear t slot.key b) → IsSeenClear t slot.key vis
+          → EditsAreClear t (follow_where (import_state s) slot vis o)
+      followed_clear slot vis None clear seen_by = tt
+      followed_clear slot vis (Some b) clear seen_by = go slot.key (clear b refl) seen_by
+        where
+          go : (key : GlobKey) → IsBoundClear t key b → IsSeenClear t key vis → EditIsClear t (follow_at (import_state s) key vis b)
+          go (Types name) g h = (g.0, h)
+          go (Values name) g h = (g.0, h)
+          go (Macros name) g h = (g.0, h)
+          go (Unnamed id) g h = tt
+
+      -- what the source of an edge shows
+      shown_clear : (e : Edge) (key : GlobKey) (b : Bound) → shown_along view_here e key ≡ Some b → IsBoundClear t key b
+      shown_clear e key b shows = bound_clear e.source key b (shown_stands (view_here.sees e.importer) (bound_of names_here e.source key) b shows)
+
+      -- the greater of what stands somewhere and what an edge brings
+      raised_clear : (key : GlobKey) (c b : Bound) (j : ℕ) (e : Edge) (vis : Visibility) → IsBoundClear t key c → IsSeenClear t key (brought_vis view_here e b)
+          → view_here.greater c.vis (brought_vis view_here e b) ≡ Some vis → IsSeenClear t key vis
+      raised_clear (Types name) c b j e vis clear seen_by is = wider c.vis (brought_vis view_here e b) vis clear.1 seen_by is
+      raised_clear (Values name) c b j e vis clear seen_by is = wider c.vis (brought_vis view_here e b) vis clear.1 seen_by is
+      raised_clear (Macros name) c b j e vis clear seen_by is = wider c.vis (brought_vis view_here e b) vis clear.1 seen_by is
+      raised_clear (Unnamed id) c b j e vis clear seen_by is = tt
+
+      globs_bring : (rule : GlobRule) → MayAlong scope_table (glob_state finished (import_state s)) rule → AllFine BringsNone s (list_map changes_imports (list_map (along finished) (glob_acts view_here rule)))
+      globs_bring (copies_along j e slot b) may =
+          let seen_by : IsSeenClear t slot.key (brought_vis view_here e b) = brought_clear j e slot.key b may.shows.recorded (shown_clear e slot.key b may.shows.shown) in
+          ((copied_clear slot (brought_vis view_here e b) e.id (bound_of names_here e.source slot.key) (bound_clear e.source slot.key) seen_by (edge_at j e may.shows.recorded).0, tt), ((tt, tt), tt))
+      globs_bring (follows_along j e slot b) may =
+          let seen_by : IsSeenClear t slot.key (brought_vis view_here e b) = brought_clear j e slot.key b may.shows.recorded (shown_clear e slot.key b may.shows.shown) in
+          ((followed_clear slot (brought_vis view_here e b) (bound_of names_here e.source slot.key) (bound_clear e.source slot.key) seen_by, tt), ((tt, tt), tt))
+      globs_bring (raises_along j e slot vis) may =
+          let seen_by : IsSeenClear t slot.key (brought_vis view_here e may.b) = brought_clear j e slot.key may.b may.shows.recorded (shown_clear e slot.key may.b may.shows.shown) in
+          ((raised_clear slot.key may.c may.b j e vis (bound_clear (targets.Own slot.at) slot.key may.c may.stands) seen_by may.greater, tt), tt)
+
+      -- ---- what imports bring
+
+      push_clear : (home : ℕ) (o : Option (List ℕ)) (items : PerNs) (source : Option ImportSource) → HoldsOfNone t items → on_some (on_import t) (pushing source) ≡ false
+          → EditsAreClear t (edit_of (import_state s) (pushes home o items source))
+      push_clear home None items source g h = tt
+      push_clear home (Some name) items source g h = (g, h)
+
+      keep_clear : (i : ImportState) (home : ℕ) (o : Option TraitId) (vis : Visibility) (by : Option ImportId) → EditsAreClear t (edit_of i (keeps_trait finished home o vis by))
+      keep_clear i home None vis by = tt
+      keep_clear i home (Some id) vis by = tt
+
+      abbrev once_pushed : ImportDirective → State
+      once_pushed r = act s (changes_imports (pushes r.home (name_of r) (offered_by finished s.core.local s.core.map r) (Some r.source)))
+
+      imports_bring : (rule : ImportRule) → MayImport finished (import_state s) rule → AllFine BringsNone s (list_map changes_imports (import_acts finished (import_state s) rule))
+      imports_bring (takes_import i r taken) may =
+          let offered = offers r (import_at (length s.core.map.modules) s.core.reached i r inside.imports may.import) in
+          let own : on_import t (way_of r.source) ≡ false = none_at (on_reached t) s.core.reached f.reached i r may.import in (
+            (push_clear r.home (name_of r) (offered_by finished s.core.local s.core.map r) (Some r.source) offered own, tt),
+            ((keep_clear (import_state (once_pushed r)) r.home (kept_trait finished s.core.local s.core.map r) (visibility_of finished s.core.local s.core.map r) (leaf_of r.source), tt), ((tt, tt), tt)),
+          )
+      imports_bring (takes_glob i r taken by target edges) may =
+          let own : on_import t (way_of r.source) ≡ false = none_at (on_reached t) s.core.reached f.reached i r may.import in
+          let below : r.home < length s.core.map.modules = import_at (length s.core.map.modules) s.core.reached i r inside.imports may.import in
+          let edge : Edge = edge_to finished s.core.local s.core.map r by target in
+          let clear : on_edge t edge ≡ false = neither (on_import t (ways.Glob by)) (on_visibility t edge.vis) (glob_clear r.source by may.is_glob own) (written r.home below r.visibility) in
+          ((tt, tt), ((tt, recorded_clear t view_here s.globs.edges edges edge (greater_clear t finished s.core.map) f.edges clear may.recorded), tt))
+      imports_bring (goes_along rule) may = globs_bring rule may
+
+      -- what is declared alone
+      bare_type : (def : ModuleDefId) (vis : Visibility) → on_def t def ≡ false → on_visibility t vis ≡ false → (HoldsOfNone t (declared_type def vis) × (on_some (on_import t) (pushing None) ≡ false)) × Unit {0}
+      bare_type def vis g h = ((type_of def vis g h, refl), tt)
+
+      -- where a module is made, the item that declares it and what comes next are clear of the test
+      making_none : (site : Site) (head : Head) (name : List ℕ) (origin : ModuleOrigin) (next : List Visit) → site.home < length s.core.map.modules → on_origin t origin ≡ false
+          → list_any (on_site t) next ≡ false → AllFine BringsNone s (making finished s site head name origin next)
+      making_none site head name origin next below own clear =
+          (own, (clear, (tt, (bare_type (definitions.ModuleId (new_id s.core.map)) (own_visibility finished s.core.local s.core.map site head) refl (written site.home below head.visibility), tt))))
+
+      inside_none : (site : Site) (dir : Option Directory) (items : KeptForest) (rest : List Visit) → t.holder site.tree.file site.tree.block ≡ false → list_any (on_site t) rest ≡ false
+          → list_any (on_site t) (visits_inside s.core.map site dir items ++ rest) ≡ false
+      inside_none site None items rest own clear = clear
+      inside_none site (Some dir) items rest own clear =
+          none_joined (on_site t) (visits (inside_module s.core.map site dir) items) rest (site_visits (inside_module s.core.map site dir) own items) clear
+
+      -- the sources that a rule reads are clear of it too
+      brings_none : (r : Rule) → May finished s r → ((key : TreeKey) → Contains (keys_read (reads s r)) (keys.Tree key) → t.holder key.id.file key.id.block ≡ false)
+          → AllFine BringsNone (asking s r) (acts finished s r)
+      brings_none (drops_item v report rest) may read = (left v rest may.next, (tt, tt))
+      brings_none (passes_over site head l rest) may read = (left _ rest may.here.next, tt)
+      brings_none (declares_item v d rest) may read =
+          (left v rest may.here.next, (tt, (((declares v d (low v rest may.here.next) (file v rest may.here.next) may.declares, refl), tt), tt)))
+      brings_none (declares_enum site head name found rest) may read =
           let id : EnumId = enum_id s.core.map site head.id in
           let bare = bare_type (definitions.AdtId (adts.EnumId id)) (own_visibility finished s.core.local s.core.map site head) (file _ rest may.next) (written site.home (low _ rest may.next) head.visibility) in
           (left _ rest may.next, (of_variants id (file _ rest may.next) found, (tt, (bare, tt))))
-      brings_none (lists_constant site head rest) may = (left _ rest may.next, (tt, tt))
-      brings_none (lists_impl site head of_trait rest) may = (left _ rest may.next, (tt, tt))
-      brings_none (opens_module site head name items rest) may =
-          let within : Site = inside_module s.core.map site in
-          let none = none_joined (on_site t) (visits within items) rest (site_visits within (file _ rest may.next) items) (left _ rest may.next) in
-          let bare = bare_type (definitions.ModuleId (new_id s.core.map)) (own_visibility finished s.core.local s.core.map site head) refl (written site.home (low _ rest may.next) head.visibility) in
-          (file _ rest may.next, (none, (tt, (bare, tt))))
-      brings_none (enters_block site head items rest) may =
+      brings_none (lists_constant site head rest) may read = (left _ rest may.next, (tt, tt))
+      brings_none (lists_impl site head of_trait rest) may read = (left _ rest may.next, (tt, tt))
+      brings_none (opens_module site head name items rest) may read =
+          making_none site head name (inline_origin site.tree head.id) (visits_inside s.core.map site (inline_directory site.dir name (path_of head)) items ++ rest) (low _ rest may.next) (file _ rest may.next)
+          (inside_none site (inline_directory site.dir name (path_of head)) items rest (file _ rest may.next) (left _ rest may.next))
+      brings_none (opens_file site head name search f rest) may read =
+          let within : Site = inside_file s.core.map f in
+          let m : Map = s.core.map in
+          let own : t.holder within.tree.file within.tree.block ≡ false =
+          read (file_key m.id.krate m.crate_data.edition f.id) (found_read m.id.krate m.crate_data.edition search.absent search.found f may.found) in
+          making_none site head name (file_origin site.tree head.id m.crate_data.edition f) (visits within f.tree.items ++ rest) (low _ rest may.looks.here.next) (file _ rest may.looks.here.next)
+          (none_joined (on_site t) (visits within f.tree.items) rest (site_visits within own f.tree.items) (left _ rest may.looks.here.next))
+      brings_none (drops_file site head name search report rest) may read = (left _ rest may.looks.here.next, (tt, tt))
+      brings_none (misses_file site head name search report rest) may read = (
+        file _ rest may.looks.here.next,
+        (
+          left _ rest may.looks.here.next,
+          (
+            tt,
+            (
+              bare_type (definitions.ModuleId (new_id s.core.map)) (own_visibility finished s.core.local s.core.map site head) refl
+                  (written site.home (low _ rest may.looks.here.next) head.visibility),
+              (tt, tt),
+            ),
+          ),
+        ),
+      )
+      brings_none (enters_block site head items rest) may read =
           let within : Site = inside_block s.core.map site head in
           (none_joined (on_site t) (visits within items) rest (site_visits within (file _ rest may.next) items) (left _ rest may.next), (tt, tt))
-      brings_none (reaches_imports site head tree rest) may = (left _ rest may.next, (use_imports s.core.map site head (file _ rest may.next) (imports_of tree), (tt, tt)))
-      brings_none (reaches_crate site head name alias rest) may =
+      brings_none (reaches_imports site head tree rest) may read = (left _ rest may.next, (use_imports s.core.map site head (file _ rest may.next) (imports_of tree), (tt, tt)))
+      brings_none (reaches_crate site head name alias rest) may read =
           let own : t.holder site.tree.file site.tree.block ≡ false = file _ rest may.next in
           (left _ rest may.next, (own, (neither (t.holder site.tree.file site.tree.block) false own refl, (tt, tt))))
-      brings_none (takes_import i r taken) may =
-          let offered = offers r (import_at (length s.core.map.modules) s.core.reached i r inside.imports may.import) in
-          ((offered, none_at (on_reached t) s.core.reached f.reached i r may.import), (tt, tt))
+      brings_none (resolves_imports rule) may read = imports_bring rule may
 
-      sourced-Step : (env : Environment) (new : State) → Step env finished s new → IsSourced t new
-      sourced-Step env new step =
-          let first : IsSourced t (asking s step.rule) = record { map = f.map; local = f.local; visits = f.visits; reached = f.reached } in
-          let done = perform_keeps (IsSourced t) BringsNone sourced-act (acts finished s step.rule) (asking s step.rule) first (brings_none step.rule step.may) in
-          subst (IsSourced t) (sym step.is) (record { map = done.map; local = done.local; visits = done.visits; reached = done.reached })
+      sourced-Step : (env : Environment) (new : State) → Step env finished s new → AreClear t new → IsSourced t new
+      sourced-Step env new step clear =
+          let read : (key : TreeKey) → Contains (keys_read (reads s step.rule)) (keys.Tree key) → t.holder key.id.file key.id.block ≡ false =
+          λ key h. clear key (subst (λ (ks : List Key). Contains ks (keys.Tree key)) (sym (asked-Step step)) (Contains-append_right s.core.asked (keys_read (reads s step.rule)) (keys.Tree key) h)) in
+          let first : IsSourced t (asking s step.rule) = record { map = f.map; local = f.local; visits = f.visits; reached = f.reached; edges = f.edges } in
+          let done = perform_keeps (IsSourced t) BringsNone sourced-act (acts finished s step.rule) (asking s step.rule) first (brings_none step.rule step.may read) in
+          subst (IsSourced t) (sym step.is) (record { map = done.map; local = done.local; visits = done.visits; reached = done.reached; edges = done.edges })
 
-    -- so are all states to which steps lead, as far as the test holds of no module there
-    all_sourced : (env : Environment) (from to : State) → IsInRange from → NamesWhatIsThere finished from → IsSourced t from → Steps env finished from to → ShowsThere t finished to.core.map → IsSourced t to
-    all_sourced env from to inside names first none shown = first
-    all_sourced env from to inside names first (more old new before last) shown =
+    -- so are all states to which steps lead, as far as the test holds of no module there, and of no source that was asked for
+    all_sourced : (env : Environment) (from to : State) → IsInRange from → NamesWhatIsThere finished from → IsSourced t from → Steps env finished from to → ShowsThere t finished to.core.map
+        → AreClear t to → IsSourced t to
+    all_sourced env from to inside names first none shown clear = first
+    all_sourced env from to inside names first (more old new before last) shown clear =
         let earlier : ShowsThere t finished old.core.map = λ m e. shown m (stays_there finished old.core.map new.core.map (id-Step last) (Grows-Step last) m e) in
-        sourced-Step old (in_range-Steps before inside) (steps_keep paths finished whole env from old inside names before) earlier (all_sourced env from old inside names first before earlier) env new last
+        let asked : AreClear t old = λ key h. clear key (still_asked-Step last (keys.Tree key) h) in
+        sourced-Step old (in_range-Steps before inside) (steps_keep paths finished whole env from old inside names before) earlier
+        (all_sourced env from old inside names first before earlier asked) env new last clear
 
   -- ---- where a run begins
 
@@ -488,8 +714,8 @@ module _ (t : SourceTest) where
   local_begins crate_data local [] f = f
   local_begins crate_data local (d ∷ ds) f = local_begins crate_data (with_dependency crate_data local d) ds (go (joins crate_data local d))
     where
-      go : (b : Bool) → HoldsOfNoExtern t (cond b (with_name local d.name (crate_root d.krate, None)) local)
-      go true = none_inserted (on_extern_entry t) (slice_cmp nat_cmp) local d.name (crate_root d.krate, None) f refl
+      go : (b : Bool) → HoldsOfNoExtern t (cond b (with_extern local d.name (crate_root d.krate, None)) local)
+      go true = none_inserted_last (on_extern_entry t) (pointwise nat_eq) local d.name (crate_root d.krate, None) f refl
       go false = f
 
   -- a root module is written nowhere
@@ -500,7 +726,7 @@ module _ (t : SourceTest) where
   first_sourced finished tables w from written =
       let tree = root_tree tables w from in
       let krate : Crate = krate_of from.start in
-      let crate_data : CrateData = start_data tree (w.behind krate) from.start in
+      let crate_data : CrateData = start_data tree (transitive_dependencies_in w krate) from.start in
       let one : Map = root_map crate_data from.start in
       let local : Local = extern_prelude crate_data [] (dependencies_in w krate) in
       record {
@@ -508,6 +734,7 @@ module _ (t : SourceTest) where
         local = local_begins crate_data [] (dependencies_in w krate) refl;
         visits = go (is_enabled tree.attributes) tree.items;
         reached = refl;
+        edges = refl;
       }
     where
       go : (b : Bool) (is : KeptForest) → list_any (on_site t) (if b then visits (root_site from.tree) is else []) ≡ false
@@ -515,15 +742,25 @@ module _ (t : SourceTest) where
       go false is = refl
 
   -- it ends with a map in which the test holds nowhere
-  pub ends_sourced : PathsAnswerFromSources → PathsLeadToWhatIsThere → (finished : Maps) → AreWhole finished → (tables : TablesValue) (w : Workspace) (all : Maps) (from : Beginning) (answer : CollectedValue)
-      → read_by w all from.start ≡ finished → StandsOnWhole w finished from.start → Ends tables w all from answer → IsClearOf t finished from.tree answer.map
+  pub ends_sourced : PathsAnswerFromSources → PathsLeadToWhatIsThere → (finished : Maps) → AreWellFormed finished → (tables : TablesValue) (w : Workspace) (all : Maps) (from : Beginning) (answer : CollectedValue)
+      → read_by w all from.start ≡ finished → StandsOnWhole w finished from.start → Ends tables w all from answer → IsClearOf t finished answer.asked answer.map
       → HoldsNowhereIn t answer.map × HoldsOfNoExtern t answer.local
   ends_sourced answers paths finished whole tables w all from answer same stands e clear =
       let env : Environment = environment tables w in
       let begun : State = begin_of tables w all from in
       let names : NamesWhatIsThere finished begun = subst (λ (x : Maps). NamesWhatIsThere finished (start_of tables w x from)) (sym same) (begins paths finished whole tables w from stands) in
-      let first : IsSourced t begun = first_sourced (read_by w all from.start) tables w from clear.written in
       let derived : Steps env finished begun e.last = subst (λ (x : Maps). Steps env x begun e.last) same e.derived in
-      let shown : ShowsThere t finished e.last.core.map = subst (λ (m : Map). ShowsThere t finished m) e.map_is clear.shown in
-      let end : IsSourced t e.last = all_sourced answers paths finished whole clear.read env begun e.last (in_range-start tables w (read_by w all from.start) from) names first derived shown in
-      (subst (HoldsNowhereIn t) (sym e.map_is) end.map, subst (HoldsOfNoExtern t) (sym e.local_is) end.local)
+      let asked : AreClear t e.last =
+      λ key h. clear.written key (subst (λ (ks : List Key). Contains ks (keys.Tree key)) (sym e.asked_is)
+      (Contains-append_left e.last.core.asked (map_keys (transitive_dependencies_in w (krate_of from.start))) (keys.Tree key) h)) in
+      let root : t.holder from.tree.file from.tree.block ≡ false =
+      asked (tree_key from.start from.tree) (still_asked derived (root_key from.start from.tree) (0, omega arith, refl)) in
+      let first : IsSourced t begun = first_sourced (read_by w all from.start) tables w from root in
+      let m : Map = e.last.core.map in
+      let reports : List DefDiagnostic = m.diagnostics ++ leftover_diagnostics m e.last.core.reached e.last.core.taken in
+      let reported : Map = record m { diagnostics = reports } in
+      let above : ShowsThere t finished reported = subst (λ (x : Map). ShowsThere t finished x) e.map_is clear.shown in
+      let grows : Grows m reported = let same_map : Grows m m = Grows-same m in record { longer = same_map.longer; kept = same_map.kept; listed = same_map.listed } in
+      let shown : ShowsThere t finished m = λ at there. above at (stays_there finished m reported refl grows at there) in
+      let end : IsSourced t e.last = all_sourced answers paths finished whole clear.read env begun e.last (in_range-start tables w (read_by w all from.start) from) names first derived shown asked in
+      (subst (HoldsNowhereIn t) (sym e.map_is) (HoldsNowhereIn-reported m reports end.map), subst (HoldsOfNoExtern t) (sym e.local_is) end.local)

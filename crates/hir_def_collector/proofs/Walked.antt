@@ -5,29 +5,37 @@ use Rattle.std.specs.Option.{IfSome}
 use Rattle.std.proofs.lemmas.List.Elements.{All-head, All-tail}
 use Rattle.hir_item_tree.specs.Collected.{is_enabled}
 use Rattle.hir_item_tree.specs.ItemTree.{Tree}
-use Rattle.hir_item_tree.specs.Kinds.{item_head}
+use Rattle.hir_base.specs.Cfg.{Cfg}
+use Rattle.hir_def_map.specs.declared.nameres.diagnostics.DefDiagnostic.{DefDiagnostic}
+use Rattle.hir_base.specs.declared.ast_id.AstKind.{AstKind}
+use Rattle.hir_base.specs.declared.ast_id.AstKind.TheVariants as nodes
+use Rattle.hir_item_tree.specs.Kinds.{item_head, item_kind, kind_content, kind_of, module_content}
+use Rattle.hir_item_tree.specs.declared.kinds.ExternBlock.{ExternBlock}
+use Rattle.hir_item_tree.specs.declared.kinds.Mod.{Mod}
+use Rattle.hir_item_tree.specs.declared.kinds.ModKind.{ModKind}
+use Rattle.hir_item_tree.specs.declared.kinds.ModKind.TheVariants.{Inline, Outline}
+use Rattle.hir_item_tree.specs.declared.kinds.ModItemKind.{ModItemKind}
+use Rattle.hir_item_tree.specs.declared.kinds.ModItemKind.TheVariants as kinds
 use Rattle.hir_item_tree.specs.KeptForest.{Head, Leaf, KeptItem, KeptForest, leaf, all_items, no_items}
-use Rattle.hir_item_tree.specs.Rows.{Content, numbers_of, items_at, item_of, and_found}
+use Rattle.hir_item_tree.specs.Rows.{Content, alone, with_items, numbers_of, items_at, item_of, and_found}
 use Rattle.hir_item_tree.specs.declared.rows.ModItemId.{ModItemId}
-use Rattle.hir_base.specs.declared.ids.Crate.{Crate}
-use Rattle.hir_def_map.specs.State.{Maps}
-use Rattle.hir_item_tree.specs.declared.tree_id.TreeId.{TreeId}
-use Rattle.hir_def_collector.specs.declared.collector.Start.{Start}
-use Rattle.hir_def_collector.specs.declared.source_database.Dependency.{Dependency}
+use Rattle.hir_def_map.specs.Overlay.{Maps}
 use Rattle.hir_def_collector.specs.declared.collector.site.Site.{Site}
-use Rattle.hir_def_collector.specs.Keys.{Environment, absent_tree}
+use Rattle.hir_def_collector.specs.Keys.{Environment, absent_source, environment}
 use Rattle.hir_def_collector.specs.State.{Visit, State, Core, at_rest, joined, visits, counted}
 use Rattle.hir_def_collector.specs.Items.{is_passed_over}
-use Rattle.hir_def_collector.specs.Start.{core_of, root_site, start_by, tree_visits}
+use Rattle.hir_def_collector.specs.Start.{tree_visits}
 use Rattle.hir_def_collector.specs.Steps.{Steps, none, drops_item, passes_over, visit}
 use Rattle.hir_def_collector.specs.TreeReads.{visits_at, above}
-use Rattle.hir_def_collector.specs.Derivation.{IsFull, IsSpent}
-use Rattle.hir_def_collector.specs.Moves.{Handles, Walks, WalksTooFar}
+use Rattle.hir_def_collector.specs.Reports.{IsUnconfigured}
+use Rattle.hir_def_collector.specs.ItemIds.{module_id, node_of}
+use Rattle.hir_def_collector.specs.Derivation.{IsFull, IsSpent, counted_out}
+use Rattle.hir_def_collector.specs.Moves.{Drops, Handles, Walks, WalksTooFar, is_single}
 use Rattle.hir_def_collector.proofs.Lists.{drop_at, get_there}
 use Rattle.hir_def_collector.proofs.Moves.{Steps-append, Steps-one, Steps-first, spent_after}
 use Rattle.hir_def_collector.proofs.Made.{Goes, made}
 use Rattle.hir_def_collector.proofs.Grows.{Grows-Step, Grows-Steps}
-use Rattle.hir_def_collector.proofs.Progress.{goes_next}
+use Rattle.hir_def_collector.proofs.Progress.{goes_next, goes_off, is_outline}
 
 -- nothing is anywhere
 abbrev pub nowhere : Environment
@@ -36,9 +44,7 @@ nowhere = record {
   workspace = record {
     crates = [];
     config = λ krate. None;
-    behind = λ krate. [];
-    tree = λ krate source. absent_tree;
-    side = λ krate source node. None;
+    tree = λ krate source. absent_source;
     entry = λ key. record { present = false; error = None; inner = [] };
   };
 }
@@ -50,6 +56,11 @@ pub at_place : (ids : List ModItemId) (i : ℕ) (d : ModItemId) → i < length i
 at_place [] i d h = absurd (omega arith)
 at_place (y ∷ ys) zero d h = refl
 at_place (y ∷ ys) (suc i) d h = at_place ys i d (omega arith)
+
+pub at_index : (ids : List ModItemId) (i : ℕ) (x d : ModItemId) → i < length ids → x ≡ slice_index_or ids i d → x ≡ get_or ids i x
+at_index [] i x d h e = absurd (omega arith)
+at_index (y ∷ ys) zero x d h e = e
+at_index (y ∷ ys) (suc i) x d h e = at_index ys i x d (omega arith) e
 
 -- numbers below one are all below it
 pub above_least : (n : ℕ) (ns : List ℕ) → All (λ m. m < n) ns → above ns ≤ n
@@ -179,40 +190,122 @@ WalksTooFar-inside {env} {finished} old mid v vs inside e handles far = record {
 }
 
 -- as many as are counted were taken already, and the item has its rule
-pub WalksTooFar-here : {env : Environment} {finished : Maps} (tree : Tree) (site : Site) (n : ℕ) (old : Core) → n < length (all_items tree.items) → IsFull old.count old.map
-    → WalksTooFar env finished old (visits_at tree site (n ∷ []))
-WalksTooFar-here {env} {finished} tree site n old there full =
-    let i = get_there (all_items tree.items) n there in
-    let one : visits_at tree site (n ∷ []) ≡ visit site i.0 ∷ [] = ap (λ (o : Option KeptItem). visits site (and_found o no_items)) i.1 in
-    record {
-      spent = λ rest.
-          let here : State = joined old (visit site i.0 ∷ rest) in
-          let on : Goes env finished here = goes_next env finished here site rest i.0 refl in
-          let spent : IsSpent env finished here = record { at = here; steps = none; next = on.next; step = on.step; full = full } in
-          subst (λ (us : List Visit). IsSpent env finished (joined old (us ++ rest))) (sym one) spent;
-    }
+pub far_here : {env : Environment} {finished : Maps} (site : Site) (i : KeptItem) (old : Core) → is_enabled (item_head i).attributes ≡ true → is_outline i ≡ false → IsFull old.count old.map
+    → WalksTooFar env finished old (visit site i ∷ [])
+far_here {env} {finished} site i old on single full = record {
+  spent = λ rest.
+      let goes : Goes env finished (joined old (visit site i ∷ rest)) = goes_next env finished (joined old (visit site i ∷ rest)) site rest i refl on single in
+      record { at = joined old (visit site i ∷ rest); steps = none; stuck = counted_out goes.next goes.step full };
+}
+
+pub far_off : {env : Environment} {finished : Maps} (site : Site) (i : KeptItem) (condition : Cfg) (report : DefDiagnostic) (old : Core) → (item_head i).attributes.disabled ≡ Some condition
+    → IsUnconfigured (module_id old.map site.home) (node_of site.tree (item_kind i) (item_head i).id) condition old.options report → IsFull old.count old.map
+    → WalksTooFar env finished old (visit site i ∷ [])
+far_off {env} {finished} site i condition report old off reported full = record {
+  spent = λ rest.
+      let goes : Goes env finished (joined old (visit site i ∷ rest)) = goes_off env finished (joined old (visit site i ∷ rest)) site rest i condition report refl off reported in
+      record { at = joined old (visit site i ∷ rest); steps = none; stuck = counted_out goes.next goes.step full };
+}
 
 -- an item of which the rules don't speak yet is passed over
 pub passed : {env : Environment} {finished : Maps} (site : Site) (h : Head) (l : Leaf) (old new : Core) → is_enabled h.attributes ≡ true → is_passed_over l ≡ true → new ≡ counted old
     → Handles env finished old new (visit site (leaf h l)) []
 passed site h l old new enabled over is = record {
-  step = λ rest. made (passes_over site h l rest) (record { here = record { next = refl; enabled = enabled }; passed = over }) tt (rw is refl);
+  step = λ rest. made (passes_over site h l rest) (record { here = record { next = refl; enabled = enabled }; passed = over }) tt tt (rw is refl);
 }
 
 -- a disabled item is dropped
-pub Walks-dropped : {env : Environment} {finished : Maps} (tree : Tree) (site : Site) (n : ℕ) (h : Head) (old new : Core) → n < length (all_items tree.items) → IfSome (slice_get (all_items tree.items) n) (λ i. h ≡ item_head i)
-    → is_enabled h.attributes ≡ false → new ≡ counted old → Walks env finished old new (visits_at tree site (n ∷ []))
-Walks-dropped {env} {finished} tree site n h old new there head disabled is =
-    let items = all_items tree.items in
-    let i = get_there items n there in
-    let same_head : h ≡ item_head i.0 = found (slice_get items n) i.0 (λ i. h ≡ item_head i) i.1 head in
-    let off : is_enabled (item_head i.0).attributes ≡ false = ap (λ (g : Head). is_enabled g.attributes) (sym same_head) ∙ disabled in
-    let one : visits_at tree site (n ∷ []) ≡ visit site i.0 ∷ [] = ap (λ (o : Option KeptItem). visits site (and_found o no_items)) i.1 in
-    record {
-      steps = λ rest.
-          subst (λ (us : List Visit). Steps env finished (joined old (us ++ rest)) (joined new rest)) (sym one)
-          (Steps-one (made (drops_item (visit site i.0) rest) (record { next = refl; disabled = off }) tt (rw is refl)));
-    }
+pub dropped : {env : Environment} {finished : Maps} (site : Site) (i : KeptItem) (condition : Cfg) (old new : Core) → (item_head i).attributes.disabled ≡ Some condition
+    → Drops (IsUnconfigured (module_id old.map site.home) (node_of site.tree (item_kind i) (item_head i).id) condition old.options) old new → Walks env finished old new (visit site i ∷ [])
+dropped {env} {finished} site i condition old new off drops = record {
+  steps = λ rest.
+      Steps-one (made (drops_item (visit site i) drops.report rest) (record { next = refl; condition = condition; disabled = off; reported = drops.is_such }) tt tt (rw drops.is refl));
+}
+
+-- what an item is that a tree lends
+head_same : (items : List KeptItem) (h : Head) (c : Content) → item_head (item_of items h c) ≡ h
+head_same items h (alone l) = refl
+head_same items h (with_items k ns) = refl
+
+module_same : (items : List KeptItem) (h : Head) (m : Mod) (k : ModKind) → item_kind (item_of items h (module_content k m)) ≡ nodes.Module
+module_same items h m (Inline ids) = refl
+module_same items h m Outline = refl
+
+kind_same : (items : List KeptItem) (h : Head) (item : ModItemKind) → item_kind (item_of items h (kind_content item)) ≡ kind_of item
+kind_same items h (kinds.Use i) = refl
+kind_same items h (kinds.ExternCrate i) = refl
+kind_same items h (kinds.ExternBlock i) = refl
+kind_same items h (kinds.Function i) = refl
+kind_same items h (kinds.Struct i) = refl
+kind_same items h (kinds.Union i) = refl
+kind_same items h (kinds.Enum i) = refl
+kind_same items h (kinds.Const i) = refl
+kind_same items h (kinds.Static i) = refl
+kind_same items h (kinds.Trait i) = refl
+kind_same items h (kinds.Impl i) = refl
+kind_same items h (kinds.TypeAlias i) = refl
+kind_same items h (kinds.Mod i) = module_same items h i i.kind
+kind_same items h (kinds.MacroCall i) = refl
+kind_same items h (kinds.MacroRules i) = refl
+kind_same items h (kinds.Macro2 i) = refl
+
+-- an item that holds no others and is no module, and a module that is written where it is declared, are of no other file
+pub single_here : (items : List KeptItem) (h : Head) (item : ModItemKind) → is_single item ≡ true → is_outline (item_of items h (kind_content item)) ≡ false
+single_here items h (kinds.Use i) e = refl
+single_here items h (kinds.ExternCrate i) e = refl
+single_here items h (kinds.ExternBlock i) e = absurd (let no : ⊥ = cc in no)
+single_here items h (kinds.Function i) e = refl
+single_here items h (kinds.Struct i) e = refl
+single_here items h (kinds.Union i) e = refl
+single_here items h (kinds.Enum i) e = refl
+single_here items h (kinds.Const i) e = refl
+single_here items h (kinds.Static i) e = refl
+single_here items h (kinds.Trait i) e = refl
+single_here items h (kinds.Impl i) e = refl
+single_here items h (kinds.TypeAlias i) e = refl
+single_here items h (kinds.Mod i) e = absurd (let no : ⊥ = cc in no)
+single_here items h (kinds.MacroCall i) e = refl
+single_here items h (kinds.MacroRules i) e = refl
+single_here items h (kinds.Macro2 i) e = refl
+
+pub inline_here : (items : List KeptItem) (h : Head) (item : ModItemKind) (m : Mod) (ids : _) → item ≡ kinds.Mod m → m.kind ≡ Inline ids → is_outline (item_of items h (kind_content item)) ≡ false
+inline_here items h item m ids e f =
+    subst (λ (it : ModItemKind). is_outline (item_of items h (kind_content it)) ≡ false) (sym e)
+    (subst (λ (k : ModKind). is_outline (item_of items h (module_content k m)) ≡ false) (sym f) refl)
+
+pub block_here : (items : List KeptItem) (h : Head) (item : ModItemKind) (b : ExternBlock) → item ≡ kinds.ExternBlock b → is_outline (item_of items h (kind_content item)) ≡ false
+block_here items h item b e = subst (λ (it : ModItemKind). is_outline (item_of items h (kind_content it)) ≡ false) (sym e) refl
+
+pub far_item : (env : Environment) (finished : Maps) (site : Site) (items : List KeptItem) (h : Head) (item : ModItemKind) (old : Core) → is_enabled h.attributes ≡ true
+    → is_outline (item_of items h (kind_content item)) ≡ false → IsFull old.count old.map → WalksTooFar env finished old (visit site (item_of items h (kind_content item)) ∷ [])
+far_item env finished site items h item old on here full =
+    far_here site (item_of items h (kind_content item)) old (ap (λ (g : Head). is_enabled g.attributes) (head_same items h (kind_content item)) ∙ on) here full
+
+-- an item of a tree that is disabled
+module _ (site : Site) (tree : Tree) (n : ℕ) (h : Head) (item : ModItemKind) (condition : Cfg)
+    (is : visits_at tree site (n ∷ []) ≡ visit site (item_of (all_items tree.items) h (kind_content item)) ∷ []) (off : h.attributes.disabled ≡ Some condition) where
+  abbrev i : KeptItem
+  i = item_of (all_items tree.items) h (kind_content item)
+
+  off_there : (item_head i).attributes.disabled ≡ Some condition
+  off_there = ap (λ (g : Head). g.attributes.disabled) (head_same (all_items tree.items) h (kind_content item)) ∙ off
+
+  reported_there : (old : Core) (d : DefDiagnostic) → IsUnconfigured (module_id old.map site.home) (node_of site.tree (kind_of item) h.id) condition old.options d
+      → IsUnconfigured (module_id old.map site.home) (node_of site.tree (item_kind i) (item_head i).id) condition old.options d
+  reported_there old d r =
+      subst (λ (kind : AstKind). IsUnconfigured (module_id old.map site.home) (node_of site.tree kind (item_head i).id) condition old.options d) (sym (kind_same (all_items tree.items) h item))
+      (subst (λ (g : Head). IsUnconfigured (module_id old.map site.home) (node_of site.tree (kind_of item) g.id) condition old.options d) (sym (head_same (all_items tree.items) h (kind_content item))) r)
+
+  pub dropped_at : (env : Environment) (finished : Maps) (old new : Core) → Drops (IsUnconfigured (module_id old.map site.home) (node_of site.tree (kind_of item) h.id) condition old.options) old new
+      → Walks env finished old new (visits_at tree site (n ∷ []))
+  dropped_at env finished old new drops =
+      subst (λ (vs : List Visit). Walks env finished old new vs) (sym is)
+      (dropped site i condition old new off_there (record { report = drops.report; is_such = reported_there old drops.report drops.is_such; is = drops.is }))
+
+  pub far_at : (env : Environment) (finished : Maps) (old : Core) (d : DefDiagnostic) → IsUnconfigured (module_id old.map site.home) (node_of site.tree (kind_of item) h.id) condition old.options d
+      → IsFull old.count old.map → WalksTooFar env finished old (visits_at tree site (n ∷ []))
+  far_at env finished old d r full =
+      subst (λ (vs : List Visit). WalksTooFar env finished old vs) (sym is) (far_off site i condition d old off_there (reported_there old d r) full)
 
 -- ---- the start
 
@@ -237,10 +330,3 @@ module _ (env : Environment) (finished : Maps) (site : Site) (tree : Tree) (old 
 
     pub spent_present : WalksTooFar env finished old (visits_at tree site (numbers_of ids)) → IsSpent env finished (joined old (tree_visits site tree))
     spent_present far = subst (λ (vs : List Visit). IsSpent env finished (joined old vs)) present_visits (far.spent [])
-
--- a run over this tree begins so
-pub began : (finished : Maps) (start : Start) (id : TreeId) (dependencies : List Dependency) (behind : List Crate) (tree found : Tree) (run : Core)
-    → run ≡ core_of finished found dependencies behind start id → found ≡ tree → joined run (tree_visits (root_site id) found) ≡ start_by finished tree dependencies behind start id
-began finished start id dependencies behind tree found run is seen =
-    ap (λ (c : Core). joined c (tree_visits (root_site id) found)) is
-    ∙ ap (λ (t : Tree). start_by finished t dependencies behind start id) seen

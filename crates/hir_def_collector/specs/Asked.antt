@@ -6,5 +6,5 @@ use Rattle.hir_def_collector.specs.Keys.{map_keys}
 
 -- these come first, and the others are the maps of crates
 pub record IsOwnPart (own all : List Key) : Type 0 where
-  pub behind : List Crate
-  pub is : all ≡ own ++ map_keys behind
+  pub dependencies : List Crate
+  pub is : all ≡ own ++ map_keys dependencies

@@ -86,9 +86,9 @@ builtin_tools = codes "clippy" ∷ codes "rustfmt" ∷ codes "diagnostic" ∷ co
 
 -- ---- the whole
 
--- the data of a crate with these attributes at its top, which stands on these crates
+-- the data of a crate with these attributes at its top, and these transitive dependencies
 abbrev pub crate_data_of : Edition → List Numbered → List Crate → CrateData
-crate_data_of edition attributes behind = record {
+crate_data_of edition attributes transitive = record {
   edition = edition;
   registered_tools = builtin_tools ++ listed_under (codes "register_tool") attributes;
   features = with_names [] (listed_under (codes "feature") attributes);
@@ -96,5 +96,5 @@ crate_data_of edition attributes behind = record {
   no_core = says (codes "no_core") attributes;
   no_std = says (codes "no_std") attributes;
   recursion_limit = limit_after 128 attributes;
-  dependencies = behind;
+  dependencies = transitive;
 }

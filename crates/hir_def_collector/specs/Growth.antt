@@ -1,7 +1,7 @@
 -- What stays of a run's answer as tables grow?
 use Rattle.std.specs.Prelude.{◌≡◌, Contains}
 use Rattle.hir_tables.specs.Tables.{TablesValue, KeepsTables}
-use Rattle.hir_def_map.specs.State.{Maps}
+use Rattle.hir_def_map.specs.Overlay.{Maps}
 use Rattle.hir_def_collector.specs.declared.source_database.Key.{Key}
 use Rattle.hir_def_collector.specs.Workspace.{Workspace}
 use Rattle.hir_def_collector.specs.Keys.{HasMeaning, look}

@@ -1,5 +1,7 @@
 -- Which definition is an item of a source?
 use Rattle.std.specs.Prelude.{ℕ, Option, None, Some}
+use Rattle.hir_base.specs.declared.ast_id.AstId.{AstId}
+use Rattle.hir_base.specs.declared.ast_id.AstKind.{AstKind}
 use Rattle.hir_base.specs.declared.ast_id.SyntaxId.{SyntaxId}
 use Rattle.hir_base.specs.declared.ids.ConstId.{ConstId}
 use Rattle.hir_base.specs.declared.ids.EnumId.{EnumId}
@@ -16,12 +18,17 @@ use Rattle.hir_base.specs.declared.ids.TraitId.{TraitId}
 use Rattle.hir_base.specs.declared.ids.TypeAliasId.{TypeAliasId}
 use Rattle.hir_base.specs.declared.ids.UnionId.{UnionId}
 use Rattle.hir_base.specs.declared.ids.UseId.{UseId}
+use Rattle.hir_item_tree.specs.declared.tree_id.TreeId.{TreeId}
 use Rattle.hir_def_map.specs.State.{Map, numbered}
 use Rattle.hir_def_collector.specs.declared.collector.site.Site.{Site}
 
 -- the module of a number
 abbrev pub module_id : Map → ℕ → ModuleId
 module_id m home = numbered m.id home
+
+-- the node of an item of a tree
+abbrev pub node_of : TreeId → AstKind → SyntaxId → AstId
+node_of tree kind id = record { file_id = tree.file; block = tree.block; kind = kind; id = id }
 
 -- what holds an item: an extern block, or else a module
 abbrev pub container_by : ModuleId → Option ExternBlockId → ItemContainerId

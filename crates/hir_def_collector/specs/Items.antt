@@ -3,27 +3,26 @@ use Rattle.std.specs.Prelude.{ℕ, Bool, true, false, List, [], ◌∷◌, Optio
 use Rattle.std.specs.Option.{option_and_then}
 use Rattle.hir_base.specs.declared.ast_id.AstKind.TheVariants as kinds
 use Rattle.hir_base.specs.declared.ast_id.SyntaxId.{SyntaxId}
+use Rattle.hir_base.specs.declared.edition.Edition.{Edition}
 use Rattle.hir_base.specs.declared.ids.AdtId.TheVariants as adts
 use Rattle.hir_base.specs.declared.ids.ModuleDefId.{ModuleDefId}
 use Rattle.hir_base.specs.declared.ids.ModuleDefId.TheVariants as definitions
-use Rattle.hir_base.specs.declared.ids.ModuleId.{ModuleId}
 use Rattle.hir_item_tree.specs.KeptForest.{Head, Leaf, import, extern_crate, function, structure, union_structure, enumeration, constant, static_item, trait_item, implementation, type_alias, outline_module, macro_call, macro_rules, macro_def, KeptItem, leaf, holder}
-use Rattle.hir_item_tree.specs.declared.raw_visibility.RawVisibility.{RawVisibility}
 use Rattle.hir_item_tree.specs.declared.shape.FieldsShape.{FieldsShape}
 use Rattle.hir_item_tree.specs.declared.tree_id.TreeId.{TreeId}
 use Rattle.hir_item_tree.specs.declared.shape.FieldsShape.TheVariants.{Record, Tuple, Unit as UnitShape}
-use Rattle.hir_scope.specs.Visibility.{lesser_of}
 use Rattle.hir_scope.specs.declared.per_ns.PerNs.{PerNs}
 use Rattle.hir_scope.specs.declared.visibility.Visibility.{Visibility}
-use Rattle.hir_def_map.specs.Chains.{above_in}
-use Rattle.hir_def_map.specs.State.{Local, Map, Maps, beside, new_id}
-use Rattle.hir_def_map.specs.Visibilities.{written_visibility}
+use Rattle.hir_def_map.specs.State.{Local, Map, new_id, no_globs, pushed}
+use Rattle.hir_def_map.specs.Overlay.{Maps}
 use Rattle.hir_def_map.specs.declared.nameres.origin.ModuleOrigin.{ModuleOrigin}
 use Rattle.hir_def_map.specs.declared.nameres.origin.ModuleOrigin.TheVariants as origins
+use Rattle.hir_import_resolution.specs.Visibilities.{lesser_in, visibility_in}
 use Rattle.hir_def_collector.specs.declared.collector.declaration.Declaration.{Declaration}
 use Rattle.hir_def_collector.specs.declared.collector.site.Site.{Site}
 use Rattle.hir_def_collector.specs.State.{Visit}
-use Rattle.hir_def_collector.specs.ItemIds.{module_id, function_id, const_id, static_id, type_alias_id, struct_id, union_id, trait_id}
+use Rattle.hir_def_collector.specs.ModuleFiles.{ModuleFile}
+use Rattle.hir_def_collector.specs.ItemIds.{node_of, module_id, function_id, const_id, static_id, type_alias_id, struct_id, union_id, trait_id}
 
 -- ---- what a name stands for
 
@@ -50,17 +49,9 @@ declared_struct def vis (Some constructor) = record {
 
 -- ---- visibilities
 
--- what a visibility means that is written in a module of the map beside finished ones; one whose path leads to no module counts as public
-unfoldable pub visibility_in : Maps → Local → Map → ModuleId → RawVisibility → Visibility
-visibility_in finished local m at raw = written_visibility (beside finished m) local at false raw
-
 -- the visibility of an item at a site
 abbrev pub own_visibility : Maps → Local → Map → Site → Head → Visibility
 own_visibility finished local m s head = visibility_in finished local m (module_id m s.home) head.visibility
-
--- the lesser of two visibilities in the map beside finished ones, none where they are unrelated
-unfoldable pub lesser_in : Maps → Map → Visibility → Visibility → Option Visibility
-lesser_in finished m a b = lesser_of (above_in (beside finished m)) m.id a b
 
 -- the meet of visibilities, none where it comes upon two that are unrelated
 abbrev pub meet_of : Maps → Map → Visibility → List Visibility → Option Visibility
@@ -75,6 +66,10 @@ constructor_of finished m own Tuple vs = Some (unwrap_or (meet_of finished m own
 constructor_of finished m own UnitShape vs = Some own
 
 -- ---- what an item binds
+
+-- the map once a declaration bound items to a name of a module, where no glob has brought anything
+abbrev pub bound_in : Map → ℕ → List ℕ → PerNs → Map
+bound_in m home name items = pushed m no_globs home name items None
 
 -- a definition that a name stands for as a type
 abbrev pub type_declaration : List ℕ → ModuleDefId → Visibility → Declaration
@@ -128,7 +123,11 @@ declaration_of finished local m v = declared_by finished local m v.site v.item
 
 -- the origin of a module that is written where it is declared
 abbrev pub inline_origin : TreeId → SyntaxId → ModuleOrigin
-inline_origin tree id = origins.Inline tree (record { file_id = tree.file; block = tree.block; kind = kinds.Module; id = id })
+inline_origin tree id = origins.Inline tree (node_of tree kinds.Module id)
+
+-- the origin of a module whose items are in a file of its own, which is read in an edition
+abbrev pub file_origin : TreeId → SyntaxId → Edition → ModuleFile → ModuleOrigin
+file_origin tree id edition file = origins.File file.is_mod_rs (node_of tree kinds.Module id) tree (record { file_id = file.id; edition = edition })
 
 -- ---- what the rules don't speak of yet
 
@@ -145,7 +144,7 @@ is_passed_over (static_item name) = false
 is_passed_over (trait_item name) = false
 is_passed_over (implementation of_trait) = false
 is_passed_over (type_alias name) = false
-is_passed_over (outline_module name) = true
+is_passed_over (outline_module name) = false
 is_passed_over (macro_call path) = true
 is_passed_over (macro_rules name expander helpers) = true
 is_passed_over (macro_def name expander helpers) = true

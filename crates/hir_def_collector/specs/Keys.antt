@@ -1,23 +1,19 @@
 -- What a run may ask for, and when two workspaces with their finished maps answer alike.
-use Rattle.std.specs.Prelude.{◌≡◌, ⊤, false, List, map, Option, None, Some, Contains, IsSome}
-use Rattle.std.specs.Option.{option_and_then}
-use Rattle.hir_base.specs.declared.ast_id.AstKind.TheVariants as kinds
+use Rattle.std.specs.Prelude.{◌≡◌, ⊤, false, List, [], map, Option, None, Some, Contains, IsSome}
 use Rattle.hir_base.specs.declared.ids.Crate.{Crate}
 use Rattle.hir_base.specs.declared.ids.EnumId.{EnumId}
 use Rattle.hir_item_tree.specs.ItemTree.{empty_tree}
-use Rattle.hir_item_tree.specs.SideLists.{SideEntry, entry_variants}
-use Rattle.hir_item_tree.specs.SyntaxIds.{node_id}
-use Rattle.hir_item_tree.specs.declared.check.NodeId.{NodeId}
+use Rattle.hir_item_tree.specs.SourceTree.{SourceTreeValue, variants_of}
 use Rattle.hir_item_tree.specs.declared.side_lists.VariantItem.{VariantItem}
 use Rattle.hir_item_tree.specs.declared.tree_id.TreeId.{TreeId}
 use Rattle.hir_item_tree.specs.declared.tree_id.TreeKey.{TreeKey}
 use Rattle.hir_tables.specs.SourcePlaces.{SourcePlaceValue}
 use Rattle.hir_tables.specs.Tables.{TablesValue, source_of}
-use Rattle.hir_def_map.specs.Named.{crate_map}
-use Rattle.hir_def_map.specs.State.{Maps, Placed}
+use Rattle.hir_def_map.specs.References.{crate_map}
+use Rattle.hir_def_map.specs.Overlay.{Maps, Placed}
 use Rattle.hir_def_collector.specs.declared.source_database.Key.{Key}
 use Rattle.hir_def_collector.specs.declared.source_database.Key.TheVariants.{Tree, Variants, Map}
-use Rattle.hir_def_collector.specs.Workspace.{Workspace, TreeLook}
+use Rattle.hir_def_collector.specs.Workspace.{Workspace, TreeLook, seen_of}
 
 -- a workspace, and what the numbers mean by which a run speaks of it
 pub record Environment : Type 0 where
@@ -30,20 +26,19 @@ environment tables w = record { tables = tables; workspace = w }
 -- ---- what is there
 
 -- a source that isn't there
-abbrev pub absent_tree : TreeLook
-absent_tree = record { present = false; tree = empty_tree }
+abbrev pub absent_source : SourceTreeValue
+absent_source = record { present = false; tree = empty_tree; sides = [] }
 
--- a source under a crate; where a number means nothing, none is there
-abbrev pub tree_of_source : Workspace → Crate → Option SourcePlaceValue → TreeLook
-tree_of_source w krate None = absent_tree
-tree_of_source w krate (Some source) = w.tree krate source
+-- what a source has under a crate; where a number means nothing, none is there
+abbrev pub source_under : Workspace → Crate → Option SourcePlaceValue → SourceTreeValue
+source_under w krate None = absent_source
+source_under w krate (Some source) = w.tree krate source
+
+abbrev pub source_in : TablesValue → Workspace → TreeKey → SourceTreeValue
+source_in tables w key = source_under w key.krate (source_of tables key.id)
 
 abbrev pub tree_at : TablesValue → Workspace → TreeKey → TreeLook
-tree_at tables w key = tree_of_source w key.krate (source_of tables key.id)
-
--- what is kept beside a node of a tree under a crate
-abbrev pub side_at : TablesValue → Workspace → TreeKey → NodeId → Option SideEntry
-side_at tables w key node = option_and_then (λ source. w.side key.krate source node) (source_of tables key.id)
+tree_at tables w key = seen_of (source_in tables w key)
 
 -- the tree that writes an enum
 abbrev pub enum_tree : EnumId → TreeId
@@ -54,7 +49,7 @@ enum_key id = record { krate = id.loc.container.map.krate; id = enum_tree id }
 
 -- the variants of an enum, but for disabled ones
 abbrev pub variants_at : TablesValue → Workspace → EnumId → Option (List VariantItem)
-variants_at tables w id = option_and_then entry_variants (side_at tables w (enum_key id) (node_id kinds.Enum id.loc.id))
+variants_at tables w id = variants_of (source_in tables w (enum_key id)) id.loc.id
 
 -- ---- keys
 
@@ -80,7 +75,6 @@ HasMeaning tables (Map id) = ⊤
 pub record AgreeOn (tables : TablesValue) (keys : List Key) (v : Workspace) (before : Maps) (w : Workspace) (finished : Maps) : Type 0 where
   pub crates : w.crates ≡ v.crates
   pub config : (krate : Crate) → w.config krate ≡ v.config krate
-  pub behind : (krate : Crate) → w.behind krate ≡ v.behind krate
   pub same : (key : Key) → Contains keys key → look tables w finished key ≡ look tables v before key
 
 -- the key of a crate's map

@@ -12,6 +12,9 @@ pub mod ItemIds
 pub mod Items
 pub mod Enums
 pub mod Imports
+-- ---- which files are those of modules, and what is reported
+pub mod ModuleFiles
+pub mod Reports
 pub mod BuiltinAttributes
 -- ---- the rules
 pub mod Changes

@@ -1,21 +1,63 @@
 -- What a part of a run does.
-use Rattle.std.specs.Prelude.{◌≡◌, ◌<◌, Bool, true, false, List, ◌∷◌, ◌++◌}
-use Rattle.hir_def_map.specs.State.{Maps}
+use Rattle.std.specs.Prelude.{◌≡◌, ◌<◌, ◌≤◌, ◌+◌, ℕ, Bool, true, false, List, [], ◌∷◌, ◌++◌, Option, Some, option_map, slice_get}
+use Rattle.std.specs.List.{All}
+use Rattle.std.specs.Option.{option_to_list}
+use Rattle.hir_base.specs.Cfg.{Cfg}
+use Rattle.hir_base.specs.declared.ast_id.AstKind.TheVariants as nodes
+use Rattle.hir_item_tree.specs.Collected.{is_enabled}
+use Rattle.hir_item_tree.specs.KeptForest.{Head, KeptItem}
+use Rattle.hir_item_tree.specs.declared.kinds.ModItemKind.{ModItemKind}
+use Rattle.hir_item_tree.specs.declared.kinds.ModItemKind.TheVariants as kinds
+use Rattle.hir_item_tree.specs.Rows.{items_at, numbers_of}
+use Rattle.hir_mod_dir.specs.declared.candidate.Candidate.{Candidate}
+use Rattle.hir_def_map.specs.Macros.{with_diagnostic}
+use Rattle.hir_def_map.specs.declared.nameres.diagnostics.DefDiagnostic.{DefDiagnostic}
+use Rattle.hir_def_collector.specs.declared.collector.module_files.FoundFile.{FoundFile}
+use Rattle.hir_def_collector.specs.declared.collector.module_files.LookedFile.{LookedFile}
+use Rattle.hir_def_collector.specs.declared.collector.walk.Inside.{Inside}
+use Rattle.hir_def_collector.specs.declared.collector.walk.Inside.TheVariants.{Nothing, Held, File}
+use Rattle.hir_scope.specs.declared.visibility.Visibility.{Visibility}
+use Rattle.hir_def_map.specs.Overlay.{Maps}
+use Rattle.hir_def_map.specs.State.{new_module, with_module}
+use Rattle.hir_def_map.specs.declared.nameres.origin.ModuleOrigin.{ModuleOrigin}
+use Rattle.hir_def_collector.specs.declared.collector.site.Site.{Site}
 use Rattle.hir_def_map.specs.declared.nameres.AddModuleError.{AddModuleError}
 use Rattle.hir_def_map.specs.declared.nameres.AddModuleError.TheVariants as refusals
+use Rattle.hir_import_resolution.specs.Directives.{TakenValue, nothing_taken}
+use Rattle.hir_import_resolution.specs.declared.resolve.ImportError.{ImportError}
+use Rattle.hir_import_resolution.specs.declared.resolve.ImportError.TheVariants as imports
 use Rattle.hir_def_collector.specs.declared.collector.CollectError.{CollectError}
 use Rattle.hir_def_collector.specs.declared.collector.CollectError.TheVariants.{TooMany, Memory}
-use Rattle.hir_def_collector.specs.Keys.{Environment}
-use Rattle.hir_def_collector.specs.State.{Core, State, Visit, joined}
-use Rattle.hir_def_collector.specs.Steps.{Step, Steps}
+use Rattle.hir_item_tree.specs.SourceTree.{SourceTreeValue}
+use Rattle.hir_item_tree.specs.declared.tree_id.TreeId.{TreeId}
+use Rattle.hir_base.specs.declared.ids.Crate.{Crate}
+use Rattle.hir_base.specs.declared.locations.LocationsError.{LocationsError}
+use Rattle.hir_base.specs.declared.locations.LocationsError.TheVariants as numbers
+use Rattle.hir_tables.specs.SourcePlaces.{SourcePlaceValue}
+use Rattle.hir_tables.specs.Tables.{KeepsTables, TablesValue, source_of}
+use Rattle.hir_def_collector.specs.Keys.{Environment, environment}
+use Rattle.hir_def_collector.specs.Workspace.{Workspace, seen_of}
+use Rattle.hir_def_collector.specs.ModuleFiles.{AreNumbered, IsNumberOf, IsSearch, LookedAt, ModuleFile, Tried, file_reading, file_readings, module_file, named_by}
+use Rattle.hir_def_collector.specs.ItemIds.{module_id, node_of}
+use Rattle.hir_def_collector.specs.Items.{file_origin, own_visibility}
+use Rattle.hir_def_collector.specs.Reports.{IsUnconfigured}
+use Rattle.hir_def_collector.specs.State.{Core, State, Visit, counted, joined, visits, with_map}
+use Rattle.hir_def_collector.specs.Steps.{Sees, Step, Steps, inside_file, keys_read, module_declaration, with_declaration, with_keys}
 use Rattle.hir_def_collector.specs.Derivation.{IsSpent}
 
--- a part of a run takes steps, at least one where it says that it moved; else none, at a state of which P holds
-pub record Moves (env : Environment) (finished : Maps) (old new : State) (moved : Bool) (P : State → Type 0) : Type 0 where
-  pub steps : Steps env finished old new
-  pub rises : moved ≡ true → old.core.count < new.core.count
-  pub same : moved ≡ false → new ≡ old
-  pub rests : moved ≡ false → P old
+-- it holds over the tables as they are, and over each that they grow to
+abbrev pub OnceGrown : TablesValue → Workspace → (Environment → Type 0) → Type 0
+OnceGrown tables w P = (grown : TablesValue) → KeepsTables tables grown → P (environment grown w)
+
+-- no import is taken
+abbrev pub AreUntaken : List TakenValue → Type 0
+AreUntaken taken = (i : ℕ) (t : TakenValue) → slice_get taken i ≡ Some t → t ≡ nothing_taken
+
+-- this is what a tree's source has under a crate, and its number means something
+pub record IsHeld (tables : TablesValue) (w : Workspace) (krate : Crate) (tree : TreeId) (source : SourceTreeValue) : Type 0 where
+  pub place : SourcePlaceValue
+  pub at : source_of tables tree ≡ Some place
+  pub is : w.tree krate place ≡ source
 
 -- one step over the workspace handles the visit, and these visits come next
 pub record Handles (env : Environment) (finished : Maps) (old new : Core) (v : Visit) (inside : List Visit) : Type 0 where
@@ -29,7 +71,111 @@ pub record Walks (env : Environment) (finished : Maps) (old new : Core) (vs : Li
 pub record WalksTooFar (env : Environment) (finished : Maps) (old : Core) (vs : List Visit) : Type 0 where
   pub spent : (rest : List Visit) → IsSpent env finished (joined old (vs ++ rest))
 
+-- why a run is given up where a file can't get a number
+abbrev pub refusal_of_number : LocationsError → CollectError
+refusal_of_number numbers.TooMany = TooMany
+refusal_of_number numbers.Memory = Memory
+
 -- why a run is given up where a module can't be added
 abbrev pub refusal_of : AddModuleError → CollectError
 refusal_of refusals.TooMany = TooMany
 refusal_of refusals.Memory = Memory
+
+-- why a run is given up where its imports are
+abbrev pub refusal_of_import : ImportError → CollectError
+refusal_of_import imports.TooMany = TooMany
+refusal_of_import imports.Memory = Memory
+
+-- a diagnostic like this is added, and nothing else changes
+pub record Tells (P : DefDiagnostic → Type 0) (old new : Core) : Type 0 where
+  pub report : DefDiagnostic
+  pub is_such : P report
+  pub is : new ≡ with_map old (with_diagnostic old.map report)
+
+-- the file of a candidate was asked for, if it names one
+pub record LooksAt (tables : TablesValue) (w : Workspace) (declaring : Option (List ℕ)) (candidate : Candidate) (old new : Core) (file : Option LookedAt) : Type 0 where
+  pub numbered : IsNumberOf tables (option_map (λ (f : LookedAt). f.id) file) (named_by declaring candidate)
+  pub sees : OnceGrown tables w (λ env. (finished : Maps) → Sees env finished (file_reading old.map.id.krate old.map.crate_data.edition file))
+  pub asked : new ≡ record old { asked = with_keys old.asked (keys_read (file_reading old.map.id.krate old.map.crate_data.edition file)) }
+
+-- the file of a module was looked for among candidates
+pub record Finds (tables : TablesValue) (w : Workspace) (declaring : Option (List ℕ)) (candidates : List Candidate) (old new : Core) (file : Option ModuleFile) : Type 0 where
+  pub absent : List Tried
+  pub found : Option Tried
+  pub search : IsSearch candidates (record { declaring = declaring; absent = absent; found = found })
+  pub numbered : AreNumbered tables declaring (absent ++ option_to_list found)
+  pub sees : OnceGrown tables w (λ env. (finished : Maps) → Sees env finished (file_readings old.map.id.krate old.map.crate_data.edition (absent ++ option_to_list found)))
+  pub asked : new ≡ record old { asked = with_keys old.asked (keys_read (file_readings old.map.id.krate old.map.crate_data.edition (absent ++ option_to_list found))) }
+  pub is : file ≡ module_file found
+
+-- what a file that was found is
+abbrev pub found_view : FoundFile → ModuleFile
+found_view f = record { id = f.id; is_mod_rs = f.is_mod_rs; dir = f.dir; tree = f.source.value.tree }
+
+abbrev pub looked_view : LookedFile → LookedAt
+looked_view f = record { id = f.id; there = seen_of f.source.value }
+
+-- the items that an item holds, or those of its file, to be visited next
+abbrev pub visits_of : List KeptItem → Inside → List Visit
+visits_of items Nothing = []
+visits_of items (Held site ids) = visits site (items_at items (numbers_of ids.now))
+visits_of items (File site source) = visits site source.value.tree.items
+
+-- the items that an item holds are written in a module that is there, in the same tree, not less deep
+pub record IsWithin (count : ℕ) (site inner : Site) : Type 0 where
+  pub there : inner.home < count
+  pub tree : inner.tree ≡ site.tree
+  pub deep : site.dir.depth ≤ inner.dir.depth
+
+-- those of a file are written in a module that is there, one deeper
+pub record IsOfFile (tables : TablesValue) (w : Workspace) (krate : Crate) (count : ℕ) (site inner : Site) (source : SourceTreeValue) : Type 0 where
+  pub there : inner.home < count
+  pub held : IsHeld tables w krate inner.tree source
+  pub above : site.dir.depth < 32
+  pub deeper : inner.dir.depth ≡ site.dir.depth + 1
+
+-- so are those that come next behind an item that holds these
+abbrev pub GoesInside : TablesValue → Workspace → Crate → ℕ → Site → List ℕ → Inside → Type 0
+GoesInside tables w krate count site numbers Nothing = Unit {0}
+GoesInside tables w krate count site numbers (Held inner ids) = IsWithin count site inner × (numbers_of ids.now ≡ numbers)
+GoesInside tables w krate count site numbers (File inner source) = IsOfFile tables w krate count site inner source.value
+
+-- a run once a module is made, listed and bound
+abbrev pub opened : Maps → Core → Site → Head → List ℕ → ModuleOrigin → Core
+opened finished c site head name origin =
+    let vis : Visibility = own_visibility finished c.local c.map site head in
+    counted (with_map c (with_declaration (with_module c.map site.home name (new_module origin vis (Some (module_id c.map site.home)))) site.home (module_declaration c.map name vis)))
+
+-- a diagnostic like this is added, and a step is counted
+pub record Drops (P : DefDiagnostic → Type 0) (old new : Core) : Type 0 where
+  pub report : DefDiagnostic
+  pub is_such : P report
+  pub is : new ≡ counted (with_map old (with_diagnostic old.map report))
+
+-- the file of a module is disabled at its top, which is reported; or the module is made, and the items of the file come next
+pub record DropsFile (site : Site) (head : Head) (file : ModuleFile) (old new : Core) : Type 0 where
+  pub condition : Cfg
+  pub disabled : file.tree.attributes.disabled ≡ Some condition
+  pub drops : Drops (IsUnconfigured (module_id old.map site.home) (node_of site.tree nodes.Module head.id) condition old.options) old new
+
+pub record OpensFile (finished : Maps) (site : Site) (head : Head) (name : List ℕ) (file : ModuleFile) (old new : Core) : Type 0 where
+  pub enabled : is_enabled file.tree.attributes ≡ true
+  pub is : new ≡ opened finished old site head name (file_origin site.tree head.id old.map.crate_data.edition file)
+
+abbrev pub TakesFile : Maps → Site → Head → List ℕ → ModuleFile → SourceTreeValue → Core → Core → Inside → Type 0
+TakesFile finished site head name file source old new Nothing = DropsFile site head file old new
+TakesFile finished site head name file source old new (Held inner ids) = ⊥
+TakesFile finished site head name file source old new (File inner held) =
+    OpensFile finished site head name file old new × (inner ≡ inside_file old.map file) × (held.value ≡ source)
+
+-- one of the two may be done
+pub data MayTake (site : Site) (head : Head) (file : ModuleFile) (c : Core) : Type 0 where
+  may_open : is_enabled file.tree.attributes ≡ true → MayTake site head file c
+  may_drop : (condition : Cfg) (report : DefDiagnostic) → file.tree.attributes.disabled ≡ Some condition
+      → IsUnconfigured (module_id c.map site.home) (node_of site.tree nodes.Module head.id) condition c.options report → MayTake site head file c
+
+-- whether an item holds no others, and is no module
+abbrev pub is_single : ModItemKind → Bool
+is_single (kinds.Mod i) = false
+is_single (kinds.ExternBlock i) = false
+is_single _ = true

@@ -13,7 +13,8 @@ use Rattle.hir_base.specs.declared.mod_path.PathKind.TheVariants.{Abs}
 use Rattle.hir_scope.specs.Imports.{use_of}
 use Rattle.hir_scope.specs.declared.imports.ImportOrExternCrate.{ImportOrExternCrate}
 use Rattle.hir_scope.specs.PerNs.{Item}
-use Rattle.hir_def_map.specs.State.{CrateData, Local, Map, Maps, at_name, beside, with_name, with_prelude, root_of}
+use Rattle.hir_def_map.specs.State.{CrateData, Local, Map, at_name, with_extern, with_prelude, root_of}
+use Rattle.hir_def_map.specs.Overlay.{Maps, overlay}
 use Rattle.hir_def_map.specs.Scoping.{resolution_of}
 use Rattle.hir_def_map.specs.Scoping.Asking.{Asking}
 use Rattle.hir_def_map.specs.Scoping.Start.{crate_root}
@@ -32,7 +33,7 @@ abbrev pub joins : CrateData → Local → Dependency → Bool
 joins crate_data local d = (d.is_prelude && not (is_kept_away crate_data d.name)) && not (is_some (at_name local d.name))
 
 abbrev pub with_dependency : CrateData → Local → Dependency → Local
-with_dependency crate_data local d = cond (joins crate_data local d) (with_name local d.name (crate_root d.krate, None)) local
+with_dependency crate_data local d = cond (joins crate_data local d) (with_extern local d.name (crate_root d.krate, None)) local
 
 -- the dependencies that paths may begin with, beside those before
 abbrev pub extern_prelude : CrateData → Local → List Dependency → Local
@@ -70,7 +71,7 @@ module_of (Some item) = module_by item.import item.def
 
 -- the module that a path names, asked for from a crate's root
 unfoldable pub module_named : Maps → Map → Local → Path → Option (ModuleId × Option UseId)
-module_named finished m local path = module_of (resolution_of (beside finished m) (by_prelude local) (root_of m.id) path).resolved_def.types
+module_named finished m local path = module_of (resolution_of (overlay finished m) (by_prelude local) (root_of m.id) path).resolved_def.types
 
 -- the prelude module of a crate; none without the core library
 abbrev pub prelude_of : Maps → Map → Local → Option (ModuleId × Option UseId)

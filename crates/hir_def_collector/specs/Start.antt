@@ -1,5 +1,6 @@
 -- Where a run begins.
 use Rattle.std.specs.Prelude.{List, [], ◌∷◌, Option, None, if◌then◌else◌}
+use Rattle.hir_base.specs.declared.cfg.CfgAtom.{CfgAtom}
 use Rattle.hir_base.specs.declared.edition.Edition.{Edition}
 use Rattle.hir_base.specs.declared.ids.Crate.{Crate}
 use Rattle.hir_base.specs.declared.ids.MapId.{MapId}
@@ -7,10 +8,13 @@ use Rattle.hir_item_tree.specs.Collected.{is_enabled}
 use Rattle.hir_item_tree.specs.ItemTree.{Tree}
 use Rattle.hir_item_tree.specs.declared.tree_id.TreeId.{TreeId}
 use Rattle.hir_item_tree.specs.declared.tree_id.TreeKey.{TreeKey}
+use Rattle.hir_mod_dir.specs.ModuleFiles.{root as root_directory}
 use Rattle.hir_scope.specs.declared.visibility.Visibility.TheVariants as visibilities
 use Rattle.hir_tables.specs.Tables.{TablesValue}
-use Rattle.hir_def_map.specs.Named.{crate_map}
-use Rattle.hir_def_map.specs.State.{CrateData, Local, Map, Maps, empty_map, new_module}
+use Rattle.hir_def_map.specs.WorldParts.{among}
+use Rattle.hir_def_map.specs.References.{crate_map}
+use Rattle.hir_def_map.specs.State.{CrateData, Local, Map, empty_map, new_module}
+use Rattle.hir_def_map.specs.Overlay.{Maps}
 use Rattle.hir_def_map.specs.declared.nameres.origin.ModuleOrigin.{ModuleOrigin}
 use Rattle.hir_def_map.specs.declared.nameres.origin.ModuleOrigin.TheVariants as origins
 use Rattle.hir_def_collector.specs.declared.collector.Start.{Start}
@@ -19,7 +23,7 @@ use Rattle.hir_def_collector.specs.declared.collector.site.Site.{Site}
 use Rattle.hir_def_collector.specs.declared.source_database.Key.{Key}
 use Rattle.hir_def_collector.specs.declared.source_database.Key.TheVariants as keys
 use Rattle.hir_def_collector.specs.declared.source_database.Dependency.{Dependency}
-use Rattle.hir_def_collector.specs.Workspace.{Workspace, dependencies_in}
+use Rattle.hir_def_collector.specs.Workspace.{ConfigValue, Workspace, dependencies_of, options_of, transitive_dependencies_in}
 use Rattle.hir_def_collector.specs.Keys.{tree_at}
 use Rattle.hir_def_collector.specs.CrateTop.{crate_data_of}
 use Rattle.hir_def_collector.specs.Preludes.{extern_prelude, with_prelude_module}
@@ -56,7 +60,7 @@ id_of start = crate_map (krate_of start)
 
 -- where the items of the tree are written
 abbrev pub root_site : TreeId → Site
-root_site tree = record { home = 0; tree = tree; extern_block = None }
+root_site tree = record { home = 0; tree = tree; extern_block = None; dir = root_directory; level = 0 }
 
 -- its key
 abbrev pub tree_key : Start → TreeId → TreeKey
@@ -71,41 +75,55 @@ root_tree tables w from = (tree_at tables w (tree_key from.start from.tree)).tre
 
 -- ---- the first state
 
--- what the crate's top says, and on what the crate stands
+-- what the crate's top says, and the crates on which it depends
 abbrev pub start_data : Tree → List Crate → Start → CrateData
-start_data tree behind start = crate_data_of (edition_of start) tree.attributes.attributes behind
+start_data tree transitive start = crate_data_of (edition_of start) tree.attributes.attributes transitive
 
 -- the map of the crate with its root module alone
 abbrev pub root_map : CrateData → Start → Map
 root_map crate_data start = empty_map (krate_of start) crate_data (new_module (origin_of start) visibilities.Public None) None
 
 -- the root module, and what all modules find; its tree asked for
-abbrev pub core_by : Maps → CrateData → Local → List Dependency → Start → TreeId → Core
-core_by finished crate_data local dependencies start id = record {
+abbrev pub core_by : Maps → CrateData → Local → List Dependency → List CfgAtom → Start → TreeId → Core
+core_by finished crate_data local dependencies options start id = record {
   map = with_prelude_module finished (root_map crate_data start) local;
   local = local;
   dependencies = dependencies;
+  options = options;
   reached = [];
   taken = [];
   asked = root_key start id ∷ [];
   count = 0;
 }
 
--- the same over this tree, of a crate with these dependencies that stands on these crates
-abbrev pub core_of : Maps → Tree → List Dependency → List Crate → Start → TreeId → Core
-core_of finished tree dependencies behind start id =
-    let crate_data = start_data tree behind start in core_by finished crate_data (extern_prelude crate_data [] dependencies) dependencies start id
+-- the same over this tree, of a crate that was handed in so, with these transitive dependencies
+abbrev pub core_of : Maps → Tree → Option ConfigValue → List Crate → Start → TreeId → Core
+core_of finished tree config transitive start id =
+    let crate_data = start_data tree transitive start in
+    core_by finished crate_data (extern_prelude crate_data [] (dependencies_of config)) (dependencies_of config) (options_of config) start id
 
 -- the items of a tree that is written at a site; one that is disabled at its top declares nothing
 abbrev pub tree_visits : Site → Tree → List Visit
 tree_visits site tree = if is_enabled tree.attributes then visits site tree.items else []
 
 -- the same, the items of the tree still to be visited
-abbrev pub start_by : Maps → Tree → List Dependency → List Crate → Start → TreeId → State
-start_by finished tree dependencies behind start id = joined (core_of finished tree dependencies behind start id) (tree_visits (root_site id) tree)
+abbrev pub start_by : Maps → Tree → Option ConfigValue → List Crate → Start → TreeId → State
+start_by finished tree config transitive start id = joined (core_of finished tree config transitive start id) (tree_visits (root_site id) tree)
 
 -- the start of a run
 abbrev pub start_of : TablesValue → Workspace → Maps → Beginning → State
 start_of tables w finished from =
     let krate : Crate = krate_of from.start in
-    start_by finished (root_tree tables w from) (dependencies_in w krate) (w.behind krate) from.start from.tree
+    start_by finished (root_tree tables w from) (w.config krate) (transitive_dependencies_in w krate) from.start from.tree
+
+-- the start over a workspace, of a crate with these transitive dependencies, beside the maps that it may read
+abbrev pub began : TablesValue → Workspace → Maps → List Crate → Start → TreeId → State
+began tables w finished transitive start id = start_by finished (tree_at tables w (tree_key start id)).tree (w.config (krate_of start)) transitive start id
+
+-- the finished maps that a run reads: those of the crates on which its crate depends
+abbrev pub read_by : Workspace → Maps → Start → Maps
+read_by w finished start = among (transitive_dependencies_in w (krate_of start)) [] finished
+
+-- the start of a run beside finished maps
+abbrev pub begin_of : TablesValue → Workspace → Maps → Beginning → State
+begin_of tables w finished from = start_of tables w (read_by w finished from.start) from

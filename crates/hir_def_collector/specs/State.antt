@@ -1,10 +1,14 @@
 -- Where a run stands.
-use Rattle.std.specs.Prelude.{ℕ, ◌+◌, false, List, [], ◌∷◌, ◌++◌, map, slice_set}
+use Rattle.std.specs.Prelude.{ℕ, ◌+◌, List, [], ◌∷◌, ◌++◌}
+use Rattle.hir_base.specs.declared.cfg.CfgAtom.{CfgAtom}
 use Rattle.hir_item_tree.specs.KeptForest.{KeptItem, KeptForest, no_items, item}
-use Rattle.hir_def_map.specs.State.{Local, Map}
-use Rattle.hir_def_collector.specs.declared.collector.imports.ReachedImport.{ReachedImport}
-use Rattle.hir_def_collector.specs.declared.collector.imports.Namespaces.{Namespaces}
-use Rattle.hir_def_collector.specs.declared.collector.imports.Taken.{Taken}
+use Rattle.hir_scope.specs.Globs.{GlobNames}
+use Rattle.hir_def_map.specs.State.{Local, Map, no_globs}
+use Rattle.hir_glob_imports.specs.Rules.{BroughtBy}
+use Rattle.hir_glob_imports.specs.declared.edge.Edge.{Edge}
+use Rattle.hir_import_resolution.specs.declared.directive.ImportDirective.{ImportDirective}
+use Rattle.hir_import_resolution.specs.Directives.{TakenValue, not_taken}
+use Rattle.hir_import_resolution.specs.State.{ImportState, nothing_brought}
 use Rattle.hir_def_collector.specs.declared.collector.site.Site.{Site}
 use Rattle.hir_def_collector.specs.declared.source_database.Dependency.{Dependency}
 use Rattle.hir_def_collector.specs.declared.source_database.Key.{Key}
@@ -22,49 +26,51 @@ pub record Core : Type 0 where
   pub local : Local
   -- the crates that an `extern crate` may name: those on which the crate depends, in the order in which they were handed in
   pub dependencies : List Dependency
+  -- the options of the crate that are set
+  pub options : List CfgAtom
   -- the imports that were come upon, in order
-  pub reached : List ReachedImport
+  pub reached : List ImportDirective
   -- for each of them what its takings reached
-  pub taken : List Taken
+  pub taken : List TakenValue
   -- the keys that were asked for, those of finished maps aside
   pub asked : List Key
   -- how many steps were taken
   pub count : ℕ
+
+-- the globs that were recorded, and what they brought
+pub record RecordedGlobs : Type 0 where
+  -- the names that globs brought
+  pub names : GlobNames
+  -- the globs
+  pub edges : List Edge
+  -- which of them brought what stands in a slot, and what it saw
+  pub brought : BroughtBy
+
+-- no glob was recorded
+abbrev pub no_recorded_globs : RecordedGlobs
+no_recorded_globs = record { names = no_globs; edges = []; brought = nothing_brought }
 
 -- where a run stands
 pub record State : Type 0 where
   pub core : Core
   -- what is still to be visited, the next item first
   pub agenda : List Visit
+  -- no glob is recorded before imports are resolved
+  pub globs : RecordedGlobs
 
--- no namespace
-abbrev pub no_namespaces : Namespaces
-no_namespaces = record { types = false; values = false; macros = false }
-
--- no taking
-abbrev pub nothing_taken : Taken
-nothing_taken = record { namespaces = no_namespaces; crossed = false }
-
--- of none of these imports a taking reached anything
-abbrev pub not_taken : List ReachedImport → List Taken
-not_taken imports = map (λ _. nothing_taken) imports
-
--- a core and what is still to be visited
+-- a core and what is still to be visited, where no glob was recorded
 abbrev pub joined : Core → List Visit → State
-joined c agenda = record { core = c; agenda = agenda }
+joined c agenda = record { core = c; agenda = agenda; globs = no_recorded_globs }
 
--- the core with another map, with other crates that paths may begin with, with more imports, with other takings at a place, with one more step
+-- the core with another map, with other crates that paths may begin with, with more imports, with one more step
 abbrev pub with_map : Core → Map → Core
 with_map c m = record c { map = m }
 
 abbrev pub with_local : Core → Local → Core
 with_local c local = record c { local = local }
 
-abbrev pub with_imports : Core → List ReachedImport → Core
+abbrev pub with_imports : Core → List ImportDirective → Core
 with_imports c rs = record c { reached = c.reached ++ rs; taken = c.taken ++ not_taken rs }
-
-abbrev pub with_taken : Core → ℕ → Taken → Core
-with_taken c i t = record c { taken = slice_set c.taken i t }
 
 -- the core with one more key asked for
 abbrev pub with_asked : Core → Key → Core
@@ -85,3 +91,25 @@ visits site (item i is) = record { site = site; item = i } ∷ visits site is
 -- the state with one more step counted
 abbrev pub ticked : State → State
 ticked s = record s { core = counted s.core }
+
+-- ---- what imports read and change of it
+
+-- where the imports of a state stand
+abbrev pub import_state : State → ImportState
+import_state s = record {
+  map = s.core.map;
+  local = s.core.local;
+  globs = s.globs.names;
+  imports = s.core.reached;
+  taken = s.core.taken;
+  edges = s.globs.edges;
+  brought = s.globs.brought;
+  count = s.core.count;
+}
+
+-- the state where its imports stand so
+abbrev pub with_import_state : State → ImportState → State
+with_import_state s i = record s {
+  core = record s.core { map = i.map; local = i.local; reached = i.imports; taken = i.taken; count = i.count };
+  globs = record { names = i.globs; edges = i.edges; brought = i.brought };
+}

@@ -1,41 +1,53 @@
 -- The steps that the import rules allow: each is a rule, which reads of the workspace and makes changes.
-use Rattle.std.specs.Prelude.{◌≡◌, ℕ, Bool, true, false, List, [], ◌∷◌, ◌++◌, length, map as list_map, Option, Some, None, slice_get}
+use Rattle.std.specs.Prelude.{◌≡◌, ℕ, Bool, true, List, [], ◌∷◌, ◌++◌, length, map as list_map, Option, Some, None}
+use Rattle.hir_base.specs.Cfg.{Cfg}
+use Rattle.hir_base.specs.declared.ast_id.AstKind.TheVariants as nodes
 use Rattle.hir_base.specs.declared.ids.AdtId.TheVariants as adts
 use Rattle.hir_base.specs.declared.ids.EnumId.{EnumId}
 use Rattle.hir_base.specs.declared.ids.ModuleDefId.TheVariants as definitions
 use Rattle.hir_item_tree.specs.Collected.{is_enabled}
-use Rattle.hir_item_tree.specs.Kinds.{item_head}
-use Rattle.hir_item_tree.specs.KeptForest.{Head, Leaf, KeptItem, KeptForest, leaf, import, extern_crate, enumeration, constant, implementation, holder, extern_block, inline_module}
+use Rattle.hir_item_tree.specs.Kinds.{item_head, item_kind}
+use Rattle.hir_item_tree.specs.KeptForest.{Head, Leaf, KeptItem, KeptForest, leaf, import, extern_crate, enumeration, constant, implementation, outline_module, holder, extern_block, inline_module}
 use Rattle.hir_item_tree.specs.UseTree.{UseTree}
 use Rattle.hir_item_tree.specs.declared.shape.ExternCrateName.{ExternCrateName}
 use Rattle.hir_use_tree.specs.declared.imports.ImportAlias.{ImportAlias}
 use Rattle.hir_item_tree.specs.declared.side_lists.VariantItem.{VariantItem}
-use Rattle.hir_def_map.specs.State.{Map, Maps, new_id, with_declared}
+use Rattle.hir_def_map.specs.State.{Map, new_id, with_declared}
+use Rattle.hir_def_map.specs.Overlay.{Maps}
 use Rattle.hir_def_map.specs.declared.nameres.declaration.Declaration.TheVariants as listings
+use Rattle.hir_def_map.specs.declared.nameres.diagnostics.DefDiagnostic.{DefDiagnostic}
+use Rattle.hir_def_map.specs.declared.nameres.origin.ModuleOrigin.{ModuleOrigin}
+use Rattle.hir_mod_dir.specs.Directory.{Directory}
+use Rattle.hir_mod_dir.specs.ModuleFiles.{candidates_of, inline_directory}
+use Rattle.hir_mod_dir.specs.declared.candidate.Candidate.{Candidate}
 use Rattle.hir_scope.specs.declared.visibility.Visibility.{Visibility}
+use Rattle.hir_tables.specs.Tables.{TablesValue}
 use Rattle.hir_def_collector.specs.declared.collector.declaration.Declaration.{Declaration}
-use Rattle.hir_def_collector.specs.declared.collector.imports.ReachedImport.{ReachedImport}
-use Rattle.hir_def_collector.specs.declared.collector.imports.Taken.{Taken}
+use Rattle.hir_import_resolution.specs.declared.directive.ImportDirective.{ImportDirective}
+use Rattle.hir_import_resolution.specs.Changes.{pushes}
+use Rattle.hir_import_resolution.specs.Rules.{Rule as ImportRule, May as MayImport, acts as import_acts}
 use Rattle.hir_def_collector.specs.declared.collector.site.Site.{Site}
 use Rattle.hir_def_collector.specs.declared.source_database.Key.{Key}
 use Rattle.hir_def_collector.specs.declared.source_database.Key.TheVariants as keys
-use Rattle.hir_def_collector.specs.Keys.{Environment, Look, of_variants, look}
-use Rattle.hir_def_collector.specs.State.{Visit, State, visits, ticked}
-use Rattle.hir_def_collector.specs.ItemIds.{const_id, enum_id, impl_id, extern_block_id, extern_crate_id, use_id}
-use Rattle.hir_def_collector.specs.Items.{declaration_of, declared_module, inline_origin, is_passed_over, own_visibility, type_declaration}
+use Rattle.hir_def_collector.specs.Keys.{Environment, of_variants, look}
+use Rattle.hir_def_collector.specs.ModuleFiles.{IsNumbered, IsSearch, ModuleFile, Reading, Search, file_readings, file_tree, module_file, path_attribute, tried_in}
+use Rattle.hir_def_collector.specs.Reports.{IsUnconfigured, IsUnresolvedModule}
+use Rattle.hir_def_collector.specs.State.{Visit, State, import_state, visits, ticked}
+use Rattle.hir_def_collector.specs.ItemIds.{const_id, enum_id, impl_id, extern_block_id, extern_crate_id, module_id, node_of, use_id}
+use Rattle.hir_def_collector.specs.Items.{declaration_of, declared_module, file_origin, inline_origin, is_passed_over, own_visibility, type_declaration, bound_in}
 use Rattle.hir_def_collector.specs.Enums.{variants_of}
-use Rattle.hir_def_collector.specs.Imports.{answer_to, bound_in, crate_import, imports_by, name_of, offered_by, reached_by, namespaces_of, taken_after, goes_beyond}
-use Rattle.hir_def_collector.specs.Changes.{Change, lists, pushes, makes, gives_variants, begins_paths, reaches, takes, goes_on, perform}
+use Rattle.hir_def_collector.specs.Imports.{crate_import, imports_by}
+use Rattle.hir_def_collector.specs.Changes.{Change, lists, makes, gives_variants, begins_paths, reaches, changes_imports, tells, goes_on, perform}
 
 -- ---- what the rules are about
 
 -- the map with one more definition, which its module lists and binds
 abbrev pub with_declaration : Map → ℕ → Declaration → Map
-with_declaration m home d = bound_in (with_declared m home d.def) home d.name d.items None
+with_declaration m home d = bound_in (with_declared m home d.def) home d.name d.items
 
 -- the changes that list a definition and bind it
 abbrev pub declaring : ℕ → Declaration → List Change
-declaring home d = lists home (listings.Def d.def) ∷ pushes home (Some d.name) d.items None ∷ []
+declaring home d = lists home (listings.Def d.def) ∷ changes_imports (pushes home (Some d.name) d.items None) ∷ []
 
 -- what an enum declares
 abbrev pub enum_declaration : Map → Site → Head → List ℕ → Visibility → Declaration
@@ -45,13 +57,26 @@ enum_declaration m s head name vis = type_declaration name (definitions.AdtId (a
 abbrev pub module_declaration : Map → List ℕ → Visibility → Declaration
 module_declaration m name vis = record { name = name; def = definitions.ModuleId (new_id m); items = declared_module m vis }
 
--- where the items of the next module of a map are written
-abbrev pub inside_module : Map → Site → Site
-inside_module m s = record { home = length m.modules; tree = s.tree; extern_block = None }
+-- where the items of the next module of a map are written, if that is where it is declared
+abbrev pub inside_module : Map → Site → Directory → Site
+inside_module m s dir = record { home = length m.modules; tree = s.tree; extern_block = None; dir = dir; level = s.level }
+
+-- and if it is a file of its own
+abbrev pub inside_file : Map → ModuleFile → Site
+inside_file m f = record { home = length m.modules; tree = file_tree m.crate_data.edition f.id; extern_block = None; dir = f.dir; level = 0 }
 
 -- where the items of an extern block are written
 abbrev pub inside_block : Map → Site → Head → Site
-inside_block m s head = record { home = s.home; tree = s.tree; extern_block = Some (extern_block_id m s head.id) }
+inside_block m s head = record { home = s.home; tree = s.tree; extern_block = Some (extern_block_id m s head.id); dir = s.dir; level = s.level }
+
+-- the `path` attribute of an item
+abbrev pub path_of : Head → Option (List ℕ)
+path_of head = path_attribute head.attributes.attributes
+
+-- the items of the next module of a map that is written where it is declared; none where it is too deep
+abbrev pub visits_inside : Map → Site → Option Directory → KeptForest → List Visit
+visits_inside m s None items = []
+visits_inside m s (Some dir) items = visits (inside_module m s dir) items
 
 -- an item that is written at a site
 abbrev pub visit : Site → KeptItem → Visit
@@ -62,7 +87,7 @@ visit site i = record { site = site; item = i }
 -- a rule, what it is about, and what it reads; `rest` is what stays to be visited
 pub data Rule : Type 0 where
   -- the next item is disabled, and is dropped with all in it
-  drops_item : (v : Visit) (rest : List Visit) → Rule
+  drops_item : (v : Visit) (report : DefDiagnostic) (rest : List Visit) → Rule
   -- the next item is of a kind of which the rules don't speak yet
   passes_over : (site : Site) (head : Head) (l : Leaf) (rest : List Visit) → Rule
   -- the next item binds its name
@@ -73,23 +98,31 @@ pub data Rule : Type 0 where
   lists_constant : (site : Site) (head : Head) (rest : List Visit) → Rule
   -- the next item is an impl
   lists_impl : (site : Site) (head : Head) (of_trait : Bool) (rest : List Visit) → Rule
-  -- the next item is a module that is written where it is declared, and its items are visited next
+  -- the next item is a module that is written where it is declared, and its items are visited next, unless it is too deep
   opens_module : (site : Site) (head : Head) (name : List ℕ) (items : KeptForest) (rest : List Visit) → Rule
+  -- the next item is a module whose items are in this file, and these are visited next
+  opens_file : (site : Site) (head : Head) (name : List ℕ) (search : Search) (file : ModuleFile) (rest : List Visit) → Rule
+  -- the next item is a module whose file is disabled at its top, and no module is made
+  drops_file : (site : Site) (head : Head) (name : List ℕ) (search : Search) (report : DefDiagnostic) (rest : List Visit) → Rule
+  -- the next item is a module whose file isn't found, or which is too deep, and it has no items
+  misses_file : (site : Site) (head : Head) (name : List ℕ) (search : Search) (report : DefDiagnostic) (rest : List Visit) → Rule
   -- the next item is an extern block, and its items are visited next, in the same module
   enters_block : (site : Site) (head : Head) (items : KeptForest) (rest : List Visit) → Rule
   -- the next item is a `use`
   reaches_imports : (site : Site) (head : Head) (tree : UseTree) (rest : List Visit) → Rule
   -- the next item is an `extern crate`
   reaches_crate : (site : Site) (head : Head) (name : ExternCrateName) (alias : Option ImportAlias) (rest : List Visit) → Rule
-  -- an import binds what it reaches now
-  takes_import : (i : ℕ) (r : ReachedImport) (t : Taken) → Rule
+  -- an import is taken, or a name goes along a glob
+  resolves_imports : (rule : ImportRule) → Rule
 
 -- ---- when a rule may be applied
 
--- this is the next item, and it is disabled
-pub record IsOff (s : State) (v : Visit) (rest : List Visit) : Type 0 where
+-- this is the next item, and it is disabled, which is reported
+pub record IsOff (s : State) (v : Visit) (report : DefDiagnostic) (rest : List Visit) : Type 0 where
   pub next : s.agenda ≡ v ∷ rest
-  pub disabled : is_enabled (item_head v.item).attributes ≡ false
+  pub condition : Cfg
+  pub disabled : (item_head v.item).attributes.disabled ≡ Some condition
+  pub reported : IsUnconfigured (module_id s.core.map v.site.home) (node_of v.site.tree (item_kind v.item) (item_head v.item).id) condition s.core.options report
 
 -- this is the next item, and it isn't disabled
 pub record IsNext (s : State) (v : Visit) (rest : List Visit) : Type 0 where
@@ -106,49 +139,95 @@ pub record Declares (finished : Maps) (s : State) (v : Visit) (d : Declaration) 
   pub here : IsNext s v rest
   pub declares : declaration_of finished s.core.local s.core.map v ≡ Some d
 
--- the import at the place reaches a namespace that none of its takings reached
-pub record CanTake (finished : Maps) (s : State) (i : ℕ) (r : ReachedImport) (t : Taken) : Type 0 where
-  pub import : slice_get s.core.reached i ≡ Some r
-  pub before : slice_get s.core.taken i ≡ Some t
-  pub gains : goes_beyond (namespaces_of (reached_by finished s.core.local s.core.map r)) t.namespaces ≡ true
+-- or its file is looked for so
+pub record LooksFor (s : State) (site : Site) (head : Head) (name : List ℕ) (search : Search) (rest : List Visit) : Type 0 where
+  pub here : IsNext s (visit site (leaf head (outline_module name))) rest
+  pub tries : IsSearch (candidates_of site.dir name (path_of head)) search
+
+pub record Opens (s : State) (site : Site) (head : Head) (name : List ℕ) (search : Search) (file : ModuleFile) (rest : List Visit) : Type 0 where
+  pub looks : LooksFor s site head name search rest
+  pub found : module_file search.found ≡ Some file
+  pub enabled : is_enabled file.tree.attributes ≡ true
+
+pub record Drops (s : State) (site : Site) (head : Head) (name : List ℕ) (search : Search) (report : DefDiagnostic) (rest : List Visit) : Type 0 where
+  pub looks : LooksFor s site head name search rest
+  pub file : ModuleFile
+  pub found : module_file search.found ≡ Some file
+  pub condition : Cfg
+  pub disabled : file.tree.attributes.disabled ≡ Some condition
+  pub reported : IsUnconfigured (module_id s.core.map site.home) (node_of site.tree nodes.Module head.id) condition s.core.options report
+
+pub record Misses (s : State) (site : Site) (head : Head) (name : List ℕ) (search : Search) (report : DefDiagnostic) (rest : List Visit) : Type 0 where
+  pub looks : LooksFor s site head name search rest
+  pub missing : module_file search.found ≡ None
+  pub reported : IsUnresolvedModule (module_id s.core.map site.home) (node_of site.tree nodes.Module head.id)
+      (list_map (λ (c : Candidate). c.text) (candidates_of site.dir name (path_of head))) report
 
 abbrev pub May : Maps → State → Rule → Type 0
-May finished s (drops_item v rest) = IsOff s v rest
+May finished s (drops_item v report rest) = IsOff s v report rest
 May finished s (passes_over site head l rest) = IsPassed s site head l rest
 May finished s (declares_item v d rest) = Declares finished s v d rest
 May finished s (declares_enum site head name found rest) = IsNext s (visit site (leaf head (enumeration name))) rest
 May finished s (lists_constant site head rest) = IsNext s (visit site (leaf head (constant None))) rest
 May finished s (lists_impl site head of_trait rest) = IsNext s (visit site (leaf head (implementation of_trait))) rest
 May finished s (opens_module site head name items rest) = IsNext s (visit site (holder head (inline_module name) items)) rest
+May finished s (opens_file site head name search file rest) = Opens s site head name search file rest
+May finished s (drops_file site head name search report rest) = Drops s site head name search report rest
+May finished s (misses_file site head name search report rest) = Misses s site head name search report rest
 May finished s (enters_block site head items rest) = IsNext s (visit site (holder head extern_block items)) rest
 May finished s (reaches_imports site head tree rest) = IsNext s (visit site (leaf head (import tree))) rest
 May finished s (reaches_crate site head name alias rest) = IsNext s (visit site (leaf head (extern_crate name alias))) rest
-May finished s (takes_import i r t) = CanTake finished s i r t
+May finished s (resolves_imports rule) = MayImport finished (import_state s) rule
 
 -- ---- what it reads
 
--- a key, and what is there
-pub record Reading : Type 0 where
-  pub key : Key
-  pub there : Look
+-- the files that a search looks at
+abbrev pub search_readings : Map → Search → List Reading
+search_readings m search = file_readings m.id.krate m.crate_data.edition (tried_in search)
 
 abbrev pub reads : State → Rule → List Reading
-reads s (drops_item v rest) = []
+reads s (drops_item v report rest) = []
 reads s (passes_over site head l rest) = []
 reads s (declares_item v d rest) = []
 reads s (declares_enum site head name found rest) = record { key = keys.Variants (enum_id s.core.map site head.id); there = of_variants found } ∷ []
 reads s (lists_constant site head rest) = []
 reads s (lists_impl site head of_trait rest) = []
 reads s (opens_module site head name items rest) = []
+reads s (opens_file site head name search file rest) = search_readings s.core.map search
+reads s (drops_file site head name search report rest) = search_readings s.core.map search
+reads s (misses_file site head name search report rest) = search_readings s.core.map search
 reads s (enters_block site head items rest) = []
 reads s (reaches_imports site head tree rest) = []
 reads s (reaches_crate site head name alias rest) = []
-reads s (takes_import i r t) = []
+reads s (resolves_imports rule) = []
+
+-- the numbers of files that a rule speaks of mean what they are taken for
+abbrev pub Numbered : TablesValue → Rule → Type 0
+Numbered tables (opens_file site head name search file rest) = IsNumbered tables site.tree search
+Numbered tables (drops_file site head name search report rest) = IsNumbered tables site.tree search
+Numbered tables (misses_file site head name search report rest) = IsNumbered tables site.tree search
+Numbered tables (drops_item v report rest) = Unit {0}
+Numbered tables (passes_over site head l rest) = Unit {0}
+Numbered tables (declares_item v d rest) = Unit {0}
+Numbered tables (declares_enum site head name found rest) = Unit {0}
+Numbered tables (lists_constant site head rest) = Unit {0}
+Numbered tables (lists_impl site head of_trait rest) = Unit {0}
+Numbered tables (opens_module site head name items rest) = Unit {0}
+Numbered tables (enters_block site head items rest) = Unit {0}
+Numbered tables (reaches_imports site head tree rest) = Unit {0}
+Numbered tables (reaches_crate site head name alias rest) = Unit {0}
+Numbered tables (resolves_imports rule) = Unit {0}
 
 -- ---- what it changes
 
+-- the changes that make a module, list and bind it, where these are visited next
+abbrev pub making : Maps → State → Site → Head → List ℕ → ModuleOrigin → List Visit → List Change
+making finished s site head name origin next =
+    let vis : Visibility = own_visibility finished s.core.local s.core.map site head in
+    makes site.home name origin vis ∷ goes_on next ∷ declaring site.home (module_declaration s.core.map name vis)
+
 abbrev pub acts : Maps → State → Rule → List Change
-acts finished s (drops_item v rest) = goes_on rest ∷ []
+acts finished s (drops_item v report rest) = goes_on rest ∷ tells report ∷ []
 acts finished s (passes_over site head l rest) = goes_on rest ∷ []
 acts finished s (declares_item v d rest) = goes_on rest ∷ declaring v.site.home d
 acts finished s (declares_enum site head name found rest) =
@@ -158,19 +237,22 @@ acts finished s (declares_enum site head name found rest) =
 acts finished s (lists_constant site head rest) = goes_on rest ∷ lists site.home (listings.UnnamedConst (const_id s.core.map site head.id)) ∷ []
 acts finished s (lists_impl site head of_trait rest) = goes_on rest ∷ lists site.home (listings.Impl (impl_id s.core.map site head.id) of_trait) ∷ []
 acts finished s (opens_module site head name items rest) =
-    let vis : Visibility = own_visibility finished s.core.local s.core.map site head in
-    makes site.home name (inline_origin site.tree head.id) vis ∷ goes_on (visits (inside_module s.core.map site) items ++ rest)
-    ∷ declaring site.home (module_declaration s.core.map name vis)
+    making finished s site head name (inline_origin site.tree head.id)
+    (visits_inside s.core.map site (inline_directory site.dir name (path_of head)) items ++ rest)
+acts finished s (opens_file site head name search file rest) =
+    making finished s site head name (file_origin site.tree head.id s.core.map.crate_data.edition file)
+    (visits (inside_file s.core.map file) file.tree.items ++ rest)
+acts finished s (drops_file site head name search report rest) = goes_on rest ∷ tells report ∷ []
+acts finished s (misses_file site head name search report rest) =
+    making finished s site head name (inline_origin site.tree head.id) rest ++ tells report ∷ []
 acts finished s (enters_block site head items rest) =
     goes_on (visits (inside_block s.core.map site head) items ++ rest) ∷ lists site.home (listings.ExternBlock (extern_block_id s.core.map site head.id)) ∷ []
 acts finished s (reaches_imports site head tree rest) =
     goes_on rest ∷ reaches (imports_by s.core.map site head tree) ∷ lists site.home (listings.Use (use_id s.core.map site head.id)) ∷ []
 acts finished s (reaches_crate site head name alias rest) =
-    let r : ReachedImport = crate_import s.core.map s.core.dependencies site head name alias in
+    let r : ImportDirective = crate_import s.core.map s.core.dependencies site head name alias in
     goes_on rest ∷ begins_paths r ∷ reaches (r ∷ []) ∷ lists site.home (listings.ExternCrate (extern_crate_id s.core.map site head.id)) ∷ []
-acts finished s (takes_import i r t) =
-    pushes r.home (name_of r) (offered_by finished s.core.local s.core.map r) (Some r.source)
-    ∷ takes i (taken_after t (answer_to finished s.core.local s.core.map r)) ∷ []
+acts finished s (resolves_imports rule) = list_map changes_imports (import_acts finished (import_state s) rule)
 
 -- ---- the same for all rules
 
@@ -201,6 +283,7 @@ pub record Step (env : Environment) (finished : Maps) (old new : State) : Type 0
   pub rule : Rule
   pub may : May finished old rule
   pub sees : Sees env finished (reads old rule)
+  pub numbered : Numbered env.tables rule
   pub is : new ≡ after finished old rule
 
 -- steps one after another

@@ -1,64 +1,74 @@
-//! Runs of the import rules, after rust-analyzer's `DefCollector`.
+//! What the names of a crate's modules stand for, after rust-analyzer's `DefCollector`.
 //!
 //! A run begins with the crate's root module, and with the items of its root file on a worklist. The first item is taken off and
 //! handled by the rule of its kind: a definition is listed and bound under its name, an inline module is made and its items
-//! come next, a `use` adds its imports to those that wait. When the worklist is empty the imports are tried in the order in
-//! which they were found, pass by pass, until a pass binds nothing more.
+//! come next, a `use` adds its imports to those that wait.
 //!
-//! The one difficulty: a path can come to reach more, or something else, as names get bound. So an import is bound again
-//! whenever its path reaches a namespace that it hadn't reached, which happens three times at most, and a run ends. What it
-//! comes to isn't told by this loop but by the rules in `specs/Steps`: each function below makes one step by a rule, and the
-//! whole is a derivation to which no step can be added.
+//! When that worklist is empty the imports are resolved, by `hir_import_resolution`. They wait on a worklist of their own, in
+//! the order in which they were found, and each is tried once. A try resolves the path of the import and binds what it reaches;
+//! a glob is recorded, as an edge from the module or enum that it reaches to the module in which it stands. What is bound in
+//! a module goes along all edges out of it at once. And an import is tried again when something is bound that its path has
+//! read. So a path can come to reach more, or something else: the import is then bound again, and a glob gets another edge.
+//!
+//! When no import waits, none would bind anything, and no name is left to go along an edge. That isn't told by this loop but
+//! by the rules in `specs/Steps`: each function below makes one step by a rule, and the whole is a derivation to which no
+//! step can be added.
 ghost use Rattle.std.specs.Prelude.{◌≡◌, ◌<◌, IfOk, OnOk, length, option_map, unwrap_or, []};
 ghost use Rattle.hir_item_tree.specs.Collected.{is_enabled};
 ghost use Rattle.hir_tables.specs.Tables.{KeepsTables};
-ghost use Rattle.hir_def_map.specs.Parts.{part_of};
-ghost use Rattle.hir_def_map.specs.State.{Maps};
+ghost use Rattle.hir_def_map.specs.WorldParts.{part_of};
+ghost use Rattle.hir_def_map.specs.Overlay.{Maps};
 ghost use Rattle.hir_def_map.specs.World.{finished_in};
-ghost use Rattle.hir_def_collector.specs.Workspace.{Workspace, config_view, dependencies_of};
-ghost use Rattle.hir_def_collector.specs.Keys.{AgreeOn, environment, tree_at};
-ghost use Rattle.hir_def_collector.specs.Start.{beginning, core_of, edition_of, krate_of, origin_of, root_site, start_by, tree_key, tree_visits};
+ghost use Rattle.hir_def_collector.specs.Workspace.{Workspace, config_view, dependencies_of, options_of};
+ghost use Rattle.hir_def_collector.specs.Keys.{AgreeOn, environment};
+ghost use Rattle.hir_def_collector.specs.Start.{began, beginning, core_of, edition_of, krate_of, origin_of, root_site, tree_visits};
 ghost use Rattle.hir_def_collector.specs.State.{at_rest, joined};
 ghost use Rattle.hir_def_collector.specs.Steps.{Steps};
 ghost use Rattle.hir_def_collector.specs.Derivation.{Ends, IsOverlong, IsSpent, collected_view};
+ghost use Rattle.hir_def_collector.specs.Moves.{IsHeld};
 
 pub mod collected;
 mod crate_top;
 pub mod declaration;
 mod declare;
 mod enums;
-pub mod imports;
 mod known_name;
 mod leftovers;
-mod passes;
+pub mod module_files;
 mod preludes;
 mod reach;
+mod reports;
 mod run;
 pub mod site;
 mod sources;
-mod walk;
+pub mod walk;
 
 use crate::source_database::{Config, Dependency, SourceDatabase};
-use collected::{Asked, Collected};
+use collected::Collected;
 use crate_top::top_data;
 use hir_base::ast_id::EditionedFileId;
+use hir_base::cfg_options::CfgOptions;
 use hir_base::edition::Edition;
-use hir_base::ids::Crate;
+use hir_base::ids::{Crate, MapId};
+use hir_base::locations::LocationsError;
+use hir_crate_graph::crate_set::CrateSet;
 use hir_def_map::nameres::AddModuleError;
 use hir_def_map::nameres::local_def_map::LocalDefMap;
 use hir_def_map::nameres::origin::ModuleOrigin;
 use hir_def_map::world::World;
 use hir_def_map::world::part::WorldPart;
+use hir_import_resolution::{ImportError, resolve_imports};
 use hir_item_tree::item_tree::ItemTree;
+use hir_item_tree::source_tree::SourceTree;
 use hir_item_tree::tree_id::{TreeId, TreeKey};
+use hir_mod_dir::ModDir;
 use hir_tables::Tables;
-use passes::settle;
+use leftovers::finish;
 use preludes::extern_prelude;
 use run::Run;
 use site::Site;
-use sources::tree_at;
+use sources::source_at;
 use std::alloc::{AllocError, Global};
-use std::collections::BTreeSet;
 use std::rc::Rc;
 use walk::walk_all;
 
@@ -132,15 +142,42 @@ impl From<AddModuleError> for CollectError {
     }
 }
 
-/// Finds what the names of a crate's modules stand for, beside the finished maps of the crates on which it stands.
+impl From<LocationsError> for CollectError {
+    ghost use Rattle.std.specs.Prelude.{◌≡◌};
+    ghost use Rattle.hir_def_collector.specs.Moves.{refusal_of_number};
+
+    ghost from_gives = { λ x e. e ≡ refusal_of_number x };
+
+    fn from(error: LocationsError) -> CollectError {
+        match error {
+            LocationsError::TooMany => CollectError::TooMany,
+            LocationsError::Memory => CollectError::Memory,
+        }
+    }
+}
+
+impl From<ImportError> for CollectError {
+    ghost use Rattle.std.specs.Prelude.{◌≡◌};
+    ghost use Rattle.hir_def_collector.specs.Moves.{refusal_of_import};
+
+    ghost from_gives = { λ x e. e ≡ refusal_of_import x };
+
+    fn from(error: ImportError) -> CollectError {
+        match error {
+            ImportError::TooMany => CollectError::TooMany,
+            ImportError::Memory => CollectError::Memory,
+        }
+    }
+}
+
+/// Finds what the names of a crate's modules stand for, beside the finished maps of the crates on which it depends.
 ///
-/// `tree` is the tree of the crate's root file, and `local` is of no use to a crate. Of the tree's items all kinds but
-/// modules in files of their own, macro calls and macros, which are passed over, and its imports but globs, which are
-/// left over. After rust-analyzer's `collect_defs`.
-#[tactic(auto, using(crate::proofs::Numbers::tables_stay))]
+/// `tree` is the tree of the crate's root file, and `local` is of no use to a crate. A file that is looked for, found or
+/// not, gets a number in `locations`. Of the trees' items macro calls and macros are passed over. After rust-analyzer's
+/// `collect_defs`.
 pub fn collect_defs<D: SourceDatabase>(
     alloc: Global,
-    db: &D,
+    db: &mut D,
     world: &World,
     locations: &mut Tables,
     start: Start,
@@ -148,31 +185,22 @@ pub fn collect_defs<D: SourceDatabase>(
     _local: Option<&LocalDefMap>,
 ) -> Result<Collected, CollectError>
     ensures kept { KeepsTables locations.old locations.new }
+    ensures same { D.workspace db.new ≡ D.workspace db.old }
 
     // The answer is the end of a derivation over each workspace, beside finished maps, that agrees on what was asked for.
-    ensures ends { IfOk result (λ c. (w : Workspace) (finished : Maps) → AgreeOn locations.new (collected_view c).asked (D.workspace db.now) (finished_in world.now.maps) w finished
+    ensures ends { IfOk result (λ c. (w : Workspace) (finished : Maps) → AgreeOn locations.new (collected_view c).asked (D.workspace db.old) (finished_in world.now.maps) w finished
         → Ends locations.new w finished (beginning start tree (option_map (λ l. l.now) _local.entry)) (collected_view c)) }
     // Steps lead on from the start to as many as are counted.
     ensures many { result ≡ Err CollectError.TooMany
-        → IsOverlong locations.new (D.workspace db.now) (finished_in world.now.maps) (beginning start tree (option_map (λ l. l.now) _local.entry)) }
+        → IsOverlong locations.new (D.workspace db.old) (finished_in world.now.maps) (beginning start tree (option_map (λ l. l.now) _local.entry)) }
 {
-    let krate = start.krate();
-    let behind = behind_of(alloc, db.behind(krate))?;
-    let world = WorldPart::among(world, &behind, &[]);
-    let dependencies = dependencies_of(db.config(krate));
-    let mut run = begin(
-        alloc,
-        db,
-        world,
-        locations,
-        dependencies,
-        &behind,
-        start,
-        tree,
-    )?;
-    settle(&mut run, world)?;
-    let leftover = run.leftover(alloc)?;
-    Ok(run.finish(leftover, behind))
+    let transitive = transitive_of(alloc, db.transitive_dependencies(start.krate()))?;
+    let part = WorldPart::among(world, &transitive, &[]);
+    let run = begin(alloc, db, part, locations, &transitive, start, tree)?;
+    let (imports, asked) = run.into_imports();
+    let apart = world.map(MapId::of_crate(start.krate())).is_none();
+    let imports = resolve_imports(alloc, part, apart, imports)?;
+    Ok(finish(alloc, imports, asked, transitive)?)
 }
 
 /// What a crate depends on; nothing where it isn't there.
@@ -185,16 +213,26 @@ fn dependencies_of(config: Option<&Config>) -> &[Dependency]
     }
 }
 
-/// The crates on which a crate stands; none where it isn't there.
-fn behind_of(
-    alloc: Global,
-    behind: Option<&Rc<BTreeSet<Crate>>>,
-) -> Result<Rc<BTreeSet<Crate>>, AllocError>
-    ensures value { IfOk result (λ crates. crates.value.keys ≡ unwrap_or (option_map (λ b. b.now.value.keys) behind.entry) []) }
+/// The options that are set in a crate; none where it isn't there.
+fn options_of(alloc: Global, config: Option<&Config>) -> Result<CfgOptions, AllocError>
+    ensures value { IfOk result (λ options. options ≡ options_of (option_map (λ c. config_view c.now) config.entry)) }
 {
-    match behind {
-        Some(behind) => Ok(behind.clone()?),
-        None => Ok(Rc::new(alloc, BTreeSet::new(alloc))?),
+    match config {
+        Some(config) => Ok(config.options.clone()?),
+        None => Ok(CfgOptions::new(alloc)),
+    }
+}
+
+/// The direct and transitive dependencies of a crate; none where it isn't there.
+fn transitive_of(
+    alloc: Global,
+    transitive: Option<&Rc<CrateSet>>,
+) -> Result<Rc<CrateSet>, AllocError>
+    ensures value { IfOk result (λ crates. crates.value ≡ unwrap_or (option_map (λ t. t.now.value) transitive.entry) []) }
+{
+    match transitive {
+        Some(transitive) => Ok(transitive.clone()?),
+        None => Ok(Rc::new(alloc, CrateSet::new(alloc))?),
     }
 }
 
@@ -214,44 +252,52 @@ fn fresh(
     alloc: Global,
     world: WorldPart<'_>,
     tree: &ItemTree,
-    dependencies: &[Dependency],
-    behind: &Rc<BTreeSet<Crate>>,
+    config: Option<&Config>,
+    transitive: &Rc<CrateSet>,
     start: Start,
     id: TreeId,
 ) -> Result<Run, AllocError>
-    ensures value { IfOk result (λ run. run ≡ core_of (part_of world.entry) tree.now dependencies.now behind.now.value.keys start id) }
+    ensures value { IfOk result (λ run. run
+        ≡ core_of (part_of world.entry) tree.now (option_map (λ c. config_view c.now) config.entry) transitive.now.value start id) }
 {
     let data = top_data(
         alloc,
         start.edition(),
         tree.top_level_attrs(),
-        behind.clone()?,
+        transitive.clone()?,
     )?;
+    let dependencies = dependencies_of(config);
     let local = extern_prelude(alloc, &data, dependencies)?;
     let copies = cloned(alloc, dependencies)?;
-    Run::start(alloc, world, data, local, copies, start, id)
+    let options = options_of(alloc, config)?;
+    Run::start(alloc, world, data, local, copies, options, start, id)
 }
 
-/// The root module with what all modules find, and with all items of a tree handled.
+/// The root module with what all modules find, and with all items handled to which its tree leads.
 fn begin<D: SourceDatabase>(
     alloc: Global,
-    db: &D,
+    db: &mut D,
     world: WorldPart<'_>,
-    locations: &Tables,
-    dependencies: &[Dependency],
-    behind: &Rc<BTreeSet<Crate>>,
+    locations: &mut Tables,
+    transitive: &Rc<CrateSet>,
     start: Start,
     id: TreeId,
 ) -> Result<Run, CollectError>
-    ensures ok { IfOk result (λ run. Steps (environment locations.now (D.workspace db.now)) (part_of world.entry)
-        (start_by (part_of world.entry) (tree_at locations.now (D.workspace db.now) (tree_key start id)).tree dependencies.now behind.now.value.keys start id) (at_rest run)) }
-    ensures many { result ≡ Err CollectError.TooMany → IsSpent (environment locations.now (D.workspace db.now)) (part_of world.entry)
-        (start_by (part_of world.entry) (tree_at locations.now (D.workspace db.now) (tree_key start id)).tree dependencies.now behind.now.value.keys start id) }
+    ensures kept { KeepsTables locations.old locations.new }
+    ensures same { D.workspace db.new ≡ D.workspace db.old }
+    ensures ok { IfOk result (λ run. Steps (environment locations.new (D.workspace db.old)) (part_of world.entry)
+        (began locations.new (D.workspace db.old) (part_of world.entry) transitive.now.value start id) (at_rest run)) }
+    ensures many { result ≡ Err CollectError.TooMany → IsSpent (environment locations.new (D.workspace db.old)) (part_of world.entry)
+        (began locations.new (D.workspace db.old) (part_of world.entry) transitive.now.value start id) }
 {
     let krate = start.krate();
-    let tree = tree_at(alloc, db, locations, TreeKey { krate, id })?;
-    let mut run = fresh(alloc, world, &tree, dependencies, behind, start, id)?;
-    walk_root(&mut run, db, world, locations, &tree, id)?;
+    let source = source_at(alloc, db, locations, TreeKey { krate, id })?;
+    let tree = source.tree();
+    let mut run = fresh(alloc, world, tree, db.config(krate), transitive, start, id)?;
+    if locations.source_of(id).is_none() {
+        return Ok(run);
+    }
+    walk_root(&mut run, db, world, locations, &source, id)?;
     Ok(run)
 }
 
@@ -262,35 +308,35 @@ fn is_enabled_at_top(tree: &ItemTree) -> bool
     tree.top_level_attrs().is_enabled()
 }
 
-/// Handles the items of a tree that are written in the root module; one that is disabled at its top declares nothing.
+/// Handles the items of a source that are written in the root module; one that is disabled at its top declares nothing.
 fn walk_root<D: SourceDatabase>(
     run: &mut Run,
-    db: &D,
+    db: &mut D,
     world: WorldPart<'_>,
-    locations: &Tables,
-    tree: &ItemTree,
+    locations: &mut Tables,
+    source: &SourceTree,
     id: TreeId,
 ) -> Result<(), CollectError>
     requires in_range { 0 < length run.old.map.modules }
-    ensures ok { OnOk result (Steps (environment locations.now (D.workspace db.now)) (part_of world.entry) (joined run.old (tree_visits (root_site id) tree.now)) (at_rest run.new)) }
-    ensures many { result ≡ Err CollectError.TooMany → IsSpent (environment locations.now (D.workspace db.now)) (part_of world.entry) (joined run.old (tree_visits (root_site id) tree.now)) }
+    requires held { IsHeld locations.old (D.workspace db.old) run.old.map.id.krate id source.now }
+    ensures kept { KeepsTables locations.old locations.new }
+    ensures same { D.workspace db.new ≡ D.workspace db.old }
+    ensures ok { OnOk result (Steps (environment locations.new (D.workspace db.old)) (part_of world.entry)
+        (joined run.old (tree_visits (root_site id) source.now.tree)) (at_rest run.new)) }
+    ensures many { result ≡ Err CollectError.TooMany → IsSpent (environment locations.new (D.workspace db.old)) (part_of world.entry)
+        (joined run.old (tree_visits (root_site id) source.now.tree)) }
 {
-    if !is_enabled_at_top(tree) {
+    if !is_enabled_at_top(source.tree()) {
         return Ok(());
     }
     let site = Site {
         home: 0,
         tree: id,
         extern_block: None,
+        dir: ModDir::root(),
+        level: 0,
     };
-    walk_all(
-        run,
-        db,
-        world,
-        locations,
-        tree,
-        site,
-        tree.top_level_items(),
-    )?;
+    let ids = source.tree().top_level_items();
+    walk_all(run, db, world, locations, source, &site, ids)?;
     Ok(())
 }

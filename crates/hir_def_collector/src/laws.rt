@@ -18,7 +18,8 @@ pub fn runs_name_what_is_there()
     paths_lead_to_what_is_there();
 }
 
-/// A run binds only what its tree writes, and what the maps beside it bind, seen from modules that are there.
+/// A run binds only what the sources write that it asked for, and what the maps beside it bind, seen from modules that
+/// are there.
 pub fn runs_bind_from_sources()
     ensures sources { RunsBindFromSources }
 {

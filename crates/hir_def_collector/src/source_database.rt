@@ -1,25 +1,19 @@
 //! Where a run takes its crates and sources from.
-ghost use Rattle.std.specs.Prelude.{◌≡◌, IfOk, [], option_map, unwrap_or};
-ghost use Rattle.std.specs.Option.{option_and_then};
-ghost use Rattle.hir_base.specs.declared.ast_id.AstKind.TheVariants as kinds;
-ghost use Rattle.hir_item_tree.specs.SideLists.{entry_variants};
-ghost use Rattle.hir_item_tree.specs.SyntaxIds.{node_id};
+ghost use Rattle.std.specs.Prelude.{◌≡◌, IfOk, option_map};
 ghost use Rattle.hir_tables.specs.SourcePlaces.{source_value};
-ghost use Rattle.hir_def_collector.specs.Workspace.{Workspace, config_view, crate_in};
+ghost use Rattle.hir_def_collector.specs.Workspace.{Workspace, config_view, crate_in, transitive_dependencies_in};
 
-use hir_base::ast_id::SyntaxId;
 use hir_base::cfg_options::CfgOptions;
 use hir_base::edition::Edition;
 use hir_base::file_path::FilePath;
 use hir_base::ids::{Crate, EnumId, MapId};
 use hir_base::name::Name;
-use hir_item_tree::item_tree::ItemTree;
+use hir_crate_graph::crate_set::CrateSet;
 use hir_item_tree::raw_attr::RawAttr;
-use hir_item_tree::side_lists::VariantItem;
+use hir_item_tree::source_tree::SourceTree;
 use hir_item_tree::tree_id::TreeKey;
 use hir_tables::SourcePlace;
 use std::alloc::{AllocError, Global};
-use std::collections::BTreeSet;
 use std::rc::Rc;
 
 /// What a run may ask for.
@@ -90,31 +84,22 @@ pub trait SourceDatabase {
     fn config(&self, krate: Crate) -> Option<&Config>
         ensures value { option_map (λ c. config_view c.now) result ≡ (workspace self.now).config krate };
 
-    /// The crates on which a crate stands, directly or through others; none where there is no such crate.
-    fn behind(&self, krate: Crate) -> Option<&Rc<BTreeSet<Crate>>>
-        ensures value { unwrap_or (option_map (λ crates. crates.now.value.keys) result) [] ≡ (workspace self.now).behind krate };
+    /// Its direct and transitive dependencies.
+    fn transitive_dependencies(&self, krate: Crate) -> Option<&Rc<CrateSet>>
+        ensures value { option_map (λ crates. crates.now.value) result
+            ≡ option_map (λ _. transitive_dependencies_in (workspace self.now) krate) ((workspace self.now).config krate) };
 
-    /// The items of a source under a crate; one that is absent has none.
+    /// What a source has under a crate; one that is absent has what one that can't be read has.
     fn tree(
-        &self,
+        &mut self,
         alloc: Global,
         krate: Crate,
         source: SourcePlace<'_>,
-    ) -> Result<ItemTree, AllocError>
-        ensures value { IfOk result (λ tree. tree ≡ ((workspace self.now).tree krate (source_value source.entry)).tree) };
+    ) -> Result<Rc<SourceTree>, AllocError>
+        ensures value { IfOk result (λ tree. tree.value ≡ (workspace self.old).tree krate (source_value source.entry)) }
+        ensures same { workspace self.new ≡ workspace self.old };
 
     /// Whether a source is there.
     fn present(&self, krate: Crate, source: SourcePlace<'_>) -> bool
         ensures value { result ≡ ((workspace self.now).tree krate (source_value source.entry)).present };
-
-    /// The variants of the enum of a node, where it is there, but for those that a condition disables.
-    fn variants(
-        &self,
-        alloc: Global,
-        krate: Crate,
-        source: SourcePlace<'_>,
-        id: SyntaxId,
-    ) -> Result<Option<Vec<VariantItem>>, AllocError>
-        ensures value { IfOk result (λ found. option_map (λ vs. vs.items) found
-            ≡ option_and_then entry_variants ((workspace self.now).side krate (source_value source.entry) (node_id kinds.Enum id))) };
 }

@@ -1,53 +1,54 @@
 //! What a run lists, leaves over and asks for. What the names of its modules stand for are sessions of `hir_session_rows`.
-use hir_base::ast_id::{EditionedFileId, FileId, HirFileId, SyntaxId};
+ghost use Rattle.std.specs.Prelude.{◌≡◌, IfOk, map, option_map};
+ghost use Rattle.hir_item_tree.specs.Source.{source_view};
+ghost use Rattle.hir_tables.specs.SourcePlaces.{source_value};
+ghost use Rattle.hir_def_collector_tests.specs.Crates.{AreTheirs, source_in};
+
+use hir_base::ast_id::{EditionedFileId, FileId, HirFileId};
 use hir_base::cfg_options::CfgOptions;
 use hir_base::edition::Edition;
 use hir_base::file_path::FilePath;
 use hir_base::ids::{Crate, ItemContainerId, MapId, ModuleDefId};
 use hir_base::name::Name;
+use hir_crate_graph::crate_set::CrateSet;
+use hir_crate_graph::transitive::TransitiveDependencies;
 use hir_def_collector::collector::collected::Collected;
 use hir_def_collector::collector::{Start, collect_defs};
 use hir_def_collector::source_database::{Config, CrateRoot, Dependency, Key, SourceDatabase};
 use hir_def_map::nameres::DefMap;
 use hir_def_map::world::World;
-use hir_item_tree::item_tree::{ItemTree, source_tree};
-use hir_item_tree::side_lists::VariantItem;
 use hir_item_tree::source::Source;
+use hir_item_tree::source_tree::SourceTree;
 use hir_item_tree::tree_id::TreeId;
 use hir_scope::per_ns::PerNs;
 use hir_tables::{SourcePlace, Tables};
 use hir_wire::{Command, Edit, read_command};
 use std::alloc::{AllocError, Global};
-use std::collections::BTreeSet;
+use std::collections::BTreeMap;
 use std::process::Abort;
 use std::rc::Rc;
 use std::test::Fail;
 
-/// Crates by number, what each was handed in with, on which crates it stands, and the source of its root.
+/// Crates by number, what each was handed in with, the files by path, and which sources a run has read.
 #[derive(Drop)]
 struct Crates {
     crates: Vec<CrateRoot>,
     configs: Vec<Config>,
-    behind: Vec<Rc<BTreeSet<Crate>>>,
-    roots: Vec<Source>,
+    transitive: TransitiveDependencies,
+    files: BTreeMap<FilePath, Source>,
+    ghost depends: { AreTheirs configs.items transitive },
 }
 
 impl SourceDatabase for Crates {
-    ghost use Rattle.std.specs.Prelude.{None, option_map, slice_get, false, true, unwrap_or, []};
+    ghost use Rattle.std.specs.Prelude.{None, false, []};
     ghost use Rattle.hir_item_tree.specs.Attributes.{no_attributes};
-    ghost use Rattle.hir_item_tree.specs.ItemTree.{tree_of};
-    ghost use Rattle.hir_item_tree.specs.Source.{broken, source_view};
-    ghost use Rattle.hir_def_collector.specs.Workspace.{config_view};
+    ghost use Rattle.hir_item_tree.specs.SourceTree.{source_tree_of};
+    ghost use Rattle.hir_def_collector_tests.specs.Crates.{config_in, source_in};
 
     ghost workspace = { λ d. record {
       crates = d.crates.items;
-      config = λ krate. option_map config_view (slice_get d.configs.items krate.0);
-      behind = λ krate. unwrap_or (option_map (λ crates. crates.value.keys) (slice_get d.behind.items krate.0)) [];
-      tree = λ krate source. record {
-        present = true;
-        tree = tree_of (λ _. false) no_attributes (unwrap_or (option_map source_view (slice_get d.roots.items krate.0)) broken);
-      };
-      side = λ krate source node. None;
+      config = config_in d.configs.items;
+      tree = λ krate source. source_tree_of (λ _. false) no_attributes (source_in d.files.entries source);
       entry = λ key. record { present = false; error = None; inner = [] };
     } };
 
@@ -59,36 +60,34 @@ impl SourceDatabase for Crates {
         self.configs.get(krate.0 as usize)
     }
 
-    fn behind(&self, krate: Crate) -> Option<&Rc<BTreeSet<Crate>>> {
-        self.behind.get(krate.0 as usize)
+    fn transitive_dependencies(&self, krate: Crate) -> Option<&Rc<CrateSet>> {
+        self.transitive.get(krate)
     }
 
     fn tree(
-        &self,
+        &mut self,
         alloc: Global,
-        krate: Crate,
-        _source: SourcePlace<'_>,
-    ) -> Result<ItemTree, AllocError> {
+        _krate: Crate,
+        source: SourcePlace<'_>,
+    ) -> Result<Rc<SourceTree>, AllocError> {
         let front = Vec::new(alloc);
         let options = CfgOptions::new(alloc);
-        match self.roots.get(krate.0 as usize) {
-            Some(source) => source_tree(alloc, source, &front, &options),
-            None => source_tree(alloc, &Source::Broken, &front, &options),
-        }
+        let tree = SourceTree::new(alloc, file_at(&self.files, source), &front, &options)?;
+        Ok(Rc::new(alloc, tree)?)
     }
 
-    fn present(&self, _krate: Crate, _source: SourcePlace<'_>) -> bool {
-        true
+    fn present(&self, _krate: Crate, source: SourcePlace<'_>) -> bool {
+        file_at(&self.files, source).is_some()
     }
+}
 
-    fn variants(
-        &self,
-        _alloc: Global,
-        _krate: Crate,
-        _source: SourcePlace<'_>,
-        _id: SyntaxId,
-    ) -> Result<Option<Vec<VariantItem>>, AllocError> {
-        Ok(None)
+/// The source at a place, if it is that of a file that is there.
+fn file_at<'a>(files: &'a BTreeMap<FilePath, Source>, source: SourcePlace<'_>) -> Option<&'a Source>
+    ensures value { option_map (λ s. source_view s.now) result ≡ source_in files.now.entries (source_value source.entry) }
+{
+    match source {
+        SourcePlace::File(path) => files.get(path),
+        SourcePlace::Block(_) | SourcePlace::Expansion(_) => None,
     }
 }
 
@@ -176,15 +175,27 @@ fn start(number: u32) -> Start {
     }
 }
 
-fn no_crates(alloc: Global) -> Result<Rc<BTreeSet<Crate>>, Fail> {
-    Ok(Rc::new(alloc, BTreeSet::new(alloc))?)
+/// The direct dependencies of a crate.
+fn direct(alloc: Global, config: &Config) -> Result<Vec<Crate>, Fail>
+    ensures value { IfOk result (λ crates. crates.items ≡ map (λ d. d.krate) config.now.dependencies.items) }
+{
+    let mut crates = Vec::new(alloc);
+    for dependency in &config.dependencies {
+        crates.push(dependency.krate)?;
+    }
+    Ok(crates)
 }
 
-/// Crate 0 alone.
-fn the_lower(alloc: Global) -> Result<Rc<BTreeSet<Crate>>, Fail> {
-    let mut crates = BTreeSet::new(alloc);
-    crates.insert(Crate(0))?;
-    Ok(Rc::new(alloc, crates)?)
+/// The transitive dependencies of crates that were handed in so.
+fn transitive(alloc: Global, configs: &Vec<Config>) -> Result<TransitiveDependencies, Fail>
+    ensures value { IfOk result (λ transitive. AreTheirs configs.now.items transitive) }
+{
+    let mut found = TransitiveDependencies::new(alloc);
+    for config in configs {
+        let crates = direct(alloc, config)?;
+        found.push(crates.as_slice())?;
+    }
+    Ok(found)
 }
 
 /// Crate 0 under the name `core`.
@@ -216,12 +227,6 @@ fn configs_of_both(alloc: Global, is_prelude: bool) -> Result<Vec<Config>, Fail>
     Ok(configs)
 }
 
-fn behind_both(alloc: Global) -> Result<Vec<Rc<BTreeSet<Crate>>>, Fail> {
-    let mut behind = vec![in alloc; no_crates(alloc)?]?;
-    behind.push(the_lower(alloc)?)?;
-    Ok(behind)
-}
-
 /// A crate with its root at this path.
 fn crate_at(alloc: Global, path: &str) -> Result<CrateRoot, Fail> {
     Ok(CrateRoot {
@@ -244,20 +249,39 @@ fn files_of_both(alloc: Global) -> Result<Tables, Fail> {
     Ok(tables)
 }
 
-fn roots_of_both(alloc: Global, lower: &str, upper: &str) -> Result<Vec<Source>, Fail> {
-    let mut roots = vec![in alloc; source(alloc, lower)?]?;
-    roots.push(source(alloc, upper)?)?;
-    Ok(roots)
+/// Files by their paths and the lines that hand them in.
+fn files_of(alloc: Global, files: &[(&str, &str)]) -> Result<BTreeMap<FilePath, Source>, Fail> {
+    let mut found = BTreeMap::new(alloc);
+    for (path, line) in files {
+        found.insert(FilePath::parse(alloc, path)?, source(alloc, line)?)?;
+    }
+    Ok(found)
+}
+
+fn crates_over(
+    alloc: Global,
+    crates: Vec<CrateRoot>,
+    configs: Vec<Config>,
+    files: BTreeMap<FilePath, Source>,
+) -> Result<Crates, Fail> {
+    let transitive = transitive(alloc, &configs)?;
+    Ok(Crates {
+        crates,
+        configs,
+        transitive,
+        files,
+    })
 }
 
 /// Crate 0, and crate 1, which depends on it under the name `core`.
 fn two_crates(alloc: Global, lower: &str, upper: &str, is_prelude: bool) -> Result<Crates, Fail> {
-    Ok(Crates {
-        crates: crates_of_both(alloc)?,
-        configs: configs_of_both(alloc, is_prelude)?,
-        behind: behind_both(alloc)?,
-        roots: roots_of_both(alloc, lower, upper)?,
-    })
+    let files = files_of(alloc, &[("a.rs", lower), ("b.rs", upper)])?;
+    crates_over(
+        alloc,
+        crates_of_both(alloc)?,
+        configs_of_both(alloc, is_prelude)?,
+        files,
+    )
 }
 
 /// What the lower crate comes to by itself, in a world.
@@ -271,29 +295,34 @@ fn world_of(alloc: Global, lower: Collected) -> Result<World, Fail> {
 }
 
 /// What a crate comes to beside the maps of a world.
-fn collected_of(alloc: Global, db: &Crates, world: &World, number: u32) -> Result<Collected, Fail> {
+fn collected_of(
+    alloc: Global,
+    db: &mut Crates,
+    world: &World,
+    number: u32,
+) -> Result<Collected, Fail> {
     let mut tables = files_of_both(alloc)?;
     let tree = TreeId::new(HirFileId::File(root(number)), None);
     Ok(collect_defs(alloc, db, world, &mut tables, start(number), tree, None)?)
 }
 
-fn lower_collected(alloc: Global, db: &Crates) -> Result<Collected, Fail> {
+fn lower_collected(alloc: Global, db: &mut Crates) -> Result<Collected, Fail> {
     collected_of(alloc, db, &World::new(alloc), 0)
 }
 
-fn lower_world(alloc: Global, db: &Crates) -> Result<World, Fail> {
+fn lower_world(alloc: Global, db: &mut Crates) -> Result<World, Fail> {
     world_of(alloc, lower_collected(alloc, db)?)
 }
 
 /// What the upper crate comes to beside the lower one.
-fn upper_collected(alloc: Global, db: &Crates) -> Result<Collected, Fail> {
+fn upper_collected(alloc: Global, db: &mut Crates) -> Result<Collected, Fail> {
     let world = lower_world(alloc, db)?;
     collected_of(alloc, db, &world, 1)
 }
 
 fn collected(alloc: Global, lower: &str, upper: &str, is_prelude: bool) -> Result<Collected, Fail> {
-    let db = two_crates(alloc, lower, upper, is_prelude)?;
-    upper_collected(alloc, &db)
+    let mut db = two_crates(alloc, lower, upper, is_prelude)?;
+    upper_collected(alloc, &mut db)
 }
 
 /// The sources of the lower and the upper crate, whether the lower one is marked as its core library, how many imports are left over, and
@@ -358,18 +387,20 @@ const ITEMS: &str = r#"{"do":"set file","file":"lib.rs","unit":{"nodes":[
 {"kind":"Trait","id":[0,0],"name":"T","items":[],"vis":"pub"},
 {"kind":"Impl","id":[0,0],"trait":true,"items":[],"vis":"pub"}]}}"#;
 
-fn one_crate(alloc: Global) -> Result<Crates, Fail> {
-    Ok(Crates {
-        crates: vec![in alloc; crate_at(alloc, "a.rs")?]?,
-        configs: vec![in alloc; lower_config(alloc)]?,
-        behind: vec![in alloc; no_crates(alloc)?]?,
-        roots: vec![in alloc; source(alloc, ITEMS)?]?,
-    })
+/// Crate 0 over files, of which `a.rs` is its root.
+fn one_crate(alloc: Global, files: &[(&str, &str)]) -> Result<Crates, Fail> {
+    let crates = vec![in alloc; crate_at(alloc, "a.rs")?]?;
+    let configs = vec![in alloc; lower_config(alloc)]?;
+    crates_over(alloc, crates, configs, files_of(alloc, files)?)
+}
+
+fn collected_over(alloc: Global, files: &[(&str, &str)]) -> Result<Collected, Fail> {
+    let mut db = one_crate(alloc, files)?;
+    lower_collected(alloc, &mut db)
 }
 
 fn items(alloc: Global) -> Result<Collected, Fail> {
-    let db = one_crate(alloc)?;
-    lower_collected(alloc, &db)
+    collected_over(alloc, &[("a.rs", ITEMS)])
 }
 
 fn items_of_root(rt: &impl Abort, map: &DefMap) -> Result<(), Fail> {
@@ -405,13 +436,14 @@ fn container_of_ext(rt: &impl Abort, alloc: Global, map: &DefMap) -> Result<(), 
 
 fn lists_of(rt: &impl Abort, alloc: Global, found: &Collected) -> Result<(), Fail> {
     items_of_root(rt, &found.map)?;
-    assert_eq!(rt; found.leftover.len(), 1);
+    assert_eq!(rt; found.leftover.len(), 0);
     assert_eq!(rt; found.asked.own().len(), 1);
+    assert!(rt; entry(alloc, &found.map, "S")?.types.is_some());
     container_of_ext(rt, alloc, &found.map)
 }
 
-/// Each item is listed in its module, and a function of an extern block has that block as its container; the glob is left
-/// over.
+/// Each item is listed in its module, and a function of an extern block has that block as its container; the glob brings
+/// what its module binds.
 #[test]
 fn lists(rt: HostRuntime) -> Result<(), Fail> {
     let found = items(rt.alloc())?;
@@ -448,5 +480,118 @@ fn walks_all(rt: &impl Abort, found: &Collected) -> Result<(), Fail> {
     }
     assert!(rt; keys.next() == Some(Key::Map(MapId::of_crate(Crate(0)))));
     assert!(rt; keys.next().is_none());
+    Ok(())
+}
+
+/// `mod a;`
+const MOD_A: &str = r#"{"do":"set file","file":"a.rs","unit":{"nodes":[
+{"kind":"Module","id":[1,0],"name":"m","vis":"pub"}]}}"#;
+
+/// `mod a { mod b; }`
+const MOD_IN_MOD: &str = r#"{"do":"set file","file":"a.rs","unit":{"nodes":[
+{"kind":"Module","id":[1,0],"name":"m","nodes":[
+    {"kind":"Module","id":[2,0],"name":"n"}]}]}}"#;
+
+/// `#[path = "x/y.rs"] mod a;`
+const MOD_BY_PATH: &str = r#"{"do":"set file","file":"a.rs","unit":{"nodes":[
+{"kind":"Module","id":[1,0],"name":"m","attrs":[{"path":"path","literal":"x/y.rs"}]}]}}"#;
+
+/// `mod b;`
+const MOD_B: &str = r#"{"do":"set file","file":"b.rs","unit":{"nodes":[
+{"kind":"Module","id":[1,0],"name":"n"}]}}"#;
+
+/// `pub struct S;`
+const STRUCT: &str = r#"{"do":"set file","file":"b.rs","unit":{"nodes":[
+{"kind":"Struct","id":[1,0],"name":"S","shape":"unit","vis":"pub"}]}}"#;
+
+/// `#![cfg(false)]`
+const DISABLED: &str =
+    r#"{"do":"set file","file":"b.rs","unit":{"attrs":[{"path":"cfg","cfg":false}],"nodes":[]}}"#;
+
+/// Files, how many modules they make, how many files are asked for, and how many diagnostics there are.
+type FileRow = (
+    &'static str,
+    &'static [(&'static str, &'static str)],
+    usize,
+    usize,
+    usize,
+);
+
+const FILE_ROWS: [FileRow; 8] = [
+    (
+        "beside",
+        &[("a.rs", MOD_A), ("m.rs", STRUCT), ("m/mod.rs", STRUCT)],
+        2,
+        2,
+        0,
+    ),
+    (
+        "in its directory",
+        &[("a.rs", MOD_A), ("m/mod.rs", STRUCT)],
+        2,
+        3,
+        0,
+    ),
+    ("nowhere", &[("a.rs", MOD_A)], 2, 3, 1),
+    (
+        "in an inline module",
+        &[
+            ("a.rs", MOD_IN_MOD),
+            ("m/n.rs", MOD_B),
+            ("m/n/n.rs", STRUCT),
+        ],
+        4,
+        3,
+        0,
+    ),
+    (
+        "by its path",
+        &[("a.rs", MOD_BY_PATH), ("x/y.rs", MOD_B), ("x/n.rs", STRUCT)],
+        3,
+        3,
+        0,
+    ),
+    (
+        "disabled at its top",
+        &[("a.rs", MOD_A), ("m.rs", DISABLED)],
+        1,
+        2,
+        1,
+    ),
+    (
+        "beside the declaring file",
+        &[("a.rs", MOD_A), ("m.rs", MOD_B), ("m/n.rs", STRUCT)],
+        3,
+        3,
+        0,
+    ),
+    (
+        "not beside it",
+        &[("a.rs", MOD_A), ("m.rs", MOD_B), ("n.rs", STRUCT)],
+        3,
+        4,
+        1,
+    ),
+];
+
+fn makes_modules(rt: &impl Abort, alloc: Global, row: &FileRow) -> Result<(), Fail> {
+    let (label, files, modules, asked, diagnostics) = *row;
+    let found = collected_over(alloc, files)?;
+    assert_eq!(rt; found.map.modules().len(), modules, "{label}");
+    assert_eq!(rt; found.asked.own().len(), asked, "{label}");
+    assert_eq!(rt;
+        found.map.diagnostics().as_slice().len(),
+        diagnostics,
+        "{label}"
+    );
+    Ok(())
+}
+
+/// A module's items are in the first of its files that is there, and each file that was looked for is asked for.
+#[test]
+fn files_of_modules(rt: HostRuntime) -> Result<(), Fail> {
+    for row in &FILE_ROWS {
+        makes_modules(&rt, rt.alloc(), row)?;
+    }
     Ok(())
 }

@@ -8,7 +8,7 @@ use Rattle.std.proofs.lemmas.List.Sums.{fold-append}
 use Rattle.hir_base.specs.declared.ids.ModuleId.{ModuleId}
 use Rattle.hir_def_map.specs.State.{Map, ModuleValue, module_at}
 use Rattle.hir_def_map.specs.Dump.{Page, next_page_text, pages_from, pages_within, path_below, text_of}
-use Rattle.hir_def_map.specs.Branches.{BranchValue, branch_below, branches_below, own_page, pages_in, pages_left, with_pages}
+use Rattle.hir_def_map.specs.Inner.Branches.{BranchValue, branch_below, branches_below, own_page, pages_in, pages_left, with_pages}
 
 -- ---- texts
 

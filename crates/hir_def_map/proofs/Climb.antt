@@ -2,7 +2,7 @@
 use Rattle.std.proofs.Common.{◌≡◌, ℕ, zero, suc, ◌<◌, ◌-◌, ap, sym, arith, Some, None}
 use Rattle.std.specs.Option.{option_and_then}
 use Rattle.hir_base.specs.declared.ids.ModuleId.{ModuleId}
-use Rattle.hir_def_map.specs.State.{Maps, parent_in}
+use Rattle.hir_def_map.specs.Overlay.{Maps, parent_in}
 use Rattle.hir_def_map.specs.Scoping.Segments.{nearest_non_block_module}
 use Rattle.hir_def_map.specs.Scoping.Start.{climb}
 

@@ -1,11 +1,12 @@
 -- A copy that is made in the order of the keys has the same keys in the same order.
-use Rattle.std.specs.Prelude.{◌≡◌, List, [], ◌∷◌, ◌++◌}
+use Rattle.std.specs.Prelude.{◌≡◌, Bool, true, false, cond, List, [], ◌∷◌, ◌++◌}
 use Rattle.std.specs.BTreeMap.{insert_entry}
 use Rattle.std.specs.BTreeSet.{insert_key}
-use Rattle.std.specs.Cmp.{IsTotalOrder}
-use Rattle.std.specs.List.{AllByRecursion}
+use Rattle.std.specs.Cmp.{IsEquivalence, IsTotalOrder}
+use Rattle.std.specs.List.{AllByRecursion, IsDistinct}
 use Rattle.std.specs.List.Sorted.{IsStrictlySortedBy}
 use Rattle.std.specs.Map.{keys_of}
+use Rattle.indexmap.specs.IndexMap.{insert_entry as insert_last}
 use Rattle.std.specs.Ordering.{match_ordering, ordering_reverse}
 use Rattle.std.specs.declared.cmp.Ordering.{Ordering}
 use Rattle.std.specs.declared.cmp.Ordering.TheVariants.{Less}
@@ -51,6 +52,38 @@ module _ {K : Type 0} (cmp : K → K → Ordering) (total : IsTotalOrder cmp) wh
         let whole : made ++ (k, v) ∷ rest ≡ all = ap (λ (es : List (K × V)). made ++ es) (sym taken) ∙ half in
         ap (λ (es : List (K × V)). es ++ rest)
         (is ∙ entry_behind made (keys_of rest) k v (subst (IsStrictlySortedBy cmp) (ap keys_of (sym whole) ∙ keys_split made (k, v) rest) s))
+        ∙ shift made ∙ whole
+      where
+        shift : (xs : List (K × V)) → (xs ++ (k, v) ∷ []) ++ rest ≡ xs ++ (k, v) ∷ rest
+        shift [] = refl
+        shift (x ∷ xs) = ap (λ (es : List (K × V)). x ∷ es) (shift xs)
+
+-- ---- copies in the order of insertion
+
+module _ {K : Type 0} (eq : K → K → Bool) (laws : IsEquivalence eq) where
+  last_in : (e : K) (ks rest : List K) (k : K) → AllByRecursion (λ y. eq e y ≡ false) (ks ++ k ∷ rest) → eq k e ≡ false
+  last_in e [] rest k all = laws.symm k e ∙ all.0
+  last_in e (x ∷ ks) rest k all = last_in e ks rest k all.1
+
+  module _ {V : Type 0} where
+    -- a key that is none of the others goes behind them
+    last_behind : (es : List (K × V)) (rest : List K) (k : K) (v : V) → IsDistinct eq (keys_of es ++ k ∷ rest) → insert_last eq es k v ≡ es ++ (k, v) ∷ []
+    unfolding IsDistinct
+    last_behind [] rest k v d = refl
+    last_behind (e ∷ es) rest k v d =
+        ap (λ (b : Bool). cond b ((e.0, v) ∷ es) (e ∷ insert_last eq es k v)) (last_in e.0 (keys_of es) rest k d.0)
+        ∙ ap (λ (xs : List (K × V)). e ∷ xs) (last_behind es rest k v d.1)
+
+    keys_apart : (es : List (K × V)) (e : K × V) (rest : List (K × V)) → keys_of (es ++ e ∷ rest) ≡ keys_of es ++ e.0 ∷ keys_of rest
+    keys_apart [] e rest = refl
+    keys_apart (x ∷ es) e rest = ap (λ (ks : List K). x.0 ∷ ks) (keys_apart es e rest)
+
+    pub last_copied : (all made left rest new : List (K × V)) (k : K) (v : V) → IsDistinct eq (keys_of all) → made ++ left ≡ all → left ≡ (k, v) ∷ rest
+        → new ≡ insert_last eq made k v → new ++ rest ≡ all
+    last_copied all made left rest new k v d half taken is =
+        let whole : made ++ (k, v) ∷ rest ≡ all = ap (λ (es : List (K × V)). made ++ es) (sym taken) ∙ half in
+        ap (λ (es : List (K × V)). es ++ rest)
+        (is ∙ last_behind made (keys_of rest) k v (subst (IsDistinct eq) (ap keys_of (sym whole) ∙ keys_apart made (k, v) rest) d))
         ∙ shift made ∙ whole
       where
         shift : (xs : List (K × V)) → (xs ++ (k, v) ∷ []) ++ rest ≡ xs ++ (k, v) ∷ rest

@@ -12,11 +12,11 @@ use Rattle.hir_base.specs.contracts.ids.MapIdOrd.TheImpl as map_order
 use Rattle.hir_def_map.specs.declared.world.dependents.Dependents.{Dependents}
 use Rattle.hir_def_map.specs.declared.world.finished.Finished.{Finished}
 use Rattle.hir_def_map.specs.State.{Local, Map}
-use Rattle.hir_def_map.specs.Named.{is_complete}
-use Rattle.hir_def_map.specs.Inserted.{may_join}
+use Rattle.hir_def_map.specs.References.{is_well_formed}
+use Rattle.hir_def_map.specs.Insertion.{may_join}
 use Rattle.hir_def_map.specs.World.{finished_in, placed_of}
 use Rattle.hir_def_map.specs.Removal.{lists_in, lists_of}
-use Rattle.hir_def_map.specs.Dependents.{Enters, has_id, is_dependent, is_entry, IsEntered, IsIndexed, IsSame, IsSameBut, Leaves}
+use Rattle.hir_def_map.specs.Inner.Dependents.{Enters, has_id, is_dependent, is_entry, IsEntered, IsIndexed, IsSame, IsSameBut, Leaves}
 use Rattle.hir_def_map.proofs.Joined.{own_id, same_id}
 
 abbrev Index : Type 0
@@ -206,7 +206,7 @@ absent_before maps map local may = go (get map_order.ghosts.cmp maps map.id) ref
     go : (o : Option Finished) → get map_order.ghosts.cmp maps map.id ≡ o → get map_order.ghosts.cmp maps map.id ≡ None
     go None s = s
     go (Some f) s =
-        absurd (true≢false (sym (first_so (not (is_some (finished_in maps map.id))) (is_complete (finished_in maps) map local) may) ∙ ap (λ (o : Option Finished). not (is_some (option_map placed_of o))) s))
+        absurd (true≢false (sym (first_so (not (is_some (finished_in maps map.id))) (is_well_formed (finished_in maps) map local) may) ∙ ap (λ (o : Option Finished). not (is_some (option_map placed_of o))) s))
 
 pub empty_index : (maps : Store) (dependents : Dependents) → maps.entries ≡ [] → ((on id : MapId) → is_dependent dependents on id ≡ false) → IsIndexed dependents maps
 empty_index maps dependents empty none = record {

@@ -9,11 +9,11 @@ use Rattle.hir_base.specs.declared.ids.ModuleId.{ModuleId}
 use Rattle.hir_base.specs.contracts.ids.MapIdOrd.TheImpl as map_order
 use Rattle.hir_scope.specs.ModuleTree.{same_crate}
 use Rattle.hir_def_map.specs.declared.world.finished.Finished.{Finished}
-use Rattle.hir_def_map.specs.State.{Maps, Placed, holders_of, holders_under}
-use Rattle.hir_def_map.specs.Chains.{HolderLeads, IsPlaced, frame_of, frames_of, holders_of_frame}
-use Rattle.hir_def_map.specs.Named.{lies_in, names_map, names_some}
+use Rattle.hir_def_map.specs.Overlay.{Maps, Placed, holders_of, holders_under}
+use Rattle.hir_def_map.specs.Ancestors.{HolderLeads, IsPlaced, frame_of, frames_of, holders_of_frame}
+use Rattle.hir_def_map.specs.References.{lies_in, refers_to, any_reference}
 use Rattle.hir_def_map.specs.World.{IsChecked, IsFinished, finished_in, placed_of}
-use Rattle.hir_def_map.specs.Removal.{Depends, FallsWith, IsClosed, IsFalling, IsUpward, lacks_some, lists_in, lists_of, names_in, names_of}
+use Rattle.hir_def_map.specs.Removal.{Depends, FallsWith, IsClosed, IsFalling, IsUpward, lacks_some, lists_in, lists_of, refers_in, refers_of}
 use Rattle.hir_def_map.specs.Removal.Depends.{itself, through}
 use Rattle.hir_def_map.proofs.Depending.{depends_still, falls_by}
 use Rattle.hir_def_map.proofs.Joined.{finished_kept, holder_named, own_id, same_id}
@@ -158,7 +158,7 @@ some_placed : (o : Option Finished) → is_some o ≡ true → is_some (option_m
 some_placed None e = absurd cc
 some_placed (Some f) e = refl
 
-names_there : (o : Option Finished) (j : MapId) → names_of o j ≡ true → is_some o ≡ true
+names_there : (o : Option Finished) (j : MapId) → refers_of o j ≡ true → is_some o ≡ true
 names_there None j e = absurd cc
 names_there (Some f) j e = refl
 
@@ -168,29 +168,29 @@ framed_some (Some p) e = refl
 
 module _ (old : Store) (checked : IsChecked old) where
   -- an id that is kept is that of a map that is named
-  names_at : (k j : MapId) → lists_in old k j ≡ true → names_in old k j ≡ true
+  names_at : (k j : MapId) → lists_in old k j ≡ true → refers_in old k j ≡ true
   names_at k j l = go (at old k) refl l
     where
-      go : (o : Option Finished) → at old k ≡ o → lists_of o j ≡ true → names_of o j ≡ true
+      go : (o : Option Finished) → at old k ≡ o → lists_of o j ≡ true → refers_of o j ≡ true
       go None s e = absurd cc
       go (Some f) s e = (checked.each k f s).named j e
 
   -- so what depends on a map by the ids that are kept does by the names, and falls with it by them
-  pub by_names : (a b : MapId) → Depends (lists_in old) a b → Depends (names_in old) a b
-  by_names a b d = depends_still (lists_in old) (names_in old) names_at a b d
+  pub by_names : (a b : MapId) → Depends (lists_in old) a b → Depends (refers_in old) a b
+  by_names a b d = depends_still (lists_in old) (refers_in old) names_at a b d
 
-  pub by_lists : (a b : MapId) → Depends (names_in old) a b → FallsWith (lists_in old) a b
-  by_lists a b d = falls_by (names_in old) (lists_in old) checked.covered a b d
+  pub by_lists : (a b : MapId) → Depends (refers_in old) a b → FallsWith (lists_in old) a b
+  by_lists a b d = falls_by (refers_in old) (lists_in old) checked.covered a b d
 
   -- a map that is named is there
-  named_there : (k : MapId) (f : Finished) → at old k ≡ Some f → (j : MapId) → names_map f.map f.local j ≡ true → is_some (at old j) ≡ true
+  named_there : (k : MapId) (f : Finished) → at old k ≡ Some f → (j : MapId) → refers_to f.map f.local j ≡ true → is_some (at old j) ≡ true
   unfolding finished_in
   named_there k f s j e = placed_some (at old j) (names_finished (finished_in old) f.map f.local (checked.each k f s).complete j e)
 
   pub checked_closed : IsClosed old
   checked_closed k = go (lacks_some old (at old k)) refl
     where
-      known : (j : MapId) (o : Option Finished) → at old k ≡ o → names_of o j ≡ true → is_some (at old j) ≡ true
+      known : (j : MapId) (o : Option Finished) → at old k ≡ o → refers_of o j ≡ true → is_some (at old j) ≡ true
       known j None s e = absurd cc
       known j (Some f) s e = named_there k f s j e
 
@@ -227,7 +227,7 @@ module _ (old new : Store) (id : MapId) (checked : IsChecked old) (falling : IsF
   here k g e = some_placed (at old k) (ap is_some (was k g e))
 
   -- so is what it names
-  named_stays : (k j : MapId) → names_in old k j ≡ true → is_some (at new k) ≡ true → is_some (at new j) ≡ true
+  named_stays : (k j : MapId) → refers_in old k j ≡ true → is_some (at new k) ≡ true → is_some (at new j) ≡ true
   named_stays k j n i = go (at new j) refl
     where
       go : (o : Option Finished) → at new j ≡ o → is_some (at new j) ≡ true
@@ -264,33 +264,33 @@ module _ (old new : Store) (id : MapId) (checked : IsChecked old) (falling : IsF
             let i : is_some (at new k) ≡ true = ap is_some s in
             later (not (is_some (at new k))) (falls k) (up k other (listed i) (ap (λ (b : Bool). not b || falls other) (sym (here i)) ∙ f))
 
-    still_falls : (k j : MapId) → names_in old k j ≡ true → is_some (at new k) ≡ true → falls j ≡ true → falls k ≡ true
+    still_falls : (k j : MapId) → refers_in old k j ≡ true → is_some (at new k) ≡ true → falls j ≡ true → falls k ≡ true
     still_falls k j n i f = ap (λ (b : Bool). not b || falls k) (sym i) ∙ checked.covered k j n or_gone (later (not (is_some (at new j))) (falls j) f) up_or_gone
       where
         later : (a b : Bool) → b ≡ true → (a || b) ≡ true
         later true b e = refl
         later false b e = e
 
-  covered_still : (k j : MapId) → names_in new k j ≡ true → FallsWith (lists_in new) j k
+  covered_still : (k j : MapId) → refers_in new k j ≡ true → FallsWith (lists_in new) j k
   covered_still k j n falls f up =
       let i : is_some (at new k) ≡ true = names_there (at new k) j n in
-      still_falls falls up k j (ap (λ (o : Option Finished). names_of o j) (sym (was_there old new id falling closed k i)) ∙ n) i f
+      still_falls falls up k j (ap (λ (o : Option Finished). refers_of o j) (sym (was_there old new id falling closed k i)) ∙ n) i f
 
   -- what is still there finds the maps that it names as they were
-  same : (k : MapId) (g : Finished) → at new k ≡ Some g → (j : MapId) → names_some (lies_in j) g.map g.local ≡ true → before j ≡ after j
+  same : (k : MapId) (g : Finished) → at new k ≡ Some g → (j : MapId) → any_reference (lies_in j) g.map g.local ≡ true → before j ≡ after j
   same k g e j named = go (is_at (map_order.ghosts.cmp g.map.id) j) refl
     where
       finished : IsFinished before k g
       finished = checked.each k g (was k g e)
 
-      there : names_map g.map g.local j ≡ true → is_some (at new j) ≡ true
-      there n = named_stays k j (ap (λ (o : Option Finished). names_of o j) (was k g e) ∙ n) (ap is_some e)
+      there : refers_to g.map g.local j ≡ true → is_some (at new j) ≡ true
+      there n = named_stays k j (ap (λ (o : Option Finished). refers_of o j) (was k g e) ∙ n) (ap is_some e)
 
       go : (b : Bool) → is_at (map_order.ghosts.cmp g.map.id) j ≡ b → before j ≡ after j
       go true s =
           let P : MapId → Type 0 = λ x. before x ≡ after x in
           subst P (sym finished.own ∙ same_id g.map.id j s) (same_maps k (was_there old new id falling closed k (ap is_some e)))
-      go false s = same_maps j (was_there old new id falling closed j (there (ap (λ (b : Bool). not b && names_some (lies_in j) g.map g.local) s ∙ named)))
+      go false s = same_maps j (was_there old new id falling closed j (there (ap (λ (b : Bool). not b && any_reference (lies_in j) g.map g.local) s ∙ named)))
 
   placed_after : IsPlaced after
   unfolding finished_in frames_of
@@ -318,11 +318,11 @@ module _ (old new : Store) (id : MapId) (checked : IsChecked old) (falling : IsF
   }
 
   -- all that depend on the map are gone
-  pub dependents_gone : (k : MapId) → Depends (names_in old) id k → at new k ≡ None
+  pub dependents_gone : (k : MapId) → Depends (refers_in old) id k → at new k ≡ None
   dependents_gone k d = all_gone old new id falling closed k (by_lists old checked id k d)
 
   -- and all others stay
-  pub others_stay : (k : MapId) → ¬ Depends (names_in old) id k → at new k ≡ at old k
+  pub others_stay : (k : MapId) → ¬ Depends (refers_in old) id k → at new k ≡ at old k
   others_stay k free = elim (falling.each k) [
     | inl same ↦ same
     | inr fell ↦ absurd (free (by_names old checked id k fell.1))
@@ -333,10 +333,10 @@ none_there None e = refl
 none_there (Some f) e = absurd cc
 
 -- on a map that isn't there nothing depends that is there
-pub absent_gone : (old : Store) (id : MapId) → IsChecked old → at old id ≡ None → (k : MapId) → Depends (names_in old) id k → at old k ≡ None
+pub absent_gone : (old : Store) (id : MapId) → IsChecked old → at old id ≡ None → (k : MapId) → Depends (refers_in old) id k → at old k ≡ None
 absent_gone old id checked absent _ (itself k e) = ap (at old) e ∙ absent
 absent_gone old id checked absent _ (through k other n d) = go (absent_gone old id checked absent other d) (at old k) refl n
   where
-    go : at old other ≡ None → (o : Option Finished) → at old k ≡ o → names_of o other ≡ true → at old k ≡ None
+    go : at old other ≡ None → (o : Option Finished) → at old k ≡ o → refers_of o other ≡ true → at old k ≡ None
     go m None s e = s
     go m (Some f) s e = absurd (true≢false (sym (named_there old checked k f s other e) ∙ ap is_some m))

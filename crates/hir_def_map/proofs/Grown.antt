@@ -23,7 +23,7 @@ use Rattle.hir_scope.specs.declared.imports.ImportOrGlob.{ImportOrGlob}
 use Rattle.hir_scope.specs.declared.imports.ImportOrDef.{ImportOrDef}
 use Rattle.hir_scope.specs.PerNs.{Item, item_of, value_import}
 use Rattle.hir_scope.specs.declared.per_ns.PerNs.{PerNs}
-use Rattle.hir_scope.specs.Bindings.{Candidate, Push, after_push, slot_after, gives_way, takes, macro_candidate, written_places, written_items, taken, type_candidate, value_candidate}
+use Rattle.hir_scope.specs.Bindings.{Candidate, Push, after_push, slot_after, is_reresolved_by, takes, macro_candidate, written_places, written_items, taken, type_candidate, value_candidate}
 use Rattle.hir_scope.specs.declared.visibility.Visibility.{Visibility}
 use Rattle.hir_scope.specs.Globs.{GlobNames, Place}
 use Rattle.hir_scope.specs.Entries.{with_entry, has_key, item_at}
@@ -31,8 +31,9 @@ use Rattle.hir_scope.specs.ImportRecords.{is_glob}
 use Rattle.hir_scope.specs.Scope.{ScopeValue, binding_of}
 use Rattle.hir_scope.specs.Scope.Push.{written_scope, pushed_globs, pushed_scope, taken_candidates}
 use Rattle.hir_def_map.specs.declared.nameres.origin.ModuleOrigin.{ModuleOrigin}
-use Rattle.hir_def_map.specs.State.{Map, Maps, ModuleValue, at_name, beside, holders_or, holders_under, placed_in, with_name, changed_at, entry_of, entry_at, globs_in, globs_after, module_at, new_id, new_module, no_globs, numbered, place_at, pushed, pushed_module, with_child, with_module, with_module_scope, with_scope}
-use Rattle.hir_def_map.specs.Chains.{frame_of, frames_of}
+use Rattle.hir_def_map.specs.State.{Map, ModuleValue, at_name, with_name, changed_at, entry_of, entry_at, globs_in, globs_after, module_at, new_id, new_module, no_globs, numbered, place_at, pushed, pushed_module, with_child, with_module, with_module_scope, with_scope}
+use Rattle.hir_def_map.specs.Overlay.{Maps, overlay, holders_or, holders_under, placed_in}
+use Rattle.hir_def_map.specs.Ancestors.{frame_of, frames_of}
 
 -- ---- a list by names, with one more value
 
@@ -41,7 +42,7 @@ equal_to_itself Less e = absurd cc
 equal_to_itself Equal e = refl
 equal_to_itself Greater e = absurd cc
 
-same_text : (name : List ℕ) → is_at (slice_cmp nat_cmp name) name ≡ true
+pub same_text : (name : List ℕ) → is_at (slice_cmp nat_cmp name) name ≡ true
 same_text name = ap is_eq (equal_to_itself (slice_cmp nat_cmp name name) (nat_list_cmp_total.antisymm name name))
 
 unlike : (o : Ordering) → o ≢ Equal → is_eq o ≡ false
@@ -49,7 +50,7 @@ unlike Less ne = refl
 unlike Equal ne = absurd (ne refl)
 unlike Greater ne = refl
 
-other_text : (x y : List ℕ) → x ≢ y → is_at (slice_cmp nat_cmp x) y ≡ false
+pub other_text : (x y : List ℕ) → x ≢ y → is_at (slice_cmp nat_cmp x) y ≡ false
 other_text x y ne = unlike (slice_cmp nat_cmp x y) (λ e. ne (exact_bytes x y e))
 
 module _ {V : Type 0} where
@@ -178,7 +179,7 @@ module _ {D I : Type 0} (same_def : D → D → Bool) (same_import : I → I →
           → item_at (written_items name (cond (takes same_def same_import false o push) (Some (record { push = push; source = source })) None) es) name
           ≡ slot_after same_def same_import o (Some push.item)
       go None e = item_at-with_entry es name push.item
-      go (Some b) e = step b e (gives_way same_def same_import b push.item)
+      go (Some b) e = step b e (is_reresolved_by same_def same_import b push.item)
 
 module _ {D I : Type 0} where
   -- other names stay
@@ -327,11 +328,11 @@ frame_of-changed map holders at change keeps = λ i. record { id = map.id; paren
     go (m ∷ ms) (suc k) = ap (λ (ps : List (Option ModuleId)). m.parent ∷ ps) (go ms k)
 
 -- where two maps of one id and one holder have one frame, the same lies above each module beside finished maps
-pub frames_of-beside : (finished : Maps) (one other : Map) → one.id ≡ other.id → one.holder ≡ other.holder
+pub frames_of-overlay : (finished : Maps) (one other : Map) → one.id ≡ other.id → one.holder ≡ other.holder
     → ((holders : List ModuleId) → frame_of (record { map = one; local = []; holders = holders }) ≡ frame_of (record { map = other; local = []; holders = holders }))
-    → (id : MapId) → frames_of (beside finished one) id ≡ frames_of (beside finished other) id
+    → (id : MapId) → frames_of (overlay finished one) id ≡ frames_of (overlay finished other) id
 unfolding frames_of
-frames_of-beside finished one other same_id same_place same id =
+frames_of-overlay finished one other same_id same_place same id =
     ap (λ (x : MapId). option_map frame_of (cond (map_id.ghosts.eq id x) (Some (placed_in finished one)) (finished id))) same_id ∙ on (map_id.ghosts.eq id other.id)
   where
     held : (placed_in finished one).holders ≡ (placed_in finished other).holders
@@ -346,14 +347,14 @@ frames_of-beside finished one other same_id same_place same id =
 
 -- a change of one scope leaves what lies above each module
 pub frames_of-scope : (finished : Maps) (map : Map) (at : ℕ) (change : ScopeValue → ScopeValue) (id : MapId)
-    → frames_of (beside finished (with_scope map at change)) id ≡ frames_of (beside finished map) id
+    → frames_of (overlay finished (with_scope map at change)) id ≡ frames_of (overlay finished map) id
 frames_of-scope finished map at change id =
-    frames_of-beside finished (with_scope map at change) map refl refl
+    frames_of-overlay finished (with_scope map at change) map refl refl
     (λ holders. frame_of-changed map holders at (with_module_scope change) (λ m. refl)) id
 
 -- so does a push
 pub frames_of-pushed : (finished : Maps) (map : Map) (globs : GlobNames) (at : ℕ) (name : List ℕ) (items : PerNs) (import : Option ImportOrExternCrate) (id : MapId)
-    → frames_of (beside finished (pushed map globs at name items import)) id ≡ frames_of (beside finished map) id
+    → frames_of (overlay finished (pushed map globs at name items import)) id ≡ frames_of (overlay finished map) id
 frames_of-pushed finished map globs at name items import id =
     frames_of-scope finished map at (pushed_scope globs (place_at map.id at name) items import) id
 

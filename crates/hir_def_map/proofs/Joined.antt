@@ -16,16 +16,17 @@ use Rattle.hir_base.specs.contracts.ids.MapIdOrd.TheImpl.Laws.{total-law as orde
 use Rattle.hir_base.specs.contracts.ids.MapIdPartialEq.TheImpl as map_id
 use Rattle.hir_scope.specs.ModuleTree.{same_crate}
 use Rattle.hir_def_map.specs.declared.world.finished.Finished.{Finished}
-use Rattle.hir_def_map.specs.declared.world.named.Named.{Named}
-use Rattle.hir_def_map.specs.declared.world.named.Named.TheVariants as named
-use Rattle.hir_def_map.specs.State.{Local, Map, Maps, ModuleValue, Placed, beside, holders_of, holders_or, holders_under, module_at, module_in, placed_in, placed_with, variants_at, with_map}
-use Rattle.hir_def_map.specs.Chains.{IsPlaced}
-use Rattle.hir_def_map.specs.Beside.{exact_map, IsPlaced-with_map}
-use Rattle.hir_def_map.specs.Named.{each_leads_to_root, has_its_parents, is_complete, is_holder_for, is_missing, is_there, lies_in, map_named, named_by, names_in_module, names_own_crate, names_some, prelude_named, test_child, test_crate, test_extern, test_of, test_type}
+use Rattle.hir_def_map.specs.declared.world.reference.Reference.{Reference}
+use Rattle.hir_def_map.specs.declared.world.reference.Reference.TheVariants as named
+use Rattle.hir_def_map.specs.State.{Local, Map, ModuleValue, module_at, variants_at}
+use Rattle.hir_def_map.specs.Overlay.{Maps, Placed, overlay, holders_of, holders_or, holders_under, module_in, placed_in, placed_with, with_map}
+use Rattle.hir_def_map.specs.Ancestors.{IsPlaced}
+use Rattle.hir_def_map.specs.Inner.OverlayLaws.{exact_map, IsPlaced-with_map}
+use Rattle.hir_def_map.specs.References.{each_leads_to_root, has_its_parents, is_well_formed, is_holder_for, is_missing, is_there, lies_in, map_of_reference, reference_to, any_reference_in, any_own_crate, any_reference, prelude_reference, test_child, test_crate, test_extern, test_of, test_type}
 use Rattle.hir_def_map.specs.World.{IsChecked, IsFinished, finished_in, placed_of}
-use Rattle.hir_def_map.specs.Removal.{FallsWith, lists_in, lists_of, names_in, names_of}
-use Rattle.hir_def_map.specs.Kept.{IsKeptOf}
-use Rattle.hir_def_map.specs.Inserted.{may_join}
+use Rattle.hir_def_map.specs.Removal.{FallsWith, lists_in, lists_of, refers_in, refers_of}
+use Rattle.hir_def_map.specs.Inner.Recorded.{IsRecordedFor}
+use Rattle.hir_def_map.specs.Insertion.{may_join}
 use Rattle.hir_def_map.proofs.Depending.{falls_in_step, falls_on, falls_still}
 
 -- ---- ids that are equal by the order
@@ -36,7 +37,7 @@ own_id a = ap is_eq (tied_itself order_total a)
 pub same_id : (a b : MapId) → is_at (map_order.ghosts.cmp a) b ≡ true → a ≡ b
 same_id a b e = exact_map a b (order_ties a b ∙ e)
 
-equal_id : (a b : MapId) → a ≡ b → map_id.ghosts.eq b a ≡ true
+pub equal_id : (a b : MapId) → a ≡ b → map_id.ghosts.eq b a ≡ true
 equal_id a b e = let P : MapId → Type 0 = λ x. map_id.ghosts.eq b x ≡ true in subst P (sym e) (order_ties b b ∙ own_id b)
 
 -- ---- a test that holds of something that is named holds of one thing, which each other test meets
@@ -49,41 +50,41 @@ or_left : (a b : Bool) → a ≡ true → (a || b) ≡ true
 or_left a b e = ap (λ x. x || b) e
 
 abbrev Names : Type 0
-Names = (Named → Bool) → Bool
+Names = (Reference → Bool) → Bool
 
 abbrev Finds : Names → Type 0
-Finds names = (test : Named → Bool) → names test ≡ true → (n : Named) × (test n ≡ true) × ((other : Named → Bool) → other n ≡ true → names other ≡ true)
+Finds names = (test : Reference → Bool) → names test ≡ true → (n : Reference) × (test n ≡ true) × ((other : Reference → Bool) → other n ≡ true → names other ≡ true)
 
 finds_or : (names others : Names) → Finds names → Finds others → Finds (λ test. names test || others test)
 finds_or names others f g test e = go (names test) refl e
   where
-    go : (b : Bool) → names test ≡ b → (b || others test) ≡ true → (n : Named) × (test n ≡ true) × ((other : Named → Bool) → other n ≡ true → (names other || others other) ≡ true)
+    go : (b : Bool) → names test ≡ b → (b || others test) ≡ true → (n : Reference) × (test n ≡ true) × ((other : Reference → Bool) → other n ≡ true → (names other || others other) ≡ true)
     go true s t = let h = f test s in (h.0, h.1, λ other o. or_left (names other) (others other) (h.2 other o))
     go false s t = let h = g test t in (h.0, h.1, λ other o. or_right (names other) (others other) (h.2 other o))
 
-finds_any : {A : Type 0} (names : (Named → Bool) → A → Bool) → ((x : A) → Finds (λ test. names test x)) → (xs : List A) → Finds (λ test. list_any (names test) xs)
+finds_any : {A : Type 0} (names : (Reference → Bool) → A → Bool) → ((x : A) → Finds (λ test. names test x)) → (xs : List A) → Finds (λ test. list_any (names test) xs)
 finds_any names f [] = λ test e. absurd cc
 finds_any names f (x ∷ xs) = finds_or (λ test. names test x) (λ test. list_any (names test) xs) (f x) (finds_any names f xs)
 
-finds_of : (o : Option Named) → Finds (λ test. test_of test o)
+finds_of : (o : Option Reference) → Finds (λ test. test_of test o)
 finds_of None test e = absurd cc
 finds_of (Some n) test e = (n, e, λ other o. o)
 
-finds_one : (n : Named) → Finds (λ test. test n)
+finds_one : (n : Reference) → Finds (λ test. test n)
 finds_one n test e = (n, e, λ other o. o)
 
-finds_in_module : (m : ModuleValue) → Finds (λ test. names_in_module test m)
+finds_in_module : (m : ModuleValue) → Finds (λ test. any_reference_in test m)
 finds_in_module m =
     finds_or (λ test. test_of test (option_map named.Module m.parent)) (λ test. list_any (test_child test) m.children || list_any (test_type test) m.scope.types)
     (finds_of (option_map named.Module m.parent))
     (finds_or (λ test. list_any (test_child test) m.children) (λ test. list_any (test_type test) m.scope.types)
     (finds_any test_child (λ c. finds_one (named.Module c.1)) m.children)
-    (finds_any test_type (λ t. finds_of (named_by t.1.def)) m.scope.types))
+    (finds_any test_type (λ t. finds_of (reference_to t.1.def)) m.scope.types))
 
 finds_crate : (krate : Crate) → Finds (λ test. test_crate test krate)
 finds_crate krate = finds_one _
 
-finds_own_crate : (id : MapId) → Finds (λ test. names_own_crate test id)
+finds_own_crate : (id : MapId) → Finds (λ test. any_own_crate test id)
 finds_own_crate id = go (is_some id.block)
   where
     go : (b : Bool) → Finds (λ test. b && test_crate test id.krate)
@@ -92,7 +93,7 @@ finds_own_crate id = go (is_some id.block)
 
 module _ (map : Map) (local : Local) where
   abbrev in_crates : Names
-  in_crates test = list_any (test_crate test) map.crate_data.dependencies || names_own_crate test map.id
+  in_crates test = list_any (test_crate test) map.crate_data.dependencies || any_own_crate test map.id
 
   abbrev from_externs : Names
   from_externs test = list_any (test_extern test) local || in_crates test
@@ -101,38 +102,47 @@ module _ (map : Map) (local : Local) where
   from_holder test = test_of test (option_map named.Module map.holder) || from_externs test
 
   abbrev from_prelude : Names
-  from_prelude test = test_of test (prelude_named map.prelude) || from_holder test
+  from_prelude test = test_of test (prelude_reference map.prelude) || from_holder test
 
-  pub finds_some : Finds (λ test. names_some test map local)
+  pub finds_some : Finds (λ test. any_reference test map local)
   finds_some =
-      finds_or (λ test. list_any (names_in_module test) map.modules) from_prelude (finds_any names_in_module finds_in_module map.modules)
-      (finds_or (λ test. test_of test (prelude_named map.prelude)) from_holder (finds_of (prelude_named map.prelude))
+      finds_or (λ test. list_any (any_reference_in test) map.modules) from_prelude (finds_any any_reference_in finds_in_module map.modules)
+      (finds_or (λ test. test_of test (prelude_reference map.prelude)) from_holder (finds_of (prelude_reference map.prelude))
       (finds_or (λ test. test_of test (option_map named.Module map.holder)) from_externs (finds_of (option_map named.Module map.holder))
       (finds_or (λ test. list_any (test_extern test) local) in_crates (finds_any test_extern (λ e. finds_one (named.Module e.1.0)) local)
-      (finds_or (λ test. list_any (test_crate test) map.crate_data.dependencies) (λ test. names_own_crate test map.id) (finds_any test_crate finds_crate map.crate_data.dependencies)
+      (finds_or (λ test. list_any (test_crate test) map.crate_data.dependencies) (λ test. any_own_crate test map.id) (finds_any test_crate finds_crate map.crate_data.dependencies)
       (finds_own_crate map.id)))))
 
   -- the holder is named
-  pub holder_named : (h : ModuleId) → map.holder ≡ Some h → names_some (lies_in h.map) map local ≡ true
+  pub holder_named : (h : ModuleId) → map.holder ≡ Some h → any_reference (lies_in h.map) map local ≡ true
   holder_named h e =
-      or_right (list_any (names_in_module (lies_in h.map)) map.modules) (from_prelude (lies_in h.map))
-      (or_right (test_of (lies_in h.map) (prelude_named map.prelude)) (from_holder (lies_in h.map))
+      or_right (list_any (any_reference_in (lies_in h.map)) map.modules) (from_prelude (lies_in h.map))
+      (or_right (test_of (lies_in h.map) (prelude_reference map.prelude)) (from_holder (lies_in h.map))
       (or_left (test_of (lies_in h.map) (option_map named.Module map.holder)) (from_externs (lies_in h.map))
       (ap (λ (o : Option ModuleId). test_of (lies_in h.map) (option_map named.Module o)) e ∙ own_id h.map)))
 
   -- so are the crates on which its crate stands
-  pub crate_named : (k : MapId) → list_any (test_crate (lies_in k)) map.crate_data.dependencies ≡ true → names_some (lies_in k) map local ≡ true
+  pub crate_named : (k : MapId) → list_any (test_crate (lies_in k)) map.crate_data.dependencies ≡ true → any_reference (lies_in k) map local ≡ true
   crate_named k e =
-      or_right (list_any (names_in_module (lies_in k)) map.modules) (from_prelude (lies_in k))
-      (or_right (test_of (lies_in k) (prelude_named map.prelude)) (from_holder (lies_in k))
+      or_right (list_any (any_reference_in (lies_in k)) map.modules) (from_prelude (lies_in k))
+      (or_right (test_of (lies_in k) (prelude_reference map.prelude)) (from_holder (lies_in k))
       (or_right (test_of (lies_in k) (option_map named.Module map.holder)) (from_externs (lies_in k))
       (or_right (list_any (test_extern (lies_in k)) local) (in_crates (lies_in k))
-      (or_left (list_any (test_crate (lies_in k)) map.crate_data.dependencies) (names_own_crate (lies_in k) map.id) e))))
+      (or_left (list_any (test_crate (lies_in k)) map.crate_data.dependencies) (any_own_crate (lies_in k) map.id) e))))
+
+  -- so is a block's crate
+  pub own_crate_named : (k : MapId) → any_own_crate (lies_in k) map.id ≡ true → any_reference (lies_in k) map local ≡ true
+  own_crate_named k e =
+      or_right (list_any (any_reference_in (lies_in k)) map.modules) (from_prelude (lies_in k))
+      (or_right (test_of (lies_in k) (prelude_reference map.prelude)) (from_holder (lies_in k))
+      (or_right (test_of (lies_in k) (option_map named.Module map.holder)) (from_externs (lies_in k))
+      (or_right (list_any (test_extern (lies_in k)) local) (in_crates (lies_in k))
+      (or_right (list_any (test_crate (lies_in k)) map.crate_data.dependencies) (any_own_crate (lies_in k) map.id) e))))
 
 -- ---- what is there in maps stays so in others that have the same where it matters
 
 -- beside one map, maps that have the same finished map of an id have the same there
-beside_alike : (A B : Maps) (m : Map) (k : MapId) → A k ≡ B k → is_some (A k) ≡ true → beside A m k ≡ beside B m k
+beside_alike : (A B : Maps) (m : Map) (k : MapId) → A k ≡ B k → is_some (A k) ≡ true → overlay A m k ≡ overlay B m k
 beside_alike A B m k e t = go (map_id.ghosts.eq k m.id) refl
   where
     either : (o : Option Placed) → is_some o ≡ true → (one other : List ModuleId) → holders_or o one ≡ holders_or o other
@@ -148,7 +158,7 @@ beside_alike A B m k e t = go (map_id.ghosts.eq k m.id) refl
         ∙ ap (λ (o : Option Placed). holders_or o (holders_under B m.id m.holder)) same)
     go false s = e
 
-there_same : (A B : Maps) (n : Named) → A (map_named n) ≡ B (map_named n) → is_there A n ≡ is_there B n
+there_same : (A B : Maps) (n : Reference) → A (map_of_reference n) ≡ B (map_of_reference n) → is_there A n ≡ is_there B n
 there_same A B (named.Module m) e = ap (λ (o : Option Placed). is_some (option_and_then (λ (placed : Placed). module_at placed.map m.index) o)) e
 there_same A B (named.Enum id) e = ap (λ (o : Option Placed). is_some (option_and_then (λ (placed : Placed). variants_at placed.map id) o)) e
 there_same A B (named.Map id) e = ap is_some e
@@ -157,7 +167,7 @@ has_first : {X : Type 0} (read : Placed → Option X) (o : Option Placed) → is
 has_first read None e = absurd cc
 has_first read (Some p) e = refl
 
-pub there_in : (A : Maps) (n : Named) → is_there A n ≡ true → is_some (A (map_named n)) ≡ true
+pub there_in : (A : Maps) (n : Reference) → is_there A n ≡ true → is_some (A (map_of_reference n)) ≡ true
 there_in A (named.Module m) e = has_first (λ (placed : Placed). module_at placed.map m.index) (A m.map) e
 there_in A (named.Enum id) e = has_first (λ (placed : Placed). variants_at placed.map id) (A id.loc.container.map) e
 there_in A (named.Map id) e = e
@@ -173,16 +183,16 @@ abbrev IsSameAt : Maps → Maps → MapId → Type 0
 IsSameAt A B k = is_some (A k) ≡ true → A k ≡ B k
 
 module _ (A B : Maps) (map : Map) (local : Local) where
-  missing_kept : ((k : MapId) → names_some (lies_in k) map local ≡ true → IsSameAt A B k) → names_some (is_missing A) map local ≡ false → names_some (is_missing B) map local ≡ false
-  missing_kept same e = go (names_some (is_missing B) map local) refl
+  missing_kept : ((k : MapId) → any_reference (lies_in k) map local ≡ true → IsSameAt A B k) → any_reference (is_missing A) map local ≡ false → any_reference (is_missing B) map local ≡ false
+  missing_kept same e = go (any_reference (is_missing B) map local) refl
     where
-      stays : (n : Named) → ((other : Named → Bool) → other n ≡ true → names_some other map local ≡ true) → (b : Bool) → is_there A n ≡ b → is_there B n ≡ true
+      stays : (n : Reference) → ((other : Reference → Bool) → other n ≡ true → any_reference other map local ≡ true) → (b : Bool) → is_there A n ≡ b → is_there B n ≡ true
       stays n named true t =
-          let there : A (map_named n) ≡ B (map_named n) = same (map_named n) (named (lies_in (map_named n)) (own_id (map_named n))) (there_in A n t) in
+          let there : A (map_of_reference n) ≡ B (map_of_reference n) = same (map_of_reference n) (named (lies_in (map_of_reference n)) (own_id (map_of_reference n))) (there_in A n t) in
           sym (there_same A B n there) ∙ t
       stays n named false t = absurd (true≢false (sym (named (is_missing A) (ap not t)) ∙ e))
 
-      go : (b : Bool) → names_some (is_missing B) map local ≡ b → b ≡ false
+      go : (b : Bool) → any_reference (is_missing B) map local ≡ b → b ≡ false
       go false s = refl
       go true s =
           let h = finds_some map local (is_missing B) s in
@@ -204,9 +214,9 @@ module _ (A B : Maps) (id : MapId) where
       ap (λ (x : Option Placed). cond (same_crate h.map.krate id.krate && is_some x) (h ∷ holders_of x) []) k
 
 -- the parts of completeness
-module _ (A : Maps) (map : Map) (local : Local) (e : is_complete A map local ≡ true) where
+module _ (A : Maps) (map : Map) (local : Local) (e : is_well_formed A map local ≡ true) where
   abbrev names_kept : Bool
-  names_kept = not (names_some (is_missing (beside A map)) map local)
+  names_kept = not (any_reference (is_missing (overlay A map)) map local)
 
   abbrev holder_kept_too : Bool
   holder_kept_too = is_holder_for A map.id map.holder && names_kept
@@ -229,21 +239,21 @@ module _ (A : Maps) (map : Map) (local : Local) (e : is_complete A map local ≡
   pub holder : is_holder_for A map.id map.holder ≡ true
   holder = first_so (is_holder_for A map.id map.holder) names_kept past_parents
 
-  pub nothing_missing : names_some (is_missing (beside A map)) map local ≡ false
-  nothing_missing = not_so (names_some (is_missing (beside A map)) map local) (second_so (is_holder_for A map.id map.holder) names_kept past_parents)
+  pub nothing_missing : any_reference (is_missing (overlay A map)) map local ≡ false
+  nothing_missing = not_so (any_reference (is_missing (overlay A map)) map local) (second_so (is_holder_for A map.id map.holder) names_kept past_parents)
 
-  complete_kept : (B : Maps) → ((k : MapId) → names_some (lies_in k) map local ≡ true → IsSameAt (beside A map) (beside B map) k)
-      → ((h : ModuleId) → map.holder ≡ Some h → IsSameAt A B h.map) → is_complete B map local ≡ true
+  complete_kept : (B : Maps) → ((k : MapId) → any_reference (lies_in k) map local ≡ true → IsSameAt (overlay A map) (overlay B map) k)
+      → ((h : ModuleId) → map.holder ≡ Some h → IsSameAt A B h.map) → is_well_formed B map local ≡ true
   complete_kept B same held =
       both (each_leads_to_root map) _ leads
       (both (has_its_parents map) _ parents
       (both (is_holder_for B map.id map.holder) _ (holder_kept A B map.id map.holder held holder)
-      (ap not (missing_kept (beside A map) (beside B map) map local same nothing_missing))))
+      (ap not (missing_kept (overlay A map) (overlay B map) map local same nothing_missing))))
 
 -- a finished map stays finished where the maps that it names stay
 module _ (A B : Maps) (id : MapId) (g : Finished) (finished : IsFinished A id g) (here : is_some (A id) ≡ true)
-    (same : (k : MapId) → names_some (lies_in k) g.map g.local ≡ true → IsSameAt A B k) where
-  beside_same : (k : MapId) → names_some (lies_in k) g.map g.local ≡ true → IsSameAt (beside A g.map) (beside B g.map) k
+    (same : (k : MapId) → any_reference (lies_in k) g.map g.local ≡ true → IsSameAt A B k) where
+  beside_same : (k : MapId) → any_reference (lies_in k) g.map g.local ≡ true → IsSameAt (overlay A g.map) (overlay B g.map) k
   beside_same k named t =
       let some : is_some (A k) ≡ true = go (map_id.ghosts.eq k g.map.id) refl t in
       beside_alike A B g.map k (same k named some) some
@@ -274,20 +284,20 @@ not_placed None e = refl
 not_placed (Some g) e = absurd cc
 
 module _ (maps maps' : BTreeMap MapId Finished) (f : Finished) (may : may_join (finished_in maps) f.map f.local ≡ true)
-    (holders : f.holders.items ≡ holders_under (finished_in maps) f.map.id f.map.holder) (kept : IsKeptOf maps f.named f.map f.local)
+    (holders : f.holders.items ≡ holders_under (finished_in maps) f.map.id f.map.holder) (kept : IsRecordedFor maps f.named f.map f.local)
     (updates : Updates map_order.ghosts.cmp maps maps' f.map.id (Some f)) where
   abbrev before : Maps
   before = finished_in maps
 
   not_there : is_some (before f.map.id) ≡ false
-  not_there = not_so (is_some (before f.map.id)) (first_so (not (is_some (before f.map.id))) (is_complete before f.map f.local) may)
+  not_there = not_so (is_some (before f.map.id)) (first_so (not (is_some (before f.map.id))) (is_well_formed before f.map f.local) may)
 
   absent : get map_order.ghosts.cmp maps f.map.id ≡ None
   unfolding finished_in
   absent = not_placed (get map_order.ghosts.cmp maps f.map.id) not_there
 
-  complete : is_complete before f.map f.local ≡ true
-  complete = second_so (not (is_some (before f.map.id))) (is_complete before f.map f.local) may
+  complete : is_well_formed before f.map f.local ≡ true
+  complete = second_so (not (is_some (before f.map.id))) (is_well_formed before f.map f.local) may
 
   placed_new : (placed_in before f.map).holders ≡ holders_under before f.map.id f.map.holder
   unfolding finished_in
@@ -321,7 +331,7 @@ module _ (maps maps' : BTreeMap MapId Finished) (f : Finished) (may : may_join (
       go false s = refl
 
   -- a map that has joined is beside itself what it was
-  twice : (k : MapId) → beside before f.map k ≡ beside after f.map k
+  twice : (k : MapId) → overlay before f.map k ≡ overlay after f.map k
   twice k = go (map_id.ghosts.eq k f.map.id)
     where
       own : after f.map.id ≡ Some (placed_with before f.map f.local)
@@ -365,16 +375,16 @@ module _ (maps maps' : BTreeMap MapId Finished) (f : Finished) (may : may_join (
   falls_after : (on id : MapId) → FallsWith (lists_in maps) on id → FallsWith (lists_in maps') on id
   falls_after on id d = falls_still (lists_in maps) (lists_in maps') lists_still on id d
 
-  covered_after : IsChecked maps → (id other : MapId) → names_in maps' id other ≡ true → FallsWith (lists_in maps') other id
-  covered_after checked id other e = go (is_at (map_order.ghosts.cmp f.map.id) id) refl (sym (ap (λ (o : Option Finished). names_of o other) (updates.0 id)) ∙ e)
+  covered_after : IsChecked maps → (id other : MapId) → refers_in maps' id other ≡ true → FallsWith (lists_in maps') other id
+  covered_after checked id other e = go (is_at (map_order.ghosts.cmp f.map.id) id) refl (sym (ap (λ (o : Option Finished). refers_of o other) (updates.0 id)) ∙ e)
     where
-      new : names_of (Some f) other ≡ true → FallsWith (lists_in maps') other f.map.id
+      new : refers_of (Some f) other ≡ true → FallsWith (lists_in maps') other f.map.id
       new n =
           let h = kept.each other n in
-          let own : lists_in maps' f.map.id h.by ≡ true = ap (λ (o : Option Finished). lists_of o h.by) updates.1 ∙ h.is_kept in
+          let own : lists_in maps' f.map.id h.by ≡ true = ap (λ (o : Option Finished). lists_of o h.by) updates.1 ∙ h.is_recorded in
           falls_on (lists_in maps') other h.by f.map.id (falls_after other h.by h.falls) (falls_in_step (lists_in maps') f.map.id h.by own)
 
-      go : (b : Bool) → is_at (map_order.ghosts.cmp f.map.id) id ≡ b → names_of (cond b (Some f) (get map_order.ghosts.cmp maps id)) other ≡ true → FallsWith (lists_in maps') other id
+      go : (b : Bool) → is_at (map_order.ghosts.cmp f.map.id) id ≡ b → refers_of (cond b (Some f) (get map_order.ghosts.cmp maps id)) other ≡ true → FallsWith (lists_in maps') other id
       go true s n = let P : MapId → Type 0 = λ x. FallsWith (lists_in maps') other x in subst P (same_id f.map.id id s) (new n)
       go false s n = falls_after other id (checked.covered id other n)
 
@@ -401,17 +411,17 @@ alike_checked maps maps' same checked =
       each = λ id g e. let P : Maps → Type 0 = λ x. IsFinished x id g in subst P whole (checked.each id g (sym (alike id) ∙ e));
       covered = λ id other e.
           falls_still (lists_in maps) (lists_in maps') (λ k j l. ap (λ (o : Option Finished). lists_of o j) (alike k) ∙ l) other id
-          (checked.covered id other (sym (ap (λ (o : Option Finished). names_of o other) (alike id)) ∙ e));
+          (checked.covered id other (sym (ap (λ (o : Option Finished). refers_of o other) (alike id)) ∙ e));
     }
 
 -- after an insertion that may fail
 pub insert_checked : {V E : Type 0} (r : Result V E) (maps maps' : BTreeMap MapId Finished) (f : Finished) (id : MapId) → id ≡ f.map.id
-    → may_join (finished_in maps) f.map f.local ≡ true → f.holders.items ≡ holders_under (finished_in maps) f.map.id f.map.holder → IsKeptOf maps f.named f.map f.local
+    → may_join (finished_in maps) f.map f.local ≡ true → f.holders.items ≡ holders_under (finished_in maps) f.map.id f.map.holder → IsRecordedFor maps f.named f.map f.local
     → OnOk r (Updates map_order.ghosts.cmp maps maps' id (Some f)) → OnErr r (IsUnchanged maps maps') → IsChecked maps → IsChecked maps'
 insert_checked (Ok v) maps maps' f id own may holders kept updates err checked = let P : MapId → Type 0 = λ x. Updates map_order.ghosts.cmp maps maps' x (Some f) in still_checked maps maps' f may holders kept (subst P own updates) checked
 insert_checked (Err e) maps maps' f id own may holders kept updates err checked = alike_checked maps maps' err checked
 
 pub joined_under : (maps maps' : BTreeMap MapId Finished) (f : Finished) (id : MapId) → id ≡ f.map.id
-    → may_join (finished_in maps) f.map f.local ≡ true → f.holders.items ≡ holders_under (finished_in maps) f.map.id f.map.holder → IsKeptOf maps f.named f.map f.local
+    → may_join (finished_in maps) f.map f.local ≡ true → f.holders.items ≡ holders_under (finished_in maps) f.map.id f.map.holder → IsRecordedFor maps f.named f.map f.local
     → Updates map_order.ghosts.cmp maps maps' id (Some f) → (k : MapId) → finished_in maps' k ≡ with_map (finished_in maps) f.map f.local k
 joined_under maps maps' f id own may holders kept updates = let P : MapId → Type 0 = λ x. Updates map_order.ghosts.cmp maps maps' x (Some f) in joined maps maps' f may holders kept (subst P own updates)

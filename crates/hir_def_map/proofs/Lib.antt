@@ -2,13 +2,15 @@
 pub mod NoneOf
 pub mod Grown
 pub mod Listed
-pub mod Complete
-pub mod StaysComplete
+pub mod Externs
+pub mod WellFormed
+pub mod StaysWellFormed
 pub mod StaysSourced
 -- paths
 pub mod Blocks
 pub mod Climb
 pub mod LookUps
+pub mod Segments
 pub mod Reached
 pub mod Sourced
 -- single functions
@@ -18,10 +20,10 @@ pub mod Rewrites
 pub mod Parts
 pub mod Copies
 -- worlds
-pub mod Gaining
 pub mod Depending
 pub mod Joined
-pub mod Kept
+pub mod References
+pub mod Recorded
 pub mod Naming
 pub mod Falling
 pub mod Entries

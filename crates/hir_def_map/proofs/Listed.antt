@@ -3,10 +3,11 @@ use Rattle.std.specs.Prelude.{◌≡◌, ℕ, List, Option}
 use Rattle.std.proofs.Common.{refl}
 use Rattle.hir_base.specs.declared.ids.MapId.{MapId}
 use Rattle.hir_scope.specs.Scope.{ScopeValue, binding_of}
-use Rattle.hir_def_map.specs.Chains.{frames_of}
+use Rattle.hir_def_map.specs.Ancestors.{frames_of}
 use Rattle.hir_def_map.specs.Declaration.{listed}
 use Rattle.hir_def_map.specs.Listed.{KeepsNames}
-use Rattle.hir_def_map.specs.State.{Map, ModuleValue, child_of, entry_of, parent_of, with_module_scope, with_scope, Maps, beside}
+use Rattle.hir_def_map.specs.State.{Map, ModuleValue, child_of, entry_of, parent_of, with_module_scope, with_scope}
+use Rattle.hir_def_map.specs.Overlay.{Maps, overlay}
 use Rattle.hir_def_map.specs.declared.nameres.declaration.Declaration.{Declaration}
 use Rattle.hir_def_map.proofs.Grown.{kept, length-changed, frames_of-scope}
 use Rattle.hir_def_map.specs.declared.nameres.declaration.Declaration.TheVariants as declaration
@@ -40,5 +41,5 @@ KeepsNames-listed map at d = KeepsNames-scope map at (listed d) (binding_of-list
 
 -- the same lies above each module
 pub frames_of-listed : (finished : Maps) (map : Map) (at : ℕ) (d : Declaration) (id : MapId)
-    → frames_of (beside finished (with_scope map at (listed d))) id ≡ frames_of (beside finished map) id
+    → frames_of (overlay finished (with_scope map at (listed d))) id ≡ frames_of (overlay finished map) id
 frames_of-listed finished map at d = frames_of-scope finished map at (listed d)

@@ -6,8 +6,9 @@ use Rattle.hir_base.specs.declared.ids.MapId.{MapId}
 use Rattle.hir_base.specs.declared.ids.ModuleId.{ModuleId}
 use Rattle.hir_base.specs.contracts.ids.MapIdPartialEq.TheImpl as map_id
 use Rattle.hir_scope.specs.PerNs.{nothing}
-use Rattle.hir_def_map.specs.State.{Map, Maps, ModuleValue, Placed, Variants, at_name, beside, entry_at, entry_in, entry_of, holders_or, holders_under, map_in, module_at, module_in, numbered, parent_at, parent_in, parent_of, placed_in, variants_at, variants_in}
-use Rattle.hir_def_map.specs.Chains.{frame_of, frames_of, head_of, holder_in, holders_of_frame, leads_to_root, own_frame, step_in, step_of, up_in}
+use Rattle.hir_def_map.specs.State.{Map, ModuleValue, Variants, at_name, entry_at, entry_of, module_at, numbered, parent_at, parent_of, variants_at}
+use Rattle.hir_def_map.specs.Overlay.{Maps, Placed, overlay, entry_in, holders_or, holders_under, map_in, module_in, parent_in, placed_in, variants_in}
+use Rattle.hir_def_map.specs.Ancestors.{frame_of, frames_of, head_of, holder_in, holders_of_frame, leads_to_root, own_frame, step_in, step_of, up_in}
 use Rattle.hir_def_map.specs.Scoping.FirstSegment.{legacy_of}
 use Rattle.hir_def_map.specs.Scoping.Segments.{variant_in}
 use Rattle.hir_def_map.specs.declared.nameres.enum_variants.EnumVariant.{EnumVariant}
@@ -99,17 +100,17 @@ pub ruleset found = (entry-found, entry-none, parent-found, parent-none, variant
 -- ---- finished maps, and one beside them
 
 module _ (finished : Maps) (own : Map) where
-  pub map-own : (id : MapId) → map_id.ghosts.eq id own.id ≡ true → map_in (beside finished own) id ≡ Some own
+  pub map-own : (id : MapId) → map_id.ghosts.eq id own.id ≡ true → map_in (overlay finished own) id ≡ Some own
   map-own id same = ap (λ (b : Bool). option_map (λ (p : Placed). p.map) (cond b (Some (placed_in finished own)) (finished id))) same
 
-  pub map-other : (id : MapId) → map_id.ghosts.eq id own.id ≡ false → map_in (beside finished own) id ≡ map_in finished id
+  pub map-other : (id : MapId) → map_id.ghosts.eq id own.id ≡ false → map_in (overlay finished own) id ≡ map_in finished id
   map-other id other = ap (λ (b : Bool). option_map (λ (p : Placed). p.map) (cond b (Some (placed_in finished own)) (finished id))) other
 
-  pub holder-own : (m : ModuleId) → map_id.ghosts.eq m.map own.id ≡ true → holder_in (beside finished own) m ≡ head_of (placed_in finished own).holders
+  pub holder-own : (m : ModuleId) → map_id.ghosts.eq m.map own.id ≡ true → holder_in (overlay finished own) m ≡ head_of (placed_in finished own).holders
   unfolding frames_of
   holder-own m same = ap (λ (b : Bool). head_of (holders_of_frame (option_map frame_of (cond b (Some (placed_in finished own)) (finished m.map))))) same
 
-  pub holder-other : (m : ModuleId) → map_id.ghosts.eq m.map own.id ≡ false → holder_in (beside finished own) m ≡ head_of (holders_of_frame (frames_of finished m.map))
+  pub holder-other : (m : ModuleId) → map_id.ghosts.eq m.map own.id ≡ false → holder_in (overlay finished own) m ≡ head_of (holders_of_frame (frames_of finished m.map))
   unfolding frames_of
   holder-other m other = ap (λ (b : Bool). head_of (holders_of_frame (option_map frame_of (cond b (Some (placed_in finished own)) (finished m.map))))) other
 

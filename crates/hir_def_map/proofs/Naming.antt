@@ -9,36 +9,38 @@ use Rattle.hir_base.specs.declared.ids.MapId.{MapId}
 use Rattle.hir_base.specs.declared.ids.ModuleId.{ModuleId}
 use Rattle.hir_base.specs.contracts.ids.MapIdOrd.TheImpl as map_order
 use Rattle.hir_base.specs.contracts.ids.MapIdPartialEq.TheImpl as map_id
-use Rattle.hir_def_map.specs.declared.world.named.Named.{Named}
-use Rattle.hir_def_map.specs.declared.world.named.Named.TheVariants as named
-use Rattle.hir_def_map.specs.Among.{among, among-only}
-use Rattle.hir_def_map.specs.Beside.{exact_map}
+use Rattle.hir_def_map.specs.declared.world.reference.Reference.{Reference}
+use Rattle.hir_def_map.specs.declared.world.reference.Reference.TheVariants as named
+use Rattle.hir_def_map.specs.WorldParts.{among}
+use Rattle.hir_def_map.specs.Inner.PartLaws.{among-only}
+use Rattle.hir_def_map.specs.Inner.OverlayLaws.{exact_map}
 use Rattle.hir_scope.specs.ModuleTree.{same_crate}
-use Rattle.hir_def_map.specs.Complete.{BeginsOnly, Extends, NamesOnly, is_held_outside}
-use Rattle.hir_def_map.specs.Named.{is_complete, is_holder_for, is_missing, is_there, lies_in, map_named, names_map, names_some}
-use Rattle.hir_def_map.specs.State.{Local, Map, Maps, Placed, beside, module_at, module_in, placed_in, variants_at}
-use Rattle.hir_def_map.proofs.Complete.{BeginsOnly-more, NamesOnly-more, complete}
+use Rattle.hir_def_map.specs.WellFormed.{HasNoDanglingExtern, Extends, HasNoDanglingReference, is_held_outside}
+use Rattle.hir_def_map.specs.References.{is_well_formed, is_holder_for, is_missing, is_there, lies_in, map_of_reference, refers_to, any_reference}
+use Rattle.hir_def_map.specs.State.{Local, Map, module_at, variants_at}
+use Rattle.hir_def_map.specs.Overlay.{Maps, Placed, overlay, module_in, placed_in}
+use Rattle.hir_def_map.proofs.WellFormed.{HasNoDanglingExtern-more, HasNoDanglingReference-more, complete}
 use Rattle.hir_def_map.proofs.Joined.{finds_some, nothing_missing, own_id, same_id, there_in}
 
 -- where nothing is missing that a map names, each map is there in which something lies that it names
-pub named_there : (maps : Maps) (map : Map) (local : Local) → names_some (is_missing maps) map local ≡ false
-    → (id : MapId) → names_some (lies_in id) map local ≡ true → is_some (maps id) ≡ true
+pub named_there : (maps : Maps) (map : Map) (local : Local) → any_reference (is_missing maps) map local ≡ false
+    → (id : MapId) → any_reference (lies_in id) map local ≡ true → is_some (maps id) ≡ true
 named_there maps map local none id e =
     let h = finds_some map local (lies_in id) e in
-    ap (λ (x : MapId). is_some (maps x)) (sym (same_id (map_named h.0) id h.1)) ∙ there_in maps h.0 (go h.0 h.2 (is_there maps h.0) refl)
+    ap (λ (x : MapId). is_some (maps x)) (sym (same_id (map_of_reference h.0) id h.1)) ∙ there_in maps h.0 (go h.0 h.2 (is_there maps h.0) refl)
   where
-    go : (n : Named) → ((other : Named → Bool) → other n ≡ true → names_some other map local ≡ true) → (b : Bool) → is_there maps n ≡ b → is_there maps n ≡ true
+    go : (n : Reference) → ((other : Reference → Bool) → other n ≡ true → any_reference other map local ≡ true) → (b : Bool) → is_there maps n ≡ b → is_there maps n ≡ true
     go n named true t = t
     go n named false t = absurd (true≢false (sym (named (is_missing maps) (ap not t)) ∙ none))
 
 -- each other map that a complete map names is finished
-pub names_finished : (finished : Maps) (map : Map) (local : Local) → is_complete finished map local ≡ true
-    → (id : MapId) → names_map map local id ≡ true → is_some (finished id) ≡ true
+pub names_finished : (finished : Maps) (map : Map) (local : Local) → is_well_formed finished map local ≡ true
+    → (id : MapId) → refers_to map local id ≡ true → is_some (finished id) ≡ true
 names_finished finished map local whole id e = go (map_id.ghosts.eq id map.id) refl
-    (named_there (beside finished map) map local (nothing_missing finished map local whole) id (second_so (not (is_at (map_order.ghosts.cmp map.id) id)) (names_some (lies_in id) map local) e))
+    (named_there (overlay finished map) map local (nothing_missing finished map local whole) id (second_so (not (is_at (map_order.ghosts.cmp map.id) id)) (any_reference (lies_in id) map local) e))
   where
     another : not (is_at (map_order.ghosts.cmp map.id) id) ≡ true
-    another = first_so (not (is_at (map_order.ghosts.cmp map.id) id)) (names_some (lies_in id) map local) e
+    another = first_so (not (is_at (map_order.ghosts.cmp map.id) id)) (any_reference (lies_in id) map local) e
 
     go : (b : Bool) → map_id.ghosts.eq id map.id ≡ b → is_some (cond b (Some (placed_in finished map)) (finished id)) ≡ true → is_some (finished id) ≡ true
     go true s f =
@@ -66,7 +68,7 @@ module _ (crates : List Crate) (holders : List ModuleId) (finished : Maps) where
 
   module _ (map : Map) where
     -- also beside a map
-    pub Extends-all : Extends (beside (among crates holders finished) map) (beside finished map)
+    pub Extends-all : Extends (overlay (among crates holders finished) map) (overlay finished map)
     Extends-all (named.Module m) e = go (map_id.ghosts.eq m.map map.id) e
       where
         go : (b : Bool) → is_some (option_and_then (λ (p : Placed). module_at p.map m.index) (cond b (Some (placed_in (among crates holders finished) map)) (among crates holders finished m.map))) ≡ true
@@ -87,15 +89,15 @@ module _ (crates : List Crate) (holders : List ModuleId) (finished : Maps) where
         go false f = Extends-among (named.Map id) f
 
     -- a map that names only what is there in a part may stand beside all
-    pub joins : (local : Local) → NamesOnly (beside (among crates holders finished) map) map → BeginsOnly (beside (among crates holders finished) map) local → is_complete finished map local ≡ true
+    pub joins : (local : Local) → HasNoDanglingReference (overlay (among crates holders finished) map) map → HasNoDanglingExtern (overlay (among crates holders finished) map) local → is_well_formed finished map local ≡ true
     joins local names begins =
         complete finished map local
-        (NamesOnly-more (beside (among crates holders finished) map) (beside finished map) Extends-all map names)
-        (BeginsOnly-more (beside (among crates holders finished) map) (beside finished map) Extends-all local begins)
+        (HasNoDanglingReference-more (overlay (among crates holders finished) map) (overlay finished map) Extends-all map names)
+        (HasNoDanglingExtern-more (overlay (among crates holders finished) map) (overlay finished map) Extends-all local begins)
 
     -- and names only maps of that part
-    pub names_among : (local : Local) → NamesOnly (beside (among crates holders finished) map) map → BeginsOnly (beside (among crates holders finished) map) local
-        → (id : MapId) → names_map map local id ≡ true → is_some (among crates holders finished id) ≡ true
+    pub names_among : (local : Local) → HasNoDanglingReference (overlay (among crates holders finished) map) map → HasNoDanglingExtern (overlay (among crates holders finished) map) local
+        → (id : MapId) → refers_to map local id ≡ true → is_some (among crates holders finished id) ≡ true
     names_among local names begins id e = names_finished (among crates holders finished) map local (complete (among crates holders finished) map local names begins) id e
 
 -- ---- what holds a block that has no map yet

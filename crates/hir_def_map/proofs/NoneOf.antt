@@ -5,6 +5,7 @@ use Rattle.std.specs.List.{list_any}
 use Rattle.std.specs.BTreeMap.{insert_entry, is_at}
 use Rattle.std.specs.Map.{lookup, set_value}
 use Rattle.std.specs.declared.cmp.Ordering.{Ordering}
+use Rattle.indexmap.specs.IndexMap.{insert_entry as insert_last}
 use Rattle.std.specs.declared.cmp.Ordering.TheVariants.{Less, Equal, Greater}
 use Rattle.std.proofs.Common.{ap, refl, sym, ◌∙◌}
 use mathlib.Core.Bool.{true≢false}
@@ -82,6 +83,15 @@ module _ {K V : Type 0} (p : V → Bool) where
       go Less below = neither (p v) (list_any on_value (e ∷ es)) g f
       go Equal below = neither (p v) (list_any on_value es) g (not_second (p e.1) (list_any on_value es) f)
       go Greater below = neither (p e.1) (list_any on_value (insert_entry cmp es k v)) (not_first (p e.1) (list_any on_value es) f) below
+
+  -- also where a new key comes last
+  pub none_inserted_last : (eq : K → K → Bool) (es : List (K × V)) (k : K) (v : V) → NoneOfValues es → p v ≡ false → NoneOfValues (insert_last eq es k v)
+  none_inserted_last eq [] k v f g = neither (p v) false g refl
+  none_inserted_last eq (e ∷ es) k v f g = go (eq k e.0) (none_inserted_last eq es k v (not_second (p e.1) (list_any on_value es) f) g)
+    where
+      go : (b : Bool) → NoneOfValues (insert_last eq es k v) → NoneOfValues (cond b ((e.0, v) ∷ es) (e ∷ insert_last eq es k v))
+      go true below = neither (p v) (list_any on_value es) g (not_second (p e.1) (list_any on_value es) f)
+      go false below = neither (p e.1) (list_any on_value (insert_last eq es k v)) (not_first (p e.1) (list_any on_value es) f) below
 
   none_set : (test : K → Bool) (es : List (K × V)) (v : V) → NoneOfValues es → p v ≡ false → NoneOfValues (set_value test es v)
   none_set test [] v f g = refl

@@ -25,11 +25,12 @@ use Rattle.hir_scope.specs.declared.visibility.Visibility.{Visibility}
 use Rattle.hir_scope.specs.ModuleTree.{same_block, same_crate}
 use Rattle.hir_scope.specs.Bindings.{first_of}
 use Rattle.hir_scope.specs.Visibility.{is_visible}
-use Rattle.hir_def_map.specs.State.{Maps, at_name, entry_in, map_in, module_in, parent_in}
-use Rattle.hir_def_map.specs.Beside.{exact_crate}
-use Rattle.hir_def_map.specs.Chains.{above_in, holders_in}
+use Rattle.hir_def_map.specs.Overlay.{Maps, entry_in, map_in, module_in, parent_in}
+use Rattle.hir_def_map.specs.State.{at_name}
+use Rattle.hir_def_map.specs.Inner.OverlayLaws.{exact_crate}
+use Rattle.hir_def_map.specs.Ancestors.{above_in, holders_in}
 use Rattle.hir_def_map.specs.Closed.{AreThere, IsClosed, IsThere, LocalIsThere, MapIsThere, ModuleIsThere, TypeIsThere}
-use Rattle.hir_def_map.specs.Named.{crate_map}
+use Rattle.hir_def_map.specs.References.{crate_map}
 use Rattle.hir_def_map.specs.Scoping.Asking.{Asking}
 use Rattle.hir_def_map.specs.Scoping.Blocks.{from_blocks, in_preludes, inherited, joined, with_preludes}
 use Rattle.hir_def_map.specs.Scoping.FirstSegment.{builtin_bound, builtin_name, extern_bound, extern_name, fits, is_block_root, legacy_bound, legacy_name, legacy_of, macro_use_bound, macro_use_name, macro_use_of, name_in_module, name_in_preludes, name_in_crate_root_or_extern_prelude, names_module, prelude_bound, prelude_name, prelude_of, scope_name, shadow_before, unless_block_root, with_builtin}

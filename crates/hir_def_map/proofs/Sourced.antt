@@ -30,8 +30,9 @@ use Rattle.hir_scope.specs.ModuleTree.{same_block, same_crate}
 use Rattle.hir_scope.specs.Bindings.{first_of}
 use Rattle.hir_scope.specs.Scope.Reads.{legacy_at}
 use Rattle.hir_scope.specs.Visibility.{is_visible}
-use Rattle.hir_def_map.specs.State.{Maps, ModuleValue, Placed, Variants, at_name, entry_in, entry_of, map_in, module_at, module_in, variants_at}
-use Rattle.hir_def_map.specs.Chains.{above_in, holders_in}
+use Rattle.hir_def_map.specs.Overlay.{Maps, Placed, entry_in, map_in, module_in}
+use Rattle.hir_def_map.specs.State.{ModuleValue, Variants, at_name, entry_of, module_at, variants_at}
+use Rattle.hir_def_map.specs.Ancestors.{above_in, holders_in}
 use Rattle.hir_def_map.proofs.NoneOf.{neither, none_at, none_found, not_first, not_second}
 use Rattle.hir_def_map.specs.Sources.{SourceTest, HoldsOfNone, HoldsNowhere, HoldsOfNoExtern, on_some, on_values, on_def, on_macro, on_visibility, on_type, on_value, on_macro_item, on_variant, on_macro_use, on_extern_entry, on_types_in, on_values_in, on_macros_in, on_legacy_in}
 use Rattle.hir_def_map.specs.Scoping.Asking.{Asking}

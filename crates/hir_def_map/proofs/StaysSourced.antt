@@ -33,7 +33,8 @@ use Rattle.hir_def_map.specs.declared.nameres.origin.ModuleOrigin.{ModuleOrigin}
 use Rattle.hir_def_map.specs.Declaration.{listed}
 use Rattle.hir_def_map.proofs.NoneOf.{neither, none_changed, none_inserted, none_more, none_with_entry, not_first, not_second}
 use Rattle.hir_def_map.specs.Sources.{SourceTest, HoldsOfNone, HoldsNowhere, HoldsNowhereIn, on_def, on_import, on_legacy_in, on_macro, on_macro_item, on_macros_in, on_origin, on_some, on_type, on_types_in, on_value, on_value_def, on_value_import, on_values, on_values_in, on_variant, on_visibility}
-use Rattle.hir_def_map.specs.State.{Map, Maps, ModuleValue, Placed, Variants, beside, changed_at, new_id, new_module, place_at, placed_in, pushed, with_child, with_enum, with_module, with_module_scope, with_prelude, with_scope}
+use Rattle.hir_def_map.specs.State.{Map, ModuleValue, Variants, changed_at, new_id, new_module, place_at, pushed, with_child, with_enum, with_module, with_module_scope, with_prelude, with_scope}
+use Rattle.hir_def_map.specs.Overlay.{Maps, Placed, overlay, placed_in}
 
 -- an item by another import
 by_import : (d v i j : Bool) → (d || (v || i)) ≡ false → j ≡ false → (d || (v || j)) ≡ false
@@ -209,8 +210,8 @@ module _ (t : SourceTest) where
 
   -- ---- beside finished maps
 
-  pub HoldsNowhere-beside : (finished : Maps) (map : Map) → HoldsNowhere t finished → HoldsNowhereIn t map → HoldsNowhere t (beside finished map)
-  HoldsNowhere-beside finished map f g id placed e = go (map_id.ghosts.eq id map.id) e
+  pub HoldsNowhere-overlay : (finished : Maps) (map : Map) → HoldsNowhere t finished → HoldsNowhereIn t map → HoldsNowhere t (overlay finished map)
+  HoldsNowhere-overlay finished map f g id placed e = go (map_id.ghosts.eq id map.id) e
     where
       go : (b : Bool) → cond b (Some (placed_in finished map)) (finished id) ≡ Some placed → HoldsNowhereIn t placed.map
       go true h = let same : placed_in finished map ≡ placed = cc in subst (λ (p : Placed). HoldsNowhereIn t p.map) same g

@@ -2,7 +2,8 @@
 use Rattle.std.specs.Prelude.{◌≡◌, List, [], ◌∷◌, Option, None, Some, MatchOption}
 use Rattle.std.specs.Borrow.{Bor}
 use Rattle.hir_base.specs.declared.ids.ModuleId.{ModuleId}
-use Rattle.hir_def_map.specs.State.{Map, Maps, map_in}
+use Rattle.hir_def_map.specs.State.{Map}
+use Rattle.hir_def_map.specs.Overlay.{Maps, map_in}
 
 -- who is asked about modules and their maps in order, until there is an answer: that is the outcome, and none if all had none
 abbrev pub AsksMaps : {F T : Type 0} → (F → Bor Map → ModuleId → Option T → F → Type 0) → F → List (Map × ModuleId) → Option T → Type 0

@@ -10,9 +10,10 @@ use Rattle.hir_base.specs.declared.ids.ModuleId.{ModuleId}
 use Rattle.hir_scope.specs.declared.imports.ImportOrExternCrate.{ImportOrExternCrate}
 use Rattle.hir_scope.specs.PerNs.{Item}
 use Rattle.hir_scope.specs.declared.per_ns.PerNs.{PerNs}
-use Rattle.hir_def_map.specs.State.{Local, Maps, at_name, entry_in, map_in, module_in, parent_in, root_of}
-use Rattle.hir_def_map.specs.Chains.{holders_in}
-use Rattle.hir_def_map.specs.Named.{crate_map, is_missing, named_by, test_of}
+use Rattle.hir_def_map.specs.State.{Local, at_name, root_of}
+use Rattle.hir_def_map.specs.Overlay.{Maps, entry_in, map_in, module_in, parent_in}
+use Rattle.hir_def_map.specs.Ancestors.{holders_in}
+use Rattle.hir_def_map.specs.References.{crate_map, is_missing, reference_to, test_of}
 use Rattle.hir_def_map.specs.Scoping.{resolution_of}
 use Rattle.hir_def_map.specs.Scoping.Asking.{Asking}
 use Rattle.hir_def_map.specs.Scoping.Start.{is_dependency}
@@ -27,7 +28,7 @@ MapIsThere maps id = is_some (maps id) ≡ true
 
 -- a definition that is a module or an enum is there
 abbrev pub IsThere : Maps → ModuleDefId → Type 0
-IsThere maps def = test_of (is_missing maps) (named_by def) ≡ false
+IsThere maps def = test_of (is_missing maps) (reference_to def) ≡ false
 
 abbrev pub TypeIsThere : Maps → Option (Item ModuleDefId ImportOrExternCrate) → Type 0
 TypeIsThere maps None = Unit {0}

@@ -5,8 +5,9 @@ use Rattle.hir_base.specs.declared.ids.MapId.{MapId}
 use Rattle.hir_base.specs.declared.ids.ModuleId.{ModuleId}
 use Rattle.hir_scope.specs.Dump.{line_name, dump_of as scope_text}
 use Rattle.hir_scope.specs.Scope.{ScopeValue}
-use Rattle.hir_def_map.specs.State.{Map, Maps, ModuleValue, map_in, module_at, root_of}
-use Rattle.hir_def_map.specs.Chains.{holders_in}
+use Rattle.hir_def_map.specs.State.{Map, ModuleValue, module_at, root_of}
+use Rattle.hir_def_map.specs.Overlay.{Maps, map_in}
+use Rattle.hir_def_map.specs.Ancestors.{holders_in}
 
 -- a module's scope, and the path under which it prints
 abbrev pub Page : Type 0

@@ -1,38 +1,43 @@
-pub mod Declaration
+-- ---- what a def map is, and what each building call makes of it
 pub mod State
-pub mod Codes
+pub mod Declaration
 pub mod Origins
+pub mod Building
+pub mod Macros
+pub mod Diagnostics
+-- what is read of a map, and lent of it
 pub mod Reads
 pub mod ModuleIds
 pub mod Lending
-pub mod LentScopes
-pub mod ModulesMap
-pub mod Building
-pub mod Macros
-pub mod Chains
-pub mod Above
-pub mod Beside
+-- what a module keeps once it declares one thing more
+pub mod Listed
+-- ---- the finished maps with the current one on top
+pub mod Overlay
+pub mod Ancestors
+-- ---- what a path stands for
 pub mod Scoping
 pub mod Reaches
 pub mod Visibilities
-pub mod Listed
-pub mod Named
-pub mod Among
-pub mod Removal
-pub mod Kept
-pub mod World
-pub mod Parts
+-- ---- what a map refers to, and what is well-formed
+pub mod References
+pub mod WellFormed
 pub mod Closed
-pub mod Complete
-pub mod Sources
+-- ---- the finished maps
+pub mod World
+pub mod Insertion
+pub mod Removal
+pub mod Agreement
+-- a part of them, and that with the current map on top
+pub mod WorldParts
 pub mod DefMaps
 pub mod AskMaps
-pub mod Inserted
-pub mod Dependents
-pub mod SameMacros
-pub mod Same
-pub mod LocalHash
-pub mod Agreement
+-- ---- what is written out
 pub mod Dump
-pub mod Branches
+-- ---- equal maps
+pub mod Equality
+-- ---- where what is bound is written
+pub mod Sources
+-- the types of the crate, under their names
 pub mod Types
+-- ---- words of private code
+pub mod Inner

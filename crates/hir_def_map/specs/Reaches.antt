@@ -3,7 +3,8 @@ use Rattle.std.specs.Prelude.{Bool, ◌||◌, is_some, None}
 use Rattle.hir_base.specs.ModPath.{Path}
 use Rattle.hir_base.specs.declared.ids.ModuleId.{ModuleId}
 use Rattle.hir_scope.specs.declared.per_ns.PerNs.{PerNs}
-use Rattle.hir_def_map.specs.State.{Local, Maps}
+use Rattle.hir_def_map.specs.State.{Local}
+use Rattle.hir_def_map.specs.Overlay.{Maps}
 use Rattle.hir_def_map.specs.Scoping.{resolution_of}
 use Rattle.hir_def_map.specs.Scoping.Asking.{Asking}
 use Rattle.hir_def_map.specs.declared.nameres.path_resolution.ResolveMode.TheVariants as modes

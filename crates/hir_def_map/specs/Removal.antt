@@ -6,17 +6,17 @@ use Rattle.std.specs.BTreeSet.{BTreeSet, contains}
 use Rattle.hir_base.specs.declared.ids.MapId.{MapId}
 use Rattle.hir_base.specs.contracts.ids.MapIdOrd.TheImpl as map_order
 use Rattle.hir_def_map.specs.declared.world.finished.Finished.{Finished}
-use Rattle.hir_def_map.specs.Named.{names_map}
+use Rattle.hir_def_map.specs.References.{refers_to}
 
 abbrev pub Names : Type 0
 Names = MapId → MapId → Bool
 
--- the least set that holds a map, and each one that names one in it
+-- the least set that holds a map, and each one that refers to one in it
 pub data Depends (names : MapId → MapId → Bool) (on : MapId) : MapId → Type 0 where
   itself : (id : MapId) → id ≡ on → Depends names on id
   through : (id other : MapId) → names id other ≡ true → Depends names on other → Depends names on id
 
--- a set that holds with a map each one that names it
+-- a set that holds with a map each one that refers to it
 abbrev pub IsUpward : Names → (MapId → Bool) → Type 0
 IsUpward names falls = (k j : MapId) → names k j ≡ true → falls j ≡ true → falls k ≡ true
 
@@ -24,15 +24,15 @@ IsUpward names falls = (k j : MapId) → names k j ≡ true → falls j ≡ true
 abbrev pub FallsWith : Names → MapId → MapId → Type 0
 FallsWith names on id = (falls : MapId → Bool) → falls on ≡ true → IsUpward names falls → falls id ≡ true
 
-abbrev pub names_of : Option Finished → MapId → Bool
-names_of None id = false
-names_of (Some finished) id = names_map finished.map finished.local id
+abbrev pub refers_of : Option Finished → MapId → Bool
+refers_of None id = false
+refers_of (Some finished) id = refers_to finished.map finished.local id
 
--- whether a finished map names another one
-abbrev pub names_in : BTreeMap MapId Finished → MapId → MapId → Bool
-names_in maps id other = names_of (get map_order.ghosts.cmp maps id) other
+-- whether a finished map refers to another one
+abbrev pub refers_in : BTreeMap MapId Finished → MapId → MapId → Bool
+refers_in maps id other = refers_of (get map_order.ghosts.cmp maps id) other
 
--- ---- the same by the ids that are kept beside each map
+-- ---- the same by the ids that are recorded for each map
 
 abbrev pub lists_of : Option Finished → MapId → Bool
 lists_of None id = false

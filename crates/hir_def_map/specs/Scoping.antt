@@ -1,7 +1,7 @@
 -- What does a path mean, asked from a module?
 use Rattle.hir_base.specs.ModPath.{Path}
 use Rattle.hir_base.specs.declared.ids.ModuleId.{ModuleId}
-use Rattle.hir_def_map.specs.State.{Maps}
+use Rattle.hir_def_map.specs.Overlay.{Maps}
 use Rattle.hir_def_map.specs.Scoping.Asking.{Asking as Asked}
 use Rattle.hir_def_map.specs.Scoping.Blocks.{from_blocks}
 use Rattle.hir_def_map.specs.declared.nameres.path_resolution.ResolvePathResult.{ResolvePathResult}
@@ -11,6 +11,7 @@ pub mod FirstSegment
 pub mod Segments
 pub mod Start
 pub mod Blocks
+pub mod Slots
 
 -- the answer
 abbrev pub Resolution : Type 0

@@ -21,7 +21,8 @@ use Rattle.hir_scope.specs.PerNs.{Item}
 use Rattle.hir_scope.specs.declared.per_ns.PerNs.{PerNs}
 use Rattle.hir_scope.specs.declared.visibility.Visibility.{Visibility}
 use Rattle.hir_scope.specs.declared.visibility.Visibility.TheVariants as vis
-use Rattle.hir_def_map.specs.State.{Local, Map, Maps, ModuleValue, Placed, Variants}
+use Rattle.hir_def_map.specs.State.{Local, Map, ModuleValue, Variants}
+use Rattle.hir_def_map.specs.Overlay.{Maps, Placed}
 use Rattle.hir_def_map.specs.Scoping.{resolution_of}
 use Rattle.hir_def_map.specs.Scoping.Asking.{Asking}
 use Rattle.hir_def_map.specs.declared.nameres.enum_variants.EnumVariant.{EnumVariant}

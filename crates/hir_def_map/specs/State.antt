@@ -1,9 +1,10 @@
 -- What a def map is, and what each building call makes of it.
-use Rattle.std.specs.Prelude.{◌≡◌, ℕ, zero, suc, ◌<◌, ◌≤◌, ◌++◌, List, [], ◌∷◌, length, Option, None, Some, is_some, Bool, false, ◌&&◌, cond, slice_get, option_and_then, option_map}
+use Rattle.std.specs.Prelude.{◌≡◌, ℕ, zero, suc, ◌<◌, ◌≤◌, ◌++◌, List, [], ◌∷◌, length, Option, None, Some, is_some, Bool, false, ◌&&◌, cond, nat_eq, slice_get, option_and_then, option_map}
 use Rattle.std.specs.Ordering.{nat_cmp}
-use Rattle.std.specs.Cmp.Lexicographic.{slice_cmp}
+use Rattle.std.specs.Cmp.Lexicographic.{pointwise, slice_cmp}
 use Rattle.std.specs.BTreeMap.{is_at, insert_entry}
 use Rattle.std.specs.Map.{lookup}
+use Rattle.indexmap.specs.IndexMap.{insert_entry as insert_last}
 use Rattle.hir_base.specs.declared.ast_id.AstId.{AstId}
 use Rattle.hir_base.specs.declared.edition.Edition.{Edition}
 use Rattle.hir_base.specs.declared.ids.Crate.{Crate}
@@ -52,7 +53,7 @@ pub record Modules : Type 0 where
   pub map : MapId
   pub modules : List ModuleValue
 
--- what a crate's top says, and what the crate stands on; its blocks have the same
+-- the crate-level attributes of a crate, and its transitive dependencies; its blocks have the same
 pub record CrateData : Type 0 where
   pub edition : Edition
   -- the tools whose attributes are inert, in the order in which they were registered
@@ -64,10 +65,10 @@ pub record CrateData : Type 0 where
   pub no_std : Bool
   -- how deep calls of macros may be nested
   pub recursion_limit : ℕ
-  -- the crates on which it stands, directly or through others, by number
+  -- the transitive dependencies, in ascending order
   pub dependencies : List Crate
 
--- the data of a crate that says nothing at its top and stands on no other
+-- the data of a crate without crate-level attributes and dependencies
 abbrev pub new_data : Edition → CrateData
 new_data edition = record {
   edition = edition;
@@ -110,6 +111,10 @@ pub record Map : Type 0 where
 -- the crates that a path may begin with, and the `extern crate` that names each, if one does
 abbrev pub Local : Type 0
 Local = List (List ℕ × (ModuleId × Option ExternCrateId))
+
+-- the crates once a name stands for a module: a new name comes last, one that is there stays in its place
+abbrev pub with_extern : Local → List ℕ → (ModuleId × Option ExternCrateId) → Local
+with_extern local name entry = insert_last (pointwise nat_eq) local name entry
 
 -- ---- look-ups
 
@@ -156,78 +161,6 @@ parent_at map at = parent_of (module_at map at)
 -- the variants of an enum
 abbrev pub variants_at : Map → EnumId → Option Variants
 variants_at map id = lookup (is_at (enum_order.ghosts.cmp id)) map.enums
-
--- ---- several maps, seen through one look-up
-
--- a map, what its paths may begin with, and the modules that hold it: that of its block, that of this one's block, and so on; none holds a crate's map
-pub record Placed : Type 0 where
-  pub map : Map
-  -- nothing while it is being built
-  pub local : Local
-  pub holders : List ModuleId
-
--- the maps that can be asked: finished ones, and one that may still be being built
-abbrev pub Maps : Type 0
-Maps = MapId → Option Placed
-
--- a map's holders, none where it isn't there
-abbrev pub holders_of : Option Placed → List ModuleId
-holders_of None = []
-holders_of (Some placed) = placed.holders
-
--- the modules that hold a map among finished ones: its block's holder, where that lies in a finished map of the crate, and those of this
-abbrev pub holders_under : Maps → MapId → Option ModuleId → List ModuleId
-holders_under finished id None = []
-holders_under finished id (Some h) = cond (same_crate h.map.krate id.krate && is_some (finished h.map)) (h ∷ holders_of (finished h.map)) []
-
--- a map's holders where one of its id is finished, and otherwise these
-abbrev pub holders_or : Option Placed → List ModuleId → List ModuleId
-holders_or None holders = holders
-holders_or (Some placed) holders = placed.holders
-
--- a map in its place among finished ones, in that of the finished map of its id, where there is one, with what its paths may begin with
-abbrev pub placed_with : Maps → Map → Local → Placed
-placed_with finished map local = record { map = map; local = local; holders = holders_or (finished map.id) (holders_under finished map.id map.holder) }
-
--- so is one that may still be being built
-abbrev pub placed_in : Maps → Map → Placed
-placed_in finished map = placed_with finished map []
-
--- finished maps, and beside them one that may still be being built, which comes before a finished one of its id
-abbrev pub beside : Maps → Map → Maps
-beside finished map id = cond (map_id.ghosts.eq id map.id) (Some (placed_in finished map)) (finished id)
-
--- finished maps once one more is finished
-abbrev pub with_map : Maps → Map → Local → Maps
-with_map finished map local id = cond (map_id.ghosts.eq id map.id) (Some (placed_with finished map local)) (finished id)
-
--- no map
-abbrev pub no_maps : Maps
-no_maps id = None
-
--- one map alone
-abbrev pub alone : Map → Maps
-alone map = beside no_maps map
-
--- the map of an id
-abbrev pub map_in : Maps → MapId → Option Map
-map_in maps id = option_map (λ (placed : Placed). placed.map) (maps id)
-
-abbrev pub module_in : Maps → ModuleId → Option ModuleValue
-module_in maps m = option_and_then (λ (placed : Placed). module_at placed.map m.index) (maps m.map)
-
-abbrev pub entry_in : Maps → ModuleId → List ℕ → PerNs
-entry_in maps m name = entry_of (module_in maps m) name
-
-abbrev pub child_in : Maps → ModuleId → List ℕ → Option ModuleId
-child_in maps m name = child_of (module_in maps m) name
-
-abbrev pub parent_in : Maps → ModuleId → Option ModuleId
-parent_in maps m = parent_of (module_in maps m)
-
--- the variants of an enum, which stand in the map of the module that declares it
-abbrev pub variants_in : Maps → EnumId → Option Variants
-variants_in maps id = option_and_then (λ (placed : Placed). variants_at placed.map id) (maps id.loc.container.map)
 
 -- ---- building
 

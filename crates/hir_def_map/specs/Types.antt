@@ -19,5 +19,5 @@ pub use Rattle.hir_def_map.specs.declared.world.World.{World}
 pub use Rattle.hir_def_map.specs.declared.world.finished.Finished.{Finished}
 pub use Rattle.hir_def_map.specs.declared.world.insert.InsertError.{InsertError}
 pub use Rattle.hir_def_map.specs.declared.world.insert.Refused.{Refused}
-pub use Rattle.hir_def_map.specs.declared.world.named.Named.{Named}
+pub use Rattle.hir_def_map.specs.declared.world.reference.Reference.{Reference}
 pub use Rattle.hir_def_map.specs.declared.world.part.WorldPart.{WorldPart}

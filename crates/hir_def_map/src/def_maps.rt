@@ -1,13 +1,13 @@
-//! Finished maps and one beside them, seen at once.
+//! The finished maps with the current one on top.
 ghost use Rattle.std.specs.Prelude.{◌≡◌, option_map};
 ghost use Rattle.hir_scope.specs.ModuleTree.{chain_from};
-ghost use Rattle.hir_def_map.specs.State.{beside, entry_in, holders_under, map_in, module_in, parent_in, placed_in};
-ghost use Rattle.hir_def_map.specs.Chains.{above_in, head_of, holder_in, holders_in, up_in};
-ghost use Rattle.hir_def_map.specs.Above.{above_in_crate, above_up, holders_up, same_holder};
+ghost use Rattle.hir_def_map.specs.Overlay.{overlay, entry_in, holders_under, map_in, module_in, parent_in, placed_in};
+ghost use Rattle.hir_def_map.specs.Ancestors.{above_in, head_of, holder_in, holders_in, up_in};
+ghost use Rattle.hir_def_map.specs.Inner.AncestorLaws.{above_in_crate, above_up, holders_up, same_holder};
 ghost use Rattle.hir_def_map.specs.Scoping.FirstSegment.{legacy_of, macro_use_of, prelude_of};
 ghost use Rattle.hir_def_map.specs.Scoping.Segments.{variant_in};
 ghost use Rattle.hir_def_map.specs.Scoping.Start.{is_dependency, is_in_edition_2015};
-ghost use Rattle.hir_def_map.specs.Parts.{part_of};
+ghost use Rattle.hir_def_map.specs.WorldParts.{part_of};
 ghost use Rattle.hir_def_map.specs.DefMaps.{maps_of, maps_placed};
 
 mod ancestors;
@@ -35,7 +35,7 @@ pub struct DefMaps<'a> {
 impl<'a> DefMaps<'a> {
     #[tactic(auto, unfolding(crate::specs::DefMaps::maps_of))]
     pub fn new(world: WorldPart<'a>, own: &'a DefMap) -> DefMaps<'a>
-        ensures value { maps_of result ≡ beside (part_of world.entry) own.now }
+        ensures value { maps_of result ≡ overlay (part_of world.entry) own.now }
         ensures own { result.own.now ≡ own.now }
     {
         DefMaps { world, own }

@@ -79,7 +79,7 @@ pub struct DefMap {
 }
 
 impl Model for DefMap {
-    ghost use Rattle.hir_def_map.specs.Codes.{coded_map};
+    ghost use Rattle.hir_def_map.specs.Inner.Codes.{coded_map};
     ghost use Rattle.hir_def_map.specs.State.{Map, IsNumbered};
 
     ghost Value = { Map };
@@ -187,7 +187,7 @@ impl DefMap {
 
     /// What the names of a module stand for, to be changed: each write of `ItemScope` can be made on it. The names that
     /// globs brought are kept by the caller.
-    #[tactic(auto, using(crate::specs::Beside::same_id))]
+    #[tactic(auto, using(crate::specs::Inner::OverlayLaws::same_id))]
     pub fn scope_mut(&mut self, at: u32) -> &mut ItemScope
         requires in_range { at < length self.old.modules }
         ensures value { Some result.now ≡ scope_at self.old at }
@@ -305,14 +305,14 @@ impl DefMap {
         Ok(id)
     }
 
-    /// What the crate's top says.
+    /// The crate-level attributes.
     pub fn crate_data(&self) -> &DefMapCrateData
         ensures value { result.now ≡ self.now.crate_data }
     {
         &self.crate_data
     }
 
-    /// What the crate's top says, to be changed.
+    /// The crate-level attributes, to be changed.
     pub fn crate_data_mut(&mut self) -> &mut DefMapCrateData
         ensures value { result.now ≡ self.old.crate_data }
         ensures* lends { sem 𝓛 (LendsCrateData self.entry result) }

@@ -1,8 +1,8 @@
 //! What written visibilities mean in a map.
 ghost use Rattle.std.specs.Prelude.{◌≡◌, IfSome, option_copied};
 ghost use Rattle.hir_scope.specs.Visibility.{is_visible, lesser_of, IsMeet};
-ghost use Rattle.hir_def_map.specs.State.{beside};
-ghost use Rattle.hir_def_map.specs.Chains.{above_in, holders_in};
+ghost use Rattle.hir_def_map.specs.Overlay.{overlay};
+ghost use Rattle.hir_def_map.specs.Ancestors.{above_in, holders_in};
 ghost use Rattle.hir_def_map.specs.World.{finished_in};
 ghost use Rattle.hir_def_map.specs.Scoping.Asking.{local_of};
 ghost use Rattle.hir_def_map.specs.Visibilities.{module_seen, path_seen, resolved_visibility};
@@ -65,7 +65,7 @@ impl DefMap {
         raw: &RawVisibility,
         within_impl: bool,
     ) -> Option<Visibility>
-        ensures value { result ≡ resolved_visibility (beside (finished_in world.now.maps) self.now) (local_of (option_copied local.entry)) at within_impl raw.now }
+        ensures value { result ≡ resolved_visibility (overlay (finished_in world.now.maps) self.now) (local_of (option_copied local.entry)) at within_impl raw.now }
     {
         let maps = DefMaps::new(WorldPart::all(world), self);
         maps.resolve_visibility(local, at, raw, within_impl)
@@ -73,17 +73,17 @@ impl DefMap {
 
     /// The lesser of two visibilities, if one has all that the other has.
     pub fn lesser(&self, world: &World, one: Visibility, other: Visibility) -> Option<Visibility>
-        ensures value { result ≡ lesser_of (above_in (beside (finished_in world.now.maps) self.now)) self.now.id one other }
-        ensures meet { IfSome result (λ least. IsMeet (is_visible (above_in (beside (finished_in world.now.maps) self.now))
-            (holders_in (beside (finished_in world.now.maps) self.now))) least one other) }
+        ensures value { result ≡ lesser_of (above_in (overlay (finished_in world.now.maps) self.now)) self.now.id one other }
+        ensures meet { IfSome result (λ least. IsMeet (is_visible (above_in (overlay (finished_in world.now.maps) self.now))
+            (holders_in (overlay (finished_in world.now.maps) self.now))) least one other) }
     {
         DefMaps::new(WorldPart::all(world), self).lesser(one, other)
     }
 
     /// Whether a module may see what has this visibility.
     pub fn is_visible(&self, world: &World, vis: Visibility, from: ModuleId) -> bool
-        ensures value { result ≡ is_visible (above_in (beside (finished_in world.now.maps) self.now))
-            (holders_in (beside (finished_in world.now.maps) self.now)) vis from }
+        ensures value { result ≡ is_visible (above_in (overlay (finished_in world.now.maps) self.now))
+            (holders_in (overlay (finished_in world.now.maps) self.now)) vis from }
     {
         DefMaps::new(WorldPart::all(world), self).is_visible(vis, from)
     }

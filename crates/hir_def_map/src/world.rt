@@ -1,20 +1,20 @@
 //! The maps that are finished.
 ghost use Rattle.std.specs.Prelude.{◌≡◌};
-ghost use Rattle.hir_def_map.specs.State.{no_maps};
+ghost use Rattle.hir_def_map.specs.Overlay.{no_maps};
 ghost use Rattle.hir_def_map.specs.World.{IsChecked, finished_in};
-ghost use Rattle.hir_def_map.specs.Dependents.{HasRoom, IsIndexed};
+ghost use Rattle.hir_def_map.specs.Inner.Dependents.{HasRoom, IsIndexed};
 
 pub mod agree;
-mod complete;
 pub mod dependents;
 pub mod finished;
 pub mod insert;
-mod kept;
 pub mod look_up;
-pub mod named;
-mod names;
 pub mod part;
+mod recorded;
+pub mod reference;
+mod references;
 pub mod remove;
+mod well_formed;
 
 use dependents::Dependents;
 use finished::Finished;
@@ -22,13 +22,13 @@ use hir_base::ids::MapId;
 use std::alloc::Global;
 use std::collections::BTreeMap;
 
-/// The finished maps of crates and blocks, each of which names only what is there.
+/// The finished maps of crates and blocks, none of which has a dangling reference.
 #[derive(Drop)]
 pub struct World {
     pub maps: BTreeMap<MapId, Finished>,
-    /// Which of them name one of them.
+    /// Which of them refer to one of them.
     pub(crate) dependents: Dependents,
-    /// Those that were taken away and on which others may still depend: none between two calls, with room for all.
+    /// The worklist of a removal: those that were removed and on which others may still depend. Between two calls it is empty, with room for all.
     pub(crate) falling: Vec<MapId>,
     pub(crate) alloc: Global,
     ghost checked: { IsChecked maps },

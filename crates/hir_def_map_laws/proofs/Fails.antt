@@ -15,25 +15,38 @@ use Rattle.hir_scope.specs.PerNs.{Item, keep_item, keep_of, nothing, or_of}
 use Rattle.hir_scope.specs.declared.imports.ImportOrExternCrate.{ImportOrExternCrate}
 use Rattle.hir_scope.specs.declared.per_ns.PerNs.{PerNs}
 use Rattle.hir_scope.specs.declared.visibility.Visibility.{Visibility}
-use Rattle.hir_def_map.specs.Named.{named_by, test_of}
+use Rattle.hir_def_map.specs.References.{reference_to, test_of}
 use Rattle.hir_def_map.specs.Scoping.FirstSegment.{builtin_bound, builtin_name, extern_name, fits, is_block_root, legacy_bound, legacy_name, legacy_of, macro_use_bound, macro_use_name, macro_use_of, name_in_crate_root_or_extern_prelude, name_in_module, name_in_preludes, names_module, prelude_name, scope_name, unless_block_root, with_builtin}
-use Rattle.hir_def_map.specs.State.{Local, Maps, crate_root, entry_in, map_in, module_in}
-use Rattle.hir_def_map.specs.declared.world.named.Named.{Named}
+use Rattle.hir_def_map.specs.State.{Local, crate_root}
+use Rattle.hir_def_map.specs.Overlay.{Maps, entry_in, map_in, module_in}
+use Rattle.hir_def_map.specs.declared.world.reference.Reference.{Reference}
 use Rattle.hir_def_map_laws.specs.ReadLaw.{Fails, FailsAtType}
 
 -- a test that implies another fails where that fails
-pub Fails-weaker : (test less : Named → Bool) → ((n : Named) → test n ≡ false → less n ≡ false) → (p : PerNs) → Fails test p → Fails less p
+pub Fails-weaker : (test less : Reference → Bool) → ((n : Reference) → test n ≡ false → less n ≡ false) → (p : PerNs) → Fails test p → Fails less p
 Fails-weaker test less weaker p f = go p.types f
   where
-    on : (o : Option Named) → test_of test o ≡ false → test_of less o ≡ false
+    on : (o : Option Reference) → test_of test o ≡ false → test_of less o ≡ false
     on None e = refl
     on (Some n) e = weaker n e
 
     go : (t : Option (Item ModuleDefId ImportOrExternCrate)) → FailsAtType test t → FailsAtType less t
     go None g = tt
-    go (Some item) g = on (named_by item.def) g
+    go (Some item) g = on (reference_to item.def) g
 
-module _ (test : Named → Bool) where
+-- a test that holds of nothing
+pub Fails-nowhere : (test : Reference → Bool) → ((n : Reference) → test n ≡ false) → (p : PerNs) → Fails test p
+Fails-nowhere test none p = go p.types
+  where
+    on : (o : Option Reference) → test_of test o ≡ false
+    on None = refl
+    on (Some n) = none n
+
+    go : (t : Option (Item ModuleDefId ImportOrExternCrate)) → FailsAtType test t
+    go None = tt
+    go (Some item) = on (reference_to item.def)
+
+module _ (test : Reference → Bool) where
   pub Fails-cond : (b : Bool) (p q : PerNs) → Fails test p → Fails test q → Fails test (cond b p q)
   Fails-cond true p q f g = f
   Fails-cond false p q f g = g
@@ -48,7 +61,7 @@ module _ (test : Named → Bool) where
   pub Fails-keep : (keep : Visibility → Bool) (p : PerNs) → Fails test p → Fails test (keep_of keep p)
   Fails-keep keep p f = go p.types f
     where
-      kept : (b : Bool) (i : Item ModuleDefId ImportOrExternCrate) → test_of test (named_by i.def) ≡ false → FailsAtType test (cond b (Some i) None)
+      kept : (b : Bool) (i : Item ModuleDefId ImportOrExternCrate) → test_of test (reference_to i.def) ≡ false → FailsAtType test (cond b (Some i) None)
       kept true i h = h
       kept false i h = tt
 

@@ -5,8 +5,8 @@ use Rattle.hir_base.specs.declared.ast_id.BlockId.{BlockId}
 use Rattle.hir_base.specs.declared.ids.ModuleId.{ModuleId as AnyModule}
 use Rattle.hir_base.specs.declared.mod_path.PathKind.{PathKind}
 use Rattle.hir_scope.specs.Bindings.{first_of}
-use Rattle.hir_def_map.specs.State.{Maps}
-use Rattle.hir_def_map.specs.Chains.{head_of, holder_in, holders_in, IsPlaced}
+use Rattle.hir_def_map.specs.Overlay.{Maps}
+use Rattle.hir_def_map.specs.Ancestors.{head_of, holder_in, holders_in, IsPlaced}
 use Rattle.hir_def_map.specs.Scoping.Asking.{Asking}
 use Rattle.hir_def_map.specs.Scoping.Blocks.{either_reached, from_blocks, in_preludes, inherited, joined, later_stop, with_preludes}
 use Rattle.hir_def_map.specs.Scoping.FirstSegment.{is_block_root}

@@ -5,8 +5,12 @@ pub mod Holders
 -- what a path reads
 pub mod SameAbove
 pub mod Fails
-pub mod Grown
+pub mod Changed
+pub mod Growing
+pub mod InScopes
 pub mod ReadOutside
 pub mod ReadLaw
 pub mod Whole
+pub mod Apart
 pub mod SlotChanges
+pub mod SlotLists

@@ -1,8 +1,8 @@
--- Paths that are asked inside a map that grows.
-use Rattle.std.proofs.Common.{◌≡◌, ◌∙◌, ap, sym, subst, refl, ℕ, ◌+◌, ◌<◌, List, [], ◌∷◌, length, Bool, true, false, ◌&&◌, cond, Option, None, Some}
+-- Paths that are asked inside a map that changes.
+use Rattle.std.proofs.Common.{◌≡◌, ◌∙◌, ap, sym, subst, refl, ℕ, ◌+◌, List, [], ◌∷◌, Bool, true, false, ◌&&◌, cond, Option, None, Some}
 use Rattle.std.specs.Cmp.{unsigned_Decides}
 use Rattle.std.specs.List.{All}
-use Rattle.std.specs.Prelude.{is_some, not, option_and_then}
+use Rattle.std.specs.Prelude.{is_some, option_and_then}
 use Rattle.std.proofs.lemmas.List.Elements.{All-head, All-tail}
 use Rattle.hir_base.specs.ModPath.{Path}
 use Rattle.hir_base.specs.declared.ast_id.BlockId.{BlockId}
@@ -22,27 +22,31 @@ use Rattle.hir_scope.specs.PerNs.{Item, or_of}
 use Rattle.hir_scope.specs.Visibility.{is_visible}
 use Rattle.hir_scope.specs.declared.imports.ImportOrExternCrate.{ImportOrExternCrate}
 use Rattle.hir_scope.specs.declared.per_ns.PerNs.{PerNs}
-use Rattle.hir_def_map.specs.Beside.{same_id}
-use Rattle.hir_def_map.specs.Chains.{above_in, holders_in}
-use Rattle.hir_def_map.specs.Named.{named_by, test_of}
+use Rattle.hir_def_map.specs.Inner.OverlayLaws.{same_id}
+use Rattle.hir_def_map.specs.Ancestors.{above_in, holders_in}
+use Rattle.hir_def_map.specs.References.{reference_to, test_of}
 use Rattle.hir_def_map.specs.Scoping.Asking.{Asking}
 use Rattle.hir_def_map.specs.Scoping.Blocks.{from_blocks, inherited}
 use Rattle.hir_def_map.specs.Scoping.FirstSegment.{builtin_name, extern_bound, extern_name, legacy_bound, legacy_of, macro_use_bound, macro_use_name, macro_use_of, name_in_crate_root_or_extern_prelude, name_in_module, of_style, prelude_name, shadow_before, unless_block_root, with_builtin}
 use Rattle.hir_def_map.specs.Scoping.Segments.{after_enum, crossing, nearest_non_block_module, rest, seen, through, through_adt, through_module, through_type, unresolved}
 use Rattle.hir_def_map.specs.Scoping.Start.{abs_from, climb, from_start, is_import, is_in_edition_2015, module_bound, settled_in_block, super_from}
-use Rattle.hir_def_map.specs.State.{Local, Map, Maps, at_name, crate_root, entry_in, map_in, module_in, numbered, variants_at}
+use Rattle.hir_def_map.specs.State.{Local, Map, at_name, crate_root, numbered}
+use Rattle.hir_def_map.specs.Overlay.{Maps, entry_in, map_in, module_in}
 use Rattle.hir_def_map.specs.declared.nameres.path_resolution.ReachedFixedPoint.TheVariants.{No}
 use Rattle.hir_def_map.specs.declared.nameres.path_resolution.ResolvePathResult.{ResolvePathResult}
-use Rattle.hir_def_map.specs.declared.world.named.Named.{Named}
-use Rattle.hir_def_map.specs.declared.world.named.Named.TheVariants as named
+use Rattle.hir_def_map.specs.declared.world.reference.Reference.{Reference}
+use Rattle.hir_def_map.specs.declared.world.reference.Reference.TheVariants as named
 use Rattle.hir_def_map_laws.proofs.Agreement.{bound-in, bound_in}
+use Rattle.hir_def_map_laws.proofs.Growing.{grown}
+use Rattle.hir_def_map_laws.proofs.InScopes.{crates_outside, in_scopes}
 use Rattle.hir_def_map_laws.proofs.Fails.{Fails-in_module, Fails-in_root, Fails-keep, Fails-weaker}
-use Rattle.hir_def_map_laws.proofs.Grown.{Growth, Here, Out, either-false, entry_here, entry_out, here_out, holders_out, is_own, legacy_here, legacy_out, names_here, names_out, nearest_here, new, new_map, old, old_map, own, same_2015, same_climb, same_holders, same_nearest, same_prelude_module, same_reach, same_seen, variant_here, variant_out}
+use Rattle.hir_def_map_laws.proofs.Changed.{Change, Here, IsBelow, Out, either-false, entry_here, entry_out, has_other_variants, here_out, holders_out, is_own, legacy_here, legacy_out, names_here, names_out, nearest_here, new, new_map, old, old_map, own, same_2015, same_climb, same_holders, same_nearest, same_prelude_module, same_reach, same_seen, variant_here, variant_out}
 use Rattle.hir_def_map_laws.proofs.Holders.{start-of_crate}
 use Rattle.hir_def_map_laws.proofs.ReadOutside.{Outside, SameFirst, inherited_out, rest_out, through_out}
-use Rattle.hir_def_map_laws.specs.Paths.{prelude_module_of}
-use Rattle.hir_def_map_laws.specs.ReadLaw.{AgreeAt, BeginsWithCrates, Fails, FailsAtType, IsReadAlike, ReadsDecide, SameInModule, SameInPreludes, has_no_variants, is_named_in, with_crates}
-use Rattle.hir_def_map_laws.specs.Slots.{Slot, of_module, of_preludes, further_slots, is_in, kept_in, module_among, module_by, reads, slots_after, slots_from_crates, slots_from_module, slots_from_root, slots_of, with_prelude_slot, with_slot}
+use Rattle.hir_def_map_laws.specs.ReadLaw.{AgreeAt, BeginsOutside, Fails, FailsAtType, IsReadAlike, ReadsDecide, SameInModule, SameInPreludes, ScopesReadAlike, is_named_in, with_crates}
+use Rattle.hir_def_map.specs.declared.nameres.path_resolution.slots.Slot.{Slot}
+use Rattle.hir_def_map.specs.declared.nameres.path_resolution.slots.Slot.TheVariants.{Module as of_module, Preludes as of_preludes}
+use Rattle.hir_def_map.specs.Scoping.Slots.{further_slots, is_in, kept_in, module_among, module_by, prelude_module_of, reads, slots_after, slots_from_crates, slots_from_module, slots_from_root, slots_of, with_prelude_slot, with_slot}
 
 same_block_itself : (b : Option BlockId) → same_block b b ≡ true
 same_block_itself None = refl
@@ -61,7 +65,7 @@ either_alike : {X Y : Type 0} (c b : Bool) → c ≡ b → (p q r u : X) (k l m 
 either_alike c true e p q r u k l m n P f g a = (ap (λ (x : Bool). cond x p r) e ∙ (f a).0, ap (λ (x : Bool). cond x k m) e ∙ (f a).1)
 either_alike c false e p q r u k l m n P f g a = (ap (λ (x : Bool). cond x p r) e ∙ (g a).0, ap (λ (x : Bool). cond x k m) e ∙ (g a).1)
 
-module _ (t : Growth) (asking : Asking) (local : Local) (begins : BeginsWithCrates asking.local) (at : ℕ) (low : at < length t.one.modules) where
+module _ (t : Change) (asking : Asking) (local : Local) (begins : BeginsOutside t.one.id asking.local) (at : ℕ) (low : IsBelow t.bound at) where
   abbrev asked : Asking
   asked = with_crates asking local
 
@@ -80,16 +84,16 @@ module _ (t : Growth) (asking : Asking) (local : Local) (begins : BeginsWithCrat
   others_agree : (slot : Slot) (slots : List Slot) → Agree (slot ∷ slots) → Agree slots
   others_agree slot slots agree = All-tail (AgreeAt t.one asking.local t.other local) slot slots agree
 
-  -- each enum of the map among the items has its variants
+  -- each enum of the map among the items keeps its variants
   abbrev Known : PerNs → Type 0
-  Known p = Fails (has_no_variants t.one) p
+  Known p = Fails (has_other_variants t) p
 
   known_out : (p : PerNs) → Outside t p → Known p
-  known_out p outside = Fails-weaker (is_named_in (own t)) (has_no_variants t.one) weaker p outside
+  known_out p outside = Fails-weaker (is_named_in (own t)) (has_other_variants t) weaker p outside
     where
-      weaker : (n : Named) → is_named_in (own t) n ≡ false → has_no_variants t.one n ≡ false
+      weaker : (n : Reference) → is_named_in (own t) n ≡ false → has_other_variants t n ≡ false
       weaker (named.Module m) e = refl
-      weaker (named.Enum id) e = and-false (map_id.ghosts.eq id.loc.container.map t.one.id) (not (is_some (variants_at t.one id))) e
+      weaker (named.Enum id) e = and-false (map_id.ghosts.eq id.loc.container.map (own t)) (t.changes id) e
       weaker (named.Map id) e = refl
 
   known : (m : AnyModule) (name : List ℕ) → Known (entry_in (old t) m name)
@@ -123,7 +127,7 @@ module _ (t : Growth) (asking : Asking) (local : Local) (begins : BeginsWithCrat
         let here : SameInModule t.one t.other m.index s = first_agrees (of_module m.index s) (slots_after (old t) (own t) from ss (seen (old t) from m s)) agree in
         let same : seen (new t) from m s ≡ seen (old t) from m s = same_seen t from m s from_here (entry_here t m s e here.entries) in
         let next : Alike ss (i + 1) (seen (old t) from m s) =
-        alike (seen (old t) from m s) (Fails-keep (has_no_variants t.one) (λ v. is_visible (above_in (old t)) (holders_in (old t)) v from) (entry_in (old t) m s) (names_here t m s e))
+        alike (seen (old t) from m s) (Fails-keep (has_other_variants t) (λ v. is_visible (above_in (old t)) (holders_in (old t)) v from) (entry_in (old t) m s) (names_here t m s e))
         (others_agree (of_module m.index s) (slots_after (old t) (own t) from ss (seen (old t) from m s)) agree) in
         let own_crate : same_crate m.map.krate from.map.krate ≡ true = ap (λ (id : MapId). same_crate id.krate from.map.krate) (is_own t m e) ∙ (unsigned_Decides from.map.krate.0 from.map.krate.0).1 refl in
         let within : after from (seen (new t) from m s) ≡ before from (seen (old t) from m s) = ap (after from) same ∙ next.answers in (
@@ -133,25 +137,25 @@ module _ (t : Growth) (asking : Asking) (local : Local) (begins : BeginsWithCrat
           ap (λ (xs : List Slot). of_module m.index s ∷ xs) (ap (slots_after (new t) (own t) from ss) same ∙ next.slots),
         )
 
-    type_alike : (o : Option (Item ModuleDefId ImportOrExternCrate)) → FailsAtType (has_no_variants t.one) o
+    type_alike : (o : Option (Item ModuleDefId ImportOrExternCrate)) → FailsAtType (has_other_variants t) o
         → Agree (further_slots (old t) (own t) from (s ∷ ss) (module_among (own t) o))
         → (through_type after (new t) from ss i s o ≡ through_type before (old t) from ss i s o)
         × (further_slots (new t) (own t) from (s ∷ ss) (module_among (own t) o) ≡ further_slots (old t) (own t) from (s ∷ ss) (module_among (own t) o))
     type_alike None fails agree = (refl, refl)
     type_alike (Some item) fails agree = go item.def fails agree
       where
-        enum_alike : (id : EnumId) (b : Bool) → map_id.ghosts.eq id.loc.container.map (own t) ≡ b → (c : Bool) → is_some (variants_at t.one id) ≡ c → (b && not c) ≡ false
+        enum_alike : (id : EnumId) (b : Bool) → map_id.ghosts.eq id.loc.container.map (own t) ≡ b → (c : Bool) → t.changes id ≡ c → (b && c) ≡ false
             → through_adt (new t) ss i s item (adts.EnumId id) ≡ through_adt (old t) ss i s item (adts.EnumId id)
-        enum_alike id true e true f none = ap (after_enum ss i item) (variant_here t id s e f)
-        enum_alike id true e false f none = absurd cc
+        enum_alike id true e true f none = absurd cc
+        enum_alike id true e false f none = ap (after_enum ss i item) (variant_here t id s e f)
         enum_alike id false e c f none = ap (after_enum ss i item) (variant_out t id s e)
 
-        adt : (a : AdtId) → test_of (has_no_variants t.one) (named_by (AnyAdt a)) ≡ false → through_adt (new t) ss i s item a ≡ through_adt (old t) ss i s item a
-        adt (adts.EnumId id) none = enum_alike id (map_id.ghosts.eq id.loc.container.map (own t)) refl (is_some (variants_at t.one id)) refl none
+        adt : (a : AdtId) → test_of (has_other_variants t) (reference_to (AnyAdt a)) ≡ false → through_adt (new t) ss i s item a ≡ through_adt (old t) ss i s item a
+        adt (adts.EnumId id) none = enum_alike id (map_id.ghosts.eq id.loc.container.map (own t)) refl (t.changes id) refl none
         adt (adts.StructId id) none = refl
         adt (adts.UnionId id) none = refl
 
-        go : (d : ModuleDefId) → test_of (has_no_variants t.one) (named_by d) ≡ false → Agree (further_slots (old t) (own t) from (s ∷ ss) (module_by (own t) d))
+        go : (d : ModuleDefId) → test_of (has_other_variants t) (reference_to d) ≡ false → Agree (further_slots (old t) (own t) from (s ∷ ss) (module_by (own t) d))
             → (through after (new t) from ss i s item d ≡ through before (old t) from ss i s item d)
             × (further_slots (new t) (own t) from (s ∷ ss) (module_by (own t) d) ≡ further_slots (old t) (own t) from (s ∷ ss) (module_by (own t) d))
         go (ModuleId m) none a = module_alike m (is_in (own t) m) refl a
@@ -230,7 +234,7 @@ module _ (t : Growth) (asking : Asking) (local : Local) (begins : BeginsWithCrat
         let same : SameInPreludes t.one asking.local t.other local s = first_agrees (of_preludes s) behind found.left in
         let names : name_in_crate_root_or_extern_prelude (new t) local from s ≡ names_before = λ i. or_of (found.entries i) (unless_block_root from (same_extern same i)) in
         let next : Alike ss 1 names_before =
-        rest_alike ss 1 names_before (Fails-in_root (has_no_variants t.one) (old t) asking.local from s (known_extern s) (known root s)) (others_agree (of_preludes s) behind found.left) in (
+        rest_alike ss 1 names_before (Fails-in_root (has_other_variants t) (old t) asking.local from s (known_extern s) (known root s)) (others_agree (of_preludes s) behind found.left) in (
           ap (rest (new t) from ss 1) names ∙ next.answers,
           ap (λ (xs : List Slot). with_slot (own t) root s (of_preludes s ∷ xs)) (ap (slots_after (new t) (own t) from ss) names ∙ next.slots),
         )
@@ -255,7 +259,7 @@ module _ (t : Growth) (asking : Asking) (local : Local) (begins : BeginsWithCrat
         (unless_block_root from (same_prelude i)) in
         let next : Alike ss 1 names_before =
         rest_alike ss 1 names_before
-        (Fails-in_module (has_no_variants t.one) (old t) asking.local from s (known_extern s) asking.sub_ns (shadow_before ss asking.shadow) (known from s) (subst Known (sym (prelude_by s)) (known_bound prelude_before s)))
+        (Fails-in_module (has_other_variants t) (old t) asking.local from s (known_extern s) asking.sub_ns (shadow_before ss asking.shadow) (known from s) (subst Known (sym (prelude_by s)) (known_bound prelude_before s)))
         (others_agree (of_preludes s) behind prelude.1) in (
           ap (rest (new t) from ss 1) names ∙ next.answers,
           λ i. with_slot (own t) from s (with_prelude_slot (own t) (same_module i) s (of_preludes s ∷ (ap (slots_after (new t) (own t) from ss) names ∙ next.slots) i)),
@@ -352,7 +356,7 @@ module _ (t : Growth) (asking : Asking) (local : Local) (begins : BeginsWithCrat
   pub reads_alike : (path : Path) → Agree (reads t.finished asking t.one from path) → IsReadAlike t.finished t.one asking t.other local from path
   reads_alike path agree = record {
     answers = go t.one.id.block refl;
-    slots = ap (λ (id : MapId). slots_of (new t) asked id from path.kind path.segments) t.grows.id ∙ start.1;
+    slots = ap (λ (id : MapId). slots_of (new t) asked id from path.kind path.segments) t.id ∙ start.1;
   }
     where
       start : (from_start (new t) asked from path.kind path.segments ≡ from_start (old t) asking from path.kind path.segments)
@@ -368,4 +372,8 @@ module _ (t : Growth) (asking : Asking) (local : Local) (begins : BeginsWithCrat
 
 pub reads_decide : ReadsDecide
 reads_decide finished one other asking local at path stands begins low grows agree =
-    reads_alike (record { finished = finished; one = one; other = other; stands = stands; grows = grows }) asking local begins at low path agree
+    reads_alike (grown finished one other stands grows) asking local (crates_outside one.id asking.local begins) at low path agree
+
+pub scopes_read : ScopesReadAlike
+scopes_read finished one other asking at path apart begins differs agree =
+    reads_alike (in_scopes finished one other apart differs) asking asking.local begins at tt path agree

@@ -1,4 +1,4 @@
--- Paths through finished maps, beside a map that grows.
+-- Paths through finished maps, beside a map that changes.
 use Rattle.std.proofs.Common.{◌≡◌, ◌∙◌, ap, sym, subst, refl, ℕ, ◌+◌, List, [], ◌∷◌, Bool, true, false, ◌&&◌, cond, Option, None, Some}
 use Rattle.std.specs.List.{All}
 use Rattle.std.specs.Prelude.{is_some, not}
@@ -18,24 +18,24 @@ use Rattle.hir_scope.specs.PerNs.{Item, or_of}
 use Rattle.hir_scope.specs.Visibility.{is_visible}
 use Rattle.hir_scope.specs.declared.imports.ImportOrExternCrate.{ImportOrExternCrate}
 use Rattle.hir_scope.specs.declared.per_ns.PerNs.{PerNs}
-use Rattle.hir_def_map.specs.Chains.{above_in, holders_in}
-use Rattle.hir_def_map.specs.Named.{named_by, test_of}
+use Rattle.hir_def_map.specs.Ancestors.{above_in, holders_in}
+use Rattle.hir_def_map.specs.References.{reference_to, test_of}
 use Rattle.hir_def_map.specs.Scoping.Asking.{Asking}
 use Rattle.hir_def_map.specs.Scoping.Blocks.{in_preludes, inherited, joined, with_preludes}
 use Rattle.hir_def_map.specs.Scoping.FirstSegment.{builtin_name, extern_bound, extern_name, is_block_root, legacy_bound, macro_use_bound, macro_use_name, macro_use_of, name_in_crate_root_or_extern_prelude, name_in_module, name_in_preludes, of_style, prelude_name, shadow_before, unless_block_root, with_builtin}
 use Rattle.hir_def_map.specs.Scoping.Segments.{after_enum, crossing, nearest_non_block_module, rest, seen, through, through_adt, through_type, unresolved}
 use Rattle.hir_def_map.specs.Scoping.Start.{abs_from, climb, from_start, is_import, module_bound, settled_in_block, super_from}
-use Rattle.hir_def_map.specs.State.{Local, Map, at_name, crate_root, entry_in, map_in}
+use Rattle.hir_def_map.specs.State.{Local, Map, at_name, crate_root}
+use Rattle.hir_def_map.specs.Overlay.{entry_in, map_in}
 use Rattle.hir_def_map.specs.declared.nameres.path_resolution.ReachedFixedPoint.TheVariants.{No}
 use Rattle.hir_def_map.specs.declared.nameres.path_resolution.ResolvePathResult.{ResolvePathResult}
 use Rattle.hir_def_map_laws.proofs.Agreement.{bound-in, bound_in}
 use Rattle.hir_def_map_laws.proofs.Fails.{Fails-in_module, Fails-in_preludes, Fails-in_root, Fails-keep}
-use Rattle.hir_def_map_laws.proofs.Grown.{Growth, Here, Out, climb_out, entry_out, here_out, is_own, legacy_out, map_in-out, names_out, nearest_out, new, old, own, prelude_out, same_2015, same_climb, same_nearest, same_prelude_module, same_reach, same_seen, variant_out}
-use Rattle.hir_def_map_laws.specs.Paths.{prelude_module_of}
-use Rattle.hir_def_map_laws.specs.ReadLaw.{BeginsWithCrates, Fails, FailsAtType, SameInPreludes, is_named_in, with_crates}
-use Rattle.hir_def_map_laws.specs.Slots.{is_in}
+use Rattle.hir_def_map_laws.proofs.Changed.{Change, Here, Out, climb_out, entry_out, here_out, is_own, legacy_out, map_in-out, names_out, nearest_out, new, old, own, prelude_out, same_2015, same_climb, same_nearest, same_prelude_module, same_reach, same_seen, variant_out}
+use Rattle.hir_def_map_laws.specs.ReadLaw.{BeginsOutside, Fails, FailsAtType, SameInPreludes, is_named_in, with_crates}
+use Rattle.hir_def_map.specs.Scoping.Slots.{is_in, prelude_module_of}
 
-module _ (t : Growth) where
+module _ (t : Change) where
   -- nothing among the items lies in the map
   abbrev pub Outside : PerNs → Type 0
   Outside p = Fails (is_named_in (own t)) p
@@ -68,12 +68,12 @@ module _ (t : Growth) where
           ∙ ap (changed near) (same_seen t near near segment (here_out t near near_out) (entry_out t near segment near_out))
           ∙ same near (seen (old t) near near segment) (here_out t near near_out) (seen_outside near near segment near_out)
 
-      adt : (a : AdtId) → test_of (is_named_in (own t)) (named_by (AnyAdt a)) ≡ false → through_adt (new t) others i segment item a ≡ through_adt (old t) others i segment item a
+      adt : (a : AdtId) → test_of (is_named_in (own t)) (reference_to (AnyAdt a)) ≡ false → through_adt (new t) others i segment item a ≡ through_adt (old t) others i segment item a
       adt (adts.EnumId id) out = ap (after_enum others i item) (variant_out t id segment out)
       adt (adts.StructId id) out = refl
       adt (adts.UnionId id) out = refl
 
-      go : (d : ModuleDefId) → test_of (is_named_in (own t)) (named_by d) ≡ false → through changed (new t) from others i segment item d ≡ through further (old t) from others i segment item d
+      go : (d : ModuleDefId) → test_of (is_named_in (own t)) (reference_to d) ≡ false → through changed (new t) from others i segment item d ≡ through further (old t) from others i segment item d
       go (ModuleId m) out = λ j. cond (same_crate m.map.krate from.map.krate) (inside m out j) (crossing (across m out j))
       go (FunctionId x) out = refl
       go (AnyAdt x) out = adt x out
@@ -113,7 +113,7 @@ module _ (t : Growth) where
 
   -- ---- whole paths that are asked outside a block's map
 
-  module _ (asking : Asking) (local : Local) (begins : BeginsWithCrates asking.local) where
+  module _ (asking : Asking) (local : Local) (begins : BeginsOutside t.one.id asking.local) where
     abbrev asked : Asking
     asked = with_crates asking local
 
@@ -141,7 +141,7 @@ module _ (t : Growth) where
         where
           go : (o : Option (AnyModule × Option ExternCrateId)) → at_name asking.local name ≡ o → Outside (extern_bound o)
           go None e = tt
-          go (Some entry) e = crates_out entry.0 (begins name entry e)
+          go (Some entry) e = ap (λ (o : Option BlockId). is_some o && is_in (own t) entry.0) (sym in_block) ∙ begins name entry e
 
       module _ (h : AnyModule) (out : Out t h) where
         here : Here t h

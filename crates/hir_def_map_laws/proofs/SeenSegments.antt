@@ -5,7 +5,7 @@ use Rattle.hir_scope.specs.PerNs.{Item, keep_item, keep_of}
 use Rattle.hir_scope.specs.declared.per_ns.PerNs.{PerNs}
 use Rattle.hir_scope.specs.declared.visibility.Visibility.{Visibility}
 use Rattle.hir_scope.specs.ModuleTree.{same_crate}
-use Rattle.hir_def_map.specs.State.{Maps, entry_in}
+use Rattle.hir_def_map.specs.Overlay.{Maps, entry_in}
 use Rattle.hir_def_map.specs.Scoping.Segments.{crossing, nearest_non_block_module, seen}
 use Rattle.hir_def_map.specs.declared.nameres.path_resolution.ResolvePathResult.{ResolvePathResult}
 use Rattle.hir_def_map_laws.specs.Paths.{may_see, AreKept, IsKept, TakesHere, TakesThere}

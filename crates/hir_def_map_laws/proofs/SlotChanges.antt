@@ -26,16 +26,19 @@ use Rattle.hir_scope.specs.declared.per_ns.PerNs.{PerNs}
 use Rattle.hir_scope.specs.declared.visibility.Visibility.{Visibility}
 use Rattle.hir_def_map.specs.Declaration.{listed}
 use Rattle.hir_def_map.specs.Scoping.FirstSegment.{last_macro, legacy_of}
-use Rattle.hir_def_map.specs.State.{Local, Map, ModuleValue, Variants, changed_at, entry_at, module_at, new_id, new_module, numbered, parent_at, parent_of, place_at, pushed, pushed_module, variants_at, with_child, with_enum, with_macro_use, with_module, with_module_scope, with_name, with_scope}
+use Rattle.hir_def_map.specs.State.{Local, Map, ModuleValue, Variants, changed_at, entry_at, module_at, new_id, new_module, numbered, parent_at, parent_of, place_at, pushed, pushed_module, variants_at, with_child, with_enum, with_extern, with_macro_use, with_module, with_module_scope, with_scope}
 use Rattle.hir_def_map.specs.declared.nameres.declaration.Declaration.{Declaration}
 use Rattle.hir_def_map.specs.declared.nameres.declaration.Declaration.TheVariants as declaration
 use Rattle.hir_def_map.specs.declared.nameres.origin.ModuleOrigin.{ModuleOrigin}
+use Rattle.hir_def_map.proofs.Externs.{at_name-with_extern_other}
 use Rattle.hir_def_map.proofs.Grown.{at_name-with_name_other, entry_at-pushed_elsewhere, entry_at-pushed_other, entry_at-with_module, kept}
 use Rattle.hir_def_map.proofs.Listed.{KeepsNames-listed}
 use Rattle.hir_def_map_laws.specs.ReadLaw.{AgreeAt, Grows}
 use Rattle.hir_def_map_laws.proofs.ReadLaw.{reads_decide}
 use Rattle.hir_def_map_laws.specs.SlotChanges.{ChangesOnly, OtherSlotsDoNotMatter}
-use Rattle.hir_def_map_laws.specs.Slots.{Slot, of_module, of_preludes, reads}
+use Rattle.hir_def_map.specs.declared.nameres.path_resolution.slots.Slot.{Slot}
+use Rattle.hir_def_map.specs.declared.nameres.path_resolution.slots.Slot.TheVariants.{Module as of_module, Preludes as of_preludes}
+use Rattle.hir_def_map.specs.Scoping.Slots.{reads}
 
 -- a change of modules that leaves what each is in lets a map grow
 pub Grows-changed : (map : Map) (at : ℕ) (change : ModuleValue → ModuleValue) → ((m : ModuleValue) → (change m).parent ≡ m.parent)
@@ -254,13 +257,13 @@ changes-macro_use map local name makro by = record {
       macro_uses = at_name-with_name_other map.macro_use_prelude name other (makro, by) (λ f. differs (λ i. Some (of_preludes (f i))));
     }
 
-pub changes-crate : (map : Map) (local : Local) (name : List ℕ) (entry : ModuleId × Option ExternCrateId) → ChangesOnly map local map (with_name local name entry) (Some (of_preludes name))
+pub changes-crate : (map : Map) (local : Local) (name : List ℕ) (entry : ModuleId × Option ExternCrateId) → ChangesOnly map local map (with_extern local name entry) (Some (of_preludes name))
 changes-crate map local name entry = record { grows = Grows-itself map; others = slots }
   where
-    slots : (slot : Slot) → Some slot ≢ Some (of_preludes name) → AgreeAt map local map (with_name local name entry) slot
+    slots : (slot : Slot) → Some slot ≢ Some (of_preludes name) → AgreeAt map local map (with_extern local name entry) slot
     slots (of_module k other) differs = record { entries = refl; legacy = refl }
     slots (of_preludes other) differs = record {
-      crates = at_name-with_name_other local name other entry (λ f. differs (λ i. Some (of_preludes (f i))));
+      crates = at_name-with_extern_other name entry local other (λ f. differs (λ i. Some (of_preludes (f i))));
       macro_uses = refl;
     }
 

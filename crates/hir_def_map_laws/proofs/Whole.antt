@@ -8,54 +8,54 @@ use Rattle.hir_base.specs.declared.ids.MapId.{MapId}
 use Rattle.hir_base.specs.declared.ids.ModuleId.{ModuleId}
 use Rattle.hir_base.specs.declared.ids.UseId.{UseId}
 use Rattle.hir_base.specs.contracts.ids.MapIdPartialEq.TheImpl as map_id
-use Rattle.hir_def_map.specs.Beside.{exact_map, same_id}
-use Rattle.hir_def_map.specs.Chains.{holders_in}
+use Rattle.hir_def_map.specs.Inner.OverlayLaws.{exact_map, same_id}
+use Rattle.hir_def_map.specs.Ancestors.{holders_in}
 use Rattle.hir_def_map.specs.Closed.{AreThere, ModuleIsThere}
-use Rattle.hir_def_map.specs.Complete.{AreWhole, NamesOnly}
-use Rattle.hir_def_map.specs.Named.{is_missing, is_there, map_named, prelude_named, test_of}
-use Rattle.hir_def_map.specs.State.{Map, Maps, Placed, beside, entry_at, entry_in, entry_of, module_at, numbered, placed_in, variants_at}
-use Rattle.hir_def_map.specs.declared.world.named.Named.{Named}
-use Rattle.hir_def_map.specs.declared.world.named.Named.TheVariants as named
-use Rattle.hir_def_map.proofs.Complete.{IsClosed-whole}
-use Rattle.hir_def_map.proofs.StaysComplete.{IsClosed-beside}
+use Rattle.hir_def_map.specs.WellFormed.{AreWellFormed, HasNoDanglingReference}
+use Rattle.hir_def_map.specs.References.{is_missing, is_there, map_of_reference, prelude_reference, test_of}
+use Rattle.hir_def_map.specs.State.{Map, entry_at, entry_of, module_at, numbered, variants_at}
+use Rattle.hir_def_map.specs.Overlay.{Maps, Placed, overlay, entry_in, placed_in}
+use Rattle.hir_def_map.specs.declared.world.reference.Reference.{Reference}
+use Rattle.hir_def_map.specs.declared.world.reference.Reference.TheVariants as named
+use Rattle.hir_def_map.proofs.WellFormed.{IsClosed-well_formed}
+use Rattle.hir_def_map.proofs.StaysWellFormed.{IsClosed-overlay}
 use Rattle.hir_def_map_laws.proofs.Fails.{Fails-weaker}
-use Rattle.hir_def_map_laws.specs.Paths.{prelude_module_of}
 use Rattle.hir_def_map_laws.specs.ReadLaw.{KeepApart, StandsBeside, has_no_variants, is_named_in}
-use Rattle.hir_def_map_laws.specs.Slots.{is_in}
+use Rattle.hir_def_map.specs.Scoping.Slots.{is_in, prelude_module_of}
 
 missing-not : (b : Bool) → not b ≡ false → b ≡ true
 missing-not true e = refl
 missing-not false e = absurd (true≢false e)
 
-module _ (finished : Maps) (own : MapId) (whole : AreWhole finished) (absent : finished own ≡ None) where
+module _ (finished : Maps) (own : MapId) (absent : finished own ≡ None) where
   -- what is among the finished maps doesn't lie in the map of the id
-  elsewhere : (n : Named) → is_missing finished n ≡ false → is_named_in own n ≡ false
-  elsewhere n e = go (map_id.ghosts.eq (map_named n) own) refl
+  pub elsewhere : (n : Reference) → is_missing finished n ≡ false → is_named_in own n ≡ false
+  elsewhere n e = go (map_id.ghosts.eq (map_of_reference n) own) refl
     where
-      gone : (k : Named) → finished (map_named k) ≡ None → is_there finished k ≡ false
+      gone : (k : Reference) → finished (map_of_reference k) ≡ None → is_there finished k ≡ false
       gone (named.Module m) f = ap (λ (o : Option Placed). is_some (option_and_then (λ (placed : Placed). module_at placed.map m.index) o)) f
       gone (named.Enum id) f = ap (λ (o : Option Placed). is_some (option_and_then (λ (placed : Placed). variants_at placed.map id) o)) f
       gone (named.Map id) f = ap is_some f
 
-      go : (b : Bool) → map_id.ghosts.eq (map_named n) own ≡ b → is_named_in own n ≡ false
-      go true s = absurd (true≢false (sym (missing-not (is_there finished n) e) ∙ gone n (ap finished (exact_map (map_named n) own s) ∙ absent)))
+      go : (b : Bool) → map_id.ghosts.eq (map_of_reference n) own ≡ b → is_named_in own n ≡ false
+      go true s = absurd (true≢false (sym (missing-not (is_there finished n) e) ∙ gone n (ap finished (exact_map (map_of_reference n) own s) ∙ absent)))
       go false s = s
 
   there_apart : (m : ModuleId) → ModuleIsThere finished m → is_in own m ≡ false
   there_apart m there = elsewhere (named.Module m) (ap not there)
 
-  prelude_apart : (o : Option Placed) → ((placed : Placed) → o ≡ Some placed → test_of (is_missing finished) (prelude_named placed.map.prelude) ≡ false)
+  prelude_apart : (o : Option Placed) → ((placed : Placed) → o ≡ Some placed → test_of (is_missing finished) (prelude_reference placed.map.prelude) ≡ false)
       → (p : ModuleId) → prelude_module_of (option_map (λ (placed : Placed). placed.map) o) ≡ Some p → is_in own p ≡ false
   prelude_apart None names p e = absurd cc
   prelude_apart (Some placed) names p e = go placed.map.prelude (names placed refl) e
     where
-      go : (o : Option (ModuleId × Option UseId)) → test_of (is_missing finished) (prelude_named o) ≡ false → option_map (λ x. x.0) o ≡ Some p → is_in own p ≡ false
+      go : (o : Option (ModuleId × Option UseId)) → test_of (is_missing finished) (prelude_reference o) ≡ false → option_map (λ x. x.0) o ≡ Some p → is_in own p ≡ false
       go None f g = absurd cc
       go (Some prelude) f g = let same : prelude.0 ≡ p = cc in subst (λ (m : ModuleId). is_in own m ≡ false) same (elsewhere (named.Module prelude.0) f)
 
-  pub KeepApart-whole : KeepApart finished own
-  KeepApart-whole =
-      let closed = IsClosed-whole finished whole in
+  pub KeepApart-whole : AreWellFormed finished → KeepApart finished own
+  KeepApart-whole whole =
+      let closed = IsClosed-well_formed finished whole in
       record {
         absent = absent;
         types = λ m name. Fails-weaker (is_missing finished) (is_named_in own) elsewhere (entry_in finished m name) (closed.types m name);
@@ -64,8 +64,8 @@ module _ (finished : Maps) (own : MapId) (whole : AreWhole finished) (absent : f
         preludes = λ id p e. prelude_apart (finished id) (λ placed f. (whole id placed f).names.prelude) p e;
       }
 
-module _ (finished : Maps) (map : Map) (whole : AreWhole finished) (absent : finished map.id ≡ None) (names : NamesOnly (beside finished map) map) where
-  has_variants : (n : Named) → is_missing (beside finished map) n ≡ false → has_no_variants map n ≡ false
+module _ (finished : Maps) (map : Map) (whole : AreWellFormed finished) (absent : finished map.id ≡ None) (names : HasNoDanglingReference (overlay finished map) map) where
+  has_variants : (n : Reference) → is_missing (overlay finished map) n ≡ false → has_no_variants map n ≡ false
   has_variants (named.Module m) e = refl
   has_variants (named.Enum id) e = go (map_id.ghosts.eq id.loc.container.map map.id) refl
     where
@@ -75,16 +75,16 @@ module _ (finished : Maps) (map : Map) (whole : AreWhole finished) (absent : fin
       go false s = refl
   has_variants (named.Map id) e = refl
 
-  entry_own : (at : ℕ) (name : List ℕ) → entry_in (beside finished map) (numbered map.id at) name ≡ entry_at map at name
+  entry_own : (at : ℕ) (name : List ℕ) → entry_in (overlay finished map) (numbered map.id at) name ≡ entry_at map at name
   entry_own at name =
       ap (λ (c : Bool). entry_of (option_and_then (λ (placed : Placed). module_at placed.map at) (cond c (Some (placed_in finished map)) (finished map.id))) name) (same_id map.id)
 
   pub StandsBeside-whole : StandsBeside finished map
   StandsBeside-whole =
-      let closed = IsClosed-beside finished map absent whole names in
+      let closed = IsClosed-overlay finished map absent whole names in
       record {
-        apart = KeepApart-whole finished map.id whole absent;
+        apart = KeepApart-whole finished map.id absent whole;
         in_order = names.in_order;
-        enums = λ at name. Fails-weaker (is_missing (beside finished map)) (has_no_variants map) has_variants (entry_at map at name)
-            (subst (AreThere (beside finished map)) (entry_own at name) (closed.types (numbered map.id at) name));
+        enums = λ at name. Fails-weaker (is_missing (overlay finished map)) (has_no_variants map) has_variants (entry_at map at name)
+            (subst (AreThere (overlay finished map)) (entry_own at name) (closed.types (numbered map.id at) name));
       }

@@ -6,11 +6,11 @@ use Rattle.hir_scope.specs.Globs.{GlobNames}
 use Rattle.hir_scope.specs.declared.imports.ImportOrExternCrate.{ImportOrExternCrate}
 use Rattle.hir_scope.specs.declared.per_ns.PerNs.{PerNs}
 use Rattle.hir_scope.specs.declared.visibility.Visibility.{Visibility}
-use Rattle.hir_def_map.specs.Chains.{above_in, holders_in}
+use Rattle.hir_def_map.specs.Ancestors.{above_in, holders_in}
 use Rattle.hir_def_map.specs.Listed.{KeepsNames}
-use Rattle.hir_def_map.specs.State.{Maps, beside}
+use Rattle.hir_def_map.specs.Overlay.{Maps, overlay}
 use Rattle.hir_def_map.specs.Closed.{AreThere}
-use Rattle.hir_def_map.specs.Complete.{NamesOnly}
+use Rattle.hir_def_map.specs.WellFormed.{HasNoDanglingReference}
 use Rattle.hir_def_map.specs.Sources.{SourceTest, HoldsOfNone, HoldsNowhereIn, on_import, on_some, on_origin, on_values, on_variant}
 use Rattle.hir_def_map.specs.State.{Map, pushed, with_scope, new_module, numbered, with_module, Variants, with_enum}
 use Rattle.hir_def_map.specs.Declaration.{listed}
@@ -25,12 +25,12 @@ pub record KeepsPlaces (old new : Maps) : Type 0 where
 -- a push leaves what lies above each module
 abbrev pub PushesKeepPlaces : Type 0
 PushesKeepPlaces = (finished : Maps) (map : Map) (globs : GlobNames) (at : ℕ) (name : List ℕ) (items : PerNs) (import : Option ImportOrExternCrate)
-    → KeepsPlaces (beside finished map) (beside finished (pushed map globs at name items import))
+    → KeepsPlaces (overlay finished map) (overlay finished (pushed map globs at name items import))
 
 -- a declaration that is listed leaves what lies above each module
 abbrev pub DeclarationsKeepPlaces : Type 0
 DeclarationsKeepPlaces = (finished : Maps) (map : Map) (at : ℕ) (d : Declaration)
-    → KeepsPlaces (beside finished map) (beside finished (with_scope map at (listed d)))
+    → KeepsPlaces (overlay finished map) (overlay finished (with_scope map at (listed d)))
 
 -- a declaration that is listed leaves the modules, what they are in and what their names stand for
 abbrev pub DeclarationsKeepNames : Type 0
@@ -40,17 +40,17 @@ DeclarationsKeepNames = (map : Map) (at : ℕ) (d : Declaration) → KeepsNames 
 
 abbrev pub PushesNameWhatIsThere : Type 0
 PushesNameWhatIsThere = (finished : Maps) (map : Map) (at : ℕ) (globs : GlobNames) (name : List ℕ) (items : PerNs) (import : Option ImportOrExternCrate)
-    → AreThere (beside finished map) items → NamesOnly (beside finished map) map
-    → NamesOnly (beside finished (pushed map globs at name items import)) (pushed map globs at name items import)
+    → AreThere (overlay finished map) items → HasNoDanglingReference (overlay finished map) map
+    → HasNoDanglingReference (overlay finished (pushed map globs at name items import)) (pushed map globs at name items import)
 
 abbrev pub DeclarationsNameWhatIsThere : Type 0
 DeclarationsNameWhatIsThere = (finished : Maps) (map : Map) (at : ℕ) (d : Declaration)
-    → NamesOnly (beside finished map) map → NamesOnly (beside finished (with_scope map at (listed d))) (with_scope map at (listed d))
+    → HasNoDanglingReference (overlay finished map) map → HasNoDanglingReference (overlay finished (with_scope map at (listed d))) (with_scope map at (listed d))
 
 abbrev pub ModulesNameWhatIsThere : Type 0
 ModulesNameWhatIsThere = (finished : Maps) (map : Map) (at : ℕ) → at < length map.modules → (name : List ℕ) (origin : ModuleOrigin) (visibility : Visibility)
-    → NamesOnly (beside finished map) map
-    → NamesOnly (beside finished (with_module map at name (new_module origin visibility (Some (numbered map.id at))))) (with_module map at name (new_module origin visibility (Some (numbered map.id at))))
+    → HasNoDanglingReference (overlay finished map) map
+    → HasNoDanglingReference (overlay finished (with_module map at name (new_module origin visibility (Some (numbered map.id at))))) (with_module map at name (new_module origin visibility (Some (numbered map.id at))))
 
 -- ---- where it is written
 

@@ -10,13 +10,14 @@ use Rattle.hir_scope.specs.Visibility.{is_visible}
 use Rattle.hir_scope.specs.PerNs.{Item}
 use Rattle.hir_scope.specs.declared.per_ns.PerNs.{PerNs}
 use Rattle.hir_scope.specs.declared.visibility.Visibility.{Visibility}
-use Rattle.hir_def_map.specs.Chains.{frames_of, above_in, holders_in, holder_in, IsPlaced, frame_of, leads_to_root, up_in}
-use Rattle.hir_def_map.specs.State.{Maps, entry_in, map_in, module_in, Placed, parent_in, alone}
+use Rattle.hir_def_map.specs.Ancestors.{frames_of, above_in, holders_in, holder_in, IsPlaced, frame_of, leads_to_root, up_in}
+use Rattle.hir_def_map.specs.Overlay.{Maps, entry_in, map_in, module_in, Placed, parent_in, alone}
 use Rattle.hir_def_map.specs.Scoping.{resolution_of}
 use Rattle.hir_def_map.specs.Scoping.Asking.{Asking}
 use Rattle.hir_def_map.specs.Scoping.Blocks.{joined, in_preludes}
-use Rattle.hir_def_map.specs.Scoping.FirstSegment.{legacy_of, macro_use_of, prelude_of, is_block_root}
+use Rattle.hir_def_map.specs.Scoping.FirstSegment.{legacy_of, macro_use_of, is_block_root}
 use Rattle.hir_def_map.specs.Scoping.Segments.{variant_in, seen, through_module, crossing, nearest_non_block_module}
+use Rattle.hir_def_map.specs.Scoping.Slots.{prelude_module_of}
 use Rattle.hir_def_map.specs.Scoping.Start.{from_start}
 use Rattle.hir_def_map.specs.State.{CrateData, Map, crate_root, IsInOrder}
 use Rattle.hir_def_map.specs.declared.nameres.path_resolution.ResolvePathResult.{ResolvePathResult}
@@ -33,10 +34,6 @@ pub record AgreeOnName (one other : Maps) (name : List ℕ) : Type 0 where
 -- the data of a map's crate
 abbrev pub data_of : Option Map → Option CrateData
 data_of map = option_map (λ (m : Map). m.crate_data) map
-
--- the prelude module of a map
-abbrev pub prelude_module_of : Option Map → Option ModuleId
-prelude_module_of map = option_map (λ p. p.0) (prelude_of map)
 
 -- the same modules lie above one another, crates say the same at their tops, and these names stand for the same
 pub record AgreeOnNames (one other : Maps) (segments : List (List ℕ)) : Type 0 where

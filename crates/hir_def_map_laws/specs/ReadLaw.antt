@@ -1,7 +1,9 @@
 -- When does a path mean the same at two times of a map that is built?
-use Rattle.std.specs.Prelude.{◌≡◌, ℕ, ◌<◌, List, length, Bool, false, ◌&&◌, not, is_some, Option, None, Some, option_map}
+use Rattle.std.specs.Prelude.{◌≡◌, ℕ, ◌<◌, List, length, Bool, false, ◌&&◌, not, is_some, Option, None, Some, map as list_map, option_map}
+use Rattle.std.specs.BTreeMap.{BTreeMap}
 use Rattle.std.specs.List.{All}
 use Rattle.hir_base.specs.ModPath.{Path}
+use Rattle.hir_base.specs.declared.ids.Crate.{Crate}
 use Rattle.hir_base.specs.declared.ids.EnumId.{EnumId}
 use Rattle.hir_base.specs.declared.ids.ExternCrateId.{ExternCrateId}
 use Rattle.hir_base.specs.declared.ids.MapId.{MapId}
@@ -11,36 +13,42 @@ use Rattle.hir_base.specs.contracts.ids.MapIdPartialEq.TheImpl as map_id
 use Rattle.hir_scope.specs.declared.imports.ImportOrExternCrate.{ImportOrExternCrate}
 use Rattle.hir_scope.specs.PerNs.{Item}
 use Rattle.hir_scope.specs.declared.per_ns.PerNs.{PerNs}
-use Rattle.hir_def_map.specs.Chains.{holders_in}
-use Rattle.hir_def_map.specs.Complete.{AreWhole, NamesOnly}
-use Rattle.hir_def_map.specs.Named.{map_named, named_by, test_of}
+use Rattle.hir_def_map.specs.Ancestors.{holders_in}
+use Rattle.hir_def_map.specs.WellFormed.{AreWellFormed, HasNoDanglingReference}
+use Rattle.hir_def_map.specs.References.{map_of_reference, reference_to, test_of}
 use Rattle.hir_def_map.specs.Reaches.{by_import}
 use Rattle.hir_def_map.specs.Scoping.{resolution_of}
 use Rattle.hir_def_map.specs.Scoping.Asking.{Asking}
 use Rattle.hir_def_map.specs.Scoping.FirstSegment.{legacy_of}
-use Rattle.hir_def_map.specs.State.{IsInOrder, Local, Map, Maps, ModuleValue, Variants, at_name, beside, entry_at, entry_in, map_in, module_at, numbered, parent_at, parent_in, variants_at}
-use Rattle.hir_def_map.specs.declared.world.named.Named.{Named}
-use Rattle.hir_def_map.specs.declared.world.named.Named.TheVariants as named
-use Rattle.hir_def_map_laws.specs.Paths.{prelude_module_of}
-use Rattle.hir_def_map_laws.specs.Slots.{Slot, of_module, of_preludes, is_in, reads}
+use Rattle.hir_def_map.specs.State.{IsInOrder, Local, Map, ModuleValue, Variants, at_name, changed_at, entry_at, module_at, numbered, parent_at, variants_at}
+use Rattle.hir_def_map.specs.Overlay.{Maps, overlay, entry_in, map_in, parent_in}
+use Rattle.hir_def_map.specs.World.{IsChecked, finished_in}
+use Rattle.hir_def_map.specs.WorldParts.{among, part_of}
+use Rattle.hir_def_map.specs.declared.world.finished.Finished.{Finished}
+use Rattle.hir_def_map.specs.declared.world.part.WorldPart.{WorldPart}
+use Rattle.hir_def_map.specs.declared.world.reference.Reference.{Reference}
+use Rattle.hir_def_map.specs.declared.world.reference.Reference.TheVariants as named
+use Rattle.hir_def_map.specs.declared.nameres.path_resolution.slots.Slot.{Slot}
+use Rattle.hir_def_map.specs.declared.nameres.path_resolution.slots.Slot.TheVariants.{Module as of_module, Preludes as of_preludes}
+use Rattle.hir_def_map.specs.Scoping.Slots.{is_in, prelude_module_of, reads}
 
 -- ---- a map beside finished ones
 
 -- of no module or enum that a type is does a test hold
-abbrev pub FailsAtType : (Named → Bool) → Option (Item ModuleDefId ImportOrExternCrate) → Type 0
+abbrev pub FailsAtType : (Reference → Bool) → Option (Item ModuleDefId ImportOrExternCrate) → Type 0
 FailsAtType test None = Unit {0}
-FailsAtType test (Some item) = test_of test (named_by item.def) ≡ false
+FailsAtType test (Some item) = test_of test (reference_to item.def) ≡ false
 
 -- of no module or enum among the items does it hold
-abbrev pub Fails : (Named → Bool) → PerNs → Type 0
+abbrev pub Fails : (Reference → Bool) → PerNs → Type 0
 Fails test items = FailsAtType test items.types
 
 -- whether what is named lies in the map of an id
-abbrev pub is_named_in : MapId → Named → Bool
-is_named_in own n = map_id.ghosts.eq (map_named n) own
+abbrev pub is_named_in : MapId → Reference → Bool
+is_named_in own n = map_id.ghosts.eq (map_of_reference n) own
 
 -- whether an enum of the map has no variants yet
-abbrev pub has_no_variants : Map → Named → Bool
+abbrev pub has_no_variants : Map → Reference → Bool
 has_no_variants map (named.Module m) = false
 has_no_variants map (named.Enum id) = map_id.ghosts.eq id.loc.container.map map.id && not (is_some (variants_at map id))
 has_no_variants map (named.Map id) = false
@@ -63,6 +71,10 @@ pub record StandsBeside (finished : Maps) (map : Map) : Type 0 where
 abbrev pub BeginsWithCrates : Local → Type 0
 BeginsWithCrates local = (name : List ℕ) (entry : ModuleId × Option ExternCrateId) → at_name local name ≡ Some entry → entry.0.map.block ≡ None
 
+-- where a map is that of a block, no path begins with a module of it
+abbrev pub BeginsOutside : MapId → Local → Type 0
+BeginsOutside own local = (name : List ℕ) (entry : ModuleId × Option ExternCrateId) → at_name local name ≡ Some entry → (is_some own.block && is_in own entry.0) ≡ false
+
 -- ---- two times of a map
 
 -- the map has what it had, and may have more modules and enums
@@ -73,6 +85,15 @@ pub record Grows (old new : Map) : Type 0 where
   pub prelude : option_map (λ p. p.0) new.prelude ≡ option_map (λ p. p.0) old.prelude
   pub parents : (at : ℕ) (m : ModuleValue) → module_at old at ≡ Some m → parent_at new at ≡ m.parent
   pub enums : (id : EnumId) (variants : Variants) → variants_at old id ≡ Some variants → variants_at new id ≡ Some variants
+
+-- the map has the modules and the variants that it had; what names stand for may differ
+pub record DiffersInScopes (one other : Map) : Type 0 where
+  pub id : other.id ≡ one.id
+  pub holder : other.holder ≡ one.holder
+  pub crate_data : other.crate_data ≡ one.crate_data
+  pub prelude : option_map (λ p. p.0) other.prelude ≡ option_map (λ p. p.0) one.prelude
+  pub parents : list_map (λ (m : ModuleValue). m.parent) other.modules ≡ list_map (λ (m : ModuleValue). m.parent) one.modules
+  pub enums : (id : EnumId) → variants_at other id ≡ variants_at one id
 
 -- a name stands for the same in a module, and so does the macro of the name in textual scope
 pub record SameInModule (one other : Map) (at : ℕ) (name : List ℕ) : Type 0 where
@@ -97,7 +118,7 @@ with_crates asking local = record asking { local = local }
 
 -- a path means the same in both maps, and looks at the same slots
 pub record IsReadAlike (finished : Maps) (one : Map) (asking : Asking) (other : Map) (local : Local) (from : ModuleId) (path : Path) : Type 0 where
-  pub answers : resolution_of (beside finished other) (with_crates asking local) from path ≡ resolution_of (beside finished one) asking from path
+  pub answers : resolution_of (overlay finished other) (with_crates asking local) from path ≡ resolution_of (overlay finished one) asking from path
   pub slots : reads finished (with_crates asking local) other from path ≡ reads finished asking one from path
 
 -- a path that is asked from a module of the map means the same as long as no slot changes that it looks at
@@ -112,8 +133,45 @@ abbrev pub ImportsReadAlike : Type 0
 ImportsReadAlike = (finished : Maps) (one : Map) (one_local : Local) (other : Map) (other_local : Local) (at : ℕ) (path : Path)
     → StandsBeside finished one → BeginsWithCrates one_local → at < length one.modules → Grows one other
     → All (AgreeAt one one_local other other_local) (reads finished (by_import one_local) one (numbered one.id at) path)
-    → resolution_of (beside finished other) (by_import other_local) (numbered one.id at) path ≡ resolution_of (beside finished one) (by_import one_local) (numbered one.id at) path
+    → resolution_of (overlay finished other) (by_import other_local) (numbered one.id at) path ≡ resolution_of (overlay finished one) (by_import one_local) (numbered one.id at) path
+
+-- where a map changes in its scopes alone, it's enough that the finished maps name nothing in it
+abbrev pub ScopesReadAlike : Type 0
+ScopesReadAlike = (finished : Maps) (one other : Map) (asking : Asking) (at : ℕ) (path : Path)
+    → KeepApart finished one.id → BeginsOutside one.id asking.local → DiffersInScopes one other
+    → All (AgreeAt one asking.local other asking.local) (reads finished asking one (numbered one.id at) path)
+    → IsReadAlike finished one asking other asking.local (numbered one.id at) path
+
+-- a change of a module that leaves what it is in is one of scopes alone
+abbrev pub ChangedModulesDifferInScopes : Type 0
+ChangedModulesDifferInScopes = (map : Map) (at : ℕ) (change : ModuleValue → ModuleValue) → ((m : ModuleValue) → (change m).parent ≡ m.parent)
+    → DiffersInScopes map (record map { modules = changed_at map.modules at change })
+
+-- a crate's map is none of a block, and crates lie outside of blocks
+abbrev pub CrateMapsBeginOutside : Type 0
+CrateMapsBeginOutside = (own : MapId) (local : Local) → own.block ≡ None → BeginsOutside own local
+
+abbrev pub CratesAreOutside : Type 0
+CratesAreOutside = (own : MapId) (local : Local) → BeginsWithCrates local → BeginsOutside own local
+
+-- ---- finished maps
 
 -- a map that names only what is there stands beside finished maps that do
 abbrev pub WholeMapsStandBeside : Type 0
-WholeMapsStandBeside = (finished : Maps) (map : Map) → AreWhole finished → finished map.id ≡ None → NamesOnly (beside finished map) map → StandsBeside finished map
+WholeMapsStandBeside = (finished : Maps) (map : Map) → AreWellFormed finished → finished map.id ≡ None → HasNoDanglingReference (overlay finished map) map → StandsBeside finished map
+
+-- such maps name nothing in a map that isn't among them
+abbrev pub WholeMapsKeepApart : Type 0
+WholeMapsKeepApart = (finished : Maps) (own : MapId) → AreWellFormed finished → finished own ≡ None → KeepApart finished own
+
+-- neither do those of a world
+abbrev pub WorldsKeepApart : Type 0
+WorldsKeepApart = (maps : BTreeMap MapId Finished) (own : MapId) → IsChecked maps → finished_in maps own ≡ None → KeepApart (finished_in maps) own
+
+-- nor some of them
+abbrev pub SomeMapsKeepApart : Type 0
+SomeMapsKeepApart = (crates : List Crate) (holders : List ModuleId) (finished : Maps) (own : MapId) → KeepApart finished own → KeepApart (among crates holders finished) own
+
+-- nor those of a part of a world
+abbrev pub PartsKeepApart : Type 0
+PartsKeepApart = (part : WorldPart) (own : MapId) → finished_in part.world.now.maps own ≡ None → KeepApart (part_of part) own

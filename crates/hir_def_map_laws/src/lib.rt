@@ -1,17 +1,17 @@
 //! What holds of every path and every map. The functions do nothing: their contracts are the laws.
 #![tactic(auto)]
 
-ghost use Rattle.std.specs.Prelude.{◌≡◌, true, List};
+ghost use Rattle.std.specs.Prelude.{◌≡◌, ℕ, true, List};
 ghost use Rattle.hir_base.specs.Laws.{HashesAlike};
 ghost use Rattle.hir_scope.specs.Laws.{GivesItsList};
-ghost use Rattle.hir_def_map.specs.State.{Maps, beside};
-ghost use Rattle.hir_def_map.specs.Named.{is_complete};
-ghost use Rattle.hir_def_map.specs.Complete.{AreWhole, BeginsOnly, NamesOnly};
+ghost use Rattle.hir_def_map.specs.Overlay.{Maps, overlay};
+ghost use Rattle.hir_def_map.specs.References.{is_well_formed};
+ghost use Rattle.hir_def_map.specs.WellFormed.{AreWellFormed, HasNoDanglingExtern, HasNoDanglingReference};
 ghost use Rattle.hir_def_map.specs.Closed.{IsClosed};
 ghost use Rattle.hir_def_map.specs.State.{Local, Map};
 ghost use Rattle.hir_def_map_laws.specs.Building.{DeclarationsKeepNames, DeclarationsKeepPlaces, DeclarationsNameWhatIsThere, EnumsKeepToSources, ListsKeepToSources, ModulesKeepToSources, ModulesNameWhatIsThere, PushesKeepPlaces, PushesKeepToSources, PushesNameWhatIsThere};
-ghost use Rattle.hir_def_map_laws.specs.ReadLaw.{ImportsReadAlike, ReadsDecide, WholeMapsStandBeside};
-ghost use Rattle.hir_def_map_laws.specs.SlotChanges.{CratesChangeTheirSlot, EnumsChangeNoSlot, ListsChangeNoSlot, MacroUsesChangeTheirSlot, ModulesChangeNoSlot, OtherSlotsDoNotMatter, PushesChangeTheirSlot};
+ghost use Rattle.hir_def_map_laws.specs.ReadLaw.{ChangedModulesDifferInScopes, CrateMapsBeginOutside, CratesAreOutside, ImportsReadAlike, PartsKeepApart, ReadsDecide, ScopesReadAlike, SomeMapsKeepApart, WholeMapsKeepApart, WholeMapsStandBeside, WorldsKeepApart};
+ghost use Rattle.hir_def_map_laws.specs.SlotChanges.{ChangedScopesChangeTheirSlot, ChangesFollowOneAnother, CratesChangeTheirSlot, EnumsChangeNoSlot, ListsChangeNoSlot, MacroUsesChangeTheirSlot, ModulesChangeNoSlot, NothingChangesNoScope, NothingChangesNoSlot, OneChangeIsAmongItsSlot, OneScopeChangeIsAmongItsSlot, OtherSlotsDoNotMatter, PushesChangeTheirScope, PushesChangeTheirSlot, ScopeChangesFollowOneAnother, TraitsChangeNoScope, TraitsChangeNoSlot, UnreadScopesDoNotMatter, UnreadSlotsDoNotMatter, UpdatesChangeTheirScope, UpdatesChangeTheirSlot};
 ghost use Rattle.hir_def_map_laws.specs.Paths.{BlocksAskHolders, CratesAskThemselves, InnerModulesAskPreludes, LaterSegmentsAreSeen, RootedStepsLeadToParents, SegmentsAreSeen, StepsLeadToParents, UnnamedBindingsDoNotMatter};
 
 use hir_def_map::nameres::local_def_map::LocalDefMap;
@@ -39,6 +39,48 @@ pub fn changes_keep_to_their_slot()
     ensures enums { EnumsChangeNoSlot }
     ensures macro_uses { MacroUsesChangeTheirSlot }
     ensures crates { CratesChangeTheirSlot }
+{}
+
+/// Changes one after another change the slots of all; paths that look at none of them mean the same.
+pub fn changes_keep_to_their_slots()
+    ensures nothing { NothingChangesNoSlot }
+    ensures one { OneChangeIsAmongItsSlot }
+    ensures several { ChangesFollowOneAnother }
+    ensures unread { UnreadSlotsDoNotMatter }
+{}
+
+/// What globs do to a name changes the slot of that name in its module; a trait without a name is in no slot.
+pub fn globs_keep_to_their_slot()
+    ensures updates { (map : Map) (local : Local) (at : ℕ) (name : List ℕ) → UpdatesChangeTheirSlot map local at name }
+    ensures traits { TraitsChangeNoSlot }
+{}
+
+/// A path means the same while a map changes in its scopes alone, as long as no slot changes that it looks at.
+pub fn scopes_read_alike()
+    ensures paths { ScopesReadAlike }
+    ensures changed { ChangedModulesDifferInScopes }
+    ensures crates { CrateMapsBeginOutside }
+    ensures begins { CratesAreOutside }
+{}
+
+/// Pushes and what globs do change scopes alone, each in one slot; paths that look at no changed slot mean the same.
+pub fn scope_changes_keep_to_their_slots()
+    ensures nothing { NothingChangesNoScope }
+    ensures one { OneScopeChangeIsAmongItsSlot }
+    ensures scopes { ChangedScopesChangeTheirSlot }
+    ensures pushed { PushesChangeTheirScope }
+    ensures updates { (map : Map) (local : Local) (at : ℕ) (name : List ℕ) → UpdatesChangeTheirScope map local at name }
+    ensures traits { TraitsChangeNoScope }
+    ensures several { ScopeChangesFollowOneAnother }
+    ensures unread { UnreadScopesDoNotMatter }
+{}
+
+/// Finished maps name nothing in a map that isn't among them.
+pub fn finished_maps_keep_apart()
+    ensures whole { WholeMapsKeepApart }
+    ensures worlds { WorldsKeepApart }
+    ensures among { SomeMapsKeepApart }
+    ensures parts { PartsKeepApart }
 {}
 
 /// Each segment after a module is a name of that module which the asking module may see; past a module of another
@@ -75,9 +117,9 @@ pub fn declarations_keep_names()
 /// Where each map names only what is there, all that is named lies among them; so does what a map names that is
 /// complete.
 pub fn whole_maps_are_closed()
-    ensures closed { (maps : Maps) → AreWhole maps → IsClosed maps }
-    ensures complete { (finished : Maps) (map : Map) (local : Local) → NamesOnly (beside finished map) map → BeginsOnly (beside finished map) local
-        → is_complete finished map local ≡ true }
+    ensures closed { (maps : Maps) → AreWellFormed maps → IsClosed maps }
+    ensures complete { (finished : Maps) (map : Map) (local : Local) → HasNoDanglingReference (overlay finished map) map → HasNoDanglingExtern (overlay finished map) local
+        → is_well_formed finished map local ≡ true }
 {}
 
 /// Pushes, lists, modules and preludes that name what is there leave a map that names only what is there.

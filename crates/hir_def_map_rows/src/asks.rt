@@ -135,7 +135,7 @@ impl Asker<'_> {
     }
 }
 
-fn asker_at<'a>(stage: &'a Stage, word: &str) -> Result<Asker<'a>, Fault> {
+pub fn asker_at<'a>(stage: &'a Stage, word: &str) -> Result<Asker<'a>, Fault> {
     match stage.asker(words::module_id(word)?) {
         Some(asker) => Ok(asker),
         None => Err(Fault::Bad),

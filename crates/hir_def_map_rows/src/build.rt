@@ -2,14 +2,20 @@
 use crate::stage::Draft;
 use crate::words;
 use crate::words::{Fault, find, module_id, node_of};
-use hir_base::ast_id::{AstId, AstKind, EditionedFileId, FileId, HirFileId, SyntaxId};
+use hir_base::ast_id::{
+    AstId, AstKind, BlockId, EditionedFileId, FileId, HirFileId, InFile, MacroCallId, SyntaxId,
+};
 use hir_base::edition::Edition;
 use hir_base::ids::{
     AdtId, Crate, EnumId, EnumVariantId, ExternCrateId, FunctionId, ItemContainerId, ItemLoc,
     MapId, ModuleDefId, ModuleId, StructId, TraitId, UseId,
 };
-use hir_base::macro_kind::{MacroCallStyles, MacroExpander, MacroId, MacroLoc, MacroRulesId};
+use hir_base::macro_kind::{
+    MacroCallStyles, MacroExpander, MacroId, MacroLoc, MacroRulesId, ProcMacroId, ProcMacroLoc,
+    ProcMacroStyle,
+};
 use hir_base::name::Name;
+use hir_crate_graph::CrateSet;
 use hir_def_map::{
     AddModuleError, BlockInfo, DefMap, DefMapCrateData, EnumVariant, EnumVariants, LocalDefMap,
     ModuleData, ModuleOrigin,
@@ -20,7 +26,6 @@ use hir_scope::imports::{GlobId, ImportId, ImportOrExternCrate};
 use hir_scope::per_ns::PerNs;
 use hir_scope::visibility::Visibility;
 use std::alloc::Global;
-use std::collections::BTreeSet;
 use std::rc::Rc;
 
 /// The file of all items.
@@ -29,7 +34,7 @@ const FILE: EditionedFileId = EditionedFileId {
     edition: Edition::Edition2021,
 };
 
-fn add_crates(crates: &mut BTreeSet<Crate>, words: &[&str]) -> Result<(), Fault> {
+fn add_crates(crates: &mut CrateSet, words: &[&str]) -> Result<(), Fault> {
     for word in words {
         let krate = Crate(words::number_of(word)?);
         if crates.insert(krate).is_err() {
@@ -43,7 +48,7 @@ fn add_crates(crates: &mut BTreeSet<Crate>, words: &[&str]) -> Result<(), Fault>
 pub fn data_over(
     alloc: Global,
     edition: Edition,
-    crates: BTreeSet<Crate>,
+    crates: CrateSet,
 ) -> Result<DefMapCrateData, Fault> {
     match Rc::new(alloc, crates) {
         Ok(crates) => Ok(DefMapCrateData::new(alloc, edition, crates)),
@@ -52,7 +57,7 @@ pub fn data_over(
 }
 
 fn data_of(alloc: Global, edition: Edition, words: &[&str]) -> Result<DefMapCrateData, Fault> {
-    let mut crates = BTreeSet::new(alloc);
+    let mut crates = CrateSet::new(alloc);
     add_crates(&mut crates, words)?;
     data_over(alloc, edition, crates)
 }
@@ -110,8 +115,18 @@ fn location(container: ModuleId, id: SyntaxId) -> ItemLoc<ModuleId> {
     }
 }
 
+/// A node of the file, of any kind.
+pub fn item(kind: AstKind, id: SyntaxId) -> AstId {
+    AstId {
+        file_id: HirFileId::File(FILE),
+        block: None,
+        kind,
+        id,
+    }
+}
+
 /// The macro of a node, with its one style.
-fn makro(container: ModuleId, styles: MacroCallStyles, id: SyntaxId) -> MacroId {
+pub fn makro(container: ModuleId, styles: MacroCallStyles, id: SyntaxId) -> MacroId {
     MacroId::MacroRulesId(MacroRulesId {
         loc: MacroLoc {
             container,
@@ -143,15 +158,28 @@ fn structure(at: ModuleId, id: SyntaxId) -> ModuleDefId {
     }))
 }
 
-fn function(at: ModuleId, id: SyntaxId) -> ModuleDefId {
-    ModuleDefId::FunctionId(FunctionId {
+pub fn function(at: ModuleId, id: SyntaxId) -> FunctionId {
+    FunctionId {
         loc: ItemLoc {
             container: ItemContainerId::ModuleId(at),
             file_id: HirFileId::File(FILE),
             block: None,
             id,
         },
-    })
+    }
+}
+
+/// The procedural macro of a function.
+pub fn proc_macro(at: ModuleId, id: SyntaxId) -> ProcMacroId {
+    ProcMacroId {
+        loc: ProcMacroLoc {
+            container: at,
+            file_id: HirFileId::File(FILE),
+            block: None,
+            id,
+            style: ProcMacroStyle::Attr,
+        },
+    }
 }
 
 fn choice(at: ModuleId, id: SyntaxId) -> EnumId {
@@ -177,7 +205,7 @@ fn definition(at: ModuleId, kind: &str, of: &str) -> Result<ModuleDefId, Fault> 
     match kind {
         "mod" => Ok(ModuleDefId::ModuleId(module_id(of)?)),
         "struct" => Ok(structure(at, node_of(of)?)),
-        "fn" => Ok(function(at, node_of(of)?)),
+        "fn" => Ok(ModuleDefId::FunctionId(function(at, node_of(of)?))),
         "enum" => Ok(ModuleDefId::AdtId(AdtId::EnumId(choice(at, node_of(of)?)))),
         _ => {
             let styles = find(&STYLES, kind)?;
@@ -300,25 +328,62 @@ pub fn unnamed_trait(draft: &mut Draft, words: &[&str]) -> Result<(), Fault> {
     Ok(())
 }
 
-/// Adds a module that is written in its parent.
+/// In a tree, beside its `mod` item.
+fn inline(file_id: HirFileId) -> ModuleOrigin {
+    ModuleOrigin::Inline {
+        definition_tree_id: TreeId::new(file_id, None),
+        definition: item(AstKind::Module, SyntaxId { hash: 1, index: 0 }),
+    }
+}
+
+/// In a file of its own.
+fn in_file(number: u32) -> ModuleOrigin {
+    ModuleOrigin::File {
+        is_mod_rs: false,
+        declaration: item(AstKind::Module, SyntaxId { hash: 1, index: 0 }),
+        declaration_tree_id: TreeId::new(HirFileId::File(FILE), None),
+        definition: EditionedFileId {
+            file_id: FileId(number),
+            edition: Edition::Edition2018,
+        },
+    }
+}
+
+/// A block in what a macro call expands to.
+fn in_block(call: MacroCallId) -> ModuleOrigin {
+    ModuleOrigin::BlockExpr {
+        id: BlockId(1),
+        block: InFile {
+            file_id: HirFileId::Macro(call),
+            value: SyntaxId { hash: 3, index: 0 },
+        },
+    }
+}
+
+/// Where a module is written.
+fn written_in(word: &str) -> Result<ModuleOrigin, Fault> {
+    let Some((kind, of)) = word.split_once('=') else {
+        return Err(Fault::Bad);
+    };
+    let number = words::number_of(of)?;
+    match kind {
+        "file" => Ok(in_file(number)),
+        "call" => Ok(inline(HirFileId::Macro(MacroCallId(number)))),
+        "block" => Ok(in_block(MacroCallId(number))),
+        _ => Err(Fault::Bad),
+    }
+}
+
 fn add_module(
     alloc: Global,
     map: &mut DefMap,
     parent: ModuleId,
     name: Name,
+    origin: ModuleOrigin,
 ) -> Result<ModuleId, Fault> {
     if !map.contains(parent) {
         return Err(Fault::Bad);
     }
-    let origin = ModuleOrigin::Inline {
-        definition_tree_id: TreeId::new(HirFileId::File(FILE), None),
-        definition: AstId {
-            file_id: HirFileId::File(FILE),
-            block: None,
-            kind: AstKind::Module,
-            id: SyntaxId { hash: 1, index: 0 },
-        },
-    };
     let child = ModuleData::new(alloc, origin, Visibility::Public, Some(parent));
     match map.add_module(parent.index, name, child) {
         Ok(id) => Ok(id),
@@ -333,8 +398,10 @@ fn name_module(
     draft: &mut Draft,
     parent: ModuleId,
     word: &str,
+    origin: ModuleOrigin,
 ) -> Result<ModuleId, Fault> {
-    let id = add_module(alloc, &mut draft.map, parent, words::name_of(alloc, word)?)?;
+    let name = words::name_of(alloc, word)?;
+    let id = add_module(alloc, &mut draft.map, parent, name, origin)?;
     let name = words::name_of(alloc, word)?;
     let items = PerNs::types(ModuleDefId::ModuleId(id), Visibility::Public, None);
     bind(draft, parent, name, items, None)?;
@@ -342,10 +409,12 @@ fn name_module(
 }
 
 pub fn module(alloc: Global, draft: &mut Draft, words: &[&str]) -> Result<(), Fault> {
-    let [parent, word] = words else {
-        return Err(Fault::Bad);
+    let (parent, word, origin) = match words {
+        [parent, word] => (parent, word, inline(HirFileId::File(FILE))),
+        [parent, word, origin] => (parent, word, written_in(origin)?),
+        _ => return Err(Fault::Bad),
     };
-    name_module(alloc, draft, module_id(parent)?, word)?;
+    name_module(alloc, draft, module_id(parent)?, word, origin)?;
     Ok(())
 }
 
@@ -356,7 +425,7 @@ pub fn nest(alloc: Global, draft: &mut Draft, words: &[&str]) -> Result<(), Faul
     };
     let mut parent = draft.map.root();
     for _ in 0..words::number_of(count)? {
-        parent = name_module(alloc, draft, parent, word)?;
+        parent = name_module(alloc, draft, parent, word, inline(HirFileId::File(FILE)))?;
     }
     Ok(())
 }

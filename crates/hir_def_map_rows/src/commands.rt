@@ -3,12 +3,12 @@ use crate::asks::OfPath;
 use crate::shows::MapText;
 use crate::stage::{Draft, Stage};
 use crate::words::{Fault, find};
-use crate::{asks, build, words};
+use crate::{asks, build, keeps, words};
 use hir_base::edition::Edition;
 use hir_base::ids::{Crate, MapId, ModuleId};
+use hir_crate_graph::CrateSet;
 use hir_def_map::{InsertError, LocalDefMap, Refused, World};
 use std::alloc::Global;
-use std::collections::BTreeSet;
 use std::fmt::Write;
 
 #[derive(Clone, Copy)]
@@ -41,9 +41,14 @@ enum Command {
     Globs,
     Dump,
     DumpLength,
+    Keep,
+    Kept,
+    Equal,
+    Held,
+    Fields,
 }
 
-const COMMANDS: [(&str, Command); 33] = [
+const COMMANDS: [(&str, Command); 38] = [
     ("crate", Command::Crate),
     ("block", Command::Block),
     ("mod", Command::Module),
@@ -77,6 +82,11 @@ const COMMANDS: [(&str, Command); 33] = [
     ("globs", Command::Globs),
     ("dump", Command::Dump),
     ("dump_length", Command::DumpLength),
+    ("keep", Command::Keep),
+    ("kept", Command::Kept),
+    ("equal", Command::Equal),
+    ("held", Command::Held),
+    ("fields", Command::Fields),
 ];
 
 /// What begins or fills the open map; other commands are no concern of this.
@@ -91,6 +101,7 @@ fn fill(alloc: Global, draft: &mut Draft, command: Command, words: &[&str]) -> R
         Command::MacroUse => build::macro_use(alloc, draft, words),
         Command::Prelude => build::prelude(draft, words),
         Command::Extern => build::extern_crate(alloc, draft, words),
+        Command::Keep => keeps::keep(alloc, draft, words),
         _ => Err(Fault::Bad),
     }
 }
@@ -146,8 +157,8 @@ fn add(world: &mut World, draft: Draft) -> Result<(), Fault> {
 }
 
 /// The crates of smaller numbers.
-fn crates_below(alloc: Global, end: u32) -> Result<BTreeSet<Crate>, Fault> {
-    let mut crates = BTreeSet::new(alloc);
+fn crates_below(alloc: Global, end: u32) -> Result<CrateSet, Fault> {
+    let mut crates = CrateSet::new(alloc);
     for krate in 0..end {
         if crates.insert(Crate(krate)).is_err() {
             return Err(Fault::Memory);
@@ -157,7 +168,7 @@ fn crates_below(alloc: Global, end: u32) -> Result<BTreeSet<Crate>, Fault> {
 }
 
 /// A crate over these.
-fn krate_over(alloc: Global, krate: u32, crates: BTreeSet<Crate>) -> Result<Draft, Fault> {
+fn krate_over(alloc: Global, krate: u32, crates: CrateSet) -> Result<Draft, Fault> {
     let top = build::data_over(alloc, Edition::Edition2021, crates)?;
     build::begin(alloc, Crate(krate), top, None)
 }
@@ -165,7 +176,7 @@ fn krate_over(alloc: Global, krate: u32, crates: BTreeSet<Crate>) -> Result<Draf
 /// Adds so many crates that stand on none.
 fn add_crates(alloc: Global, world: &mut World, count: u32) -> Result<(), Fault> {
     for krate in 0..count {
-        add(world, krate_over(alloc, krate, BTreeSet::new(alloc))?)?;
+        add(world, krate_over(alloc, krate, CrateSet::new(alloc))?)?;
     }
     Ok(())
 }
@@ -265,6 +276,10 @@ fn ask(
         },
         Command::Dump => asks::dump(alloc, stage, words, out),
         Command::DumpLength => asks::dump_length(alloc, stage, words, out),
+        Command::Kept => keeps::kept(alloc, stage, words, out),
+        Command::Equal => keeps::equal(alloc, stage, out),
+        Command::Held => keeps::held(stage, words, out),
+        Command::Fields => keeps::fields(alloc, stage, words, out),
         Command::Maps => maps(&stage.world, words, out),
         Command::Count => {
             write!(out, " -> {}", stage.world.maps.len())?;
@@ -288,6 +303,10 @@ fn is_question(command: Command) -> bool {
             | Command::Globs
             | Command::Dump
             | Command::DumpLength
+            | Command::Kept
+            | Command::Equal
+            | Command::Held
+            | Command::Fields
             | Command::Maps
             | Command::Count
     )

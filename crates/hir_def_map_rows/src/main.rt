@@ -7,7 +7,8 @@
 //! - `crate 1 2021 0` begins the map of crate 1, which stands on crate 0. Until it is inserted, the map is the open one.
 //! - `block 1.7 1:2` begins the map of block 7 of crate 1, in the module 2 of the crate's map; crates on which it stands
 //!   may follow.
-//! - `mod 1:0 a` adds a module to the module 0 of the open map, with the next number, and binds its name.
+//! - `mod 1:0 a` adds a module to the module 0 of the open map, with the next number, and binds its name. With `file=1` it is
+//!   written in file 1 alone, with `call=1` in what macro call 1 expands to, with `block=1` it is a block there.
 //! - `nest 255 d` adds so many modules of a name, the first below the root, and each in the one before.
 //! - `push 1:2 S struct 5 pub` binds a name there: a `struct`, `fn`, `enum` or a macro for `bang`, `attr` or `derive` of
 //!   node 5, or a `mod` of an id.
@@ -30,6 +31,11 @@
 //!   of two in a map, and `sees 1:2 in=1:0` whether the module may see.
 //! - `entry 1:2 S` is what a name stands for there, and `globs 1:2 S` in which namespaces a glob brought that.
 //! - `around 1:2` is the module around another, `outwards 1.7:0` it and those that hold it; `dump 1:0` prints a map, and `dump_length` how long that is.
+//! - `keep 1:2 5 h` gives the open map a derive macro, a procedural macro, a derive helper `h` and a diagnostic of node 5,
+//!   and `kept 1:2 5` says which of these it has, and how many diagnostics in all.
+//! - `equal` says whether the open map and the finished one of its id are equal, and the crates that their paths may begin with.
+//! - `held 1:0 file=1` lists the modules that have file 1 to themselves, `held 1:0 call=1` those written in what call 1 expands to.
+//! - `fields 1:2 pub pub(self)` is what the visibilities of fields mean that are written there.
 //!
 //! In a path `super*3` is `super::super::super`, and `""` is the empty path. A visibility is `pub`, `crate=1`, `in=1:2`
 //! (of that module, without a word) or `pub-in=1:2`.
@@ -38,6 +44,7 @@
 mod asks;
 mod build;
 mod commands;
+mod keeps;
 mod shows;
 mod stage;
 mod words;

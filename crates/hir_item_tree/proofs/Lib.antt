@@ -7,3 +7,4 @@ pub mod Associated
 pub mod AttributeLemmas
 pub mod Walks
 pub mod SideIndexLemmas
+pub mod TreeKeys

@@ -10,9 +10,6 @@ use Rattle.hir_item_tree.specs.contracts.check.NodeIdPartialOrd.TheImpl.Laws.{la
 use Rattle.hir_item_tree.specs.contracts.check.NodeIdOrd.TheImpl.{ghosts as order}
 use Rattle.hir_item_tree.specs.contracts.check.NodeIdOrd.TheImpl.Laws.{lawful}
 use Rattle.hir_item_tree.specs.SideLists.{entry_view, entries_view, entry_of}
-use Rattle.std.specs.Option.{option_map}
-use Rattle.hir_item_tree.specs.declared.indexed_source.IndexedSource.{IndexedSource}
-use Rattle.hir_item_tree.specs.declared.trees.KeptSource.{KeptSource}
 use Rattle.hir_item_tree.specs.SideIndex.{place_of}
 
 -- the test of a look-up is that of `==`
@@ -67,12 +64,3 @@ place_in_front old new es left e some within is before updates n =
     = drop-cons es (left - 1) e (omega (arith, some, within)) ∙ ap (λ x. x ∷ drop (suc (left - 1)) es) is ∙ ap (λ m. e ∷ drop m es) next in
     let later : place_of n (suc (left - 1)) (drop left es) ≡ get order.cmp old n = ap (λ m. place_of n m (drop left es)) next ∙ sym (before n) in
     updates n ∙ sym (ap (place_of n (left - 1)) opened ∙ ap (λ o. cond (is_at (order.cmp e.node) n) (Some (left - 1)) o) later)
-
--- what is kept, where a source is there
-abbrev pub kept_of : Option IndexedSource → Option KeptSource
-kept_of o = option_map (λ (s : IndexedSource). s.kept) o
-
--- a change of one source changes what is kept of it alone
-pub kept_of_update : (on : Bool) (here before after : Option IndexedSource) → after ≡ cond on here before → kept_of after ≡ cond on (kept_of here) (kept_of before)
-kept_of_update true here before after h = ap kept_of h
-kept_of_update false here before after h = ap kept_of h

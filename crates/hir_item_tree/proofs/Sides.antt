@@ -26,7 +26,7 @@ foreign_without_sides (written.holder h k is) = refl
 
 module _ (set : CfgAtom → Bool) where
   mutual
-    kept_without_sides : (i : Item) → kept_item set (item_without_sides i) ≡ kept_item set i
+    pub kept_without_sides : (i : Item) → kept_item set (item_without_sides i) ≡ kept_item set i
     kept_without_sides (written.plain h p) = ap₂ (λ v l. leaf (kept_head set h v) l) (visibility_without_sides h p) (leaf_without_sides p)
     kept_without_sides (written.holder h written.extern_block is) =
         ap₂ (kept_holder (kept_head set h _) written.extern_block) (all_without_sides is) (foreign_of_all is)

@@ -4,6 +4,7 @@ use Rattle.hir_base.specs.declared.cfg.CfgAtom.{CfgAtom}
 use Rattle.hir_item_tree.specs.Source.{Plain, function, constant, static_item, Item, plain, holder, Items, no_items, item, SourceValue, broken, unit}
 use Rattle.hir_item_tree.specs.Attributes.{Attributes}
 use Rattle.hir_item_tree.specs.ItemTree.{tree_of}
+use Rattle.hir_item_tree.specs.SideLists.{side_lists}
 
 -- a kind without the text of its body
 abbrev pub plain_without_body : Plain → Plain
@@ -32,3 +33,8 @@ source_without_bodies (unit written items) = unit written (without_bodies items)
 abbrev pub BodyTextsLeaveTheTree : Type 0
 BodyTextsLeaveTheTree = (set : CfgAtom → Bool) (front : Attributes) (a b : SourceValue) → source_without_bodies a ≡ source_without_bodies b
     → tree_of set front a ≡ tree_of set front b
+
+-- and the same is kept beside them
+abbrev pub BodyTextsLeaveTheSides : Type 0
+BodyTextsLeaveTheSides = (set : CfgAtom → Bool) (a b : SourceValue) → source_without_bodies a ≡ source_without_bodies b
+    → side_lists set a ≡ side_lists set b

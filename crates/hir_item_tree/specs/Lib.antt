@@ -24,10 +24,12 @@ pub mod Same
 pub mod Limits
 pub mod SyntaxIds
 pub mod Check
-pub mod BodyTexts
 pub mod WithoutSides
 pub mod Laws
 pub mod Walks
 pub mod SideLists
+pub mod BodyTexts
 pub mod SideIndex
+pub mod SourceTree
+pub mod SideCodes
 pub mod Trees

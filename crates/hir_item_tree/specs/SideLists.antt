@@ -1,5 +1,5 @@
 -- What is kept beside a tree? Variants, associated items, texts of macros and inputs, by node.
-use Rattle.std.specs.Prelude.{ℕ, Bool, true, false, List, [], ◌∷◌, ◌++◌, map, string_bytes, Option, Some, None, if◌then◌else◌}
+use Rattle.std.specs.Prelude.{ℕ, Bool, true, false, List, [], ◌∷◌, ◌++◌, map, string_bytes, Option, Some, None, if◌then◌else◌, length, not, ◌==◌, ◌||◌}
 use Rattle.hir_item_tree.specs.declared.check.NodeId.{NodeId}
 use Rattle.hir_item_tree.specs.contracts.check.NodeIdPartialEq.TheImpl.{ghosts}
 use Rattle.hir_item_tree.specs.declared.rows.Row.{Row}
@@ -25,7 +25,7 @@ pub data Side : Type 0 where
   -- of a macro its text
   macro_text : List ℕ → Side
 
--- a node with the input of calls on it, and what is kept beside its item
+-- a node with the input of calls on it, empty if there is none, and what is kept beside its item
 pub record SideEntry : Type 0 where
   pub node : NodeId
   pub input : List ℕ
@@ -80,11 +80,24 @@ holder_side set (trait_item name) is = associated (kept_associated set is)
 holder_side set (implementation of_trait) is = associated (kept_associated set is)
 holder_side set (inline_module name) is = nothing
 
+-- whether something is kept beside an item
+abbrev pub is_something : Side → Bool
+is_something nothing = false
+is_something _ = true
+
+-- whether an entry says more than its node
+abbrev pub says_something : SideEntry → Bool
+says_something e = not (length e.input == 0) || is_something e.side
+
+-- the entry, if it says something
+abbrev pub entry_list : SideEntry → List SideEntry
+entry_list e = if says_something e then e ∷ [] else []
+
 abbrev mutual
   -- the entries of a node and of those inside, in preorder
   pub item_entries : (CfgAtom → Bool) → Item → List SideEntry
-  item_entries set (plain h p) = record { node = node_id (plain_kind p) h.id; input = h.input; side = plain_side set p } ∷ []
-  item_entries set (holder h k is) = record { node = node_id (holder_kind k) h.id; input = h.input; side = holder_side set k is } ∷ entries set is
+  item_entries set (plain h p) = entry_list (record { node = node_id (plain_kind p) h.id; input = h.input; side = plain_side set p })
+  item_entries set (holder h k is) = entry_list (record { node = node_id (holder_kind k) h.id; input = h.input; side = holder_side set k is }) ++ entries set is
 
   -- the entries of nodes and of those inside, in preorder
   pub entries : (CfgAtom → Bool) → Items → List SideEntry
@@ -142,3 +155,7 @@ entry_associated e = associated_in e.side
 
 abbrev pub entry_text : SideEntry → Option (List ℕ)
 entry_text e = text_in e.side
+
+-- the input of calls on the node of an entry, if there is one
+abbrev pub entry_input : SideEntry → Option (List ℕ)
+entry_input e = if length e.input == 0 then None else Some e.input

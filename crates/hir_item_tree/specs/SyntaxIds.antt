@@ -34,6 +34,11 @@ holder_kind (trait_item name) = kinds.Trait
 holder_kind (implementation of_trait) = kinds.Impl
 holder_kind (inline_module name) = kinds.Module
 
+-- the kind of a node
+abbrev pub node_kind : Item → AstKind
+node_kind (plain h p) = plain_kind p
+node_kind (holder h k is) = holder_kind k
+
 -- a variant
 abbrev pub variant_id : VariantValue → NodeId
 variant_id v = node_id kinds.Variant v.id

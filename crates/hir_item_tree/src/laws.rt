@@ -1,5 +1,5 @@
 //! Laws of attributes and kept forests, over what the contracts say.
-ghost use Rattle.hir_item_tree.specs.BodyTexts.{BodyTextsLeaveTheTree};
+ghost use Rattle.hir_item_tree.specs.BodyTexts.{BodyTextsLeaveTheTree, BodyTextsLeaveTheSides};
 ghost use Rattle.hir_item_tree.specs.WithoutSides.{SideListsLeaveTheTree};
 ghost use Rattle.hir_item_tree.specs.Walks.{WalksAreDetermined, EachRowIsMetOnce};
 ghost use Rattle.hir_item_tree.specs.Sources.{UnreadSourcesKeepNoItems, OtherUnreadSourcesAreEmpty};
@@ -23,9 +23,10 @@ pub fn joined_lists_collect_as_merged()
     ensures always { JoinedListsCollectAsMerged }
 {}
 
-/// Sources that differ in the texts of bodies alone have equal trees.
+/// Sources that differ in the texts of bodies alone have equal trees, and the same beside them.
 pub fn body_texts_leave_the_tree()
     ensures law { BodyTextsLeaveTheTree }
+    ensures sides { BodyTextsLeaveTheSides }
 {}
 
 /// Sources that differ in what is kept beside their trees alone have equal trees: in variants, macro texts,

@@ -41,21 +41,7 @@ pub fn lower_node(
             let inside = lower_nodes(alloc, options, rows, nodes)?;
             push_row(alloc, options, rows, node, inside)
         }
-        NodeKind::Use { .. }
-        | NodeKind::ExternCrate { .. }
-        | NodeKind::Fn { .. }
-        | NodeKind::Struct { .. }
-        | NodeKind::Union { .. }
-        | NodeKind::Enum { .. }
-        | NodeKind::Const { .. }
-        | NodeKind::Static { .. }
-        | NodeKind::Trait { .. }
-        | NodeKind::Impl { .. }
-        | NodeKind::TypeAlias { .. }
-        | NodeKind::Module { nodes: None, .. }
-        | NodeKind::MacroCall { .. }
-        | NodeKind::MacroRules { .. }
-        | NodeKind::MacroDef { .. } => {
+        _ => {
             let inside = Vec::new(alloc);
             push_row(alloc, options, rows, node, inside)
         }
@@ -109,18 +95,7 @@ fn is_foreign(node: &Node) -> bool
         | NodeKind::Static { .. }
         | NodeKind::TypeAlias { .. }
         | NodeKind::MacroCall { .. } => true,
-        NodeKind::Use { .. }
-        | NodeKind::ExternCrate { .. }
-        | NodeKind::ExternBlock { .. }
-        | NodeKind::Struct { .. }
-        | NodeKind::Union { .. }
-        | NodeKind::Enum { .. }
-        | NodeKind::Const { .. }
-        | NodeKind::Trait { .. }
-        | NodeKind::Impl { .. }
-        | NodeKind::Module { .. }
-        | NodeKind::MacroRules { .. }
-        | NodeKind::MacroDef { .. } => false,
+        _ => false,
     }
 }
 
@@ -156,18 +131,7 @@ fn visibility_of(node: &Node) -> Result<RawVisibility, AllocError>
         | NodeKind::Impl { .. }
         | NodeKind::MacroCall { .. }
         | NodeKind::MacroRules { .. } => Ok(RawVisibility::PubSelf(Implicit)),
-        NodeKind::Use { .. }
-        | NodeKind::ExternCrate { .. }
-        | NodeKind::Fn { .. }
-        | NodeKind::Struct { .. }
-        | NodeKind::Union { .. }
-        | NodeKind::Enum { .. }
-        | NodeKind::Const { .. }
-        | NodeKind::Static { .. }
-        | NodeKind::Trait { .. }
-        | NodeKind::TypeAlias { .. }
-        | NodeKind::Module { .. }
-        | NodeKind::MacroDef { .. } => node.vis.clone(),
+        _ => node.vis.clone(),
     }
 }
 

@@ -3,8 +3,8 @@ ghost use Rattle.std.specs.Prelude.{◌≡◌, ◌++◌, ◌∷◌, [], true, If
 ghost use Rattle.hir_base.specs.CfgOptions.{is_set};
 ghost use Rattle.hir_item_tree.specs.Source.{node_view, nodes_view, source_view, variant_view};
 ghost use Rattle.hir_item_tree.specs.KeptForest.{kept_item};
-ghost use Rattle.hir_item_tree.specs.SyntaxIds.{node_id};
-ghost use Rattle.hir_item_tree.specs.SideLists.{is_associated, kept_associated, enabled_variants, item_entries, entries, side_lists, row_item, side_view, entries_view};
+ghost use Rattle.hir_item_tree.specs.SyntaxIds.{node_id, node_kind};
+ghost use Rattle.hir_item_tree.specs.SideLists.{is_associated, kept_associated, enabled_variants, item_entries, entries, entry_list, side_lists, row_item, side_view, entries_view};
 
 use crate::attrs::collected;
 use crate::check::NodeId;
@@ -12,7 +12,7 @@ use crate::lower::lower_node;
 use crate::rows::Row;
 use crate::shape::FieldsShape;
 use crate::source::{Node, NodeKind, Source, Variant};
-use hir_base::ast_id::{AstKind, SyntaxId};
+use hir_base::ast_id::SyntaxId;
 use hir_base::cfg_options::CfgOptions;
 use hir_base::name::Name;
 use std::alloc::{AllocError, Global};
@@ -41,11 +41,12 @@ pub enum Side {
 #[derive(Drop)]
 pub struct SideEntry {
     pub node: NodeId,
+    /// Empty where there is none.
     pub input: String,
     pub side: Side,
 }
 
-/// The entries of a source, in preorder.
+/// The entries of the nodes of a source that have an input or something beside their items, in preorder.
 pub fn side_lists(
     alloc: Global,
     source: &Source,
@@ -74,51 +75,28 @@ fn push_entries(
         ≡ entries_view out.old.items ++ item_entries (is_set options.now) (node_view node.now)) }
 {
     match &node.kind {
-        NodeKind::Use { .. } => push_entry(out, node, AstKind::Use, Side::Nothing),
-        NodeKind::ExternCrate { .. } => push_entry(out, node, AstKind::ExternCrate, Side::Nothing),
-        NodeKind::Fn { .. } => push_entry(out, node, AstKind::Fn, Side::Nothing),
-        NodeKind::Struct { .. } => push_entry(out, node, AstKind::Struct, Side::Nothing),
-        NodeKind::Union { .. } => push_entry(out, node, AstKind::Union, Side::Nothing),
         NodeKind::Enum { variants, .. } => {
             let side = Side::Variants(enabled_variants(alloc, options, variants)?);
-            push_entry(out, node, AstKind::Enum, side)
+            push_entry(out, node, side)
         }
-        NodeKind::Const { .. } => push_entry(out, node, AstKind::Const, Side::Nothing),
-        NodeKind::Static { .. } => push_entry(out, node, AstKind::Static, Side::Nothing),
-        NodeKind::TypeAlias { .. } => push_entry(out, node, AstKind::TypeAlias, Side::Nothing),
-        NodeKind::MacroCall { .. } => push_entry(out, node, AstKind::MacroCall, Side::Nothing),
-        NodeKind::MacroRules { definition, .. } => {
+        NodeKind::MacroRules { definition, .. } | NodeKind::MacroDef { definition, .. } => {
             let side = Side::Text(definition.text.clone()?);
-            push_entry(out, node, AstKind::MacroRules, side)
+            push_entry(out, node, side)
         }
-        NodeKind::MacroDef { definition, .. } => {
-            let side = Side::Text(definition.text.clone()?);
-            push_entry(out, node, AstKind::MacroDef, side)
-        }
-        NodeKind::Module { nodes: None, .. } => {
-            push_entry(out, node, AstKind::Module, Side::Nothing)
-        }
-        NodeKind::Module {
+        NodeKind::ExternBlock { nodes }
+        | NodeKind::Module {
             nodes: Some(nodes),
             ..
         } => {
-            push_entry(out, node, AstKind::Module, Side::Nothing)?;
+            push_entry(out, node, Side::Nothing)?;
             push_all_entries(alloc, options, out, nodes)
         }
-        NodeKind::ExternBlock { nodes } => {
-            push_entry(out, node, AstKind::ExternBlock, Side::Nothing)?;
-            push_all_entries(alloc, options, out, nodes)
-        }
-        NodeKind::Trait { items, .. } => {
+        NodeKind::Trait { items, .. } | NodeKind::Impl { items, .. } => {
             let side = Side::Associated(associated(alloc, options, items)?);
-            push_entry(out, node, AstKind::Trait, side)?;
+            push_entry(out, node, side)?;
             push_all_entries(alloc, options, out, items)
         }
-        NodeKind::Impl { items, .. } => {
-            let side = Side::Associated(associated(alloc, options, items)?);
-            push_entry(out, node, AstKind::Impl, side)?;
-            push_all_entries(alloc, options, out, items)
-        }
+        _ => push_entry(out, node, Side::Nothing),
     }
 }
 
@@ -138,16 +116,16 @@ fn push_all_entries(
     Ok(())
 }
 
-fn push_entry(
-    out: &mut Vec<SideEntry>,
-    node: &Node,
-    kind: AstKind,
-    side: Side,
-) -> Result<(), AllocError>
+// Adds the entry of a node, if it says something.
+fn push_entry(out: &mut Vec<SideEntry>, node: &Node, side: Side) -> Result<(), AllocError>
     ensures ok { OnOk result (entries_view out.new.items ≡ entries_view out.old.items
-        ++ record { node = node_id kind node.now.id; input = string_bytes node.now.input; side = side_view side } ∷ []) }
+        ++ entry_list (record { node = node_id (node_kind (node_view node.now)) node.now.id; input = string_bytes node.now.input; side = side_view side })) }
 {
+    if node.input.is_empty() && matches!(side, Side::Nothing) {
+        return Ok(());
+    }
     let input = node.input.clone()?;
+    let kind = node.ast_kind();
     let node = NodeId { kind, id: node.id };
     out.push(SideEntry { node, input, side })?;
     Ok(())
@@ -214,17 +192,6 @@ fn is_associated(node: &Node) -> bool
         | NodeKind::Const { .. }
         | NodeKind::TypeAlias { .. }
         | NodeKind::MacroCall { .. } => true,
-        NodeKind::Use { .. }
-        | NodeKind::ExternCrate { .. }
-        | NodeKind::ExternBlock { .. }
-        | NodeKind::Struct { .. }
-        | NodeKind::Union { .. }
-        | NodeKind::Enum { .. }
-        | NodeKind::Static { .. }
-        | NodeKind::Trait { .. }
-        | NodeKind::Impl { .. }
-        | NodeKind::Module { .. }
-        | NodeKind::MacroRules { .. }
-        | NodeKind::MacroDef { .. } => false,
+        _ => false,
     }
 }

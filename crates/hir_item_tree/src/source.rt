@@ -9,7 +9,7 @@ ghost use Rattle.hir_item_tree.specs.declared.raw_visibility.VisibilityExplicitn
 use crate::raw_attr::RawAttr;
 use crate::raw_visibility::{RawVisibility, VisibilityExplicitness};
 use crate::shape::{ExternCrateName, FieldsShape};
-use hir_base::ast_id::SyntaxId;
+use hir_base::ast_id::{AstKind, SyntaxId};
 use hir_base::macro_kind::MacroExpander;
 use hir_base::mod_path::ModPath;
 use hir_base::name::Name;
@@ -73,6 +73,35 @@ impl Node {
             vis: RawVisibility::PubSelf(VisibilityExplicitness::Implicit),
             input: String::new(alloc),
             kind,
+        }
+    }
+}
+
+impl Node {
+    ghost use Rattle.hir_item_tree.specs.Source.{node_view};
+    ghost use Rattle.hir_item_tree.specs.SyntaxIds.{node_kind};
+
+    /// Its kind among the nodes of a source.
+    pub fn ast_kind(&self) -> AstKind
+        ensures value { result ≡ node_kind (node_view self.now) }
+    {
+        match &self.kind {
+            NodeKind::Use { .. } => AstKind::Use,
+            NodeKind::ExternCrate { .. } => AstKind::ExternCrate,
+            NodeKind::ExternBlock { .. } => AstKind::ExternBlock,
+            NodeKind::Fn { .. } => AstKind::Fn,
+            NodeKind::Struct { .. } => AstKind::Struct,
+            NodeKind::Union { .. } => AstKind::Union,
+            NodeKind::Enum { .. } => AstKind::Enum,
+            NodeKind::Const { .. } => AstKind::Const,
+            NodeKind::Static { .. } => AstKind::Static,
+            NodeKind::Trait { .. } => AstKind::Trait,
+            NodeKind::Impl { .. } => AstKind::Impl,
+            NodeKind::TypeAlias { .. } => AstKind::TypeAlias,
+            NodeKind::Module { .. } => AstKind::Module,
+            NodeKind::MacroCall { .. } => AstKind::MacroCall,
+            NodeKind::MacroRules { .. } => AstKind::MacroRules,
+            NodeKind::MacroDef { .. } => AstKind::MacroDef,
         }
     }
 }

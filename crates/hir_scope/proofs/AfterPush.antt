@@ -1,4 +1,4 @@
--- What a push makes of a scope, told without the candidates that bring it about.
+-- What a push makes of a scope, without its candidates.
 use Rattle.std.proofs.Common.{◌≡◌, ◌≢◌, ◌∙◌, ap, sym, subst, refl, ℕ, true, false, Bool, not, ◌&&◌, ◌||◌, List, [], ◌∷◌, Option, None, Some, cond}
 use Rattle.std.specs.Option.{option_map}
 use Rattle.std.specs.Ordering.{nat_cmp, is_eq}
@@ -7,6 +7,7 @@ use Rattle.std.proofs.lemmas.Cmp.{tied_itself, nat_list_cmp_total}
 use Rattle.hir_base.specs.contracts.ids.ModuleDefIdPartialEq.TheImpl as module_def
 use Rattle.hir_base.specs.contracts.macro_kind.MacroIdPartialEq.TheImpl as makro
 use Rattle.hir_base.specs.declared.ids.ModuleDefId.{ModuleDefId}
+use Rattle.hir_base.specs.declared.ids.ModuleDefId.TheVariants as defs
 use Rattle.hir_base.specs.declared.macro_kind.MacroId.{MacroId}
 use Rattle.hir_scope.specs.contracts.imports.ImportOrExternCratePartialEq.TheImpl as item_import
 use Rattle.hir_scope.specs.contracts.imports.ImportOrGlobPartialEq.TheImpl as glob_import
@@ -14,28 +15,19 @@ use Rattle.hir_scope.specs.declared.imports.ImportOrDef.{ImportOrDef}
 use Rattle.hir_scope.specs.declared.imports.ImportOrExternCrate.{ImportOrExternCrate}
 use Rattle.hir_scope.specs.declared.imports.ImportOrGlob.{ImportOrGlob}
 use Rattle.hir_scope.specs.declared.per_ns.PerNs.{PerNs}
-use Rattle.hir_scope.specs.Bindings.{Push, Candidate, after_push, gives_way, slot_after, taken, takes, type_candidate, value_candidate, macro_candidate, written_items, written_places}
-use Rattle.hir_scope.specs.Entries.{item_at, with_entry}
-use Rattle.hir_scope.specs.Globs.{GlobNames, Place, has_place}
-use Rattle.hir_scope.specs.ImportRecords.{is_glob}
-use Rattle.hir_scope.specs.PerNs.{Item, item_of, value_import, is_nothing}
+use Rattle.hir_scope.specs.Bindings.{Push, Candidate, after_push, first_of, is_reresolved_by, items_by, slot_after, slot_after_candidate, slot_at, taken, takes, type_candidate, value_candidate, macro_candidate, written_items, written_places}
+use Rattle.hir_scope.specs.Entries.{any_value, item_at, with_entry}
+use Rattle.hir_scope.specs.Globs.{GlobNames, Place, has_place, no_globs}
+use Rattle.hir_scope.specs.ImportRecords.{is_glob, reached_by, value_reached_by}
+use Rattle.hir_scope.specs.PerNs.{Item, item_of, or_of, value_import, is_nothing}
 use Rattle.hir_scope.specs.Scope.{ScopeValue, binding_of}
-use Rattle.hir_scope.specs.Scope.Push.{pushed_scope, pushed_globs, taken_candidates, with_unresolved, written_scope}
+use Rattle.hir_scope.specs.Scope.Push.{SameDeclarations, binding_after, pushed_scope, pushed_globs, taken_candidates, with_unresolved, written_scope}
+use Rattle.hir_scope.specs.Scope.Reads.{binds_macro, binds_type, binds_value}
 use Rattle.hir_scope.proofs.Pushes.{pushed-types, pushed-values, pushed-macros}
+use Rattle.hir_scope_table.proofs.AnyValue.{any_value-with_entry}
 use Rattle.hir_scope_table.proofs.Lookups.{lookup-with_entry}
 use Rattle.hir_scope_table.proofs.Pushes.{name-apart}
-
--- globs have brought nothing
-abbrev pub no_globs : GlobNames
-no_globs = record { types = []; values = []; macros = [] }
-
--- the items as an import binds them
-abbrev pub items_by : Option ImportOrExternCrate → PerNs → PerNs
-items_by import items = record {
-  types = option_map (λ (i : Item ModuleDefId ImportOrExternCrate). item_of i.def i.vis import) items.types;
-  values = option_map (λ (i : Item ModuleDefId ImportOrGlob). item_of i.def i.vis (value_import import)) items.values;
-  macros = option_map (λ (i : Item MacroId ImportOrExternCrate). item_of i.def i.vis import) items.macros;
-}
+use Rattle.hir_scope_table.proofs.SlotAfter.{slot_after_candidate-glob}
 
 -- ---- a list by names, with one more
 
@@ -94,7 +86,7 @@ module _ {D I : Type 0} (same_def : D → D → Bool) (same_import : I → I →
           → item_at (written_items place.1 (cond (takes same_def same_import false o push) (Some (record { push = push; source = source })) None) es) place.1
           ≡ slot_after same_def same_import o (Some push.item)
       go None e = item_at-with_entry es place.1 push.item
-      go (Some b) e = step b e (gives_way same_def same_import b push.item)
+      go (Some b) e = step b e (is_reresolved_by same_def same_import b push.item)
 
 module _ {D I : Type 0} where
   no_place : (place : Place) (push : Push D I) (source : ImportOrDef) → push.is_glob ≡ false → (b : Bool)
@@ -201,13 +193,86 @@ module _ (globs : GlobNames) (place : Place) (import : Option ImportOrExternCrat
           on true = new i e
           on false = old
 
-  -- what isn't bound stays
-  pub legacy_macros-pushed : (items : PerNs) → (pushed_scope globs place items import scope).legacy_macros ≡ scope.legacy_macros
-  legacy_macros-pushed items = elim (is_nothing items)
-      as (λ b. (cond b (with_unresolved scope place.1) (written_scope place.1 (taken_candidates scope globs place items import) scope)).legacy_macros ≡ scope.legacy_macros)
-      [ true ↦ refl | false ↦ refl ]
+  -- where a test holds of no bound item and not of the pushed one, it holds of none afterwards
+  pub binds_type-pushed : (test : Item ModuleDefId ImportOrExternCrate → Bool) (items : PerNs) → binds_type test scope ≡ false
+      → ((i : Item ModuleDefId ImportOrExternCrate) → items.types ≡ Some i → test (item_of i.def i.vis import) ≡ false)
+      → binds_type test (pushed_scope globs place items import scope) ≡ false
+  binds_type-pushed test items none new = on_pushed_types (λ es. any_value test es ≡ false) items none
+      (λ i e. any_value-with_entry test (slice_cmp nat_cmp) scope.types place.1 (item_of i.def i.vis import) none (new i e))
 
-  pub declarations-pushed : (items : PerNs) → (pushed_scope globs place items import scope).declarations ≡ scope.declarations
-  declarations-pushed items = elim (is_nothing items)
-      as (λ b. (cond b (with_unresolved scope place.1) (written_scope place.1 (taken_candidates scope globs place items import) scope)).declarations ≡ scope.declarations)
-      [ true ↦ refl | false ↦ refl ]
+  pub binds_value-pushed : (test : Item ModuleDefId ImportOrGlob → Bool) (items : PerNs) → binds_value test scope ≡ false
+      → ((i : Item ModuleDefId ImportOrGlob) → items.values ≡ Some i → test (item_of i.def i.vis (value_import import)) ≡ false)
+      → binds_value test (pushed_scope globs place items import scope) ≡ false
+  binds_value-pushed test items none new = on_pushed_values (λ es. any_value test es ≡ false) items none
+      (λ i e. any_value-with_entry test (slice_cmp nat_cmp) scope.values place.1 (item_of i.def i.vis (value_import import)) none (new i e))
+
+  pub binds_macro-pushed : (test : Item MacroId ImportOrExternCrate → Bool) (items : PerNs) → binds_macro test scope ≡ false
+      → ((i : Item MacroId ImportOrExternCrate) → items.macros ≡ Some i → test (item_of i.def i.vis import) ≡ false)
+      → binds_macro test (pushed_scope globs place items import scope) ≡ false
+  binds_macro-pushed test items none new = on_pushed_macros (λ es. any_value test es ≡ false) items none
+      (λ i e. any_value-with_entry test (slice_cmp nat_cmp) scope.macros place.1 (item_of i.def i.vis import) none (new i e))
+
+  -- what a scope declares stays
+  pub declarations_stay : (items : PerNs) → SameDeclarations scope (pushed_scope globs place items import scope)
+  declarations_stay items = elim (is_nothing items)
+      as (λ b. SameDeclarations scope (cond b (with_unresolved scope place.1) (written_scope place.1 (taken_candidates scope globs place items import) scope)))
+      [ true ↦ record { declarations = refl; impls = refl; builtin_derive_impls = refl; extern_blocks = refl; unnamed_consts = refl; unnamed_traits = refl; use_decls = refl; extern_crate_decls = refl; legacy_macros = refl; attr_macros = refl; macro_calls = refl; derive_macros = refl } | false ↦ record { declarations = refl; impls = refl; builtin_derive_impls = refl; extern_blocks = refl; unnamed_consts = refl; unnamed_traits = refl; use_decls = refl; extern_crate_decls = refl; legacy_macros = refl; attr_macros = refl; macro_calls = refl; derive_macros = refl } ]
+
+-- ---- what the name stands for, whatever globs have brought
+
+module _ {D I : Type 0} (same_def : D → D → Bool) (same_import : I → I → Bool) where
+  bound_here : (es : List (List ℕ × Item D I)) (globs : List Place) (place : Place) (candidate : Option (Candidate D I))
+      → item_at (written_items place.1 (taken same_def same_import es globs place candidate) es) place.1
+      ≡ (slot_after_candidate same_def same_import candidate (slot_at es globs place)).bound
+  bound_here es globs place None = refl
+  bound_here es globs place (Some c) = go (takes same_def same_import (has_place globs place) (item_at es place.1) c.push)
+    where
+      go : (b : Bool) → item_at (written_items place.1 (cond b (Some c) None) es) place.1
+          ≡ (cond b (record { bound = Some c.push.item; globbed = c.push.is_glob }) (slot_at es globs place)).bound
+      go true = item_at-with_entry es place.1 c.push.item
+      go false = refl
+
+first_of-none : {A : Type 0} (o : Option A) → o ≡ first_of o None
+first_of-none None = refl
+first_of-none (Some a) = refl
+
+module _ (globs : GlobNames) (place : Place) (import : Option ImportOrExternCrate) (scope : ScopeValue) (items : PerNs) where
+  pub binding_of-pushed : binding_of (pushed_scope globs place items import scope) place.1 ≡ binding_after scope globs place items import
+  binding_of-pushed =
+      let types = bound_here module_def.ghosts.eq item_import.ghosts.eq scope.types globs.types place (type_candidate items.types import) in
+      let values = bound_here module_def.ghosts.eq glob_import.ghosts.eq scope.values globs.values place (value_candidate items.values import) in
+      let macros = bound_here makro.ghosts.eq item_import.ghosts.eq scope.macros globs.macros place (macro_candidate items.macros import) in
+      binding_of-written globs place items import scope place.1 ∙ (λ i. record { types = types i; values = values i; macros = macros i })
+
+  -- a push by a glob binds what wasn't bound
+  pub binding_of-pushed_by_glob : is_glob import ≡ true
+      → binding_of (pushed_scope globs place items import scope) place.1 ≡ or_of (binding_of scope place.1) (items_by import items)
+  binding_of-pushed_by_glob globbed =
+      let types = of_types items.types in
+      let values = of_values items.values in
+      let macros = of_macros items.macros in
+      binding_of-pushed ∙ (λ i. record { types = types i; values = values i; macros = macros i })
+    where
+      of_types : (o : Option (Item ModuleDefId ImportOrExternCrate))
+          → (slot_after_candidate module_def.ghosts.eq item_import.ghosts.eq (type_candidate o import) (slot_at scope.types globs.types place)).bound
+          ≡ first_of (item_at scope.types place.1) (option_map (λ (i : Item ModuleDefId ImportOrExternCrate). item_of i.def i.vis import) o)
+      of_types None = first_of-none (item_at scope.types place.1)
+      of_types (Some i) = slot_after_candidate-glob module_def.ghosts.eq item_import.ghosts.eq
+          (record { push = record { item = item_of i.def i.vis import; is_glob = is_glob import }; source = reached_by i.import i.def })
+          (slot_at scope.types globs.types place) globbed
+
+      of_values : (o : Option (Item ModuleDefId ImportOrGlob))
+          → (slot_after_candidate module_def.ghosts.eq glob_import.ghosts.eq (value_candidate o import) (slot_at scope.values globs.values place)).bound
+          ≡ first_of (item_at scope.values place.1) (option_map (λ (i : Item ModuleDefId ImportOrGlob). item_of i.def i.vis (value_import import)) o)
+      of_values None = first_of-none (item_at scope.values place.1)
+      of_values (Some i) = slot_after_candidate-glob module_def.ghosts.eq glob_import.ghosts.eq
+          (record { push = record { item = item_of i.def i.vis (value_import import); is_glob = is_glob import }; source = value_reached_by i.import i.def })
+          (slot_at scope.values globs.values place) globbed
+
+      of_macros : (o : Option (Item MacroId ImportOrExternCrate))
+          → (slot_after_candidate makro.ghosts.eq item_import.ghosts.eq (macro_candidate o import) (slot_at scope.macros globs.macros place)).bound
+          ≡ first_of (item_at scope.macros place.1) (option_map (λ (i : Item MacroId ImportOrExternCrate). item_of i.def i.vis import) o)
+      of_macros None = first_of-none (item_at scope.macros place.1)
+      of_macros (Some i) = slot_after_candidate-glob makro.ghosts.eq item_import.ghosts.eq
+          (record { push = record { item = item_of i.def i.vis import; is_glob = is_glob import }; source = reached_by i.import (defs.MacroId i.def) })
+          (slot_at scope.macros globs.macros place) globbed

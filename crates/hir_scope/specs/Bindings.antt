@@ -1,5 +1,5 @@
 -- What does a push bring to a name in each namespace, and what prevails there?
-use Rattle.std.specs.Prelude.{Option, None, Some}
+use Rattle.std.specs.Prelude.{Option, None, Some, option_map}
 use Rattle.hir_base.specs.declared.ids.ModuleDefId.{ModuleDefId}
 use Rattle.hir_base.specs.declared.ids.ModuleDefId.TheVariants as defs
 use Rattle.hir_base.specs.declared.macro_kind.MacroId.{MacroId}
@@ -16,8 +16,8 @@ use Rattle.hir_scope.specs.declared.imports.ImportOrGlob.{ImportOrGlob}
 use Rattle.hir_scope.specs.declared.per_ns.PerNs.{PerNs}
 use Rattle.hir_scope.specs.declared.visibility.Visibility.{Visibility}
 use Rattle.hir_scope.specs.ImportRecords.{is_glob, reached_by, value_reached_by}
-use Rattle.hir_scope.specs.PerNs.{Item, value_import}
-pub use Rattle.hir_scope_table.specs.Bindings.{first_of, is_same_import, gives_way, changes_slot, slot_after, takes, slot_after_push, with_item_visibility, with_item_definition, history_of, prevailing}
+use Rattle.hir_scope.specs.PerNs.{Item, item_of, value_import}
+pub use Rattle.hir_scope_table.specs.Bindings.{first_of, is_same_import, is_reresolved_by, changes_slot, slot_after, takes, slot_after_push, with_item_visibility, with_item_definition, history_of, prevailing}
 pub use Rattle.hir_scope_table.specs.Table.{slot_at, taken, written_items, written_places, written_records, slot_after_candidate, PushesSlot, Records}
 
 -- a push to one namespace: an item, and whether a glob pushes it
@@ -68,6 +68,14 @@ macro_candidate (Some i) import = Some (record {
   };
   source = reached_by i.import (defs.MacroId i.def);
 })
+
+-- the items as an import binds them
+abbrev pub items_by : Option ImportOrExternCrate → PerNs → PerNs
+items_by import items = record {
+  types = option_map (λ (i : Item ModuleDefId ImportOrExternCrate). item_of i.def i.vis import) items.types;
+  values = option_map (λ (i : Item ModuleDefId ImportOrGlob). item_of i.def i.vis (value_import import)) items.values;
+  macros = option_map (λ (i : Item MacroId ImportOrExternCrate). item_of i.def i.vis import) items.macros;
+}
 
 -- ---- a push where no glob has brought anything
 

@@ -44,7 +44,7 @@ pub record ScopeValue : Type 0 where
   pub types : List (List ℕ × Item ModuleDefId ImportOrExternCrate)
   pub values : List (List ℕ × Item ModuleDefId ImportOrGlob)
   pub macros : List (List ℕ × Item MacroId ImportOrExternCrate)
-  -- the names that were pushed with nothing
+  -- the unresolved names: they were pushed with nothing
   pub unresolved : List (List ℕ)
   pub declarations : List ModuleDefId
   -- the impls, and whether they are of a trait

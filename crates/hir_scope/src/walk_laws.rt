@@ -7,14 +7,14 @@ ghost use Rattle.hir_scope.specs.Laws.{BindingsAscend, EntriesAscend, GivesItsLi
 
 use crate::imports::{ImportOrExternCrate, ImportOrGlob};
 use crate::item_scope::ItemScope;
-use crate::item_scope::bindings::Bindings;
-use crate::item_scope::calls::MacroCalls;
-use crate::item_scope::entries::{Entries, Resolutions};
-use crate::item_scope::impls::Impls;
-use crate::item_scope::import_ids::Imports;
+use crate::item_scope::iter::bindings::Bindings;
+use crate::item_scope::iter::calls::MacroCalls;
+use crate::item_scope::iter::entries::{Entries, Resolutions};
+use crate::item_scope::iter::impls::Impls;
+use crate::item_scope::iter::imports::Imports;
+use crate::item_scope::iter::modules_and_traits::{ModulesInScope, Traits};
+use crate::item_scope::iter::tables::TableEntries;
 use crate::item_scope::macro_calls::{DeriveAttributes, LegacyMacros};
-use crate::item_scope::tables::TableEntries;
-use crate::item_scope::walks::{ModulesInScope, Traits};
 use crate::per_ns_items::PerNsItems;
 use hir_base::ast_id::{AstId, MacroCallId};
 use hir_base::ids::ModuleDefId;

@@ -1,4 +1,6 @@
 pub mod Lookups
+pub mod AnyValue
+pub mod SlotAfter
 pub mod RollBack
 pub mod Prevails
 pub mod Pushes

@@ -132,7 +132,7 @@ module _ {D V I T : Type 0} (cmp : I → I → Ordering) (total : IsTotalOrder c
 
 -- ---- a slot that takes a push isn't what it was
 
--- a push that is no glob's, where a glob brought what is there or that gives way, leaves another slot
+-- an explicit push leaves another slot where a glob brought what is there, or where it is resolved again
 clash : {G : Type 0} (glob globbed by same : Bool) → (not glob && (globbed || (by && not same))) ≡ true → glob ≡ globbed → same ≡ true → G
 clash true globbed by same e at is = absurd (true≢false (sym e))
 clash false true by same e at is = absurd (true≢false (sym at))

@@ -1,4 +1,4 @@
--- Room that is taken back leaves a map or a set as it was.
+-- A reservation that is rolled back leaves a map or a set as it was.
 use Rattle.std.proofs.Common.{◌≡◌, ◌∙◌, ap, sym, subst, refl, true, false, Bool, not, ◌&&◌, ◌||◌, List, [], ◌∷◌, Some, cond}
 use mathlib.Core.Bool.{true≢false}
 use Rattle.std.specs.Option.{is_some}
@@ -40,10 +40,10 @@ module _ {K : Type 0} (cmp : K → K → Ordering) (same : (k : K) → cmp k k �
       go rest Equal is absent = absurd (true≢false absent)
       go rest Greater is absent = rw is (ap (λ (ys : List K). x ∷ ys) (rest absent))
 
-  -- so entries whose room is taken back are those before
+  -- so after a roll back the entries are the earlier ones
   pub entry_rolled_back : {V : Type 0} (earlier : List (K × V)) (key : K) (value : V) (added : Bool) (later : List (K × V)) → added ≡ true
       → IsEntryFor cmp earlier (Some (key, value)) added later → remove_entry (is_at (cmp key)) later ≡ earlier
-  entry_rolled_back {V} earlier key value added later is room = go (has_key cmp earlier key) refl room.made (sym is ∙ room.was_absent)
+  entry_rolled_back {V} earlier key value added later is reserved = go (has_key cmp earlier key) refl reserved.made (sym is ∙ reserved.was_absent)
     where
       go : (b : Bool) → has_key cmp earlier key ≡ b → later ≡ cond b earlier (insert_entry cmp earlier key value) → true ≡ not b
           → remove_entry (is_at (cmp key)) later ≡ earlier
@@ -52,10 +52,10 @@ module _ {K : Type 0} (cmp : K → K → Ordering) (same : (k : K) → cmp k k �
 
   pub key_rolled_back : (earlier : List K) (key : K) (wanted added : Bool) (later : List K) → added ≡ true
       → IsKeyFor cmp earlier key wanted added later → remove_key (is_at (cmp key)) later ≡ earlier
-  key_rolled_back earlier key wanted added later is room = go wanted (has_value cmp earlier key) refl (sym is ∙ room.was_absent)
+  key_rolled_back earlier key wanted added later is reserved = go wanted (has_value cmp earlier key) refl (sym is ∙ reserved.was_absent)
     where
       made : later ≡ insert_key cmp earlier key
-      made = let at : Bool → Type 0 = λ b. later ≡ cond b (insert_key cmp earlier key) earlier in subst at is room.made
+      made = let at : Bool → Type 0 = λ b. later ≡ cond b (insert_key cmp earlier key) earlier in subst at is reserved.made
 
       go : (w b : Bool) → has_value cmp earlier key ≡ b → true ≡ (w && not b) → remove_key (is_at (cmp key)) later ≡ earlier
       go true true e absent = absurd (true≢false absent)

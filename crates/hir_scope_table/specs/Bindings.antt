@@ -14,15 +14,15 @@ is_same_import same None b = false
 is_same_import same (Some a) None = false
 is_same_import same (Some a) (Some b) = same a b
 
--- whether a bound item gives way: only to an import that bound it, where that now reaches another definition
-abbrev pub gives_way : {D V I : Type 0} → (D → D → Bool) → (I → I → Bool) → Item D V I → Item D V I → Bool
-gives_way same_def same_import bound push = is_same_import same_import bound.import push.import && not (same_def bound.def push.def)
+-- whether a push resolves the import of a bound item again, to another definition
+abbrev pub is_reresolved_by : {D V I : Type 0} → (D → D → Bool) → (I → I → Bool) → Item D V I → Item D V I → Bool
+is_reresolved_by same_def same_import bound push = is_same_import same_import bound.import push.import && not (same_def bound.def push.def)
 
 -- whether a push changes what a namespace holds
 abbrev pub changes_slot : {D V I : Type 0} → (D → D → Bool) → (I → I → Bool) → Option (Item D V I) → Option (Item D V I) → Bool
 changes_slot same_def same_import bound None = false
 changes_slot same_def same_import None (Some push) = true
-changes_slot same_def same_import (Some b) (Some push) = gives_way same_def same_import b push
+changes_slot same_def same_import (Some b) (Some push) = is_reresolved_by same_def same_import b push
 
 -- what a namespace holds after a push
 abbrev pub slot_after : {D V I : Type 0} → (D → D → Bool) → (I → I → Bool) → Option (Item D V I) → Option (Item D V I) → Option (Item D V I)
@@ -35,10 +35,10 @@ pub record Slot (D V I : Type 0) : Type 0 where
   pub bound : Option (Item D V I)
   pub globbed : Bool
 
--- whether a push changes a slot: an empty one always, and else where no glob pushes, and a glob brought what is there or it gives way
+-- whether a push changes a slot: an empty one always, and else an explicit push where a glob brought what is there, or where its import bound it and now reaches another definition
 abbrev pub takes : {D V I : Type 0} → (D → D → Bool) → (I → I → Bool) → Bool → Option (Item D V I) → Push D V I → Bool
 takes same_def same_import globbed None push = true
-takes same_def same_import globbed (Some bound) push = not push.is_glob && (globbed || gives_way same_def same_import bound push.item)
+takes same_def same_import globbed (Some bound) push = not push.is_glob && (globbed || is_reresolved_by same_def same_import bound push.item)
 
 -- a slot after a push
 abbrev pub slot_after_push : {D V I : Type 0} → (D → D → Bool) → (I → I → Bool) → Slot D V I → Push D V I → Slot D V I

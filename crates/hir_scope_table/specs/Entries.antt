@@ -31,3 +31,7 @@ has_value cmp keys key = list_any (is_at (cmp key)) keys
 -- what a name stands for in a list by names
 abbrev pub item_at : {X : Type 0} → List (List ℕ × X) → List ℕ → Option X
 item_at entries name = lookup (is_at (slice_cmp nat_cmp name)) entries
+
+-- whether a test holds of some value
+abbrev pub any_value : {K V : Type 0} → (V → Bool) → List (K × V) → Bool
+any_value test entries = list_any (λ entry. test entry.1) entries

@@ -9,5 +9,6 @@
 pub mod globs;
 pub mod item;
 pub mod laws;
+pub mod merge_sorted;
 mod reserved;
 pub mod table;

@@ -3,7 +3,7 @@ ghost use Rattle.std.specs.Prelude.{◌≡◌, ◌≢◌, ℕ, List, Option, Non
 ghost use Rattle.std.specs.Ordering.{nat_cmp};
 ghost use Rattle.std.specs.Cmp.Lexicographic.{slice_cmp};
 ghost use Rattle.hir_scope_table.specs.declared.item.Item.{Item};
-ghost use Rattle.hir_scope_table.specs.Bindings.{gives_way, takes, with_item_visibility, with_item_definition};
+ghost use Rattle.hir_scope_table.specs.Bindings.{is_reresolved_by, takes, with_item_visibility, with_item_definition};
 ghost use Rattle.hir_scope_table.specs.Entries.{item_at, value_at};
 ghost use Rattle.hir_scope_table.specs.Globs.{Place, place_cmp};
 ghost use Rattle.hir_scope_table.specs.Table.{empty_table, taken, item_entry, is_globs, record_entry, written_items, written_places, written_records, with_visibility, with_definition, is_definition, without_definition};
@@ -33,12 +33,12 @@ impl<Def, Vis, Import: Ord, Target> Model for Table<Def, Vis, Import, Target> {
     ghost view = { λ t. record { items = t.items.entries; records = t.records.entries } };
 }
 
-/// Whether a bound item gives way to one that its own import now reaches.
-fn gives_way<Def: Copy + PartialEq, Vis: Copy, Import: Copy + PartialEq>(
+/// Whether an item replaces a bound one because the import that bound it now reaches another definition.
+fn is_reresolved_by<Def: Copy + PartialEq, Vis: Copy, Import: Copy + PartialEq>(
     bound: Item<Def, Vis, Import>,
     push: Item<Def, Vis, Import>,
 ) -> bool
-    ensures value { result ≡ gives_way Def.eq Import.eq bound push }
+    ensures value { result ≡ is_reresolved_by Def.eq Import.eq bound push }
 {
     match (bound.import, push.import) {
         (Some(by), Some(import)) => by == import && bound.def != push.def,
@@ -58,7 +58,7 @@ fn takes<Def: Copy + PartialEq, Vis: Copy, Import: Copy + PartialEq, Target: Cop
         None => true,
         Some(bound) => {
             let is_glob = candidate.push.is_glob;
-            !is_glob && (globbed || gives_way(bound, candidate.push.item))
+            !is_glob && (globbed || is_reresolved_by(bound, candidate.push.item))
         }
     }
 }
@@ -215,7 +215,7 @@ impl<Def: Copy, Vis: Copy, Import: Copy + Ord, Target: Copy> Table<Def, Vis, Imp
         }
     }
 
-    /// Takes back what was reserved for a candidate.
+    /// Rolls back what was reserved for a candidate.
     pub fn roll_back(
         &mut self,
         globs: &mut Globs,

@@ -8,10 +8,12 @@ use Rattle.hir_base.specs.declared.ids.MapId.{MapId}
 use Rattle.hir_base.specs.declared.ids.ModuleId.{ModuleId}
 use Rattle.hir_tables.specs.Tables.{KeepsTables, TablesValue}
 use Rattle.hir_tables.proofs.Growth.{KeepsTables-refl, KeepsTables-trans}
-use Rattle.hir_def_map.specs.Among.{among, among_agrees, unheld}
+use Rattle.hir_def_map.specs.WorldParts.{among, unheld}
+use Rattle.hir_def_map.specs.Inner.PartLaws.{among_agrees}
 use Rattle.hir_def_map.specs.Closed.{PathsLeadToWhatIsThere}
 use Rattle.hir_def_map.specs.Sources.{PathsAnswerFromSources}
-use Rattle.hir_def_map.specs.State.{Maps, Placed, beside, crate_map, no_maps, root_of}
+use Rattle.hir_def_map.specs.Overlay.{Maps, Placed, overlay, no_maps}
+use Rattle.hir_def_map.specs.State.{crate_map, root_of}
 use Rattle.hir_def_collector.specs.Workspace.{Workspace}
 use Rattle.hir_def_collector.specs.Keys.{look}
 use Rattle.hir_def_collector.specs.Sources.{RunsBindFromSources}
@@ -22,11 +24,11 @@ use Rattle.hir_wire.specs.declared.command.Shadow.{Shadow}
 use Rattle.hir_wire.specs.declared.command.MacroStyle.{MacroStyle}
 use Rattle.hir_wire.specs.declared.reply.Status.TheVariants as status
 use Rattle.hir_session.specs.declared.error.QueryError.{QueryError}
-use Rattle.hir_session.specs.Crates.{CrateValue, behind_in, follows_in, id_of}
+use Rattle.hir_session.specs.Crates.{CrateValue, transitive_in, follows_in, id_of}
 use Rattle.hir_session.specs.Files.{Files}
 use Rattle.hir_session.specs.SessionState.{SessionState, Resolution, workspace_of, dependencies_of, finished_of, follows, read_of, kept_of, is_marked, IsCurrent, IsSound}
-use Rattle.hir_session.specs.StandsOn.{StandsOn}
-use Rattle.hir_session.specs.StandsOn.StandsOn.{directly, through}
+use Rattle.hir_crate_graph.specs.Dependencies.{DependsOn}
+use Rattle.hir_crate_graph.specs.Dependencies.DependsOn.{directly, through}
 use Rattle.hir_session.specs.Spread.{Spread}
 use Rattle.hir_session.specs.Spread.Spread.{here, depends}
 use Rattle.hir_session.specs.Marks.{IsAltered, IsTouched}
@@ -38,6 +40,7 @@ use Rattle.hir_session.specs.Status.{map_of, module_below, module_in_kept, statu
 use Rattle.hir_session.specs.Answers.{answer_by, answer_from, answer_of}
 use Rattle.hir_session.specs.Histories.{History, WasAltered, DifferOnlyWhereAltered}
 use Rattle.hir_session.specs.Histories.History.{none, edit, refresh}
+use Rattle.hir_session.proofs.Depending.{depended}
 use Rattle.hir_session.proofs.Following.{followed}
 use Rattle.hir_session.proofs.Growing.{kept_answer}
 use Rattle.hir_session.proofs.LeftOut.{whole}
@@ -130,20 +133,20 @@ same_or_altered sound off (refresh mid to done earlier is) = elim (same_or_alter
 ]
 
 -- the maps of the crates on which a crate stands are behind its own
-behind_from : {s : SessionState} {id : MapId} {j i : ℕ} → IsBehind s id (id_of j) → StandsOn (dependencies_of s) j i → IsBehind s id (id_of i)
+behind_from : {s : SessionState} {id : MapId} {j i : ℕ} → IsBehind s id (id_of j) → DependsOn (dependencies_of s) j i → IsBehind s id (id_of i)
 behind_from {s} behind (directly k d among) = next (id_of k) (crate_map d) behind (followed s.crates (id_of k) d among)
 behind_from {s} behind (through k i d among rest) = behind_from (next (id_of k) (crate_map d) behind (followed s.crates (id_of k) d among)) rest
 
 -- the same finished maps are read
 same_read : {from to : SessionState} (k : ℕ) → IsSound from → IsSame from to (id_of k) → read_of to (id_of k) ≡ read_of from (id_of k)
 same_read {from} {to} k sound same =
-    ap (λ (cs : List CrateValue). among (behind_in cs k) [] (finished_of to)) same.crates
-    ∙ among_agrees (behind_in from.crates k) [] (finished_of to) (finished_of from)
+    ap (λ (cs : List CrateValue). among (transitive_in cs k) [] (finished_of to)) same.crates
+    ∙ among_agrees (transitive_in from.crates k) [] (finished_of to) (finished_of from)
     (λ j h.
-    let of = of_some (behind_in from.crates k) j h in
+    let of = of_some (transitive_in from.crates k) j h in
     let own : j ≡ crate_map j.krate = λ i. record { krate = j.krate; block = of.0 i } in
     subst (λ (x : MapId). finished_of to x ≡ finished_of from x) (sym own)
-    (ap (option_map (λ (r : Resolution). unheld r.map r.local)) (same.kept (crate_map j.krate) (behind_from itself ((sound.behind k j.krate).0 of.1)))))
+    (ap (option_map (λ (r : Resolution). unheld r.map r.local)) (same.kept (crate_map j.krate) (behind_from itself ((depended sound k j.krate).0 of.1)))))
 
 on_option : {A X : Type 0} (o : Option X) → (o ≡ None → A) → ((x : X) → o ≡ Some x → A) → A
 on_option None f g = f refl
@@ -175,7 +178,7 @@ module _ {from to : SessionState} (place : PlaceValue) (path : Path) (shadow : S
         → answer_from to.tables.files (read_of from (map_of place)) (Some now.found) o path shadow style ≡ answer_from from.tables.files (read_of from (map_of place)) (Some now.found) o path shadow style
     found_answer None s = refl
     found_answer (Some m) s = ap (λ (a : Answer). Ok a)
-        (kept_answer from.tables.files to.tables.files same.tables.files (beside (read_of from (map_of place)) now.found.map) now.found.local m path shadow style
+        (kept_answer from.tables.files to.tables.files same.tables.files (overlay (read_of from (map_of place)) now.found.map) now.found.local m path shadow style
         (whole runs answers leads from sound place.krate.0 off place.elements m path shadow style s))
 
     kept_answer_from : answer_from to.tables.files (read_of from (map_of place)) (kept_of from (map_of place)) (module_in_kept (kept_of from (map_of place)) place.elements) path shadow style

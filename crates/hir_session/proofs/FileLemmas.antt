@@ -1,35 +1,34 @@
-use Rattle.std.proofs.Common.{◌≡◌, ◌≢◌, ℕ, nat_eq, eq-eqb, slice_get, Bool, true, false, ◌&&◌, is_none, cond, Ordering, Less, Equal, Greater, List, [], ◌∷◌, Option, Some, None, option_map, refl, sym, ap, ◌∙◌, option_and_then}
+-- What an edit of a file leaves of each file, and of what is seen at each key.
+use Rattle.std.proofs.Common.{◌≡◌, ◌≢◌, ℕ, nat_eq, eq-eqb, slice_get, Bool, true, false, ◌&&◌, is_none, cond, if◌then◌else◌, Ordering, Less, Equal, Greater, List, [], ◌∷◌, Option, Some, None, option_map, refl, sym, ap, ◌∙◌, option_and_then}
 use Rattle.std.specs.Ordering.{nat_cmp, match_ordering, is_eq}
 use Rattle.std.specs.Cmp.Lexicographic.{slice_cmp, bytes_decides, pointwise}
 use Rattle.std.specs.BTreeMap.{is_at}
 use Rattle.std.proofs.lemmas.Bool.{eqb-true}
 use Rattle.std.proofs.lemmas.Map.Text.{is_eq-slice_cmp}
-use Rattle.hir_base.specs.declared.ast_id.AstKind.TheVariants.{Enum}
 use Rattle.hir_base.specs.declared.ast_id.BlockId.{BlockId}
 use Rattle.hir_base.specs.declared.ast_id.EditionedFileId.{EditionedFileId}
 use Rattle.hir_base.specs.declared.ast_id.FileId.{FileId}
 use Rattle.hir_base.specs.declared.ast_id.HirFileId.{HirFileId}
 use Rattle.hir_base.specs.declared.ast_id.HirFileId.TheVariants.{File, Macro}
 use Rattle.hir_base.specs.declared.ast_id.MacroCallId.{MacroCallId}
+use Rattle.hir_base.specs.declared.ids.Crate.{Crate}
 use Rattle.hir_base.specs.declared.ids.EnumId.{EnumId}
 use Rattle.hir_base.specs.declared.place.BlockPlace.{BlockPlace}
-use Rattle.hir_item_tree.specs.SideLists.{entry_of, entry_variants}
 use Rattle.hir_item_tree.specs.Source.{SourceValue}
-use Rattle.hir_item_tree.specs.SyntaxIds.{node_id}
-use Rattle.hir_item_tree.specs.declared.side_lists.VariantItem.{VariantItem}
+use Rattle.hir_item_tree.specs.SourceTree.{SourceTreeValue, HasSameTree, variants_of}
 use Rattle.hir_item_tree.specs.declared.tree_id.TreeKey.{TreeKey}
 use Rattle.hir_tables.specs.Interning.{IsOnce}
 use Rattle.hir_tables.specs.SourcePlaces.{ExpansionValue, SourcePlaceValue, block, expansion, file}
 use Rattle.hir_tables.specs.Tables as numbers
 use Rattle.hir_tables.specs.Tables.{TablesValue, expansion_of, source_of}
-use Rattle.hir_def_map.specs.State.{no_maps}
-use Rattle.hir_def_collector.specs.Workspace.{TreeLook, Workspace}
-use Rattle.hir_def_collector.specs.Keys.{AgreeOn, Look, enum_tree, look, of_tree, of_variants, tree_of_source}
+use Rattle.hir_def_map.specs.Overlay.{no_maps}
+use Rattle.hir_def_collector.specs.Workspace.{TreeLook, Workspace, seen_of}
+use Rattle.hir_def_collector.specs.Keys.{AgreeOn, enum_key, enum_tree, look, of_tree, of_variants, source_in, source_under}
 use Rattle.hir_def_collector.specs.declared.source_database.Key.{Key}
 use Rattle.hir_def_collector.specs.declared.source_database.Key.TheVariants as keys
 use Rattle.hir_session.specs.Crates.{CrateValue}
-use Rattle.hir_session.specs.Files.{Files, edited_at, file_at, path_in, path_of, shown, sides_under, source_at, variants_under, with_file, without_file, workspace_in}
-use Rattle.hir_session.specs.Marking.{IsNumberOf, is_enum_at, is_path}
+use Rattle.hir_session.specs.Files.{Files, edited_at, file_at, path_in, path_of, tree_under, with_file, without_file, workspace_in}
+use Rattle.hir_session.specs.EditedFiles.{IsNumberOf, asked_under, is_path, seen_at}
 use Rattle.hir_session.proofs.Truth.{clash, on_bool}
 
 -- the test at a path says that two paths are the same
@@ -93,85 +92,7 @@ pub file_at-edited_at : (files : Files) (path : List ℕ) (there : Option Source
 file_at-edited_at files path (Some source) q = file_at-with_file files path source q
 file_at-edited_at files path None q = file_at-without_file files path q
 
--- what is seen tells what is shown
-pub shown-same : (a b : TreeLook) → of_tree a ≡ of_tree b → a ≡ b
-shown-same a b h = cc
-
--- what is seen of a file of this path under a crate, if of any
-abbrev pub seen : List CrateValue → Files → ℕ → Option (List ℕ) → Look
-seen crates files k o = of_tree (shown crates k o (option_and_then (file_at files) o))
-
-module _ (crates : List CrateValue) (F : Files) (path : List ℕ) (there : Option SourceValue) (k : ℕ) where
-  at_other : (q : List ℕ) → is_at (slice_cmp nat_cmp path) q ≡ false → file_at (edited_at F path there) q ≡ file_at F q
-  at_other q off = file_at-edited_at F path there q ∙ rw off refl
-
-  at_path : (q : List ℕ) → is_at (slice_cmp nat_cmp path) q ≡ true → file_at (edited_at F path there) q ≡ there
-  at_path q on = file_at-edited_at F path there q ∙ rw on refl
-
-  pub seen-other : (o : Option (List ℕ)) → is_path path o ≡ false → seen crates (edited_at F path there) k o ≡ seen crates F k o
-  seen-other None h = refl
-  seen-other (Some q) h = on_bool (is_at (slice_cmp nat_cmp path) q)
-      (λ on. clash ((bytes_decides q path).1 (sym (is_at-same path q on))) h)
-      (λ off. ap (λ (x : Option SourceValue). of_tree (shown crates k (Some q) x)) (at_other q off))
-
-  pub seen-same : shown crates k (Some path) there ≡ shown crates k (Some path) (file_at F path) → (o : Option (List ℕ)) → is_path path o ≡ true
-      → seen crates (edited_at F path there) k o ≡ seen crates F k o
-  seen-same alike None h = clash h refl
-  seen-same alike (Some q) h =
-      let same : q ≡ path = (bytes_decides q path).0 h in
-      ap (λ (x : TreeLook). of_tree x)
-      (ap (λ (x : Option SourceValue). shown crates k (Some q) x) (at_path q (same-is_at path q (sym same)))
-      ∙ ap (λ (p : List ℕ). shown crates k (Some p) there) same ∙ alike ∙ ap (λ (p : List ℕ). shown crates k (Some p) (file_at F p)) (sym same))
-
-  pub seen-differs : shown crates k (Some path) there ≢ shown crates k (Some path) (file_at F path) → (o : Option (List ℕ)) → is_path path o ≡ true
-      → seen crates (edited_at F path there) k o ≢ seen crates F k o
-  seen-differs other None h e = clash h refl
-  seen-differs other (Some q) h e =
-      let same : q ≡ path = (bytes_decides q path).0 h in
-      other (ap (λ (p : List ℕ). shown crates k (Some p) there) (sym same)
-      ∙ ap (λ (x : Option SourceValue). shown crates k (Some q) x) (sym (at_path q (same-is_at path q (sym same))))
-      ∙ shown-same _ _ e ∙ ap (λ (p : List ℕ). shown crates k (Some p) (file_at F p)) same)
-
-module _ (crates : List CrateValue) (tables : TablesValue) (F : Files) (path : List ℕ) (there : Option SourceValue) (key : TreeKey) where
-  abbrev now : Workspace
-  now = workspace_in crates F
-
-  abbrev edited : Workspace
-  edited = workspace_in crates (edited_at F path there)
-
-  -- a key of another source
-  pub look-other : is_path path (path_in tables key.id) ≡ false → look tables edited no_maps (keys.Tree key) ≡ look tables now no_maps (keys.Tree key)
-  look-other h = go (source_of tables key.id) h
-    where
-      go : (o : Option SourcePlaceValue) → is_path path (option_and_then path_of o) ≡ false → of_tree (tree_of_source edited key.krate o) ≡ of_tree (tree_of_source now key.krate o)
-      go None e = refl
-      go (Some source) e = seen-other crates F path there key.krate.0 (path_of source) e
-
-  -- a key of the file, under a crate for which its tree stays
-  pub look-same : is_path path (path_in tables key.id) ≡ true
-      → shown crates key.krate.0 (Some path) there ≡ shown crates key.krate.0 (Some path) (file_at F path)
-      → look tables edited no_maps (keys.Tree key) ≡ look tables now no_maps (keys.Tree key)
-  look-same h alike = go (source_of tables key.id) h
-    where
-      go : (o : Option SourcePlaceValue) → is_path path (option_and_then path_of o) ≡ true → of_tree (tree_of_source edited key.krate o) ≡ of_tree (tree_of_source now key.krate o)
-      go None e = clash e refl
-      go (Some source) e = seen-same crates F path there key.krate.0 alike (path_of source) e
-
-  -- a key of the file, under a crate for which its tree becomes another
-  pub look-differs : is_path path (path_in tables key.id) ≡ true
-      → shown crates key.krate.0 (Some path) there ≢ shown crates key.krate.0 (Some path) (file_at F path)
-      → look tables edited no_maps (keys.Tree key) ≢ look tables now no_maps (keys.Tree key)
-  look-differs h other = go (source_of tables key.id) h
-    where
-      go : (o : Option SourcePlaceValue) → is_path path (option_and_then path_of o) ≡ true → of_tree (tree_of_source edited key.krate o) ≢ of_tree (tree_of_source now key.krate o)
-      go None e same = clash e refl
-      go (Some source) e same = seen-differs crates F path there key.krate.0 other (path_of source) e same
-
--- ---- the variants of enums
-
--- what is seen tells the variants
-pub variants-same : (a b : Option (List VariantItem)) → of_variants a ≡ of_variants b → a ≡ b
-variants-same a b h = cc
+-- ---- what a source has before an edit and after it
 
 module _ (F : Files) (path : List ℕ) (there : Option SourceValue) where
   -- the source of what holds syntax, where it is of another file
@@ -192,47 +113,112 @@ module _ (F : Files) (path : List ℕ) (there : Option SourceValue) where
   source-was None h = clash h refl
   source-was (Some q) h = ap (file_at F) ((bytes_decides q path).0 h)
 
-module _ (crates : List CrateValue) (tables : TablesValue) (F : Files) (path : List ℕ) (there : Option SourceValue) (id : EnumId) where
-  -- the variants that a workspace shows of a source
-  abbrev shown_variants : Files → Option SourcePlaceValue → Option (List VariantItem)
-  shown_variants G o = option_and_then entry_variants (option_and_then (λ (source : SourcePlaceValue).
-      entry_of (node_id Enum id.loc.id) (sides_under crates id.loc.container.map.krate.0 (source_at G source))) o)
+-- the path of the file
+of_path : (path : List ℕ) (o : Option (List ℕ)) → is_path path o ≡ true → o ≡ Some path
+of_path path None h = clash h refl
+of_path path (Some q) h = ap (λ (p : List ℕ). Some p) ((bytes_decides q path).0 h)
 
-  abbrev under : Option SourceValue → Option (List VariantItem)
-  under o = variants_under crates id.loc.container.map.krate.0 o id.loc.id
+module _ (crates : List CrateValue) (tables : TablesValue) (F : Files) (path : List ℕ) (there : Option SourceValue) (key : TreeKey) where
+  abbrev now : Workspace
+  now = workspace_in crates F
 
-  -- the variants of an enum of another source
-  pub enum-other : is_enum_at tables path (keys.Variants id) ≡ false
-      → look tables (workspace_in crates (edited_at F path there)) no_maps (keys.Variants id) ≡ look tables (workspace_in crates F) no_maps (keys.Variants id)
-  enum-other h = go (source_of tables (enum_tree id)) h
+  abbrev edited : Workspace
+  edited = workspace_in crates (edited_at F path there)
+
+  -- a source that isn't of the file has what it had
+  tree-other : is_path path (path_in tables key.id) ≡ false → source_in tables edited key ≡ source_in tables now key
+  tree-other h = go (source_of tables key.id) h
     where
-      go : (o : Option SourcePlaceValue) → is_path path (option_and_then path_of o) ≡ false → of_variants (shown_variants (edited_at F path there) o) ≡ of_variants (shown_variants F o)
+      go : (o : Option SourcePlaceValue) → is_path path (option_and_then path_of o) ≡ false → source_under edited key.krate o ≡ source_under now key.krate o
       go None e = refl
-      go (Some source) e = ap (λ (o : Option SourceValue). of_variants (under o)) (source-other F path there (path_of source) e)
+      go (Some source) e = ap (λ (x : Option SourceValue). tree_under crates key.krate.0 (path_of source) x) (source-other F path there (path_of source) e)
 
-  -- those of an enum of the file, which stay
-  pub enum-same : is_enum_at tables path (keys.Variants id) ≡ true → under there ≡ under (file_at F path)
-      → look tables (workspace_in crates (edited_at F path there)) no_maps (keys.Variants id) ≡ look tables (workspace_in crates F) no_maps (keys.Variants id)
-  enum-same h alike = go (source_of tables (enum_tree id)) h
+  -- the file has what it has with its source
+  tree-was : is_path path (path_in tables key.id) ≡ true → source_in tables now key ≡ tree_under crates key.krate.0 (Some path) (file_at F path)
+  tree-was h = go (source_of tables key.id) h
     where
-      go : (o : Option SourcePlaceValue) → is_path path (option_and_then path_of o) ≡ true → of_variants (shown_variants (edited_at F path there) o) ≡ of_variants (shown_variants F o)
+      go : (o : Option SourcePlaceValue) → is_path path (option_and_then path_of o) ≡ true → source_under now key.krate o ≡ tree_under crates key.krate.0 (Some path) (file_at F path)
       go None e = clash e refl
       go (Some source) e =
-          ap (λ (o : Option SourceValue). of_variants (under o)) (source-there F path there (path_of source) e)
-          ∙ ap (λ (v : Option (List VariantItem)). of_variants v) alike
-          ∙ sym (ap (λ (o : Option SourceValue). of_variants (under o)) (source-was F path there (path_of source) e))
+          ap (λ (x : Option SourceValue). tree_under crates key.krate.0 (path_of source) x) (source-was F path there (path_of source) e)
+          ∙ ap (λ (p : Option (List ℕ)). tree_under crates key.krate.0 p (file_at F path)) (of_path path (path_of source) e)
 
-  -- and which become others
-  pub enum-differs : is_enum_at tables path (keys.Variants id) ≡ true → under there ≢ under (file_at F path)
-      → look tables (workspace_in crates (edited_at F path there)) no_maps (keys.Variants id) ≢ look tables (workspace_in crates F) no_maps (keys.Variants id)
-  enum-differs h other = go (source_of tables (enum_tree id)) h
+  -- and after the edit with the one that it gets
+  tree-there : is_path path (path_in tables key.id) ≡ true → source_in tables edited key ≡ tree_under crates key.krate.0 (Some path) there
+  tree-there h = go (source_of tables key.id) h
     where
-      go : (o : Option SourcePlaceValue) → is_path path (option_and_then path_of o) ≡ true → of_variants (shown_variants (edited_at F path there) o) ≢ of_variants (shown_variants F o)
-      go None e same = clash e refl
-      go (Some source) e same = other (
-          sym (ap under (source-there F path there (path_of source) e))
-          ∙ variants-same _ _ same
-          ∙ ap under (source-was F path there (path_of source) e))
+      go : (o : Option SourcePlaceValue) → is_path path (option_and_then path_of o) ≡ true → source_under edited key.krate o ≡ tree_under crates key.krate.0 (Some path) there
+      go None e = clash e refl
+      go (Some source) e =
+          ap (λ (x : Option SourceValue). tree_under crates key.krate.0 (path_of source) x) (source-there F path there (path_of source) e)
+          ∙ ap (λ (p : Option (List ℕ)). tree_under crates key.krate.0 p there) (of_path path (path_of source) e)
+
+-- ---- what is seen at a key
+
+-- a test that is off, and one that is on
+not_asked : (b : Bool) (c : Crate) → (if b then Some c else None) ≡ None → b ≡ false
+not_asked true c e = absurd (let wrong : ⊥ = cc in wrong)
+not_asked false c e = refl
+
+is_asked : (b : Bool) (c d : Crate) → (if b then Some c else None) ≡ Some d → (b ≡ true) × (c ≡ d)
+is_asked true c d e = (refl, (let same : c ≡ d = cc in same))
+is_asked false c d e = absurd (let wrong : ⊥ = cc in wrong)
+
+module _ (crates : List CrateValue) (tables : TablesValue) (F : Files) (path : List ℕ) (there : Option SourceValue) where
+  -- a key that doesn't ask for the file is as it was
+  pub look-other : (key : Key) → asked_under tables path key ≡ None
+      → look tables (workspace_in crates (edited_at F path there)) no_maps key ≡ look tables (workspace_in crates F) no_maps key
+  look-other (keys.Tree key) h = ap (λ (t : SourceTreeValue). of_tree (seen_of t)) (tree-other crates tables F path there key (not_asked _ key.krate h))
+  look-other (keys.Variants id) h = ap (λ (t : SourceTreeValue). of_variants (variants_of t id.loc.id)) (tree-other crates tables F path there (enum_key id) (not_asked _ id.loc.container.map.krate h))
+  look-other (keys.Map id) h = refl
+
+  -- at a key that asks for the file under a crate is seen what the file has there
+  pub look-was : (key : Key) (krate : Crate) → asked_under tables path key ≡ Some krate
+      → look tables (workspace_in crates F) no_maps key ≡ seen_at (tree_under crates krate.0 (Some path) (file_at F path)) key
+  look-was (keys.Tree key) krate h =
+      let asked = is_asked (is_path path (path_in tables key.id)) key.krate krate h in
+      ap (λ (t : SourceTreeValue). of_tree (seen_of t))
+      (tree-was crates tables F path there key asked.0 ∙ ap (λ (c : Crate). tree_under crates c.0 (Some path) (file_at F path)) asked.1)
+  look-was (keys.Variants id) krate h =
+      let asked = is_asked (is_path path (path_in tables (enum_tree id))) id.loc.container.map.krate krate h in
+      ap (λ (t : SourceTreeValue). of_variants (variants_of t id.loc.id))
+      (tree-was crates tables F path there (enum_key id) asked.0 ∙ ap (λ (c : Crate). tree_under crates c.0 (Some path) (file_at F path)) asked.1)
+  look-was (keys.Map id) krate h = absurd (let wrong : ⊥ = cc in wrong)
+
+  pub look-there : (key : Key) (krate : Crate) → asked_under tables path key ≡ Some krate
+      → look tables (workspace_in crates (edited_at F path there)) no_maps key ≡ seen_at (tree_under crates krate.0 (Some path) there) key
+  look-there (keys.Tree key) krate h =
+      let asked = is_asked (is_path path (path_in tables key.id)) key.krate krate h in
+      ap (λ (t : SourceTreeValue). of_tree (seen_of t))
+      (tree-there crates tables F path there key asked.0 ∙ ap (λ (c : Crate). tree_under crates c.0 (Some path) there) asked.1)
+  look-there (keys.Variants id) krate h =
+      let asked = is_asked (is_path path (path_in tables (enum_tree id))) id.loc.container.map.krate krate h in
+      ap (λ (t : SourceTreeValue). of_variants (variants_of t id.loc.id))
+      (tree-there crates tables F path there (enum_key id) asked.0 ∙ ap (λ (c : Crate). tree_under crates c.0 (Some path) there) asked.1)
+  look-there (keys.Map id) krate h = absurd (let wrong : ⊥ = cc in wrong)
+
+  -- so it stays exactly where the file has the same for it
+  pub look-same : (key : Key) (krate : Crate) (old new : SourceTreeValue) → asked_under tables path key ≡ Some krate
+      → old ≡ tree_under crates krate.0 (Some path) (file_at F path) → new ≡ tree_under crates krate.0 (Some path) there → seen_at new key ≡ seen_at old key
+      → look tables (workspace_in crates (edited_at F path there)) no_maps key ≡ look tables (workspace_in crates F) no_maps key
+  look-same key krate old new asked was is same =
+      look-there key krate asked ∙ ap (λ (t : SourceTreeValue). seen_at t key) (sym is) ∙ same ∙ ap (λ (t : SourceTreeValue). seen_at t key) was ∙ sym (look-was key krate asked)
+
+  pub look-differs : (key : Key) (krate : Crate) (old new : SourceTreeValue) → asked_under tables path key ≡ Some krate
+      → old ≡ tree_under crates krate.0 (Some path) (file_at F path) → new ≡ tree_under crates krate.0 (Some path) there → seen_at new key ≢ seen_at old key
+      → look tables (workspace_in crates (edited_at F path there)) no_maps key ≢ look tables (workspace_in crates F) no_maps key
+  look-differs key krate old new asked was is other e = other (
+      ap (λ (t : SourceTreeValue). seen_at t key) is ∙ sym (look-there key krate asked) ∙ e ∙ look-was key krate asked ∙ ap (λ (t : SourceTreeValue). seen_at t key) (sym was))
+
+-- what is seen of trees, or of the variants of enums, is the same exactly where these are
+pub seen-trees : (a b : SourceTreeValue) (key : TreeKey) → HasSameTree a b → seen_at a (keys.Tree key) ≡ seen_at b (keys.Tree key)
+seen-trees a b key same = λ i. of_tree (record { present = same.present i; tree = same.tree i })
+
+pub trees-seen : (a b : SourceTreeValue) (key : TreeKey) → seen_at a (keys.Tree key) ≡ seen_at b (keys.Tree key) → HasSameTree a b
+trees-seen a b key e = let same : seen_of a ≡ seen_of b = cc in record { present = ap (λ (t : TreeLook). t.present) same; tree = ap (λ (t : TreeLook). t.tree) same }
+
+pub variants-seen : (a b : SourceTreeValue) (id : EnumId) → seen_at a (keys.Variants id) ≡ seen_at b (keys.Variants id) → variants_of a id.loc.id ≡ variants_of b id.loc.id
+variants-seen a b id e = cc
 
 -- ---- numbers of files
 
@@ -292,13 +278,22 @@ unnumbered tables path none (File f) None = go (slice_get tables.files f.file_id
         (λ on. absurd (none f.file_id (s ∙ ap (λ (p : List ℕ). Some p) ((bytes_decides q path).0 on))))
         (λ h. h)
 
+-- no key asks for it then
+apart : (b : Bool) (c : Crate) → b ≡ false → (if b then Some c else None) ≡ None
+apart true c off = clash refl off
+apart false c off = refl
+
+unasked : (tables : TablesValue) (path : List ℕ) → ((id : FileId) → numbers.file_at tables id ≢ Some path) → (key : Key) → asked_under tables path key ≡ None
+unasked tables path none (keys.Tree key) = apart (is_path path (path_in tables key.id)) key.krate (unnumbered tables path none key.id.file key.id.block)
+unasked tables path none (keys.Variants id) = apart (is_path path (path_in tables (enum_tree id))) id.loc.container.map.krate (unnumbered tables path none id.loc.file_id id.loc.block)
+unasked tables path none (keys.Map id) = refl
+
 -- and what is seen stays
 pub agrees_unnumbered : (crates : List CrateValue) (tables : TablesValue) (F : Files) (path : List ℕ) (there : Option SourceValue) (asked : List Key)
     → ((id : FileId) → numbers.file_at tables id ≢ Some path)
     → AgreeOn tables asked (workspace_in crates F) no_maps (workspace_in crates (edited_at F path there)) no_maps
-agrees_unnumbered crates tables F path there asked none = record { crates = refl; config = λ krate. refl; behind = λ krate. refl; same = λ key among. same key }
-  where
-    same : (key : Key) → look tables (workspace_in crates (edited_at F path there)) no_maps key ≡ look tables (workspace_in crates F) no_maps key
-    same (keys.Tree key) = look-other crates tables F path there key (unnumbered tables path none key.id.file key.id.block)
-    same (keys.Variants id) = enum-other crates tables F path there id (unnumbered tables path none id.loc.file_id id.loc.block)
-    same (keys.Map id) = refl
+agrees_unnumbered crates tables F path there asked none = record {
+  crates = refl;
+  config = λ krate. refl;
+  same = λ key among. look-other crates tables F path there key (unasked tables path none key);
+}

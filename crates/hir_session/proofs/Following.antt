@@ -6,8 +6,8 @@ use Rattle.hir_base.specs.declared.ids.MapId.{MapId}
 use Rattle.hir_def_map.specs.State.{crate_map}
 use Rattle.hir_session.specs.Crates.{CrateValue, dependencies_in, follows_in, id_of}
 use Rattle.hir_session.specs.SessionState.{SessionState, dependencies_of, is_marked, IsSound}
-use Rattle.hir_session.specs.StandsOn.{StandsOn}
-use Rattle.hir_session.specs.StandsOn.StandsOn.{directly, through}
+use Rattle.hir_crate_graph.specs.Dependencies.{DependsOn}
+use Rattle.hir_crate_graph.specs.Dependencies.DependsOn.{directly, through}
 use Rattle.hir_session.specs.Spread.{Spread}
 use Rattle.hir_session.specs.Spread.Spread.{here, depends}
 
@@ -38,6 +38,6 @@ pub follows_unmarked : {s : SessionState} → IsSound s → (k : ℕ) (d : Crate
 follows_unmarked {s} sound k d off among = sound.closed (id_of k) (crate_map d) off (followed s.crates (id_of k) d among)
 
 -- what is spread to the map of a crate is spread to those of all that stand on it
-pub spread_on : (crates : List CrateValue) {P : MapId → Type 0} {k i : ℕ} → StandsOn (dependencies_in crates) k i → Spread (follows_in crates) P (id_of i) → Spread (follows_in crates) P (id_of k)
+pub spread_on : (crates : List CrateValue) {P : MapId → Type 0} {k i : ℕ} → DependsOn (dependencies_in crates) k i → Spread (follows_in crates) P (id_of i) → Spread (follows_in crates) P (id_of k)
 spread_on crates (directly k d among) sp = depends (id_of k) (crate_map d) (followed crates (id_of k) d among) sp
 spread_on crates (through k j d among rest) sp = depends (id_of k) (crate_map d) (followed crates (id_of k) d among) (spread_on crates rest sp)

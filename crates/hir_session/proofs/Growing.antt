@@ -23,7 +23,8 @@ use Rattle.hir_scope.specs.declared.imports.ImportOrGlob.TheVariants as value_im
 use Rattle.hir_scope.specs.declared.visibility.Visibility.{Visibility}
 use Rattle.hir_scope.specs.declared.visibility.Visibility.TheVariants as vis
 use Rattle.hir_def_map.specs.Scoping.{resolution_of}
-use Rattle.hir_def_map.specs.State.{Local, Maps, ModuleValue, module_in}
+use Rattle.hir_def_map.specs.State.{Local, ModuleValue}
+use Rattle.hir_def_map.specs.Overlay.{Maps, module_in}
 use Rattle.hir_def_map.specs.declared.nameres.origin.ModuleOrigin.{ModuleOrigin}
 use Rattle.hir_def_map.specs.declared.nameres.origin.ModuleOrigin.TheVariants as origin
 use Rattle.hir_wire.specs.declared.answer.AnswerItem.{AnswerItem}

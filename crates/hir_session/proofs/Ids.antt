@@ -7,7 +7,7 @@ use Rattle.hir_base.specs.declared.ids.MapId.{MapId}
 use Rattle.hir_base.specs.contracts.ids.MapIdOrd.TheImpl as map_order
 use Rattle.hir_base.specs.contracts.ids.MapIdOrd.TheImpl.Laws.{total-law as order_total, matches_eq-law as order_ties}
 use Rattle.hir_base.specs.contracts.ids.MapIdPartialEq.TheImpl as map_id
-use Rattle.hir_def_map.specs.Beside.{exact_map, same_id}
+use Rattle.hir_def_map.specs.Inner.OverlayLaws.{exact_map, same_id}
 use Rattle.hir_session.specs.Crates.{id_of}
 use Rattle.hir_session.proofs.Truth.{clash, on_bool}
 

@@ -1,8 +1,10 @@
-use Rattle.std.proofs.Common.{◌≡◌, ◌≢◌, Some, ◌⊎◌, inl, inr, ℕ, zero, suc, ◌+◌, ◌<◌, Bool, true, false, List, [], ◌∷◌, ◌++◌, length, slice_index_or, arith, Option, refl, sym, ap, ◌∙◌, subst, Contains}
+-- The places that were judged so far, and the keys of one.
+use Rattle.std.proofs.Common.{◌≡◌, ◌≢◌, Some, None, ◌⊎◌, inl, inr, ℕ, zero, suc, ◌+◌, ◌<◌, ◌≤◌, true, false, is_some, List, [], ◌∷◌, ◌++◌, length, slice_index_or, arith, Option, refl, sym, ap, ◌∙◌, subst, Contains}
+use Rattle.std.specs.List.{list_any}
 use Rattle.std.proofs.lemmas.List.Elements.{Contains-append_left, Contains-append_right, Contains-append_cases}
 use Rattle.hir_base.specs.declared.ids.MapId.{MapId}
 use Rattle.hir_item_tree.specs.Source.{SourceValue}
-use Rattle.hir_def_map.specs.State.{no_maps}
+use Rattle.hir_def_map.specs.Overlay.{no_maps}
 use Rattle.hir_base.specs.declared.ids.Crate.{Crate}
 use Rattle.hir_tables.specs.Tables.{TablesValue, file_at}
 use Rattle.hir_base.specs.declared.ast_id.FileId.{FileId}
@@ -14,10 +16,12 @@ use Rattle.hir_session.specs.Crates.{CrateValue, id_of}
 use Rattle.hir_session.specs.Kept.{Resolutions, kept_in}
 use Rattle.hir_session.specs.Files.{Files, edited_at, workspace_in}
 use Rattle.hir_session.specs.SessionState.{Resolution}
-use Rattle.hir_session.specs.Marking.{AgreeAt, AreHit, HasAltered, IsAsked, IsJudged, is_enum_at}
-use Rattle.hir_session.specs.Marking.IsJudged.{hit, missed}
-use Rattle.hir_session.proofs.FileLemmas.{agrees_unnumbered}
-use Rattle.hir_session.proofs.Truth.{on_bool, on_same}
+use Rattle.hir_session.specs.EditedFiles.{AreHit, HasAltered, IsAsked, IsJudged, IsNoted, asked_under}
+use Rattle.hir_session.specs.EditedFiles.IsJudged.{hit, missed}
+use Rattle.hir_session.specs.EditedFiles.IsNoted.{hit as noted, missed as unnoted}
+use Rattle.hir_session.proofs.Depending.{any-found}
+use Rattle.hir_session.proofs.FileLemmas.{agrees_unnumbered, look-other}
+use Rattle.hir_session.proofs.Truth.{clash, on_same}
 
 -- the crates below were judged
 pub judging-start : (tables : TablesValue) (v w : Workspace) (kept : Resolutions) → AreHit tables v w kept 0 []
@@ -69,28 +73,44 @@ same_item [] k a b h = absurd (omega arith)
 same_item (x ∷ xs) zero a b h = refl
 same_item (x ∷ xs) (suc k) a b h = same_item xs k a b (omega arith)
 
-module _ (crates : List CrateValue) (tables : TablesValue) (F : Files) (path : List ℕ) (there : Option SourceValue) (keys : List Key) where
-  -- the key is unaltered, if it is of the variants of an enum of the file, or if it isn't
-  abbrev pub IsSame : Bool → Key → Type 0
-  IsSame enums x = is_enum_at tables path x ≡ enums → look tables (workspace_in crates (edited_at F path there)) no_maps x ≡ look tables (workspace_in crates F) no_maps x
+module _ (tables : TablesValue) (v w : Workspace) (keys : List Key) where
+  -- the key is unaltered
+  abbrev pub IsSame : Key → Type 0
+  IsSame x = look tables w no_maps x ≡ look tables v no_maps x
 
   -- one more key
-  pub same_more : (enums : Bool) (k : ℕ) (d : Key) → k < length keys → ((j : ℕ) (key : Key) → j < k → IsSame enums (slice_index_or keys j key))
-      → IsSame enums (slice_index_or keys k d) → (j : ℕ) (key : Key) → j < k + 1 → IsSame enums (slice_index_or keys j key)
-  same_more enums k d within before here j key h = on_same j k
-      (λ e. subst (λ (i : ℕ). IsSame enums (slice_index_or keys i key)) (sym e) (subst (IsSame enums) (same_item keys k d key within) here))
+  pub same_more : (k : ℕ) (d : Key) → k < length keys → ((j : ℕ) (key : Key) → j < k → IsSame (slice_index_or keys j key))
+      → IsSame (slice_index_or keys k d) → (j : ℕ) (key : Key) → j < k + 1 → IsSame (slice_index_or keys j key)
+  same_more k d within before here j key h = on_same j k
+      (λ e. subst (λ (i : ℕ). IsSame (slice_index_or keys i key)) (sym e) (subst IsSame (same_item keys k d key within) here))
       (λ ne. before j key (omega arith))
 
-  -- what agrees at the variants of enums of the file and elsewhere agrees
-  pub agrees_at_both : AgreeAt tables path false keys (workspace_in crates F) (workspace_in crates (edited_at F path there))
-      → AgreeAt tables path true keys (workspace_in crates F) (workspace_in crates (edited_at F path there))
-      → AgreeOn tables keys (workspace_in crates F) no_maps (workspace_in crates (edited_at F path there)) no_maps
-  agrees_at_both others enums = record {
-    crates = refl;
-    config = λ krate. refl;
-    behind = λ krate. refl;
-    same = λ key h. on_bool (is_enum_at tables path key) (λ on. enums.same key h on) (λ off. others.same key h off);
-  }
+-- all keys of a list are unaltered
+pub agrees_all : (crates : List CrateValue) (tables : TablesValue) (F G : Files) (keys : List Key) (k : ℕ) → length keys ≤ k
+    → ((j : ℕ) (key : Key) → j < k → look tables (workspace_in crates G) no_maps (slice_index_or keys j key) ≡ look tables (workspace_in crates F) no_maps (slice_index_or keys j key))
+    → AgreeOn tables keys (workspace_in crates F) no_maps (workspace_in crates G) no_maps
+agrees_all crates tables F G keys k all same = record {
+  crates = refl;
+  config = λ krate. refl;
+  same = λ key among.
+      let within : among.0 < length keys = among.1 in
+      subst (λ (x : Key). look tables (workspace_in crates G) no_maps x ≡ look tables (workspace_in crates F) no_maps x) among.2
+      (same among.0 key (omega arith));
+}
+
+-- so they are where none asks for the file
+pub agrees_unasked : (crates : List CrateValue) (tables : TablesValue) (F : Files) (path : List ℕ) (there : Option SourceValue) (keys : List Key)
+    → list_any (λ (key : Key). is_some (asked_under tables path key)) keys ≡ false
+    → AgreeOn tables keys (workspace_in crates F) no_maps (workspace_in crates (edited_at F path there)) no_maps
+agrees_unasked crates tables F path there keys none = record {
+  crates = refl;
+  config = λ krate. refl;
+  same = λ key among. look-other crates tables F path there key (none_here (asked_under tables path key) (λ asked. clash (any-found (λ (key : Key). is_some (asked_under tables path key)) keys key among asked) none));
+}
+  where
+    none_here : (o : Option Crate) → (is_some o ≡ true → ⊥) → o ≡ None
+    none_here None apart = refl
+    none_here (Some c) apart = absurd (apart refl)
 
 -- ---- all keys that a run asked for
 
@@ -105,10 +125,9 @@ pub agrees_on_own : (tables : TablesValue) (own all : List Key) (v w : Workspace
 agrees_on_own tables own all v w part agree = record {
   crates = agree.crates;
   config = agree.config;
-  behind = agree.behind;
-  same = λ key among. elim (Contains-append_cases own (map_keys part.behind) key (subst (λ (ks : List Key). Contains ks key) part.is among)) [
+  same = λ key among. elim (Contains-append_cases own (map_keys part.dependencies) key (subst (λ (ks : List Key). Contains ks key) part.is among)) [
     | inl early ↦ agree.same key early
-    | inr late ↦ of_maps tables v w part.behind key late
+    | inr late ↦ of_maps tables v w part.dependencies key late
   ];
 }
 
@@ -116,6 +135,20 @@ agrees_on_own tables own all v w part agree = record {
 pub altered_of_own : (tables : TablesValue) (own all : List Key) (v w : Workspace) → IsOwnPart own all → HasAltered tables v w own → HasAltered tables v w all
 altered_of_own tables own all v w part found = record {
   key = found.key;
-  asked = subst (λ (ks : List Key). Contains ks found.key) (sym part.is) (Contains-append_left own (map_keys part.behind) found.key found.asked);
+  asked = subst (λ (ks : List Key). Contains ks found.key) (sym part.is) (Contains-append_left own (map_keys part.dependencies) found.key found.asked);
   altered = found.altered;
 }
+
+-- none is noted where none of the keys asks for the file
+pub unasked_noted : (crates : List CrateValue) (tables : TablesValue) (F : Files) (path : List ℕ) (there : Option SourceValue) (keys : List Key) (id : MapId) (hits : List MapId)
+    → list_any (λ (key : Key). is_some (asked_under tables path key)) keys ≡ false
+    → IsNoted tables (workspace_in crates F) (workspace_in crates (edited_at F path there)) keys id hits hits
+unasked_noted crates tables F path there keys id hits none = unnoted (agrees_unasked crates tables F path there keys none) refl
+
+-- a place with no keys but these
+pub judged_by : (tables : TablesValue) (v w : Workspace) (r : Resolution) (own : List Key) (id : MapId) (old new : List MapId) → IsOwnPart own r.asked
+    → IsNoted tables v w own id old new → IsJudged tables v w (Some r) id old new
+judged_by tables v w r own id old new part (noted altered is) =
+    hit (record { found = r; is = refl; altered = altered_of_own tables own r.asked v w part altered }) is
+judged_by tables v w r own id old new part (unnoted agree is) =
+    missed (λ q same. let here : r ≡ q = cc in subst (λ (x : Resolution). AgreeOn tables x.asked v no_maps w no_maps) here (agrees_on_own tables own r.asked v w part agree)) is

@@ -7,15 +7,16 @@ use Rattle.hir_base.specs.declared.ids.MapId.{MapId}
 use Rattle.hir_base.specs.contracts.ids.MapIdOrd.TheImpl as map_order
 use Rattle.hir_base.specs.contracts.ids.MapIdPartialEq.TheImpl as map_id
 use Rattle.hir_def_map.specs.declared.world.finished.Finished.{Finished}
-use Rattle.hir_def_map.specs.Among.{unheld}
-use Rattle.hir_def_map.specs.Beside.{exact_map, same_id}
+use Rattle.hir_def_map.specs.WorldParts.{unheld}
+use Rattle.hir_def_map.specs.Inner.OverlayLaws.{exact_map, same_id}
 use Rattle.hir_def_map.specs.declared.world.insert.InsertError.{InsertError}
 use Rattle.hir_def_map.specs.declared.world.insert.InsertError.TheVariants.{Unchecked, Memory}
-use Rattle.hir_def_map.specs.Inserted.{may_join, IsReason}
-use Rattle.hir_def_map.specs.Named.{is_complete}
-use Rattle.hir_def_map.specs.Removal.{Depends, names_in as names_between, names_of as between_of}
+use Rattle.hir_def_map.specs.Insertion.{may_join, IsReason}
+use Rattle.hir_def_map.specs.References.{is_well_formed}
+use Rattle.hir_def_map.specs.Removal.{Depends, refers_in as names_between, refers_of as between_of}
 use Rattle.hir_def_map.specs.Removal.Depends.{itself, through}
-use Rattle.hir_def_map.specs.State.{Local, Map, Maps, Placed, holders_or, holders_under, map_in, no_maps, placed_with, with_map}
+use Rattle.hir_def_map.specs.State.{Local, Map}
+use Rattle.hir_def_map.specs.Overlay.{Maps, Placed, holders_or, holders_under, map_in, no_maps, placed_with, with_map}
 use Rattle.hir_def_map.specs.World.{finished_in, local_in, placed_of}
 use Rattle.hir_def_collector.specs.Derivation.{CollectedValue}
 use Rattle.hir_session.specs.declared.kept.KeptRun.{KeptRun}
@@ -142,11 +143,11 @@ absent maps runs alone kept is id free =
 
 -- so a complete one may join
 pub may_join_there : (maps : Store) (runs : Runs) → AreUnheld maps → (kept : Resolutions) → resolutions_in maps runs ≡ kept → (map : Map) (local : Local)
-    → kept_in kept map.id ≡ None → is_complete (finished_by kept) map local ≡ true → may_join (finished_in maps) map local ≡ true
+    → kept_in kept map.id ≡ None → is_well_formed (finished_by kept) map local ≡ true → may_join (finished_in maps) map local ≡ true
 may_join_there maps runs alone kept is map local free complete =
-    both_true (not (is_some (finished_in maps map.id))) (is_complete (finished_in maps) map local)
+    both_true (not (is_some (finished_in maps map.id))) (is_well_formed (finished_in maps) map local)
     (ap (λ (o : Option Placed). not (is_some o)) (absent maps runs alone kept is map.id free))
-    (ap (λ (finished : Maps). is_complete finished map local) (told maps runs alone ∙ ap finished_by is) ∙ complete)
+    (ap (λ (finished : Maps). is_well_formed finished map local) (told maps runs alone ∙ ap finished_by is) ∙ complete)
 
 -- what may join is refused for want of memory alone
 pub only_memory : (may : Bool) (why : InsertError) → may ≡ true → IsReason may why → why ≡ Memory

@@ -1,5 +1,5 @@
 -- Nothing is left out of an answer: what a path names in a current crate is written in files of the table.
-use Rattle.std.specs.Prelude.{◌≡◌, ℕ, zero, suc, ◌<◌, Bool, true, false, not, ◌||◌, is_some, List, [], ◌∷◌, length, Option, None, Some, option_map, option_and_then}
+use Rattle.std.specs.Prelude.{◌≡◌, ℕ, zero, suc, ◌<◌, Bool, true, false, not, ◌||◌, is_some, IsSome, slice_get, Contains, List, [], ◌∷◌, length, Option, None, Some, option_map, option_and_then}
 use Rattle.std.specs.BTreeMap.{is_at}
 use Rattle.std.specs.Cmp.Lexicographic.{slice_cmp}
 use Rattle.std.specs.List.{list_any}
@@ -8,7 +8,9 @@ use Rattle.std.proofs.Common.{ap, arith, refl, subst, sym, ◌∙◌}
 use mathlib.Core.Bool.{true≢false}
 use Rattle.hir_base.specs.ModPath.{Path}
 use Rattle.hir_base.specs.declared.ast_id.BlockId.{BlockId}
+use Rattle.hir_base.specs.declared.ast_id.EditionedFileId.{EditionedFileId}
 use Rattle.hir_base.specs.declared.ast_id.HirFileId.{HirFileId}
+use Rattle.hir_base.specs.declared.ast_id.HirFileId.TheVariants.{File}
 use Rattle.hir_base.specs.declared.ast_id.SyntaxId.{SyntaxId}
 use Rattle.hir_base.specs.declared.ids.AdtId.{AdtId}
 use Rattle.hir_base.specs.declared.ids.AdtId.TheVariants as adt
@@ -28,20 +30,34 @@ use Rattle.hir_scope.specs.PerNs.{Item}
 use Rattle.hir_scope.specs.declared.visibility.Visibility.{Visibility}
 use Rattle.hir_scope.specs.declared.visibility.Visibility.TheVariants as vis
 use Rattle.hir_def_map.specs.Closed.{AreThere, IsThere, ModuleIsThere, PathsLeadToWhatIsThere, TypeIsThere}
-use Rattle.hir_def_map.specs.Complete.{AreWhole, NamesOnly}
-use Rattle.hir_def_map.specs.Among.{unheld}
-use Rattle.hir_def_map.specs.Named.{crate_map, is_missing, names_in_module, test_child, test_of, test_type}
+use Rattle.hir_def_map.specs.WellFormed.{AreWellFormed, HasNoDanglingReference}
+use Rattle.hir_def_map.specs.WorldParts.{unheld}
+use Rattle.hir_def_map.specs.References.{crate_map, is_missing, any_reference_in, test_child, test_of, test_type}
 use Rattle.hir_def_map.proofs.NoneOf.{none_at, none_found, not_first, not_second}
 use Rattle.hir_def_map.specs.Scoping.{resolution_of}
 use Rattle.hir_def_map.specs.Scoping.Asking.{Asking}
 use Rattle.hir_def_map.specs.Sources.{HoldsNowhere, HoldsNowhereIn, HoldsOfNoExtern, HoldsOfNone, PathsAnswerFromSources, SourceTest, on_adt, on_def, on_import, on_macro, on_macro_item, on_origin, on_some, on_type, on_value, on_value_def, on_value_import, on_visibility}
-use Rattle.hir_def_map.specs.State.{Map, Maps, ModuleValue, Placed, beside, child_at, child_of, module_at, module_in, root_of}
-use Rattle.hir_def_map.proofs.StaysComplete.{Extends-beside, IsClosed-beside, LocalIsThere-begins, module_there}
-use Rattle.hir_def_map.proofs.StaysSourced.{HoldsNowhere-beside}
+use Rattle.hir_def_map.specs.State.{Map, ModuleValue, child_at, child_of, module_at, root_of}
+use Rattle.hir_def_map.specs.Overlay.{Maps, Placed, overlay, module_in}
+use Rattle.hir_def_map.proofs.StaysWellFormed.{Extends-overlay, IsClosed-overlay, LocalIsThere-begins, module_there}
+use Rattle.hir_def_map.proofs.StaysSourced.{HoldsNowhere-overlay}
 use Rattle.hir_def_map.specs.declared.nameres.origin.ModuleOrigin.{ModuleOrigin}
 use Rattle.hir_def_map.specs.declared.nameres.origin.ModuleOrigin.TheVariants as origin
-use Rattle.hir_def_map.specs.declared.world.named.Named.TheVariants as named
+use Rattle.hir_def_map.specs.declared.world.reference.Reference.TheVariants as named
+use Rattle.hir_item_tree.specs.declared.tree_id.TreeId.{TreeId}
+use Rattle.hir_item_tree.specs.declared.tree_id.TreeKey.{TreeKey}
+use Rattle.hir_tables.specs.SourcePlaces.{file}
+use Rattle.hir_tables.specs.Tables.{TablesValue, source_of as source_of_tree}
+use Rattle.hir_def_collector.specs.Causes.{HasCause}
+use Rattle.hir_def_collector.specs.Causes.HasCause.{root_tree, declared_enum, candidate, dependency}
+use Rattle.hir_def_collector.specs.Derivation.{Ends}
+use Rattle.hir_def_collector.specs.Keys.{HasMeaning}
+use Rattle.hir_def_collector.specs.ModuleFiles.{file_key}
 use Rattle.hir_def_collector.specs.Sources.{IsClearOf, RunsBindFromSources}
+use Rattle.hir_def_collector.specs.Start.{Beginning, root_key, tree_key}
+use Rattle.hir_def_collector.specs.State.{State}
+use Rattle.hir_def_collector.specs.Workspace.{Workspace}
+use Rattle.hir_def_collector.specs.declared.source_database.Key.TheVariants as keys
 use Rattle.hir_def_collector.specs.Whole.{StandsOnWhole}
 use Rattle.hir_wire.specs.declared.answer.AnswerVisibility.{AnswerVisibility}
 use Rattle.hir_wire.specs.declared.answer.Definition.{Definition}
@@ -50,16 +66,18 @@ use Rattle.hir_wire.specs.declared.answer.SourceKind.{SourceKind}
 use Rattle.hir_wire.specs.declared.command.MacroStyle.{MacroStyle}
 use Rattle.hir_wire.specs.declared.command.Shadow.{Shadow}
 use Rattle.hir_session.specs.Answers.{answer_in, asking_of}
-use Rattle.hir_session.specs.Behind.{has_crate}
-use Rattle.hir_session.specs.Crates.{behind_in, id_of}
+use Rattle.hir_crate_graph.specs.CrateSet.{has_crate}
+use Rattle.hir_session.specs.Crates.{transitive_in, crate_in, id_of, root_of as root_of_crate, tree_of_root}
 use Rattle.hir_session.specs.LeavesOut.{LeavesNothingOut}
 use Rattle.hir_session.specs.SessionState.{SessionState, Resolution, finished_of, is_marked, read_of, beginning_of, workspace_of, IsSound}
-use Rattle.hir_session.specs.SourceItems.{adt_definition, answered_macro, answered_type, answered_value, definition_of, import_source, item_of, macro_definition, maybe_source, module_by, module_definition, source_of, together, value_import_source, visibility_source}
+use Rattle.hir_session.specs.SourceItems.{adt_definition, answered_macro, answered_type, answered_value, definition_of, file_source, import_source, item_of, macro_definition, maybe_source, module_by, module_definition, source_of, together, value_import_source, visibility_source}
 use Rattle.hir_session.specs.Status.{module_below}
 use Rattle.hir_session.proofs.Names.{among_at, among_there}
-use Rattle.hir_session.proofs.Resolving.{behind_current, behind_extends, behind_whole, own_absent, stands_on_whole}
+use Rattle.hir_session.proofs.Resolving.{behind_current, behind_extends, behind_whole, own_absent, root_means, stands_on_whole}
+use Rattle.hir_session.proofs.Depending.{depended}
 use Rattle.hir_session.proofs.Following.{follows_unmarked}
-use Rattle.hir_session.proofs.Worlds.{AgreeOn-refl, StandsOn-below, StandsOn-holds}
+use Rattle.hir_session.proofs.LowerLaws.{asked_keys_have_meaning}
+use Rattle.hir_session.proofs.Worlds.{AgreeOn-refl, DependsOn-below, DependsOn-holds}
 
 -- ---- options
 
@@ -73,8 +91,8 @@ mapped_some f (Some x) = refl
 
 -- ---- the crates on which a current crate stands
 
-unmarked_behind : (s : SessionState) → IsSound s → (k : ℕ) → is_marked s (id_of k) ≡ false → (c : Crate) → has_crate (behind_in s.crates k) c ≡ true → is_marked s (crate_map c) ≡ false
-unmarked_behind s sound k off c behind = StandsOn-holds {P = λ i. is_marked s (id_of i) ≡ false} (λ i d p among. follows_unmarked sound i d p among) ((sound.behind k c).0 behind) off
+unmarked_behind : (s : SessionState) → IsSound s → (k : ℕ) → is_marked s (id_of k) ≡ false → (c : Crate) → has_crate (transitive_in s.crates k) c ≡ true → is_marked s (crate_map c) ≡ false
+unmarked_behind s sound k off c behind = DependsOn-holds {P = λ i. is_marked s (id_of i) ≡ false} (λ i d p among. follows_unmarked sound i d p among) ((depended sound k c).0 behind) off
 
 -- what is kept of a current crate
 abbrev current_of : (s : SessionState) → IsSound s → (k : ℕ) → is_marked s (id_of k) ≡ false → Resolution
@@ -83,13 +101,13 @@ current_of s sound k off = (sound.current (id_of k) off).found
 own_apart : (s : SessionState) (sound : IsSound s) (k : ℕ) (off : is_marked s (id_of k) ≡ false) → read_of s (id_of k) (current_of s sound k off).map.id ≡ None
 own_apart s sound k off = ap (read_of s (id_of k)) (sound.current (id_of k) off).gives.own ∙ own_absent s k sound
 
--- ---- what current crates bind, under a test of sources that holds of nothing that a root file writes
+-- ---- what current crates bind, under a test of sources that holds of no tree that a run asked for
 
 module _ (runs : RunsBindFromSources) (s : SessionState) (sound : IsSound s) (t : SourceTest)
-    (written : (j : ℕ) → j < length s.crates → t.holder (beginning_of s (id_of j)).tree.file None ≡ false) where
+    (written : (j : ℕ) (off : is_marked s (id_of j) ≡ false) (key : TreeKey) → Contains (current_of s sound j off).asked (keys.Tree key) → t.holder key.id.file key.id.block ≡ false) where
   -- it holds of no module that is there beside the maps that a crate reads
   abbrev ShowsThere : ℕ → Resolution → Type 0
-  ShowsThere j r = (m : ModuleId) → ModuleIsThere (beside (read_of s (id_of j)) r.map) m → t.shown m ≡ false
+  ShowsThere j r = (m : ModuleId) → ModuleIsThere (overlay (read_of s (id_of j)) r.map) m → t.shown m ≡ false
 
   abbrev Nowhere : Resolution → Type 0
   Nowhere r = HoldsNowhereIn t r.map × HoldsOfNoExtern t r.local
@@ -100,14 +118,14 @@ module _ (runs : RunsBindFromSources) (s : SessionState) (sound : IsSound s) (t 
   reads j off shows below id placed e =
       let own : Resolution = current_of s sound j off in
       let unmarked = unmarked_behind s sound j off in
-      let there = among_there (behind_in s.crates j) (finished_of s) id placed e in
+      let there = among_there (transitive_in s.crates j) (finished_of s) id placed e in
       let w = behind_current s j sound unmarked id.krate there.1 in
       let same : id ≡ crate_map id.krate = λ i. record { krate = id.krate; block = there.0 i } in
       let is : placed ≡ unheld w.found.map w.found.local =
-      (let both : Some placed ≡ Some (unheld w.found.map w.found.local) = sym e ∙ ap (read_of s (id_of j)) same ∙ among_at (behind_in s.crates j) s.kept id.krate w.found there.1 w.is in cc) in
-      let lower : id.krate.0 < j = StandsOn-below sound.below ((sound.behind j id.krate).0 there.1) in
+      (let both : Some placed ≡ Some (unheld w.found.map w.found.local) = sym e ∙ ap (read_of s (id_of j)) same ∙ among_at (transitive_in s.crates j) s.kept id.krate w.found there.1 w.is in cc) in
+      let lower : id.krate.0 < j = DependsOn-below sound.below ((depended sound j id.krate).0 there.1) in
       let seen : ShowsThere id.krate.0 w.found =
-      λ m h. shows m (Extends-beside (read_of s (id_of j)) own.map (own_apart s sound j off) (named.Module m) (behind_extends s j sound unmarked id.krate there.1 (named.Module m) h)) in
+      λ m h. shows m (Extends-overlay (read_of s (id_of j)) own.map (own_apart s sound j off) (named.Module m) (behind_extends s j sound unmarked id.krate there.1 (named.Module m) h)) in
       let bound : Nowhere w.found = below id.krate.0 lower (unmarked id.krate there.1) seen in
       subst (λ (p : Placed). HoldsNowhereIn t p.map) (sym is) bound.0
 
@@ -116,9 +134,8 @@ module _ (runs : RunsBindFromSources) (s : SessionState) (sound : IsSound s) (t 
   binds (suc n) j low off shows =
       let now = sound.current (id_of j) off in
       let unmarked = unmarked_behind s sound j off in
-      let within : j < length s.crates = (sound.placed (id_of j) off).within in
-      let clear : IsClearOf t (read_of s (id_of j)) (beginning_of s (id_of j)).tree now.found.map =
-      record { written = written j within; shown = shows; read = reads j off shows (λ i lower still seen. binds n i (omega arith) still seen) } in
+      let clear : IsClearOf t (read_of s (id_of j)) now.found.asked now.found.map =
+      record { written = written j off; shown = shows; read = reads j off shows (λ i lower still seen. binds n i (omega arith) still seen) } in
       runs t s.tables (workspace_of s) (finished_of s) (beginning_of s (id_of j)) now.found
       (behind_whole s j sound unmarked)
       (stands_on_whole s j sound unmarked)
@@ -132,13 +149,13 @@ module _ (paths : List (List ℕ)) (maps : Maps) where
   abbrev unsourced : SourceTest
   unsourced = record { holder = λ file block. not (is_some (source_of paths file block)); shown = λ m. is_missing maps (named.Module m) }
 
-  item_there : (krate : Crate) (kind : SourceKind) (file : HirFileId) (block : Option BlockId) (id : SyntaxId) → unsourced.holder file block ≡ false
-      → is_some (item_of paths krate kind file block id) ≡ true
-  item_there krate kind file block id f = mapped_some _ (source_of paths file block) ∙ present (is_some (source_of paths file block)) f
+  item_there : (krate : Crate) (kind : SourceKind) (held : HirFileId) (block : Option BlockId) (id : SyntaxId) → unsourced.holder held block ≡ false
+      → is_some (item_of paths krate kind held block id) ≡ true
+  item_there krate kind held block id f = mapped_some _ (source_of paths held block) ∙ present (is_some (source_of paths held block)) f
 
   by_origin : (krate : Crate) (o : ModuleOrigin) → on_origin unsourced o ≡ false → is_some (module_by paths krate o) ≡ true
-  by_origin krate (origin.CrateRoot file) f = refl
-  by_origin krate (origin.File is_mod_rs at tree file) f = item_there krate _ at.file_id tree.block at.id f
+  by_origin krate (origin.CrateRoot root) f = refl
+  by_origin krate (origin.File is_mod_rs at tree number) f = item_there krate _ at.file_id tree.block at.id f
   by_origin krate (origin.Inline tree at) f = item_there krate _ at.file_id tree.block at.id f
   by_origin krate (origin.BlockExpr id block) f = absurd (true≢false f)
 
@@ -264,31 +281,68 @@ module _ (paths : List (List ℕ)) (maps : Maps) where
         (maybe_there (import_source paths) (on_import unsourced) import_there i.import (of_import d v by f))
         (visible i.vis (of_vis d v by f))
 
+-- ---- the trees that runs asked for
+
+-- the path of a file that a number means
+file_there : (tables : TablesValue) (f : EditionedFileId) → IsSome (source_of_tree tables (record { file = File f; block = None })) → is_some (source_of tables.files (File f) None) ≡ true
+file_there tables f means = go (slice_get tables.files f.file_id.0) means
+  where
+    go : (o : Option (List ℕ)) → IsSome (option_map file o) → is_some (option_map file_source o) ≡ true
+    go None h = absurd (let wrong : ⊥ = cc in wrong)
+    go (Some path) h = refl
+
+of_file : (tables : TablesValue) (id : TreeId) (f : EditionedFileId) → id ≡ record { file = File f; block = None } → IsSome (source_of_tree tables id)
+    → is_some (source_of tables.files id.file id.block) ≡ true
+of_file tables id f is means = subst (λ (x : TreeId). is_some (source_of tables.files x.file x.block) ≡ true) (sym is)
+    (file_there tables f (subst (λ (x : TreeId). IsSome (source_of_tree tables x)) is means))
+
+-- a tree for which there is a cause is of a file of the table, where the run begins with one
+by_cause : (tables : TablesValue) (w : Workspace) (finished : Maps) (from : Beginning) (last : State) (root : EditionedFileId) → from.tree ≡ tree_of_root root → (key : TreeKey)
+    → IsSome (source_of_tree tables key.id) → HasCause tables w finished from last (keys.Tree key) → is_some (source_of tables.files key.id.file key.id.block) ≡ true
+by_cause tables w finished from last root begins key means (root_tree is) =
+    let same : key ≡ tree_key from.start from.tree = cc in
+    of_file tables key.id root (ap (λ (k : TreeKey). k.id) same ∙ begins) means
+by_cause tables w finished from last root begins key means (declared_enum home id listed is) = absurd (let wrong : ⊥ = cc in wrong)
+by_cause tables w finished from last root begins key means (candidate at passed of) =
+    let same : key ≡ file_key at.core.map.id.krate at.core.map.crate_data.edition of.id = (let is = of.is in cc) in
+    of_file tables key.id (record { file_id = of.id; edition = at.core.map.crate_data.edition }) (ap (λ (k : TreeKey). k.id) same) means
+by_cause tables w finished from last root begins key means (dependency krate among is) = absurd (let wrong : ⊥ = cc in wrong)
+
+-- a tree that the run for a current crate asked for is of a file of the table
+asked_there : (s : SessionState) (sound : IsSound s) (j : ℕ) (off : is_marked s (id_of j) ≡ false) (key : TreeKey) → Contains (current_of s sound j off).asked (keys.Tree key)
+    → is_some (source_of s.tables.files key.id.file key.id.block) ≡ true
+asked_there s sound j off key asked =
+    let now = sound.current (id_of j) off in
+    let ended : Ends s.tables (workspace_of s) (finished_of s) (beginning_of s (id_of j)) now.found = now.gives.resolved.ends (workspace_of s) (finished_of s) AgreeOn-refl in
+    let rooted : HasMeaning s.tables (root_key (beginning_of s (id_of j)).start (beginning_of s (id_of j)).tree) = root_means s sound (id_of j) (sound.placed (id_of j) off) in
+    let means : IsSome (source_of_tree s.tables key.id) = asked_keys_have_meaning s.tables (workspace_of s) (finished_of s) (beginning_of s (id_of j)) now.found rooted ended (keys.Tree key) asked in
+    by_cause s.tables (workspace_of s) (finished_of s) (beginning_of s (id_of j)) ended.last (root_of_crate (crate_in s.crates j)) refl key means (ended.caused (keys.Tree key) asked)
+
 -- ---- the module that a place names
 
-module _ (finished : Maps) (map : Map) (names : NamesOnly (beside finished map) map) where
-  child_there : (at : ℕ) (name : List ℕ) (next : ModuleId) → child_at map at name ≡ Some next → ModuleIsThere (beside finished map) next
+module _ (finished : Maps) (map : Map) (names : HasNoDanglingReference (overlay finished map) map) where
+  child_there : (at : ℕ) (name : List ℕ) (next : ModuleId) → child_at map at name ≡ Some next → ModuleIsThere (overlay finished map) next
   child_there at name next e = go (module_at map at) refl e
     where
-      go : (o : Option ModuleValue) → module_at map at ≡ o → child_of o name ≡ Some next → ModuleIsThere (beside finished map) next
+      go : (o : Option ModuleValue) → module_at map at ≡ o → child_of o name ≡ Some next → ModuleIsThere (overlay finished map) next
       go None s f = absurd cc
       go (Some v) s f =
-          let missing = is_missing (beside finished map) in
+          let missing = is_missing (overlay finished map) in
           let rest = not_second (test_of missing (option_map named.Module v.parent)) (list_any (test_child missing) v.children || list_any (test_type missing) v.scope.types)
-          (none_at (names_in_module missing) map.modules names.modules at v s) in
-          present (is_some (module_in (beside finished map) next))
+          (none_at (any_reference_in missing) map.modules names.modules at v s) in
+          present (is_some (module_in (overlay finished map) next))
           (none_found (λ (x : ModuleId). missing (named.Module x)) (is_at (slice_cmp nat_cmp name)) v.children next
           (not_first (list_any (test_child missing) v.children) (list_any (test_type missing) v.scope.types) rest) f)
 
   -- steps down from a module that is there lead to one
-  below_there : (elements : List PlaceElement) (from at : ModuleId) → ModuleIsThere (beside finished map) from → module_below map from elements ≡ Some at
-      → ModuleIsThere (beside finished map) at
-  below_there [] from at there e = let same : from ≡ at = cc in subst (λ (m : ModuleId). ModuleIsThere (beside finished map) m) same there
+  below_there : (elements : List PlaceElement) (from at : ModuleId) → ModuleIsThere (overlay finished map) from → module_below map from elements ≡ Some at
+      → ModuleIsThere (overlay finished map) at
+  below_there [] from at there e = let same : from ≡ at = cc in subst (λ (m : ModuleId). ModuleIsThere (overlay finished map) m) same there
   below_there (element.Module name ∷ more) from at there e = go (λ next. below_there more next at) (child_at map from.index name) refl e
     where
-      go : ((next : ModuleId) → ModuleIsThere (beside finished map) next → module_below map next more ≡ Some at → ModuleIsThere (beside finished map) at)
+      go : ((next : ModuleId) → ModuleIsThere (overlay finished map) next → module_below map next more ≡ Some at → ModuleIsThere (overlay finished map) at)
           → (o : Option ModuleId) → child_at map from.index name ≡ o → option_and_then (λ (next : ModuleId). module_below map next more) o ≡ Some at
-          → ModuleIsThere (beside finished map) at
+          → ModuleIsThere (overlay finished map) at
       go onward None s f = absurd cc
       go onward (Some next) s f = onward next (child_there from.index name next s) f
   below_there (element.Block id ∷ more) from at there e = absurd cc
@@ -300,20 +354,21 @@ pub whole : RunsBindFromSources → PathsAnswerFromSources → PathsLeadToWhatIs
     → (elements : List PlaceElement) (at : ModuleId) (path : Path) (shadow : Shadow) (style : Option MacroStyle)
     → module_below (current_of s sound k off).map (root_of (current_of s sound k off).map.id) elements ≡ Some at
     → LeavesNothingOut
-    (resolution_of (beside (read_of s (id_of k)) (current_of s sound k off).map) (asking_of (current_of s sound k off).local shadow style) at path).resolved_def
-    (answer_in s.tables.files (beside (read_of s (id_of k)) (current_of s sound k off).map) (current_of s sound k off).local at path shadow style)
+    (resolution_of (overlay (read_of s (id_of k)) (current_of s sound k off).map) (asking_of (current_of s sound k off).local shadow style) at path).resolved_def
+    (answer_in s.tables.files (overlay (read_of s (id_of k)) (current_of s sound k off).map) (current_of s sound k off).local at path shadow style)
 whole runs answers leads s sound k off elements at path shadow style is =
     let now = sound.current (id_of k) off in
     let r : Resolution = now.found in
-    let maps : Maps = beside (read_of s (id_of k)) r.map in
+    let maps : Maps = overlay (read_of s (id_of k)) r.map in
     let test : SourceTest = unsourced s.tables.files maps in
-    let written : (j : ℕ) → j < length s.crates → test.holder (beginning_of s (id_of j)).tree.file None ≡ false = λ j within. ap not (mapped_some _ _ ∙ ap (λ (o : Option (List ℕ)). is_some o) (sound.rooted j within)) in
+    let written : (j : ℕ) (off : is_marked s (id_of j) ≡ false) (key : TreeKey) → Contains (current_of s sound j off).asked (keys.Tree key) → test.holder key.id.file key.id.block ≡ false =
+    λ j off key asked. ap not (asked_there s sound j off key asked) in
     let shows : (m : ModuleId) → ModuleIsThere maps m → test.shown m ≡ false = λ m there. ap not there in
     let own = binds runs s sound test written (suc k) k (omega arith) off shows in
-    let nowhere : HoldsNowhere test maps = HoldsNowhere-beside test (read_of s (id_of k)) r.map (reads runs s sound test written k off shows (binds runs s sound test written k)) own.0 in
+    let nowhere : HoldsNowhere test maps = HoldsNowhere-overlay test (read_of s (id_of k)) r.map (reads runs s sound test written k off shows (binds runs s sound test written k)) own.0 in
     let asking : Asking = asking_of r.local shadow style in
     let apart = own_apart s sound k off in
-    let closed = IsClosed-beside (read_of s (id_of k)) r.map apart (behind_whole s k sound (unmarked_behind s sound k off)) now.gives.names in
+    let closed = IsClosed-overlay (read_of s (id_of k)) r.map apart (behind_whole s k sound (unmarked_behind s sound k off)) now.gives.names in
     let root = module_there (read_of s (id_of k)) r.map 0 now.gives.names.root in
     let there = below_there (read_of s (id_of k)) r.map now.gives.names elements (root_of r.map.id) at root is in
     let none : HoldsOfNone test (resolution_of maps asking at path).resolved_def = answers test maps asking at path nowhere own.1 in

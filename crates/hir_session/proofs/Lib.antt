@@ -1,4 +1,7 @@
 pub mod Truth
+pub mod LowerLaws
+pub mod Depending
+pub mod Transitive
 pub mod Ids
 pub mod KeptLemmas
 pub mod Names
@@ -7,8 +10,6 @@ pub mod Following
 pub mod Resolving
 pub mod Naming
 pub mod Sound
-pub mod Gaining
-pub mod Stands
 pub mod Start
 pub mod Due
 pub mod Verdicts
@@ -16,6 +17,8 @@ pub mod Judging
 pub mod EntryLemmas
 pub mod OptionLemmas
 pub mod FileLemmas
+pub mod Changing
+pub mod Current
 pub mod LeftOut
 pub mod Growing
 pub mod Differ
@@ -23,9 +26,9 @@ pub mod Stand
 pub mod Replies
 pub mod Histories
 pub mod Headline
-pub mod BodyVariants
 pub mod EditLaws
 pub mod CutLemmas
 pub mod PartLemmas
 pub mod RunLemmas
 pub mod FateLemmas
+pub mod Diagnosing

@@ -8,29 +8,31 @@ use Rattle.hir_base.specs.declared.ids.Crate.{Crate}
 use Rattle.hir_base.specs.declared.ids.MapId.{MapId}
 use Rattle.hir_base.specs.contracts.ids.MapIdOrd.TheImpl as map_order
 use Rattle.hir_base.specs.contracts.ids.MapIdPartialEq.TheImpl as map_id
-use Rattle.hir_def_map.specs.declared.world.named.Named.{Named}
-use Rattle.hir_def_map.specs.declared.world.named.Named.TheVariants as named
-use Rattle.hir_def_map.specs.Among.{among, among-only, among-there, are_of_some, is_of_some, unheld}
-use Rattle.hir_def_map.specs.Beside.{exact_map}
-use Rattle.hir_def_map.proofs.Complete.{complete, BeginsOnly-more, NamesOnly-more}
-use Rattle.hir_def_map.specs.Complete.{AreWhole, BeginsOnly, Extends, IsWhole, NamesOnly}
-use Rattle.hir_def_map.specs.Named.{is_complete, is_missing, is_there, lies_in, map_named, named_by, names_in_module, names_map, names_own_crate, names_some, prelude_named, test_child, test_crate, test_extern, test_of, test_type}
+use Rattle.hir_def_map.specs.declared.world.reference.Reference.{Reference}
+use Rattle.hir_def_map.specs.declared.world.reference.Reference.TheVariants as named
+use Rattle.hir_def_map.specs.WorldParts.{among, are_of_some, is_of_some, unheld}
+use Rattle.hir_def_map.specs.Inner.PartLaws.{among-only, among-there}
+use Rattle.hir_def_map.specs.Inner.OverlayLaws.{exact_map}
+use Rattle.hir_def_map.proofs.WellFormed.{complete, HasNoDanglingExtern-more, HasNoDanglingReference-more}
+use Rattle.hir_def_map.specs.WellFormed.{AreWellFormed, HasNoDanglingExtern, Extends, IsWellFormed, HasNoDanglingReference}
+use Rattle.hir_def_map.specs.References.{is_well_formed, is_missing, is_there, lies_in, map_of_reference, reference_to, any_reference_in, refers_to, any_own_crate, any_reference, prelude_reference, test_child, test_crate, test_extern, test_of, test_type}
 use Rattle.hir_def_map.proofs.NoneOf.{neither, none_of_less, not_first, not_second}
-use Rattle.hir_def_map.specs.State.{Local, Map, Maps, ModuleValue, Placed, beside, crate_map, holders_under, map_in, module_at, placed_in, variants_at}
+use Rattle.hir_def_map.specs.State.{Local, Map, ModuleValue, crate_map, module_at, variants_at}
+use Rattle.hir_def_map.specs.Overlay.{Maps, Placed, overlay, holders_under, map_in, placed_in}
 use Rattle.hir_def_collector.specs.Derivation.{CollectedValue}
-use Rattle.hir_session.specs.Behind.{has_crate}
+use Rattle.hir_crate_graph.specs.CrateSet.{has_crate}
 use Rattle.hir_session.specs.Kept.{Resolutions, finished_by, kept_in}
 use Rattle.hir_session.proofs.Ids.{equal_id, own_id}
 use Rattle.hir_session.proofs.Truth.{and_left, and_right, clash, on_bool}
 
 -- ---- a test that holds of nothing that a map names
 
-module _ (test other : Named → Bool) (less : (n : Named) → test n ≡ false → other n ≡ false) where
-  of_less : (o : Option Named) → test_of test o ≡ false → test_of other o ≡ false
+module _ (test other : Reference → Bool) (less : (n : Reference) → test n ≡ false → other n ≡ false) where
+  of_less : (o : Option Reference) → test_of test o ≡ false → test_of other o ≡ false
   of_less None e = refl
   of_less (Some n) e = less n e
 
-  in_module_less : (m : ModuleValue) → names_in_module test m ≡ false → names_in_module other m ≡ false
+  in_module_less : (m : ModuleValue) → any_reference_in test m ≡ false → any_reference_in other m ≡ false
   in_module_less m e =
       let p = test_of test (option_map named.Module m.parent) in
       let c = list_any (test_child test) m.children in
@@ -40,21 +42,21 @@ module _ (test other : Named → Bool) (less : (n : Named) → test n ≡ false 
       (of_less (option_map named.Module m.parent) (not_first p (c || t) e))
       (neither (list_any (test_child other) m.children) (list_any (test_type other) m.scope.types)
       (none_of_less (test_child test) (test_child other) (λ x f. less (named.Module x.1) f) m.children (not_first c t rest))
-      (none_of_less (test_type test) (test_type other) (λ x f. of_less (named_by x.1.def) f) m.scope.types (not_second c t rest)))
+      (none_of_less (test_type test) (test_type other) (λ x f. of_less (reference_to x.1.def) f) m.scope.types (not_second c t rest)))
 
   -- a crate's map, of whose names the one test holds of none, names nothing of which the other holds
-  names_less : (map : Map) (local : Local) → map.id.block ≡ None → map.holder ≡ None → list_any (names_in_module test) map.modules ≡ false
-      → test_of test (prelude_named map.prelude) ≡ false → list_any (test_crate test) map.crate_data.dependencies ≡ false → list_any (test_extern test) local ≡ false
-      → names_some other map local ≡ false
+  names_less : (map : Map) (local : Local) → map.id.block ≡ None → map.holder ≡ None → list_any (any_reference_in test) map.modules ≡ false
+      → test_of test (prelude_reference map.prelude) ≡ false → list_any (test_crate test) map.crate_data.dependencies ≡ false → list_any (test_extern test) local ≡ false
+      → any_reference other map local ≡ false
   names_less map local of_crate no_holder modules prelude dependencies begins =
-      let p = test_of other (prelude_named map.prelude) in
+      let p = test_of other (prelude_reference map.prelude) in
       let h = test_of other (option_map named.Module map.holder) in
       let e = list_any (test_extern other) local in
       let d = list_any (test_crate other) map.crate_data.dependencies in
-      let o = names_own_crate other map.id in
-      neither (list_any (names_in_module other) map.modules) (p || (h || (e || (d || o))))
-      (none_of_less (names_in_module test) (names_in_module other) in_module_less map.modules modules)
-      (neither p (h || (e || (d || o))) (of_less (prelude_named map.prelude) prelude)
+      let o = any_own_crate other map.id in
+      neither (list_any (any_reference_in other) map.modules) (p || (h || (e || (d || o))))
+      (none_of_less (any_reference_in test) (any_reference_in other) in_module_less map.modules modules)
+      (neither p (h || (e || (d || o))) (of_less (prelude_reference map.prelude) prelude)
       (neither h (e || (d || o)) (ap (λ x. test_of other (option_map named.Module x)) no_holder)
       (neither e (d || o) (none_of_less (test_extern test) (test_extern other) (λ x f. less (named.Module x.1.0) f) local begins)
       (neither d o (none_of_less (test_crate test) (test_crate other) (λ x f. less (named.Map (crate_map x)) f) map.crate_data.dependencies dependencies)
@@ -63,7 +65,7 @@ module _ (test other : Named → Bool) (less : (n : Named) → test n ≡ false 
 -- ---- what a map names is there
 
 -- what is there lies in a map that is
-there_in : (maps : Maps) (n : Named) → is_there maps n ≡ true → is_some (maps (map_named n)) ≡ true
+there_in : (maps : Maps) (n : Reference) → is_there maps n ≡ true → is_some (maps (map_of_reference n)) ≡ true
 there_in maps (named.Module m) e = go (maps m.map) e
   where
     go : (o : Option Placed) → is_some (option_and_then (λ (p : Placed). module_at p.map m.index) o) ≡ true → is_some o ≡ true
@@ -76,7 +78,7 @@ there_in maps (named.Enum n) e = go (maps n.loc.container.map) e
     go (Some p) f = refl
 there_in maps (named.Map id) e = e
 
-not_missing : (maps : Maps) (n : Named) → is_missing maps n ≡ false → is_there maps n ≡ true
+not_missing : (maps : Maps) (n : Reference) → is_missing maps n ≡ false → is_there maps n ≡ true
 not_missing maps n e = go (is_there maps n) e
   where
     go : (b : Bool) → not b ≡ false → b ≡ true
@@ -84,27 +86,27 @@ not_missing maps n e = go (is_there maps n) e
     go false f = clash refl f
 
 -- where a map isn't there, nothing that is there lies in it
-lies_elsewhere : (maps : Maps) (id : MapId) → is_some (maps id) ≡ false → (n : Named) → is_missing maps n ≡ false → lies_in id n ≡ false
+lies_elsewhere : (maps : Maps) (id : MapId) → is_some (maps id) ≡ false → (n : Reference) → is_missing maps n ≡ false → lies_in id n ≡ false
 lies_elsewhere maps id gone n e = on_bool (lies_in id n)
-    (λ lies. clash (ap (λ (x : MapId). is_some (maps x)) (sym (equal_id (map_named n) id lies)) ∙ there_in maps n (not_missing maps n e)) gone)
+    (λ lies. clash (ap (λ (x : MapId). is_some (maps x)) (sym (equal_id (map_of_reference n) id lies)) ∙ there_in maps n (not_missing maps n e)) gone)
     (λ f. f)
 
-module _ (finished : Maps) (map : Map) (local : Local) (of_crate : map.id.block ≡ None) (alone : map.holder ≡ None) (names : NamesOnly (beside finished map) map)
-    (begins : BeginsOnly (beside finished map) local) where
-  named_there : (id : MapId) → names_some (lies_in id) map local ≡ true → is_some (beside finished map id) ≡ true
-  named_there id some = on_bool (is_some (beside finished map id))
+module _ (finished : Maps) (map : Map) (local : Local) (of_crate : map.id.block ≡ None) (alone : map.holder ≡ None) (names : HasNoDanglingReference (overlay finished map) map)
+    (begins : HasNoDanglingExtern (overlay finished map) local) where
+  named_there : (id : MapId) → any_reference (lies_in id) map local ≡ true → is_some (overlay finished map id) ≡ true
+  named_there id some = on_bool (is_some (overlay finished map id))
       (λ e. e)
-      (λ gone. clash some (names_less (is_missing (beside finished map)) (lies_in id) (lies_elsewhere (beside finished map) id gone) map local
+      (λ gone. clash some (names_less (is_missing (overlay finished map)) (lies_in id) (lies_elsewhere (overlay finished map) id gone) map local
       of_crate alone names.modules names.prelude names.dependencies begins))
 
   -- each other map that a map names is finished
-  pub names-within : (id : MapId) → names_map map local id ≡ true → is_some (finished id) ≡ true
+  pub names-within : (id : MapId) → refers_to map local id ≡ true → is_some (finished id) ≡ true
   names-within id e = on_bool (map_id.ghosts.eq id map.id)
       (λ same. clash
       (ap (λ (x : MapId). is_at (map_order.ghosts.cmp map.id) x) (exact_map id map.id same) ∙ own_id map.id)
-      (off (is_at (map_order.ghosts.cmp map.id) id) (and_left (not (is_at (map_order.ghosts.cmp map.id) id)) (names_some (lies_in id) map local) e)))
+      (off (is_at (map_order.ghosts.cmp map.id) id) (and_left (not (is_at (map_order.ghosts.cmp map.id) id)) (any_reference (lies_in id) map local) e)))
       (λ other. sym (ap (λ (b : Bool). is_some (cond b (Some (placed_in finished map)) (finished id))) other)
-      ∙ named_there id (and_right (not (is_at (map_order.ghosts.cmp map.id) id)) (names_some (lies_in id) map local) e))
+      ∙ named_there id (and_right (not (is_at (map_order.ghosts.cmp map.id) id)) (any_reference (lies_in id) map local) e))
     where
       off : (b : Bool) → not b ≡ true → b ≡ false
       off true f = clash f refl
@@ -134,8 +136,8 @@ among_there crates f id placed e =
     (of.0, of.1, only.1)
 
 -- a map beside those of some crates names only maps of those
-pub among-names : (crates : List Crate) (f : Maps) (map : Map) (local : Local) → map.id.block ≡ None → map.holder ≡ None → NamesOnly (beside (among crates [] f) map) map
-    → BeginsOnly (beside (among crates [] f) map) local → (id : MapId) → names_map map local id ≡ true → (id.block ≡ None) × (has_crate crates id.krate ≡ true)
+pub among-names : (crates : List Crate) (f : Maps) (map : Map) (local : Local) → map.id.block ≡ None → map.holder ≡ None → HasNoDanglingReference (overlay (among crates [] f) map) map
+    → HasNoDanglingExtern (overlay (among crates [] f) map) local → (id : MapId) → refers_to map local id ≡ true → (id.block ≡ None) × (has_crate crates id.krate ≡ true)
 among-names crates f map local of_crate alone names begins id e = go (among crates [] f id) refl (names-within (among crates [] f) map local of_crate alone names begins id e)
   where
     go : (o : Option Placed) → among crates [] f id ≡ o → is_some o ≡ true → (id.block ≡ None) × (has_crate crates id.krate ≡ true)
@@ -173,8 +175,8 @@ among_or crates f id = go (among crates [] f id) refl
     go (Some p) s = inl (ap (option_map (λ (x : Placed). x.map)) (s ∙ sym (among_there crates f id p s).2))
 
 -- what is there beside the maps of some crates is there beside all
-pub Extends-all : (crates : List Crate) (f : Maps) (map : Map) → Extends (beside (among crates [] f) map) (beside f map)
-Extends-all crates f map = Extends-by (beside (among crates [] f) map) (beside f map) (λ id. go id (map_id.ghosts.eq id map.id))
+pub Extends-all : (crates : List Crate) (f : Maps) (map : Map) → Extends (overlay (among crates [] f) map) (overlay f map)
+Extends-all crates f map = Extends-by (overlay (among crates [] f) map) (overlay f map) (λ id. go id (map_id.ghosts.eq id map.id))
   where
     go : (id : MapId) (b : Bool)
         → (option_map (λ (p : Placed). p.map) (cond b (Some (placed_in (among crates [] f) map)) (among crates [] f id)) ≡ option_map (λ (p : Placed). p.map) (cond b (Some (placed_in f map)) (f id)))
@@ -183,12 +185,12 @@ Extends-all crates f map = Extends-by (beside (among crates [] f) map) (beside f
     go id false = among_or crates f id
 
 -- a map that names only what is there among the maps of some crates may stand beside all
-pub joins : (crates : List Crate) (f : Maps) (map : Map) (local : Local) → NamesOnly (beside (among crates [] f) map) map → BeginsOnly (beside (among crates [] f) map) local
-    → is_complete f map local ≡ true
+pub joins : (crates : List Crate) (f : Maps) (map : Map) (local : Local) → HasNoDanglingReference (overlay (among crates [] f) map) map → HasNoDanglingExtern (overlay (among crates [] f) map) local
+    → is_well_formed f map local ≡ true
 joins crates f map local names begins =
     complete f map local
-    (NamesOnly-more (beside (among crates [] f) map) (beside f map) (Extends-all crates f map) map names)
-    (BeginsOnly-more (beside (among crates [] f) map) (beside f map) (Extends-all crates f map) local begins)
+    (HasNoDanglingReference-more (overlay (among crates [] f) map) (overlay f map) (Extends-all crates f map) map names)
+    (HasNoDanglingExtern-more (overlay (among crates [] f) map) (overlay f map) (Extends-all crates f map) local begins)
 
 -- ---- the maps of the crates on which a crate stands
 
@@ -198,8 +200,8 @@ pub record IsKeptWhole (behind : List Crate) (kept : Resolutions) (krate : Crate
   pub is : kept_in kept (crate_map krate) ≡ Some found
   pub own : found.map.id ≡ crate_map krate
   pub unheld : found.map.holder ≡ None
-  pub names : NamesOnly (beside (among behind [] (finished_by kept)) found.map) found.map
-  pub begins : BeginsOnly (beside (among behind [] (finished_by kept)) found.map) found.local
+  pub names : HasNoDanglingReference (overlay (among behind [] (finished_by kept)) found.map) found.map
+  pub begins : HasNoDanglingExtern (overlay (among behind [] (finished_by kept)) found.map) found.local
 
 -- the map of a crate among those of some
 pub among_at : (crates : List Crate) (kept : Resolutions) (krate : Crate) (found : CollectedValue) → has_crate crates krate ≡ true → kept_in kept (crate_map krate) ≡ Some found
@@ -237,11 +239,11 @@ module _ (behind : ℕ → List Crate) (kept : Resolutions) (crates : List Crate
     (closed : (krate c : Crate) → has_crate crates krate ≡ true → has_crate (behind krate.0) c ≡ true → has_crate crates c ≡ true) where
   -- what a crate's map names is there among the maps of the crates
   pub Extends-behind : (krate : Crate) (has : has_crate crates krate ≡ true)
-      → Extends (beside (among (behind krate.0) [] (finished_by kept)) (whole krate has).found.map) (among crates [] (finished_by kept))
-  Extends-behind krate has = Extends-by (beside (among (behind krate.0) [] (finished_by kept)) (whole krate has).found.map) (among crates [] (finished_by kept)) each
+      → Extends (overlay (among (behind krate.0) [] (finished_by kept)) (whole krate has).found.map) (among crates [] (finished_by kept))
+  Extends-behind krate has = Extends-by (overlay (among (behind krate.0) [] (finished_by kept)) (whole krate has).found.map) (among crates [] (finished_by kept)) each
     where
-      each : (id : MapId) → (map_in (beside (among (behind krate.0) [] (finished_by kept)) (whole krate has).found.map) id ≡ map_in (among crates [] (finished_by kept)) id)
-          ⊎ (beside (among (behind krate.0) [] (finished_by kept)) (whole krate has).found.map id ≡ None)
+      each : (id : MapId) → (map_in (overlay (among (behind krate.0) [] (finished_by kept)) (whole krate has).found.map) id ≡ map_in (among crates [] (finished_by kept)) id)
+          ⊎ (overlay (among (behind krate.0) [] (finished_by kept)) (whole krate has).found.map id ≡ None)
       each id =
           let w = whole krate has in
           let m : Map = w.found.map in
@@ -252,14 +254,14 @@ module _ (behind : ℕ → List Crate) (kept : Resolutions) (crates : List Crate
           ap (λ (b : Bool). option_map (λ (p : Placed). p.map) (cond b (Some (placed_in below m)) (below id))) e
           ∙ sym (ap (map_in all) (exact_map id m.id e ∙ w.own) ∙ ap (option_map (λ (p : Placed). p.map)) (among_at crates kept krate w.found has w.is))))
           (λ e.
-          let here : beside below m id ≡ below id = ap (λ (b : Bool). cond b (Some (placed_in below m)) (below id)) e in
+          let here : overlay below m id ≡ below id = ap (λ (b : Bool). cond b (Some (placed_in below m)) (below id)) e in
           elim (among_more (behind krate.0) crates (finished_by kept) id (finished_alone kept id) (closed krate id.krate has)) [
             | inl same ↦ inl (ap (option_map (λ (p : Placed). p.map)) here ∙ same)
             | inr none ↦ inr (here ∙ none)
           ])
 
   -- each of the maps names only what is there
-  pub whole-among : AreWhole (among crates [] (finished_by kept))
+  pub whole-among : AreWellFormed (among crates [] (finished_by kept))
   whole-among id placed e =
       let all : Maps = among crates [] (finished_by kept) in
       let there = among_there crates (finished_by kept) id placed e in
@@ -267,9 +269,9 @@ module _ (behind : ℕ → List Crate) (kept : Resolutions) (crates : List Crate
       let same : id ≡ crate_map id.krate = λ i. record { krate = id.krate; block = there.0 i } in
       let is : placed ≡ unheld w.found.map w.found.local =
       (let both : Some placed ≡ Some (unheld w.found.map w.found.local) = sym e ∙ ap all same ∙ among_at crates kept id.krate w.found there.1 w.is in cc) in
-      subst (λ (p : Placed). IsWhole all id p) (sym is) (record {
+      subst (λ (p : Placed). IsWellFormed all id p) (sym is) (record {
         own = w.own ∙ sym same;
         holders = sym (ap (holders_under all id) w.unheld);
-        names = NamesOnly-more (beside (among (behind id.krate.0) [] (finished_by kept)) w.found.map) all (Extends-behind id.krate there.1) w.found.map w.names;
-        begins = BeginsOnly-more (beside (among (behind id.krate.0) [] (finished_by kept)) w.found.map) all (Extends-behind id.krate there.1) w.found.local w.begins;
+        names = HasNoDanglingReference-more (overlay (among (behind id.krate.0) [] (finished_by kept)) w.found.map) all (Extends-behind id.krate there.1) w.found.map w.names;
+        begins = HasNoDanglingExtern-more (overlay (among (behind id.krate.0) [] (finished_by kept)) w.found.map) all (Extends-behind id.krate there.1) w.found.local w.begins;
       })

@@ -4,14 +4,15 @@ use Rattle.std.specs.Prelude.{is_none, map}
 use Rattle.hir_base.specs.declared.ids.Crate.{Crate}
 use Rattle.hir_base.specs.declared.ids.MapId.{MapId}
 use Rattle.hir_item_tree.specs.Source.{SourceValue}
-use Rattle.hir_def_map.specs.Named.{names_map}
+use Rattle.hir_def_map.specs.References.{refers_to}
 use Rattle.hir_def_map.specs.Removal.{Depends}
 use Rattle.hir_def_map.specs.Removal.Depends.{itself, through}
-use Rattle.hir_def_map.specs.State.{crate_map, no_maps}
+use Rattle.hir_def_map.specs.State.{crate_map}
+use Rattle.hir_def_map.specs.Overlay.{no_maps}
 use Rattle.hir_def_collector.specs.Keys.{AgreeOn}
 use Rattle.hir_def_collector.specs.Workspace.{Workspace}
-use Rattle.hir_session.specs.Behind.{has_crate}
-use Rattle.hir_session.specs.Crates.{CrateValue, behind_in, dependencies_in, follows_in, id_of}
+use Rattle.hir_crate_graph.specs.CrateSet.{has_crate}
+use Rattle.hir_session.specs.Crates.{CrateValue, transitive_in, dependencies_in, follows_in, id_of}
 use Rattle.hir_session.specs.Files.{Files, edited_at, workspace_in}
 use Rattle.hir_session.specs.Kept.{Resolutions, kept_in, names_in, names_of, AreForgotten}
 use Rattle.hir_session.specs.SessionState.{SessionState, Resolution, workspace_of, finished_of, follows, kept_of, is_marked, IsResolutionOf, IsCurrent, IsPlace, IsSound}
@@ -19,15 +20,16 @@ use Rattle.hir_session.specs.Spread.{Spread}
 use Rattle.hir_session.specs.Spread.Spread.{here, depends}
 use Rattle.hir_session.specs.Marks.{IsTouched}
 use Rattle.hir_session.specs.Marks.IsTouched.{before, asked_for}
-use Rattle.hir_session.specs.Marking.{AreHit}
-use Rattle.hir_session.specs.Changes.{with_files, Becomes}
+use Rattle.hir_session.specs.EditedFiles.{AreHit}
+use Rattle.hir_session.specs.Changes.{Becomes}
 use Rattle.hir_session.specs.Due.{Grows, Resolved}
+use Rattle.hir_session.proofs.Depending.{depended}
 use Rattle.hir_session.proofs.Following.{dependency_behind, followed, follows_unmarked, spread_on}
 use Rattle.hir_session.proofs.Ids.{of_number, on_id}
 use Rattle.hir_session.proofs.Names.{among-names}
 use Rattle.hir_session.proofs.Naming.{names-behind}
 use Rattle.hir_session.proofs.Truth.{clash, on_bool, on_same}
-use Rattle.hir_session.proofs.Worlds.{AgreeOn-refl, IsResolutionOf-stays, StandsOn-below, StandsOn-holds}
+use Rattle.hir_session.proofs.Worlds.{AgreeOn-refl, IsResolutionOf-stays, DependsOn-below, DependsOn-holds}
 
 -- ---- what is kept
 
@@ -59,12 +61,12 @@ module _ (s : SessionState) (sound : IsSound s) where
       subst (λ (x : Resolution). IsResolutionOf s id x) same now.gives
 
   -- it names maps of crates on which its own stands
-  names_stand : (id other : MapId) (r : Resolution) → kept_of s id ≡ Some r → names_map r.map r.local other ≡ true
-      → (other ≡ id_of other.krate.0) × (has_crate (behind_in s.crates id.krate.0) other.krate ≡ true)
+  names_stand : (id other : MapId) (r : Resolution) → kept_of s id ≡ Some r → refers_to r.map r.local other ≡ true
+      → (other ≡ id_of other.krate.0) × (has_crate (transitive_in s.crates id.krate.0) other.krate ≡ true)
   names_stand id other r is names =
       let p = gives id r is in
       let of_crate : r.map.id.block ≡ None = ap (λ (x : MapId). x.block) p.own ∙ (sound.placed id (some_unmarked (kept_of s id) r is)).of_crate in
-      let among = among-names (behind_in s.crates id.krate.0) (finished_of s) r.map r.local of_crate p.unheld p.names p.begins other names in
+      let among = among-names (transitive_in s.crates id.krate.0) (finished_of s) r.map r.local of_crate p.unheld p.names p.begins other names in
       (of_number other among.0, among.1)
 
   -- and those that it follows
@@ -81,11 +83,11 @@ module _ (s : SessionState) (sound : IsSound s) where
   spread_named {P} (through id other names d) sp = on_kept (kept_of s id)
       (λ none. clash names (ap (λ (o : Option Resolution). names_of o other) none))
       (λ r is.
-      let n : names_map r.map r.local other ≡ true = sym (ap (λ (o : Option Resolution). names_of o other) is) ∙ names in
+      let n : refers_to r.map r.local other ≡ true = sym (ap (λ (o : Option Resolution). names_of o other) is) ∙ names in
       let stands = names_stand id other r is n in
       let own = of_number id (sound.placed id (some_unmarked (kept_of s id) r is)).of_crate in
       subst (λ (x : MapId). Spread (follows s) P x) (sym own)
-      (spread_on s.crates ((sound.behind id.krate.0 other.krate).0 stands.1) (subst (λ (x : MapId). Spread (follows s) P x) stands.0 (spread_named d sp))))
+      (spread_on s.crates ((depended sound id.krate.0 other.krate).0 stands.1) (subst (λ (x : MapId). Spread (follows s) P x) stands.0 (spread_named d sp))))
 
 -- what is in a spread set is in it for a reason
 spread_cases : {A : Type 0} {follows : MapId → List MapId} {P : MapId → Type 0} {id : MapId} → (P id → A) → ((d : MapId) → Contains (follows id) d → Spread follows P d → A)
@@ -198,20 +200,19 @@ module _ (s : SessionState) (sound : IsSound s) (F : Files) (hits : List MapId) 
       (λ on. clash (none_marked (kept_in K id) (reached_gone (depends id d among (gone_reached d (marked_none (kept_in K d) on))))) off)
       (λ h. h)
 
-  behind_still : (id : MapId) → is_none (kept_in K id) ≡ false → (c : Crate) → has_crate (behind_in s.crates id.krate.0) c ≡ true → kept_in K (crate_map c) ≡ kept_of s (crate_map c)
+  behind_still : (id : MapId) → is_none (kept_in K id) ≡ false → (c : Crate) → has_crate (transitive_in s.crates id.krate.0) c ≡ true → kept_in K (crate_map c) ≡ kept_of s (crate_map c)
   behind_still id off c behind =
       let own = of_number id (sound.placed id (was_unmarked id off)).of_crate in
       let from : is_none (kept_in K (id_of id.krate.0)) ≡ false = ap (λ (x : MapId). is_none (kept_in K x)) (sym own) ∙ off in
       stays (crate_map c)
-      (StandsOn-holds {P = λ (i : ℕ). is_none (kept_in K (id_of i)) ≡ false}
-      (λ j d p among. closed_still (id_of j) (crate_map d) p (followed s.crates (id_of j) d among)) ((sound.behind id.krate.0 c).0 behind) from)
+      (DependsOn-holds {P = λ (i : ℕ). is_none (kept_in K (id_of i)) ≡ false}
+      (λ j d p among. closed_still (id_of j) (crate_map d) p (followed s.crates (id_of j) d among)) ((depended sound id.krate.0 c).0 behind) from)
 
   -- an edit leaves a sound session
   pub applied_sound : IsSound (record s { files = F; kept = K })
   applied_sound = record {
     few = sound.few;
     below = sound.below;
-    behind = sound.behind;
     placed = λ id off. let was = sound.placed id (was_unmarked id off) in record { of_crate = was.of_crate; within = was.within };
     closed = closed_still;
     current = λ id off.
@@ -242,29 +243,21 @@ module _ (s : SessionState) (sound : IsSound s) (F : Files) (hits : List MapId) 
     sound = applied_sound;
   }
 
-module _ (s view : SessionState) (F : Files) (file : List ℕ) (there : Option SourceValue) (hits : List MapId) (K : Resolutions) where
-  -- what is judged of the view of a session is judged of it
-  hit_of : s ≡ view → F ≡ edited_at s.files file there
-      → AreHit view.tables (workspace_of view) (workspace_of (with_files view (edited_at view.files file there))) view.kept (length view.crates) hits
-      → AreHit s.tables (workspace_of s) (workspace_in s.crates F) s.kept (length s.crates) hits
-  hit_of seen is hit =
-      let own = subst (λ (v : SessionState). AreHit v.tables (workspace_of v) (workspace_of (with_files v (edited_at v.files file there))) v.kept (length v.crates) hits) (sym seen) hit in
-      subst (λ (G : Files). AreHit s.tables (workspace_of s) (workspace_in s.crates G) s.kept (length s.crates) hits) (sym is) own
+module _ (s : SessionState) (file : List ℕ) (there : Option SourceValue) (hits : List MapId) (K : Resolutions) where
+  -- the session after an edit of one file
+  abbrev after : SessionState
+  after = record s { files = edited_at s.files file there; kept = K }
 
-  -- an edit of one file leaves a sound session
-  pub edited_sound : s ≡ view → IsSound s → F ≡ edited_at s.files file there
-      → AreHit view.tables (workspace_of view) (workspace_of (with_files view (edited_at view.files file there))) view.kept (length view.crates) hits
-      → AreForgotten s.kept hits K → IsSound (record s { files = F; kept = K })
-  edited_sound seen sound is hit forgotten = applied_sound s sound F hits K (hit_of seen is hit) forgotten
+  -- it is sound
+  pub edited_sound : IsSound s → AreHit s.tables (workspace_of s) (workspace_in s.crates (edited_at s.files file there)) s.kept (length s.crates) hits
+      → AreForgotten s.kept hits K → IsSound after
+  edited_sound sound hit forgotten = applied_sound s sound (edited_at s.files file there) hits K hit forgotten
 
-  -- and it has its effect
-  pub edited_becomes : s ≡ view → IsSound s → F ≡ edited_at s.files file there
-      → AreHit view.tables (workspace_of view) (workspace_of (with_files view (edited_at view.files file there))) view.kept (length view.crates) hits
-      → AreForgotten s.kept hits K → Becomes view (edited_at view.files file there) (record s { files = F; kept = K })
-  edited_becomes seen sound is hit forgotten =
-      let new : SessionState = record s { files = F; kept = K } in
-      subst (λ (v : SessionState). Becomes v (edited_at v.files file there) new) seen
-      (subst (λ (G : Files). Becomes s G new) is (becomes s sound F hits K (hit_of seen is hit) forgotten))
+  -- and the edit has its effect
+  pub edited_becomes : (view : SessionState) → s ≡ view → IsSound s → AreHit s.tables (workspace_of s) (workspace_in s.crates (edited_at s.files file there)) s.kept (length s.crates) hits
+      → AreForgotten s.kept hits K → Becomes view (edited_at view.files file there) after
+  edited_becomes view seen sound hit forgotten =
+      subst (λ (v : SessionState). Becomes v (edited_at v.files file there) after) seen (becomes s sound (edited_at s.files file there) hits K hit forgotten)
 
 -- ---- a resolution
 
@@ -295,20 +288,20 @@ module _ (s : SessionState) (k : ℕ) (r : Resolution) (K : Resolutions) (sound 
   was : (j : MapId) → j ≢ id_of k → is_none (kept_in K j) ≡ false → is_marked s j ≡ false
   was j ne off = sym (ap (λ (o : Option Resolution). is_none o) (kept_else j ne)) ∙ off
 
-  stays_resolved : (j : MapId) (x : Resolution) → ((c : Crate) → has_crate (behind_in s.crates j.krate.0) c ≡ true → is_marked s (crate_map c) ≡ false) → IsResolutionOf s j x
+  stays_resolved : (j : MapId) (x : Resolution) → ((c : Crate) → has_crate (transitive_in s.crates j.krate.0) c ≡ true → is_marked s (crate_map c) ≡ false) → IsResolutionOf s j x
       → IsResolutionOf (record s { kept = K }) j x
   stays_resolved j x unmarked p = IsResolutionOf-stays s s.files K j x p
       (λ c behind. kept_else (crate_map c) (λ e. clash on (ap (is_marked s) (sym e) ∙ unmarked c behind))) AgreeOn-refl
 
   -- what the crate stands on comes before it
-  before_it : (c : Crate) → has_crate (behind_in s.crates k) c ≡ true → is_marked s (crate_map c) ≡ false
-  before_it c behind = first c.0 (StandsOn-below sound.below ((sound.behind k c).0 behind))
+  before_it : (c : Crate) → has_crate (transitive_in s.crates k) c ≡ true → is_marked s (crate_map c) ≡ false
+  before_it c behind = first c.0 (DependsOn-below sound.below ((depended sound k c).0 behind))
 
   -- what an unmarked place stands on is unmarked
-  behind_it : (j : MapId) → is_marked s j ≡ false → (c : Crate) → has_crate (behind_in s.crates j.krate.0) c ≡ true → is_marked s (crate_map c) ≡ false
+  behind_it : (j : MapId) → is_marked s j ≡ false → (c : Crate) → has_crate (transitive_in s.crates j.krate.0) c ≡ true → is_marked s (crate_map c) ≡ false
   behind_it j off c behind =
       let own = of_number j (sound.placed j off).of_crate in
-      StandsOn-holds {P = λ (i : ℕ). is_marked s (id_of i) ≡ false} (λ i d p among. follows_unmarked sound i d p among) ((sound.behind j.krate.0 c).0 behind)
+      DependsOn-holds {P = λ (i : ℕ). is_marked s (id_of i) ≡ false} (λ i d p among. follows_unmarked sound i d p among) ((depended sound j.krate.0 c).0 behind)
       (ap (is_marked s) (sym own) ∙ off)
 
   -- a marked crate was resolved that comes after no other marked one: the session stays sound
@@ -316,7 +309,6 @@ module _ (s : SessionState) (k : ℕ) (r : Resolution) (K : Resolutions) (sound 
   resolved_sound = record {
     few = sound.few;
     below = sound.below;
-    behind = sound.behind;
     placed = λ j off. on_id j (id_of k)
         (λ e. subst (λ (x : MapId). IsPlace (record s { kept = K }) x) (sym e) (record { of_crate = refl; within = within }))
         (λ ne. let old = sound.placed j (was j ne off) in record { of_crate = old.of_crate; within = old.within });

@@ -1,20 +1,24 @@
-use Rattle.std.proofs.Common.{◌≡◌, Option, Some, None, Result, Ok, refl, sym, ap, subst, ◌∙◌, nat_lt, length}
+use Rattle.std.proofs.Common.{◌≡◌, List, [], Option, Some, None, option_map, Result, Ok, refl, sym, ap, subst, ◌∙◌, nat_lt, length}
+use Rattle.hir_base.specs.declared.ids.Crate.{Crate}
+use Rattle.hir_base.specs.declared.ids.ModuleId.{ModuleId}
 use Rattle.hir_base.specs.ModPath.{Path}
 use Rattle.hir_base.specs.Place.{PlaceValue}
 use Rattle.hir_def_map.specs.Closed.{PathsLeadToWhatIsThere}
 use Rattle.hir_def_map.specs.Scoping.{resolution_of}
 use Rattle.hir_def_map.specs.Sources.{PathsAnswerFromSources}
-use Rattle.hir_def_map.specs.State.{beside, root_of}
+use Rattle.hir_def_map.specs.Overlay.{Maps, overlay}
+use Rattle.hir_def_map.specs.WorldParts.{among}
+use Rattle.hir_def_map.specs.State.{root_of}
 use Rattle.hir_def_collector.specs.Sources.{RunsBindFromSources}
 use Rattle.hir_wire.specs.declared.answer.Answer.{Answer}
 use Rattle.hir_wire.specs.declared.command.Shadow.{Shadow}
 use Rattle.hir_wire.specs.declared.command.MacroStyle.{MacroStyle}
-use Rattle.hir_session.specs.SessionState.{SessionState, kept_of, read_of, is_marked, IsSound}
+use Rattle.hir_session.specs.SessionState.{SessionState, Resolution, kept_of, read_of, is_marked, IsSound}
 use Rattle.hir_wire.specs.declared.reply.Status.{Status}
 use Rattle.hir_wire.specs.declared.reply.Status.TheVariants as status
 use Rattle.hir_session.specs.declared.error.QueryError.{QueryError}
 use Rattle.hir_session.specs.Status.{map_of, module_below, module_of, status_of}
-use Rattle.hir_session.specs.Answers.{answer_of, answer_by, answer_from, answer_in, asking_of}
+use Rattle.hir_session.specs.Answers.{answer_kept, answer_of, answer_by, answer_from, answer_in, asking_of}
 use Rattle.hir_session.specs.AnswersStand.{AnswersStand}
 use Rattle.hir_session.specs.LeavesOut.{LeavesNothingOut}
 use Rattle.hir_session.proofs.Differ.{unmarked_behind}
@@ -31,6 +35,22 @@ pub answer_of-current : (s : SessionState) (place : PlaceValue) (path : Path) (s
     → answer_of s place path shadow style ≡ r
 answer_of-current s place path shadow style current over =
     ap (λ (now : Status). answer_by now (answer_from s.tables.files (read_of s (map_of place)) (kept_of s (map_of place)) (module_of s place) path shadow style)) (sym current) ∙ over
+
+-- what is answered over what is kept
+pub given : (s : SessionState) (place : PlaceValue) (path : Path) (shadow : Shadow) (style : Option MacroStyle) (found : Resolution) (m : ModuleId) (maps : Maps) (a : Answer)
+    → kept_of s (map_of place) ≡ Some found → module_below found.map (root_of found.map.id) place.elements ≡ Some m → maps ≡ overlay (read_of s (map_of place)) found.map
+    → a ≡ answer_in s.tables.files maps found.local m path shadow style → answer_kept s place path shadow style ≡ Ok a
+given s place path shadow style found m maps a kept named over is =
+    rw kept (rw named (ap (λ (x : Answer). Ok x) (sym (is ∙ ap (λ (ms : Maps). answer_in s.tables.files ms found.local m path shadow style) over))))
+
+-- what is there gives the same
+pub constant : {A B : Type 0} {x y : B} (o : Option A) → Some x ≡ option_map (λ (_ : A). y) o → x ≡ y
+constant None e = absurd (let wrong : ⊥ = cc in wrong)
+constant (Some a) e = cc
+
+-- the same maps are read
+pub same_read : {xs ys : List Crate} {f g : Maps} → xs ≡ ys → f ≡ g → among xs [] f ≡ among ys [] g
+same_read e h = λ i. among (e i) [] (h i)
 
 -- an answer that is given stands
 pub stands : RunsBindFromSources → PathsAnswerFromSources → PathsLeadToWhatIsThere → (s : SessionState) (place : PlaceValue) (path : Path) (shadow : Shadow) (style : Option MacroStyle) (a : Answer) → IsSound s
@@ -51,9 +71,9 @@ stands runs answers leads s place path shadow style a sound h =
       behind = λ id b. sound.current id (unmarked_behind sound off b);
       asked_from = m;
       named = some;
-      whole = subst (LeavesNothingOut (resolution_of (beside (read_of s (map_of place)) now.found.map) (asking_of now.found.local shadow style) m path).resolved_def)
-          (sym (let e : a ≡ answer_in s.tables.files (beside (read_of s (map_of place)) now.found.map) now.found.local m path shadow style = cc given in e))
+      whole = subst (LeavesNothingOut (resolution_of (overlay (read_of s (map_of place)) now.found.map) (asking_of now.found.local shadow style) m path).resolved_def)
+          (sym (let e : a ≡ answer_in s.tables.files (overlay (read_of s (map_of place)) now.found.map) now.found.local m path shadow style = cc given in e))
           (whole runs answers leads s sound place.krate.0 off place.elements m path shadow style some);
-      is = let e : a ≡ answer_in s.tables.files (beside (read_of s (map_of place)) now.found.map) now.found.local m path shadow style = cc given in e;
+      is = let e : a ≡ answer_in s.tables.files (overlay (read_of s (map_of place)) now.found.map) now.found.local m path shadow style = cc given in e;
     })))
     (λ past. absurd (let wrong : ⊥ = cc (rw past at h) in wrong))

@@ -16,8 +16,6 @@ use Rattle.hir_session.specs.Refusals.{dependency_crates, has_late, first_out_of
 use Rattle.hir_session.specs.Beginning.{dependency_of, IsAdded, IsMade, AreMade, AreRooted, Begins}
 use Rattle.hir_base.specs.declared.ast_id.FileId.{FileId}
 use Rattle.hir_tables.specs.Tables.{KeepsTables, TablesValue, file_at}
-use Rattle.hir_session.specs.Behind.{AreBehind, AreBuilt}
-use Rattle.hir_session.proofs.Stands.{built_more, stands}
 use Rattle.hir_session.proofs.Truth.{clash, on_bool, on_same}
 use Rattle.std.proofs.lemmas.List.{get_or_append_left, get_or_push}
 
@@ -36,13 +34,11 @@ IsMaking k inputs crates =
 -- the crates of the first so many inputs were made
 pub record IsBeginning (k : ℕ) (inputs : List CrateInput) (crates : List CrateValue) (tables : TablesValue) : Type 0 where
   pub making : IsMaking k inputs crates
-  pub built : AreBuilt crates
   pub rooted : AreRooted tables crates
 
 pub beginning-start : (inputs : List CrateInput) (crates : List CrateValue) (tables : TablesValue) → crates ≡ [] → IsBeginning 0 inputs crates tables
 beginning-start inputs crates tables none = subst (λ (cs : List CrateValue). IsBeginning 0 inputs cs tables) (sym none) (record {
   making = λ rest made. made;
-  built = record { each = λ k within. absurd (omega arith) };
   rooted = λ k within. absurd (omega arith);
 })
 
@@ -55,7 +51,6 @@ beginning-more k inputs crates next before after i other within is added so_far 
       let from : AreMade (map crate_input_view (drop k inputs)) (added.made ∷ rest) = rw here (added.is, h) in
       subst (λ (cs : List CrateValue). AreMade (map crate_input_view inputs) cs)
       (sym (append_assoc crates (added.made ∷ []) rest) ∙ ap (λ (cs : List CrateValue). cs ++ rest) (sym added.longer)) (so_far.making (added.made ∷ rest) from);
-  built = built_more crates next added.made added.longer so_far.built added.behind;
   rooted = subst (λ (cs : List CrateValue). AreRooted after cs) (sym added.longer) (λ j low. on_same j (length crates)
       (λ e. number_of j added.made (sym (get_or_push crates added.made no_crate j (sym e))) added.number)
       (λ ne.
@@ -98,12 +93,11 @@ crates_named (d ∷ ds) = ap (λ (cs : List Crate). d.krate ∷ cs) (crates_name
 
 -- a crate that is made with the number of its root file is added
 pub added_by : (input : CrateInputValue) (old new : List CrateValue) (before after : TablesValue) (c : CrateValue) → IsMade input c
-    → AreBehind old (dependency_crates input.deps) c.behind → (number : FileId) (root : List ℕ) → root ≡ input.root → file_at after number ≡ Some root → c.file ≡ number
+    → (number : FileId) (root : List ℕ) → root ≡ input.root → file_at after number ≡ Some root → c.file ≡ number
     → new ≡ old ++ c ∷ [] → KeepsTables before after → IsAdded input old new before after
-added_by input old new before after c made behind number root is_root found is_number longer kept = record {
+added_by input old new before after c made number root is_root found is_number longer kept = record {
   made = c;
   is = made;
-  behind = subst (λ (ds : List Crate). AreBehind old ds c.behind) (sym (ap (λ (ds : List Dependency). map (λ d. d.krate) ds) made.config.dependencies ∙ crates_named input.deps)) behind;
   number = ap (file_at after) is_number ∙ found ∙ ap (λ (p : List ℕ). Some p) (is_root ∙ sym made.root);
   longer = longer;
   kept = kept;
@@ -131,7 +125,6 @@ begins_sound inputs s few ordered is =
     record {
       few = omega arith;
       below = λ k d among. let lower : d.0 < 0 + k = below_from 0 inputs s.crates is.crates ordered k d among in omega arith;
-      behind = is.behind;
       placed = λ id off. clash (on id) off;
       closed = λ id d off among. clash (on id) off;
       current = λ id off. clash (on id) off;
@@ -140,12 +133,10 @@ begins_sound inputs s few ordered is =
 
 -- the parts of a session that begins
 pub begins_with : (inputs : List CrateInput) (crates : List CrateValue) (tables : TablesValue) (files : Files) (kept : Resolutions)
-    → AreMade (map crate_input_view inputs) crates → AreBuilt crates → first_out_of_order 0 (map crate_input_view inputs) ≡ None
-    → AreRooted tables crates → files ≡ [] → ((id : MapId) → kept_in kept id ≡ None)
+    → AreMade (map crate_input_view inputs) crates → AreRooted tables crates → files ≡ [] → ((id : MapId) → kept_in kept id ≡ None)
     → Begins (map crate_input_view inputs) (record { crates = crates; tables = tables; files = files; kept = kept })
-begins_with inputs crates tables files kept made built ordered rooted is_files is_kept = record {
+begins_with inputs crates tables files kept made rooted is_files is_kept = record {
   crates = made;
-  behind = stands crates built (λ k d among. let lower : d.0 < 0 + k = below_from 0 (map crate_input_view inputs) crates made ordered k d among in omega arith);
   rooted = rooted;
   files = is_files;
   kept = is_kept;

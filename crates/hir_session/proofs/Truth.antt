@@ -1,4 +1,4 @@
-use Rattle.std.proofs.Common.{◌≡◌, ◌≢◌, ℕ, Bool, true, false, Result, Ok, Err, IfOk, ◌&&◌, ◌||◌, refl, nat_eq}
+use Rattle.std.proofs.Common.{◌≡◌, ◌≢◌, ℕ, Bool, true, false, Result, Ok, Err, IfOk, OnOk, OnErr, ◌&&◌, ◌||◌, refl, nat_eq}
 use Rattle.std.proofs.lemmas.Bool.{eqb-true, eqb-false}
 
 -- true is not false
@@ -45,3 +45,13 @@ on_same j k f g = on_bool (nat_eq j k) (λ e. f (eqb-true j k e)) (λ e. g (eqb-
 pub on_ok : {T E : Type 0} {P Q : T → Type 0} (r : Result T E) → ((x : T) → P x → Q x) → IfOk r P → IfOk r Q
 on_ok (Ok x) f h = f x h
 on_ok (Err e) f h = h
+
+-- what follows from either end of a call
+pub on_either : {A B C T E : Type 0} (r : Result T E) → OnOk r A → OnErr r B → (A → C) → (B → C) → C
+on_either (Ok x) a b f g = f a
+on_either (Err e) a b f g = g b
+
+-- and from the good one
+pub where_ok : {A C T E : Type 0} (r : Result T E) → OnOk r A → (A → C) → OnOk r C
+where_ok (Ok x) a f = f a
+where_ok (Err e) a f = a

@@ -4,7 +4,8 @@ use Rattle.std.specs.Option.{option_and_then}
 use Rattle.hir_base.specs.ModPath.{Path}
 use Rattle.hir_base.specs.Place.{PlaceValue}
 use Rattle.hir_base.specs.declared.ids.ModuleId.{ModuleId}
-use Rattle.hir_def_map.specs.State.{Local, Maps, beside}
+use Rattle.hir_def_map.specs.State.{Local}
+use Rattle.hir_def_map.specs.Overlay.{Maps, overlay}
 use Rattle.hir_def_map.specs.Scoping.{resolution_of}
 use Rattle.hir_def_map.specs.Scoping.Asking.{Asking}
 use Rattle.hir_def_map.specs.declared.nameres.path_resolution.ResolveMode.TheVariants as mode
@@ -58,7 +59,7 @@ answer_in paths maps local m path shadow style = named_by paths maps (resolution
 abbrev pub answer_from : List (List ℕ) → Maps → Option Resolution → Option ModuleId → Path → Shadow → Option MacroStyle → Result Answer QueryError
 answer_from paths read None m path shadow style = Err error.UnknownPlace
 answer_from paths read (Some r) None path shadow style = Err error.UnknownPlace
-answer_from paths read (Some r) (Some m) path shadow style = Ok (answer_in paths (beside read r.map) r.local m path shadow style)
+answer_from paths read (Some r) (Some m) path shadow style = Ok (answer_in paths (overlay read r.map) r.local m path shadow style)
 
 -- the answer, where the place's answers stand so
 abbrev pub answer_by : Status → Result Answer QueryError → Result Answer QueryError
@@ -66,7 +67,10 @@ answer_by status.Current answer = answer
 answer_by status.Stale answer = Err error.StalePlace
 answer_by status.Unknown answer = Err error.UnknownPlace
 
+-- what a path means over what is kept
+abbrev pub answer_kept : SessionState → PlaceValue → Path → Shadow → Option MacroStyle → Result Answer QueryError
+answer_kept s place path shadow style = answer_from s.tables.files (read_of s (map_of place)) (kept_of s (map_of place)) (module_of s place) path shadow style
+
 -- the answer to a query
 abbrev pub answer_of : SessionState → PlaceValue → Path → Shadow → Option MacroStyle → Result Answer QueryError
-answer_of s place path shadow style =
-    answer_by (status_of s place) (answer_from s.tables.files (read_of s (map_of place)) (kept_of s (map_of place)) (module_of s place) path shadow style)
+answer_of s place path shadow style = answer_by (status_of s place) (answer_kept s place path shadow style)

@@ -5,7 +5,8 @@ use Rattle.hir_base.specs.Place.{PlaceValue}
 use Rattle.hir_base.specs.declared.ids.MapId.{MapId}
 use Rattle.hir_base.specs.declared.ids.ModuleId.{ModuleId}
 use Rattle.hir_def_map.specs.Scoping.{resolution_of}
-use Rattle.hir_def_map.specs.State.{beside, root_of}
+use Rattle.hir_def_map.specs.Overlay.{overlay}
+use Rattle.hir_def_map.specs.State.{root_of}
 use Rattle.hir_wire.specs.declared.answer.Answer.{Answer}
 use Rattle.hir_wire.specs.declared.command.Shadow.{Shadow}
 use Rattle.hir_wire.specs.declared.command.MacroStyle.{MacroStyle}
@@ -27,5 +28,5 @@ pub record AnswersStand (s : SessionState) (place : PlaceValue) (path : Path) (s
   pub asked_from : ModuleId
   pub named : module_below found.map (root_of found.map.id) place.elements ≡ Some asked_from
   -- and it has a source item wherever scoping gives something
-  pub whole : LeavesNothingOut (resolution_of (beside (read_of s (map_of place)) found.map) (asking_of found.local shadow style) asked_from path).resolved_def answer
-  pub is : answer ≡ answer_in s.tables.files (beside (read_of s (map_of place)) found.map) found.local asked_from path shadow style
+  pub whole : LeavesNothingOut (resolution_of (overlay (read_of s (map_of place)) found.map) (asking_of found.local shadow style) asked_from path).resolved_def answer
+  pub is : answer ≡ answer_in s.tables.files (overlay (read_of s (map_of place)) found.map) found.local asked_from path shadow style

@@ -1,15 +1,12 @@
 -- How does a session begin?
-use Rattle.std.specs.Prelude.{◌≡◌, ◌↔◌, ℕ, ◌<◌, true, List, [], ◌∷◌, ◌++◌, length, map, None, Some}
+use Rattle.std.specs.Prelude.{◌≡◌, ℕ, ◌<◌, List, [], ◌∷◌, ◌++◌, length, map, None, Some}
 use Rattle.hir_base.specs.CfgOptions.{SetAlike}
 use Rattle.hir_wire.specs.CommandValue.{CrateInputValue}
 use Rattle.hir_wire.specs.declared.command.Dependency.{Dependency as HandedIn}
 use Rattle.hir_def_collector.specs.declared.source_database.Dependency.{Dependency}
 use Rattle.hir_def_collector.specs.Workspace.{ConfigValue}
-use Rattle.hir_base.specs.declared.ids.Crate.{Crate}
 use Rattle.hir_base.specs.declared.ids.MapId.{MapId}
-use Rattle.hir_session.specs.Crates.{CrateValue, behind_in, crate_in, dependencies_in}
-use Rattle.hir_session.specs.StandsOn.{StandsOn}
-use Rattle.hir_session.specs.Behind.{has_crate, AreBehind}
+use Rattle.hir_session.specs.Crates.{CrateValue, crate_in}
 use Rattle.hir_tables.specs.Tables.{TablesValue, file_at, KeepsTables}
 use Rattle.hir_session.specs.SessionState.{SessionState, kept_of}
 use Rattle.hir_session.specs.Refusals.{dependency_crates}
@@ -46,7 +43,6 @@ AreRooted tables crates = (k : ℕ) → k < length crates → file_at tables (cr
 pub record IsAdded (input : CrateInputValue) (old new : List CrateValue) (before after : TablesValue) : Type 0 where
   pub made : CrateValue
   pub is : IsMade input made
-  pub behind : AreBehind old (map (λ d. d.krate) made.config.dependencies) made.behind
   pub number : file_at after made.file ≡ Some made.own.root
   pub longer : new ≡ old ++ made ∷ []
   pub kept : KeepsTables before after
@@ -54,8 +50,6 @@ pub record IsAdded (input : CrateInputValue) (old new : List CrateValue) (before
 -- the session is over these crates, without files, and nothing of it is resolved
 pub record Begins (inputs : List CrateInputValue) (s : SessionState) : Type 0 where
   pub crates : AreMade inputs s.crates
-  -- of each crate it is known on which it stands
-  pub behind : (k : ℕ) (c : Crate) → (has_crate (behind_in s.crates k) c ≡ true) ↔ StandsOn (dependencies_in s.crates) k c.0
   -- two crates with one root file have one number for it
   pub rooted : AreRooted s.tables s.crates
   pub files : s.files ≡ []

@@ -1,6 +1,6 @@
 -- How are the values of a session stored?
 use Rattle.std.specs.Coded.{Coded, codes}
-use Rattle.hir_def_map.specs.Codes.{coded_map}
+use Rattle.hir_def_map.specs.Inner.Codes.{coded_map}
 use Rattle.hir_session.specs.SourceCodes.{coded_source}
 use Rattle.hir_session.specs.CrateCodes.{coded_crate}
 use Rattle.hir_session.specs.Files.{Files}

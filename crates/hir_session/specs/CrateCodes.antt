@@ -1,5 +1,6 @@
 -- How is a crate stored?
-use Rattle.std.specs.Coded.{Coded, codes}
+use Rattle.std.specs.Prelude.{List}
+use Rattle.std.specs.Coded.{Coded, codes, coded_list}
 use Rattle.hir_item_tree.specs.CollectedCodes.{coded_atom}
 use Rattle.hir_session.specs.Crates.{CrateValue}
 use Rattle.hir_session.specs.SourceCodes.{coded_attributes}
@@ -7,3 +8,7 @@ use Rattle.hir_session.specs.SourceCodes.{coded_attributes}
 -- a crate is stored as its parts
 pub coded_crate : Coded CrateValue
 coded_crate = hlevel (codes, coded_attributes, coded_atom)
+
+-- crates are stored in their order
+pub coded_crates : Coded (List CrateValue)
+coded_crates = coded_list coded_crate

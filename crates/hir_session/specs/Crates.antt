@@ -1,5 +1,5 @@
 -- What is a crate of a session?
-use Rattle.std.specs.Prelude.{ℕ, false, List, [], map, None, slice_index_or}
+use Rattle.std.specs.Prelude.{◌≡◌, ℕ, false, List, [], length, map, Option, None, option_map, slice_get, slice_index_or}
 use Rattle.hir_item_tree.specs.Attributes.{no_attributes}
 use Rattle.hir_item_tree.specs.declared.tree_id.TreeId.{TreeId}
 use Rattle.hir_base.specs.declared.ast_id.FileId.{FileId}
@@ -9,17 +9,17 @@ use Rattle.hir_base.specs.declared.cfg.CfgAtom.{CfgAtom}
 use Rattle.hir_base.specs.declared.edition.Edition.TheVariants.{Edition2024}
 use Rattle.hir_base.specs.declared.ids.Crate.{Crate}
 use Rattle.hir_base.specs.declared.ids.MapId.{MapId}
+use Rattle.hir_crate_graph.specs.Dependencies.{AreTransitive, transitive_dependencies}
 use Rattle.hir_def_map.specs.State.{crate_map}
-use Rattle.hir_def_collector.specs.Workspace.{ConfigValue}
+use Rattle.hir_def_collector.specs.Workspace.{ConfigValue, direct_by}
 use Rattle.hir_def_collector.specs.Start.{Beginning, beginning}
 use Rattle.hir_def_collector.specs.declared.source_database.CrateRoot.{CrateRoot}
 use Rattle.hir_def_collector.specs.declared.collector.Start.TheVariants as starts
 
--- its root, what else it was handed in with, the crates on which it stands, and the number of its root file
+-- its root, what else it was handed in with, and the number of its root file
 pub record CrateValue : Type 0 where
   pub own : CrateRoot
   pub config : ConfigValue
-  pub behind : List Crate
   pub file : FileId
 
 -- what stands for a crate that isn't there
@@ -27,7 +27,6 @@ abbrev pub no_crate : CrateValue
 no_crate = record {
   own = record { root = []; is_proc_macro = false };
   config = record { edition = Edition2024; attributes = no_attributes; dependencies = []; options = [] };
-  behind = [];
   file = record { 0 = 0 };
 }
 
@@ -35,9 +34,22 @@ no_crate = record {
 abbrev pub crate_in : List CrateValue → ℕ → CrateValue
 crate_in crates k = slice_index_or crates k no_crate
 
--- what it depends on
+-- what a crate was handed in with, where it is there
+abbrev pub config_in : List CrateValue → Crate → Option ConfigValue
+config_in crates krate = option_map (λ c. c.config) (slice_get crates krate.0)
+
+-- the crates on which one depends directly
 abbrev pub dependencies_in : List CrateValue → ℕ → List Crate
-dependencies_in crates k = map (λ d. d.krate) (crate_in crates k).config.dependencies
+dependencies_in crates k = direct_by (config_in crates) k
+
+-- those on which it depends directly or through others, by number
+abbrev pub transitive_in : List CrateValue → ℕ → List Crate
+transitive_in crates k = transitive_dependencies (dependencies_in crates) k
+
+-- each list is that of the crate of its number
+pub record AreTransitiveOf (crates : List CrateValue) (lists : List (List Crate)) : Type 0 where
+  pub count : length lists ≡ length crates
+  pub each : AreTransitive (dependencies_in crates) lists
 
 -- the id of the map of the crate of this number
 abbrev pub id_of : ℕ → MapId
@@ -46,10 +58,6 @@ id_of k = crate_map (record { 0 = k })
 -- the maps that the map of a crate follows: those of the crates on which it depends
 abbrev pub follows_in : List CrateValue → MapId → List MapId
 follows_in crates id = map crate_map (dependencies_in crates id.krate.0)
-
--- on what it stands, directly or through others
-abbrev pub behind_in : List CrateValue → ℕ → List Crate
-behind_in crates k = (crate_in crates k).behind
 
 -- the options that are set in it
 abbrev pub options_in : List CrateValue → ℕ → List CfgAtom

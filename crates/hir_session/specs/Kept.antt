@@ -6,10 +6,11 @@ use Rattle.hir_base.specs.declared.ids.MapId.{MapId}
 use Rattle.hir_base.specs.contracts.ids.MapIdOrd.TheImpl as map_order
 use Rattle.hir_scope.specs.declared.imports.ImportOrExternCrate.{ImportOrExternCrate}
 use Rattle.hir_def_map.specs.declared.world.finished.Finished.{Finished}
-use Rattle.hir_def_map.specs.Among.{unheld}
-use Rattle.hir_def_map.specs.Named.{names_map}
+use Rattle.hir_def_map.specs.WorldParts.{unheld}
+use Rattle.hir_def_map.specs.References.{refers_to}
 use Rattle.hir_def_map.specs.Removal.{Depends}
-use Rattle.hir_def_map.specs.State.{Local, Map, Maps}
+use Rattle.hir_def_map.specs.State.{Local, Map}
+use Rattle.hir_def_map.specs.Overlay.{Maps}
 use Rattle.hir_def_collector.specs.Derivation.{CollectedValue}
 use Rattle.hir_def_collector.specs.declared.source_database.Key.{Key}
 use Rattle.hir_session.specs.declared.kept.KeptResolution.{KeptResolution}
@@ -31,7 +32,7 @@ finished_by kept id = option_map (λ (r : CollectedValue). unheld r.map r.local)
 
 abbrev pub names_of : Option CollectedValue → MapId → Bool
 names_of None id = false
-names_of (Some r) id = names_map r.map r.local id
+names_of (Some r) id = refers_to r.map r.local id
 
 -- whether what is kept of a place names the map of another
 abbrev pub names_in : Resolutions → MapId → MapId → Bool

@@ -1,6 +1,6 @@
 -- How are kept resolutions stored?
 use Rattle.std.specs.Coded.{Coded, codes}
-use Rattle.hir_def_map.specs.Codes.{coded_map}
+use Rattle.hir_def_map.specs.Inner.Codes.{coded_map}
 use Rattle.hir_session.specs.Kept.{Resolutions}
 
 -- they are stored as the list of their ids and parts

@@ -5,9 +5,10 @@ use Rattle.hir_base.specs.ModPath.{Path}
 use Rattle.hir_base.specs.Place.{PlaceValue}
 use Rattle.hir_base.specs.declared.ids.Crate.{Crate}
 use Rattle.hir_wire.specs.Edits.{EditValue}
-use Rattle.hir_wire.specs.CommandValue.{CommandValue, CrateInputValue, crates, edit, refresh, resolve, status, tree}
+use Rattle.hir_wire.specs.CommandValue.{CommandValue, CrateInputValue, crates, diagnostics, edit, refresh, resolve, status, tree}
 use Rattle.hir_wire.specs.Commands.{reading_of}
 use Rattle.hir_wire.specs.declared.answer.Answer.{Answer}
+use Rattle.hir_wire.specs.declared.diagnostic.Diagnostic.{Diagnostic}
 use Rattle.hir_wire.specs.declared.command.Shadow.{Shadow}
 use Rattle.hir_wire.specs.declared.command.MacroStyle.{MacroStyle}
 use Rattle.hir_wire.specs.declared.read_error.ReadError.{ReadError}
@@ -24,6 +25,8 @@ use Rattle.hir_session.specs.declared.error.QueryError.{QueryError}
 use Rattle.hir_session.specs.declared.error.QueryError.TheVariants as query_error
 use Rattle.hir_session.specs.declared.error.TreeTextError.{TreeTextError}
 use Rattle.hir_session.specs.declared.error.TreeTextError.TheVariants as tree_text_error
+use Rattle.hir_session.specs.declared.error.DiagnosticsError.{DiagnosticsError}
+use Rattle.hir_session.specs.declared.error.DiagnosticsError.TheVariants as diagnostics_error
 use Rattle.hir_session.specs.SessionState.{SessionState}
 use Rattle.hir_session.specs.Refusals.{verdict_of_new, verdict_of_apply}
 use Rattle.hir_session.specs.Beginning.{Begins}
@@ -32,6 +35,7 @@ use Rattle.hir_session.specs.Changes.{Applies, Refreshes, RefreshesPartly}
 use Rattle.hir_session.specs.Status.{status_of}
 use Rattle.hir_session.specs.Answers.{answer_of}
 use Rattle.hir_session.specs.TreeText.{tree_text_of}
+use Rattle.hir_session.specs.Diagnostics.{diagnostics_of}
 
 -- ---- replies
 
@@ -71,6 +75,17 @@ abbrev pub tree_text_reply : TreeTextError → Reply
 tree_text_reply tree_text_error.UnknownCrate = reply.UnknownCrate
 tree_text_reply tree_text_error.Memory = reply.Memory
 
+-- what is told where diagnostics aren't
+abbrev pub diagnostics_error_reply : DiagnosticsError → Reply
+diagnostics_error_reply diagnostics_error.UnknownCrate = reply.UnknownCrate
+diagnostics_error_reply diagnostics_error.StalePlace = reply.StalePlace
+diagnostics_error_reply diagnostics_error.Memory = reply.Memory
+
+-- what a query for diagnostics is answered
+abbrev pub diagnostics_reply : Result (List Diagnostic) DiagnosticsError → Reply
+diagnostics_reply (Ok list) = reply.Diagnostics list
+diagnostics_reply (Err why) = diagnostics_error_reply why
+
 -- what is told of a line that is no command
 abbrev pub read_reply : ReadError → Reply
 read_reply read_error.Json = reply.Json
@@ -102,6 +117,8 @@ pub data Moves (s : SessionState) (c : CommandValue) (answer : Reply) (t : Sessi
   -- or there is none
   shows_none : (krate : Crate) (path : List ℕ) (why : TreeTextError) → c ≡ tree krate path → t ≡ s
       → tree_text_of s krate path ≡ Err why → answer ≡ tree_text_reply why → Moves s c answer t
+  -- what couldn't be resolved in a crate is told
+  lists : (krate : Crate) → c ≡ diagnostics krate → t ≡ s → answer ≡ diagnostics_reply (diagnostics_of s krate) → Moves s c answer t
 
 -- ---- commands, and lines
 
@@ -121,6 +138,7 @@ makes_session refresh = false
 makes_session (resolve at path shadow style) = false
 makes_session (status at) = false
 makes_session (tree krate path) = false
+makes_session (diagnostics krate) = false
 
 -- what a command does to the machine, and what is told of it
 pub data AnswersCommand (old : MachineState) (c : CommandValue) (answer : Reply) (new : MachineState) : Type 0 where

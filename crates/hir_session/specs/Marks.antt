@@ -1,7 +1,7 @@
 -- Which places does an edit mark?
 use Rattle.std.specs.Prelude.{◌≡◌, ◌≢◌, true, Some, Contains}
 use Rattle.hir_base.specs.declared.ids.MapId.{MapId}
-use Rattle.hir_def_map.specs.State.{no_maps}
+use Rattle.hir_def_map.specs.Overlay.{no_maps}
 use Rattle.hir_def_collector.specs.Workspace.{Workspace}
 use Rattle.hir_def_collector.specs.Keys.{look}
 use Rattle.hir_def_collector.specs.declared.source_database.Key.{Key}

@@ -1,9 +1,6 @@
 -- What can't be taken yet?
-use Rattle.std.specs.Prelude.{Bool, true, false, ◌&&◌, not, List, [], ◌∷◌, Option, Some, None}
-use Rattle.hir_use_tree.specs.declared.imports.ImportAlias.{ImportAlias}
-use Rattle.hir_use_tree.specs.declared.imports.ImportAlias.TheVariants as alias
+use Rattle.std.specs.Prelude.{Bool, true, false, ◌&&◌, not, List, [], ◌∷◌}
 use Rattle.hir_item_tree.specs.Attributes.{Attribute, meta, cfg, cfg_attr, Attributes, no_attributes, attribute}
-use Rattle.hir_item_tree.specs.UseTree.{UseTree, single, glob, prefixed, UseTrees, no_trees, tree}
 use Rattle.hir_item_tree.specs.Source.{VariantValue, Plain, import, extern_crate, function, structure, union_structure, enumeration, constant, static_item, type_alias, outline_module, macro_call, macro_rules, macro_def, Item, plain, holder, Items, no_items, item, SourceValue, broken, unit}
 use Rattle.hir_def_collector.specs.BuiltinAttributes.{is_inert}
 use Rattle.hir_wire.specs.CommandValue.{CrateInputValue}
@@ -22,33 +19,15 @@ abbrev mutual
   are_attributes_taken no_attributes = true
   are_attributes_taken (attribute a rest) = is_attribute_taken a && are_attributes_taken rest
 
--- all aliases but `_`
-abbrev pub is_alias_taken : Option ImportAlias → Bool
-is_alias_taken None = true
-is_alias_taken (Some alias.Underscore) = false
-is_alias_taken (Some (alias.Alias name)) = true
-
-abbrev mutual
-  -- paths and lists, without globs
-  pub is_tree_taken : UseTree → Bool
-  is_tree_taken (single path a) = is_alias_taken a
-  is_tree_taken (glob path) = false
-  is_tree_taken (prefixed path list) = are_trees_taken list
-
-  -- use trees all of which are taken
-  pub are_trees_taken : UseTrees → Bool
-  are_trees_taken no_trees = true
-  are_trees_taken (tree t ts) = is_tree_taken t && are_trees_taken ts
-
 -- variants all of whose attributes are taken
 abbrev pub are_variants_taken : List VariantValue → Bool
 are_variants_taken [] = true
 are_variants_taken (v ∷ vs) = are_attributes_taken v.attributes && are_variants_taken vs
 
--- all kinds but modules in files of their own, and what has to do with macros
+-- all kinds but what has to do with macros
 abbrev pub is_kind_taken : Plain → Bool
-is_kind_taken (import written) = is_tree_taken written
-is_kind_taken (extern_crate name a) = is_alias_taken a
+is_kind_taken (import written) = true
+is_kind_taken (extern_crate name alias) = true
 is_kind_taken (function name body) = true
 is_kind_taken (structure name shape fields) = true
 is_kind_taken (union_structure name fields) = true
@@ -56,7 +35,7 @@ is_kind_taken (enumeration name variants) = are_variants_taken variants
 is_kind_taken (constant name body) = true
 is_kind_taken (static_item name body) = true
 is_kind_taken (type_alias name) = true
-is_kind_taken (outline_module name) = false
+is_kind_taken (outline_module name) = true
 is_kind_taken (macro_call path) = false
 is_kind_taken (macro_rules name makro) = false
 is_kind_taken (macro_def name makro) = false

@@ -23,6 +23,8 @@ use Rattle.hir_session.specs.declared.error.QueryError.{QueryError}
 use Rattle.hir_session.specs.declared.error.QueryError.TheVariants as query_error
 use Rattle.hir_session.specs.declared.error.TreeTextError.{TreeTextError}
 use Rattle.hir_session.specs.declared.error.TreeTextError.TheVariants as tree_text_error
+use Rattle.hir_session.specs.declared.error.DiagnosticsError.{DiagnosticsError}
+use Rattle.hir_session.specs.declared.error.DiagnosticsError.TheVariants as diagnostics_error
 use Rattle.hir_session.specs.SessionState.{max_crates}
 use Rattle.hir_session.specs.NotYet.{is_crate_taken, is_source_taken}
 
@@ -41,6 +43,10 @@ IsQueryMemory e = e ≡ query_error.Memory
 -- memory ran out
 abbrev pub IsTreeTextMemory : TreeTextError → Type 0
 IsTreeTextMemory e = e ≡ tree_text_error.Memory
+
+-- memory ran out for diagnostics
+abbrev pub IsDiagnosticsMemory : DiagnosticsError → Type 0
+IsDiagnosticsMemory e = e ≡ diagnostics_error.Memory
 
 -- why a refresh ends early where a run was given up
 abbrev pub refresh_error_of : CollectError → RefreshError

@@ -1,18 +1,17 @@
 -- Where does a session stand?
-use Rattle.std.specs.Prelude.{◌≡◌, ◌↔◌, ℕ, ◌<◌, ◌≤◌, Bool, true, false, List, [], length, is_none, Some, None, Option, Contains}
+use Rattle.std.specs.Prelude.{◌≡◌, ℕ, ◌<◌, ◌≤◌, Bool, false, List, [], length, is_none, Some, None, Option, Contains}
 use Rattle.hir_base.specs.declared.ids.Crate.{Crate}
 use Rattle.hir_base.specs.declared.ids.MapId.{MapId}
-use Rattle.hir_def_map.specs.Among.{among}
-use Rattle.hir_def_map.specs.Complete.{BeginsOnly, NamesOnly}
-use Rattle.hir_def_map.specs.State.{Maps, beside}
+use Rattle.hir_def_map.specs.WorldParts.{among}
+use Rattle.hir_def_map.specs.WellFormed.{HasNoDanglingExtern, HasNoDanglingReference}
+use Rattle.hir_def_map.specs.Overlay.{Maps, overlay}
 use Rattle.hir_def_collector.specs.Workspace.{Workspace}
 use Rattle.hir_def_collector.specs.Keys.{AgreeOn}
 use Rattle.hir_def_collector.specs.Derivation.{CollectedValue, Ends}
 use Rattle.hir_def_collector.specs.Start.{Beginning}
-use Rattle.hir_session.specs.Crates.{CrateValue, beginning_in, behind_in, crate_in, dependencies_in, follows_in}
-use Rattle.hir_session.specs.StandsOn.{StandsOn}
-use Rattle.hir_session.specs.Behind.{has_crate}
+use Rattle.hir_session.specs.Crates.{CrateValue, beginning_in, transitive_in, crate_in, dependencies_in, follows_in}
 use Rattle.hir_session.specs.Files.{Files, workspace_in}
+use Rattle.hir_session.specs.Inputs.{InputsValue}
 use Rattle.hir_session.specs.Kept.{Resolutions, finished_by, kept_in}
 use Rattle.hir_tables.specs.Tables.{TablesValue, file_at}
 
@@ -27,6 +26,10 @@ pub record SessionState : Type 0 where
   pub tables : TablesValue
   pub files : Files
   pub kept : Resolutions
+
+-- the session over what is handed in, with these tables and resolutions
+abbrev pub state_of : InputsValue → TablesValue → Resolutions → SessionState
+state_of inputs tables kept = record { crates = inputs.crates; tables = tables; files = inputs.files; kept = kept }
 
 -- the workspace as it is now: a file that isn't there is not an empty one
 abbrev pub workspace_of : SessionState → Workspace
@@ -56,9 +59,9 @@ is_marked s id = is_none (kept_of s id)
 abbrev pub finished_of : SessionState → Maps
 finished_of s = finished_by s.kept
 
--- the finished maps that a place reads: those of the crates on which its crate stands
+-- the finished maps that a place reads: those of the crates on which its crate depends
 abbrev pub read_of : SessionState → MapId → Maps
-read_of s id = among (behind_in s.crates id.krate.0) [] (finished_of s)
+read_of s id = among (transitive_in s.crates id.krate.0) [] (finished_of s)
 
 -- a derivation ends in the resolution over every workspace, beside finished maps, that agrees with this one, beside these, on the
 -- keys that it asked for
@@ -71,8 +74,8 @@ pub record IsResolutionOf (s : SessionState) (id : MapId) (r : Resolution) : Typ
   pub own : r.map.id ≡ id
   -- nothing holds a crate's map
   pub unheld : r.map.holder ≡ None
-  pub names : NamesOnly (beside (read_of s id) r.map) r.map
-  pub begins : BeginsOnly (beside (read_of s id) r.map) r.local
+  pub names : HasNoDanglingReference (overlay (read_of s id) r.map) r.map
+  pub begins : HasNoDanglingExtern (overlay (read_of s id) r.map) r.local
 
 -- what is kept of the place is what the import rules could have given just now
 pub record IsCurrent (s : SessionState) (id : MapId) : Type 0 where
@@ -93,7 +96,6 @@ max_crates = 10000
 pub record IsSound (s : SessionState) : Type 0 where
   pub few : length s.crates ≤ max_crates
   pub below : (k : ℕ) (d : Crate) → Contains (dependencies_of s k) d → d.0 < k
-  pub behind : (k : ℕ) (c : Crate) → (has_crate (behind_in s.crates k) c ≡ true) ↔ StandsOn (dependencies_of s) k c.0
   pub placed : (id : MapId) → is_marked s id ≡ false → IsPlace s id
   pub closed : (id d : MapId) → is_marked s id ≡ false → Contains (follows s id) d → is_marked s d ≡ false
   pub current : (id : MapId) → is_marked s id ≡ false → IsCurrent s id

@@ -26,7 +26,7 @@ use Rattle.hir_scope.specs.declared.imports.ImportOrGlob.TheVariants as value_im
 use Rattle.hir_scope.specs.PerNs.{Item}
 use Rattle.hir_scope.specs.declared.visibility.Visibility.{Visibility}
 use Rattle.hir_scope.specs.declared.visibility.Visibility.TheVariants as vis
-use Rattle.hir_def_map.specs.State.{Maps, module_in}
+use Rattle.hir_def_map.specs.Overlay.{Maps, module_in}
 use Rattle.hir_def_map.specs.declared.nameres.origin.ModuleOrigin.{ModuleOrigin}
 use Rattle.hir_def_map.specs.declared.nameres.origin.ModuleOrigin.TheVariants as origin
 use Rattle.hir_wire.specs.declared.answer.AnswerItem.{AnswerItem}

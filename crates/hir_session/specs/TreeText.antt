@@ -6,7 +6,7 @@ use Rattle.hir_item_tree.specs.Page.{page}
 use Rattle.hir_session.specs.declared.error.TreeTextError.{TreeTextError}
 use Rattle.hir_session.specs.declared.error.TreeTextError.TheVariants as error
 use Rattle.hir_session.specs.Crates.{CrateValue, crate_in}
-use Rattle.hir_session.specs.Files.{file_at, shown}
+use Rattle.hir_session.specs.Files.{file_at, tree_under}
 use Rattle.hir_session.specs.SessionState.{SessionState}
 
 -- the edition of a crate
@@ -16,5 +16,5 @@ edition_in crates k = (crate_in crates k).config.edition
 -- the page of the file's tree in the crate's edition, or that there is no such crate
 abbrev pub tree_text_of : SessionState → Crate → List ℕ → Result (List ℕ) TreeTextError
 tree_text_of s krate path =
-    if nat_lt krate.0 (length s.crates) then Ok (page (edition_in s.crates krate.0) (shown s.crates krate.0 (Some path) (file_at s.files path)).tree) else
+    if nat_lt krate.0 (length s.crates) then Ok (page (edition_in s.crates krate.0) (tree_under s.crates krate.0 (Some path) (file_at s.files path)).tree) else
     Err error.UnknownCrate

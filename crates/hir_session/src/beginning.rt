@@ -3,35 +3,21 @@ ghost use Rattle.std.specs.Prelude.{◌≡◌, ◌<◌, ◌^◌, map, true, Some
 ghost use Rattle.hir_base.specs.CfgOptions.{SetAlike};
 ghost use Rattle.hir_wire.specs.CommandValue.{crate_input_view};
 ghost use Rattle.hir_session.specs.Refusals.{dependency_crates, has_late, first_out_of_order};
-ghost use Rattle.hir_session.specs.Behind.{AreBehind, AreBuilt};
 ghost use Rattle.hir_session.specs.Beginning.{dependency_of, IsAdded, IsConfigOf, IsMade, AreMade, AreRooted};
 ghost use Rattle.hir_def_collector.specs.Workspace.{config_view};
 ghost use Rattle.hir_tables.specs.Tables.{file_at, KeepsTables};
 
-use crate::behind::behind_of;
 use crate::crate_info::CrateInfo;
+use crate::crates::Crates;
 use crate::front::copy_attrs;
 use hir_base::ast_id::FileId;
 use hir_base::cfg::CfgAtom;
 use hir_base::cfg_options::CfgOptions;
 use hir_base::file_path::FilePath;
-use hir_base::ids::Crate;
 use hir_def_collector::source_database::{Config, CrateRoot, Dependency as RunDependency};
 use hir_tables::Tables;
 use hir_wire::command::{CrateInput, Dependency};
 use std::alloc::{AllocError, Global};
-use std::rc::Rc;
-
-/// The crates that dependencies name.
-fn named_crates(alloc: Global, dependencies: &[Dependency]) -> Result<Vec<Crate>, AllocError>
-    ensures value { IfOk result (λ v. v.items ≡ dependency_crates dependencies.now) }
-{
-    let mut crates = Vec::new(alloc);
-    for dependency in dependencies {
-        crates.push(dependency.krate)?;
-    }
-    Ok(crates)
-}
 
 /// Dependencies as a run sees them.
 fn dependencies_of(
@@ -102,25 +88,17 @@ fn config_of(alloc: Global, input: &CrateInput) -> Result<Config, AllocError>
     })
 }
 
-/// A crate with a root file of this number, behind the crates before it.
-fn info_of(
-    alloc: Global,
-    file: FileId,
-    input: &CrateInput,
-    before: &Vec<CrateInfo>,
-) -> Result<CrateInfo, AllocError>
+/// A crate with a root file of this number.
+fn info_of(alloc: Global, file: FileId, input: &CrateInput) -> Result<CrateInfo, AllocError>
     ensures made { IfOk result (λ c. IsMade (crate_input_view input.now) c) }
     ensures number { IfOk result (λ c. c.file ≡ file) }
-    ensures behind { IfOk result (λ c. AreBehind before.now.items (dependency_crates (crate_input_view input.now).deps) c.behind) }
 {
-    let dependencies = named_crates(alloc, input.deps.as_slice())?;
-    let behind = behind_of(alloc, before, dependencies.as_slice())?;
     let config = config_of(alloc, input)?;
     let own = CrateRoot {
         root: input.root.clone()?,
         is_proc_macro: input.proc_macro,
     };
-    Ok(CrateInfo::new(own, config, Rc::new(alloc, behind)?, file))
+    Ok(CrateInfo::new(own, config, file))
 }
 
 /// The number of a root file. A session has too few crates for numbers to run out.
@@ -144,19 +122,18 @@ fn add_crate(
     ensures added { OnOk result (IsAdded (crate_input_view input.now) infos.old.items infos.new.items tables.old tables.new) }
 {
     let file = number_of(tables, input.root.clone()?)?;
-    let info = info_of(alloc, file, input, infos)?;
+    let info = info_of(alloc, file, input)?;
     infos.push(info)?;
     Ok(())
 }
 
 /// The crates of a session, and the numbers of their root files.
-pub fn infos_of(
+fn infos_of(
     alloc: Global,
     inputs: &Vec<CrateInput>,
     tables: &mut Tables,
 ) -> Result<Vec<CrateInfo>, AllocError>
     ensures made { IfOk result (λ v. AreMade (map crate_input_view inputs.now.items) v.items) }
-    ensures built { IfOk result (λ v. AreBuilt v.items) }
     ensures rooted { IfOk result (λ v. AreRooted tables.new v.items) }
 {
     let mut infos = Vec::new(alloc);
@@ -164,4 +141,20 @@ pub fn infos_of(
         add_crate(alloc, input, &mut infos, tables)?;
     }
     Ok(infos)
+}
+
+/// The crates of a session with their transitive dependencies. It is for crates that come in order.
+pub fn crates_of(
+    alloc: Global,
+    inputs: &Vec<CrateInput>,
+    tables: &mut Tables,
+) -> Result<Crates, AllocError>
+    ensures made { IfOk result (λ crates. AreMade (map crate_input_view inputs.now.items) crates) }
+    ensures rooted { IfOk result (λ crates. AreRooted tables.new crates) }
+{
+    let infos = infos_of(alloc, inputs, tables)?;
+    match Crates::new(alloc, infos) {
+        Ok(crates) => Ok(crates),
+        Err(_) => Err(AllocError),
+    }
 }

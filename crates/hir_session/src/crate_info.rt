@@ -1,5 +1,5 @@
-//! The crates of a session.
-ghost use Rattle.std.specs.Prelude.{◌≡◌, List, [], option_map, unwrap_or};
+//! A crate of a session.
+ghost use Rattle.std.specs.Prelude.{◌≡◌, [], option_map, unwrap_or};
 ghost use Rattle.hir_item_tree.specs.Attributes.{attributes_view};
 ghost use Rattle.hir_def_collector.specs.Workspace.{config_view};
 ghost use Rattle.hir_session.specs.Crates.{root_of};
@@ -8,19 +8,15 @@ ghost use Rattle.hir_session.specs.Files.{front_in};
 use hir_base::ast_id::{EditionedFileId, FileId};
 use hir_base::cfg_options::CfgOptions;
 use hir_base::file_path::FilePath;
-use hir_base::ids::Crate;
 use hir_def_collector::source_database::{Config, CrateRoot};
 use hir_item_tree::raw_attr::RawAttr;
-use std::collections::BTreeSet;
 use std::marker::Model;
-use std::rc::Rc;
 
-/// A crate: its root, what else it was handed in with, the crates on which it stands, and the number of its root file.
+/// A crate: its root, what else it was handed in with, and the number of its root file.
 #[derive(Drop)]
 pub struct CrateInfo {
     own: CrateRoot,
     config: Config,
-    behind: Rc<BTreeSet<Crate>>,
     file: FileId,
 }
 
@@ -36,26 +32,15 @@ impl Model for CrateInfo {
     ghost view = { λ c. record {
       own = c.own;
       config = config_view c.config;
-      behind = c.behind.value.keys;
       file = c.file;
     } };
 }
 
 impl CrateInfo {
-    pub fn new(
-        own: CrateRoot,
-        config: Config,
-        behind: Rc<BTreeSet<Crate>>,
-        file: FileId,
-    ) -> CrateInfo
-        ensures value { result ≡ record { own = own; config = config_view config; behind = behind.value.keys; file = file } }
+    pub fn new(own: CrateRoot, config: Config, file: FileId) -> CrateInfo
+        ensures value { result ≡ record { own = own; config = config_view config; file = file } }
     {
-        CrateInfo {
-            own,
-            config,
-            behind,
-            file,
-        }
+        CrateInfo { own, config, file }
     }
 
     /// Its root.
@@ -80,13 +65,6 @@ impl CrateInfo {
             file_id: self.file,
             edition: self.config.edition,
         }
-    }
-
-    /// On what it stands, directly or through others.
-    pub fn behind(&self) -> &Rc<BTreeSet<Crate>>
-        ensures value { result.now.value.keys ≡ self.now.behind }
-    {
-        &self.behind
     }
 
     /// The attributes that stand in front of those at the top of the file at a path, if any do.

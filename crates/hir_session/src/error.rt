@@ -72,6 +72,18 @@ pub enum TreeTextError {
     Memory,
 }
 
+/// Why the diagnostics of a crate aren't told.
+#[derive(Clone, Copy, Debug, PartialEq, Eq, Drop, Error)]
+pub enum DiagnosticsError {
+    #[error("there is no such crate")]
+    UnknownCrate,
+    /// What is kept of the crate may be out of date.
+    #[error("what is kept of the crate may be out of date")]
+    StalePlace,
+    #[error("out of memory")]
+    Memory,
+}
+
 /// What a limit is on.
 fn measured(limit: Limit) -> &'static str {
     match limit {
@@ -181,5 +193,16 @@ impl From<AllocError> for TreeTextError {
 
     fn from(_: AllocError) -> TreeTextError {
         TreeTextError::Memory
+    }
+}
+
+impl From<AllocError> for DiagnosticsError {
+    ghost use Rattle.std.specs.Prelude.{◌≡◌};
+    ghost use Rattle.hir_session.specs.declared.error.DiagnosticsError.TheVariants.{Memory};
+
+    ghost from_gives = { λ _ e. e ≡ Memory };
+
+    fn from(_: AllocError) -> DiagnosticsError {
+        DiagnosticsError::Memory
     }
 }

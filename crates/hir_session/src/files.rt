@@ -1,12 +1,12 @@
 //! The files of a session.
-ghost use Rattle.std.specs.Prelude.{◌≡◌, ℕ, List, [], None, Some, OnOk, OnErr, option_map};
+ghost use Rattle.std.specs.Prelude.{◌≡◌, ℕ, List, [], length, map, None, Some, OnOk, OnErr, option_map};
 ghost use Rattle.hir_item_tree.specs.Source.{source_view};
 ghost use Rattle.hir_session.specs.Files.{file_at, with_file, without_file};
 
 use hir_base::file_path::FilePath;
 use hir_item_tree::source::Source;
 use std::alloc::{AllocError, Global};
-use std::collections::BTreeMap;
+use std::collections::{BTreeMap, btree_map};
 use std::marker::Model;
 
 /// The source of a file, as it was handed in.
@@ -52,7 +52,7 @@ impl FileSource {
 }
 
 impl Files {
-    pub fn new(alloc: Global) -> Files
+    pub(crate) fn new(alloc: Global) -> Files
         ensures value { result ≡ [] }
     {
         Files {
@@ -70,8 +70,24 @@ impl Files {
         }
     }
 
+    /// How many files are there.
+    pub fn len(&self) -> usize
+        ensures value { result ≡ length self.now }
+    {
+        self.by_path.len()
+    }
+
+    /// The paths of the files, in their order.
+    pub fn paths(&self) -> FilePaths<'_>
+        ensures value { result ≡ map (λ f. f.0) self.now }
+    {
+        FilePaths {
+            left: self.by_path.keys(),
+        }
+    }
+
     /// Sets a file.
-    pub fn set(&mut self, path: FilePath, source: Source) -> Result<(), AllocError>
+    pub(crate) fn set(&mut self, path: FilePath, source: Source) -> Result<(), AllocError>
         ensures ok { OnOk result (self.new ≡ with_file self.old path (source_view source)) }
         ensures err { OnErr result (self.new ≡ self.old) }
     {
@@ -80,9 +96,39 @@ impl Files {
     }
 
     /// Removes a file.
-    pub fn remove(&mut self, path: &FilePath)
+    pub(crate) fn remove(&mut self, path: &FilePath)
         ensures value { self.new ≡ without_file self.old path.now }
     {
         self.by_path.remove(path);
+    }
+}
+
+/// The paths of files, one after another; see `Files::paths`.
+#[derive(Drop)]
+pub struct FilePaths<'a> {
+    left: btree_map::Keys<'a, FilePath, FileSource>,
+}
+
+impl<'a> Model for FilePaths<'a> {
+    ghost use Rattle.std.specs.Prelude.{List, ℕ};
+
+    ghost Value = { List (List ℕ) };
+
+    ghost view = { λ p. p.left };
+}
+
+impl<'a> Iterator for FilePaths<'a> {
+    type Item = &'a FilePath;
+
+    ghost use Rattle.std.specs.Iterator.{item_count};
+    ghost use Rattle.std.specs.Map.Iter.{TakesFirst, deref};
+    ghost use Rattle.std.specs.Prelude.{List};
+
+    ghost next_gives = { TakesFirst deref };
+
+    ghost remaining = { item_count (λ (left : List _). left) };
+
+    fn next(&mut self) -> Option<&'a FilePath> {
+        self.left.next()
     }
 }

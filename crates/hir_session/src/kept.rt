@@ -3,10 +3,10 @@ ghost use Rattle.std.specs.Prelude.{◌≡◌, ◌≢◌, ◌⊎◌, true, false
 ghost use Rattle.std.specs.BTreeMap.{get, is_at, IsUnchanged};
 ghost use Rattle.hir_base.specs.declared.ids.MapId.{MapId};
 ghost use Rattle.hir_base.specs.contracts.ids.MapIdOrd.TheImpl as map_order;
-ghost use Rattle.hir_def_map.specs.Inserted.{may_join};
-ghost use Rattle.hir_def_map.specs.Named.{is_complete};
+ghost use Rattle.hir_def_map.specs.Insertion.{may_join};
+ghost use Rattle.hir_def_map.specs.References.{is_well_formed};
 ghost use Rattle.hir_def_map.specs.Removal.{Depends};
-ghost use Rattle.hir_def_map.specs.State.{with_map};
+ghost use Rattle.hir_def_map.specs.Overlay.{with_map};
 ghost use Rattle.hir_def_collector.specs.Derivation.{collected_view};
 ghost use Rattle.hir_def_map.specs.World.{finished_in, local_in};
 ghost use Rattle.hir_session.specs.Kept.{finished_by, kept_in, names_in, leftover_of, was_limited, asked_of, keys_of, resolution_from, resolution_of, AreForgotten};
@@ -177,7 +177,7 @@ impl Kept {
     pub fn keep(&mut self, found: Collected) -> Result<(), AllocError>
         requires free { kept_in self.old found.map.id ≡ None }
         requires unheld { found.map.holder ≡ None }
-        requires complete { is_complete (finished_by self.old) found.map found.local ≡ true }
+        requires complete { is_well_formed (finished_by self.old) found.map found.local ≡ true }
         ensures here { OnOk result (kept_in self.new found.map.id ≡ Some (collected_view found)) }
         ensures others { OnOk result ((id : MapId) → id ≢ found.map.id → kept_in self.new id ≡ kept_in self.old id) }
         ensures err { OnErr result (self.new ≡ self.old) }

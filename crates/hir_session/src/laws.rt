@@ -1,7 +1,7 @@
 //! What holds of all that a session does; each function's contract is a law.
 ghost use Rattle.hir_session.specs.Headline.{RepliesHoldTheHeadline};
 ghost use Rattle.hir_session.specs.Histories.{DifferOnlyWhereAltered, LinesBeginHistories};
-ghost use Rattle.hir_session.specs.Laws.{BodyEditsMarkNothing, BodyEditsLeaveAnswers, SetAbsentFileMarks, RemovePresentFileMarks, RemoveAbsentFileMarksNothing, RemoveAbsentFileLeavesAnswers};
+ghost use Rattle.hir_session.specs.Laws.{BodyEditsMarkNothing, BodyEditsLeaveAnswers, SetAbsentFileMarks, RemovePresentFileMarks, RemoveAbsentFileMarksNothing, RemoveAbsentFileLeavesAnswers, UnaskedFilesMarkNothing, UnaskedFilesLeaveAnswers};
 
 use hir_def_collector::laws::runs_bind_from_sources;
 use hir_def_map::laws::{paths_answer_from_sources, paths_lead_to_what_is_there};
@@ -53,4 +53,10 @@ pub fn remove_present_file_marks()
 pub fn remove_absent_file_marks_nothing()
     ensures law { RemoveAbsentFileMarksNothing }
     ensures answers { RemoveAbsentFileLeavesAnswers }
+{}
+
+/// An edit of a file for which no run asked leaves every mark and every answer as it is.
+pub fn unasked_files_mark_nothing()
+    ensures law { UnaskedFilesMarkNothing }
+    ensures answers { UnaskedFilesLeaveAnswers }
 {}

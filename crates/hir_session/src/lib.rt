@@ -3,13 +3,15 @@
 
 mod answers;
 mod beginning;
-mod behind;
-mod crate_info;
+pub mod crate_info;
+mod crates;
+mod diagnostics;
+mod edited_file;
 pub mod error;
-mod file_trees;
-mod files;
+pub mod files;
 mod front;
-mod judge;
+mod inputs;
+mod invalidate;
 mod kept;
 pub mod laws;
 mod not_yet;
@@ -18,11 +20,15 @@ mod output;
 mod server;
 pub mod server_state;
 pub mod session;
-mod side_index;
 mod source_items;
+mod source_trees;
 mod sources;
 
-pub use error::{EditError, NewSessionError, QueryError, RefreshError, TreeTextError};
+pub use crate_info::CrateInfo;
+pub use error::{
+    DiagnosticsError, EditError, NewSessionError, QueryError, RefreshError, TreeTextError,
+};
+pub use files::Files;
 pub use hir_base::ast_id::SyntaxId;
 pub use hir_base::edition::Edition;
 pub use hir_base::file_path::FilePath;
@@ -33,6 +39,7 @@ pub use hir_base::place::Place;
 pub use hir_item_tree::source::{Node, NodeKind, Source, Unit};
 pub use hir_wire::answer::Answer;
 pub use hir_wire::command::{CrateInput, MacroStyle, Shadow};
+pub use hir_wire::diagnostic::{Diagnostic, DiagnosticKind};
 pub use hir_wire::edit::Edit;
 pub use hir_wire::reply::Status;
 pub use open_line::LINE_LIMIT;

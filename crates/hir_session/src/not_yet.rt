@@ -3,15 +3,12 @@ ghost use Rattle.std.specs.Prelude.{◌≡◌, map, not};
 ghost use Rattle.std.specs.List.{list_any};
 ghost use Rattle.hir_item_tree.specs.Attributes.{attribute_view, attributes_view};
 ghost use Rattle.hir_item_tree.specs.Source.{node_view, nodes_view, source_view, variant_view};
-ghost use Rattle.hir_item_tree.specs.UseTree.{use_tree_view, use_trees_view};
 ghost use Rattle.hir_wire.specs.CommandValue.{crate_input_view};
-ghost use Rattle.hir_session.specs.NotYet.{is_crate_taken, are_variants_taken, is_attribute_taken, are_attributes_taken, is_alias_taken, is_tree_taken, are_trees_taken, is_item_taken, are_items_taken, is_source_taken};
+ghost use Rattle.hir_session.specs.NotYet.{is_crate_taken, are_variants_taken, is_attribute_taken, are_attributes_taken, is_item_taken, are_items_taken, is_source_taken};
 
 use hir_def_collector::builtin_attr::is_inert_by_name;
 use hir_item_tree::raw_attr::RawAttr;
-use hir_item_tree::shape::ImportAlias;
 use hir_item_tree::source::{Node, NodeKind, Source, Variant};
-use hir_item_tree::use_tree::{UseTree, UseTreeKind};
 use hir_wire::command::CrateInput;
 
 /// Whether the crate isn't a procedural macro's, and all its attributes can be taken.
@@ -56,38 +53,6 @@ fn are_attrs_taken(attrs: &Vec<RawAttr>) -> bool
     true
 }
 
-fn is_alias_taken_now(alias: &Option<ImportAlias>) -> bool
-    ensures value { result ≡ is_alias_taken alias.now }
-{
-    match alias {
-        Some(ImportAlias::Underscore) => false,
-        Some(ImportAlias::Alias(_)) | None => true,
-    }
-}
-
-#[cycle(trees)]
-fn is_tree_taken_now(tree: &UseTree) -> bool
-    ensures value { result ≡ is_tree_taken (use_tree_view tree.now) }
-{
-    match &tree.kind {
-        UseTreeKind::Single { alias, .. } => is_alias_taken_now(alias),
-        UseTreeKind::Glob { .. } => false,
-        UseTreeKind::Prefixed { list, .. } => are_trees_taken_now(list),
-    }
-}
-
-#[cycle(trees)]
-fn are_trees_taken_now(list: &Vec<UseTree>) -> bool
-    ensures value { result ≡ are_trees_taken (use_trees_view list.now.items) }
-{
-    for tree in list {
-        if !is_tree_taken_now(tree) {
-            return false;
-        }
-    }
-    true
-}
-
 fn are_variants_taken_now(variants: &Vec<Variant>) -> bool
     ensures value { result ≡ are_variants_taken (map variant_view variants.now.items) }
 {
@@ -107,10 +72,10 @@ fn is_node_taken(node: &Node) -> bool
         return false;
     }
     match &node.kind {
-        NodeKind::Use { tree } => is_tree_taken_now(tree),
-        NodeKind::ExternCrate { alias, .. } => is_alias_taken_now(alias),
         NodeKind::Enum { variants, .. } => are_variants_taken_now(variants),
-        NodeKind::Fn { .. }
+        NodeKind::Use { .. }
+        | NodeKind::ExternCrate { .. }
+        | NodeKind::Fn { .. }
         | NodeKind::Struct { .. }
         | NodeKind::Union { .. }
         | NodeKind::Const { .. }
@@ -120,7 +85,7 @@ fn is_node_taken(node: &Node) -> bool
         NodeKind::Trait { items, .. } | NodeKind::Impl { items, .. } => are_nodes_taken(items),
         NodeKind::Module { nodes, .. } => match nodes {
             Some(nodes) => are_nodes_taken(nodes),
-            None => false,
+            None => true,
         },
         NodeKind::MacroCall { .. } | NodeKind::MacroRules { .. } | NodeKind::MacroDef { .. } =>
             false,

@@ -1,7 +1,6 @@
 // Bytes as they come, cut into lines, each answered.
 ghost use Rattle.hir_session.specs.Runs.{Converses};
 
-use crate::laws::replies_hold_the_headline;
 use crate::open_line::{Fate, OpenLine, split_line};
 use crate::output::{Fault, write_reply};
 use crate::server_state::Machine;
@@ -144,7 +143,6 @@ impl Server {
             → Converses result (R.remaining reader.old) (R.remaining reader.new)
             (W.contents writer.old) (W.contents writer.new) }
     {
-        replies_hold_the_headline();
         let mut buffer = [0u8; READ_SIZE];
         for _turn in 0..MOST_READS {
             let count = match reader.read(&mut buffer) {

@@ -1,12 +1,14 @@
 //! What answers lines: a session, or none before the first that is made.
 ghost use Rattle.std.specs.Prelude.{◌≡◌, map, false, None, Some, Option};
-ghost use Rattle.hir_wire.specs.CommandValue.{command_view, crate_input_view, crates as makes, edit as edits, refresh as refreshes, resolve as resolves, tree as asks_for_tree};
+ghost use Rattle.hir_wire.specs.CommandValue.{command_view, crate_input_view, crates as makes, edit as edits, refresh as refreshes, resolve as resolves, tree as asks_for_tree, diagnostics as asks_for_diagnostics};
 ghost use Rattle.hir_wire.specs.Edits.{edit_view};
 ghost use Rattle.hir_wire.specs.Replies.{is_fixed};
 ghost use Rattle.hir_wire.specs.declared.reply.Reply.TheVariants as reply;
-ghost use Rattle.hir_session.specs.Machine.{MachineState, first_state, new_reply, edit_reply, refresh_reply, query_error_reply, tree_text_reply, read_reply, AnswersCommand, AnswersLine};
+ghost use Rattle.hir_session.specs.Machine.{MachineState, first_state, new_reply, edit_reply, refresh_reply, query_error_reply, tree_text_reply, diagnostics_error_reply, read_reply, AnswersCommand, AnswersLine};
 
-use crate::error::{EditError, NewSessionError, QueryError, RefreshError, TreeTextError};
+use crate::error::{
+    DiagnosticsError, EditError, NewSessionError, QueryError, RefreshError, TreeTextError,
+};
 use crate::session::Session;
 use hir_base::file_path::FilePath;
 use hir_base::ids::Crate;
@@ -88,6 +90,16 @@ fn reply_to_tree(error: TreeTextError) -> Reply
     }
 }
 
+fn reply_to_diagnostics(error: DiagnosticsError) -> Reply
+    ensures value { result ≡ diagnostics_error_reply error }
+{
+    match error {
+        DiagnosticsError::UnknownCrate => Reply::UnknownCrate,
+        DiagnosticsError::StalePlace => Reply::StalePlace,
+        DiagnosticsError::Memory => Reply::Memory,
+    }
+}
+
 fn reply_to_line(error: ReadError) -> Reply
     ensures value { result ≡ read_reply error }
 {
@@ -150,6 +162,16 @@ fn shown(alloc: Global, session: &Session, krate: Crate, file: &FilePath) -> Rep
     }
 }
 
+/// What couldn't be resolved in a crate.
+fn listed(alloc: Global, session: &Session, krate: Crate) -> Reply
+    ensures step { AnswersCommand (Some session.now) (asks_for_diagnostics krate) result (Some session.now) }
+{
+    match session.diagnostics(alloc, krate) {
+        Ok(list) => Reply::Diagnostics(list),
+        Err(error) => reply_to_diagnostics(error),
+    }
+}
+
 /// What a command does to a session, and what is told of it.
 fn called(alloc: Global, session: &mut Session, command: Command) -> Reply
     ensures step { AnswersCommand (Some session.old) (command_view command) result (Some session.new) }
@@ -167,6 +189,7 @@ fn called(alloc: Global, session: &mut Session, command: Command) -> Reply
             sub,
         } => answered(alloc, session, &at, &path, shadow, sub),
         Command::Tree { krate, file } => shown(alloc, session, krate, &file),
+        Command::Diagnostics { krate } => listed(alloc, session, krate),
         Command::Status { at } => Reply::Status(session.status(&at)),
     }
 }

@@ -1,38 +1,46 @@
 //! The session: what is handed in, and what is kept of each crate that was resolved.
-ghost use Rattle.std.specs.Prelude.{◌≡◌, ℕ, ◌<◌, ◌++◌, ◌∷◌, [], map, true, false, length, None, IfOk, OnOk, OnErr, IfErr, ◌≤◌, ◌⊎◌, Ok, Err, option_map};
-ghost use Rattle.hir_base.specs.declared.ids.MapId.{MapId};
+//!
+//! A run of the import rules for a crate notes each key that it asks for: what a file has under the crate, the variants of an
+//! enum, the map of a crate on which it depends. What it comes to is kept, with these keys.
+//!
+//! An edit of a file compares what the file has with what it gets, at the keys of those runs that asked for it. Where one is
+//! altered the place is marked, and so is each place that depends on it: what is kept of them is dropped, and that is all that
+//! a mark is. A refresh runs the import rules for the marked places, in the order of the crates' numbers, so that a run finds
+//! what it depends on.
+//!
+//! The one difficulty: no query looks at a source. What is kept of a place is right because it is what the import rules could
+//! have given just now, over the present sources: the invariant of a session says so of each place, and an edit or a refresh that ends
+//! early leaves it true.
+ghost use Rattle.std.specs.Prelude.{◌≡◌, ℕ, ◌<◌, ◌++◌, ◌∷◌, [], map, true, false, length, None, IfOk, OnOk, OnErr, IfErr, ◌≤◌, ◌⊎◌, Ok, Err};
 ghost use Rattle.hir_base.specs.Refusal.{Gives};
 ghost use Rattle.hir_def_collector.specs.Derivation.{IsOverlong, collected_view};
 ghost use Rattle.hir_wire.specs.CommandValue.{crate_input_view};
 ghost use Rattle.hir_wire.specs.Edits.{edit_view};
 ghost use Rattle.hir_session.specs.Beginning.{Begins};
 ghost use Rattle.hir_item_tree.specs.Source.{source_view};
-ghost use Rattle.hir_session.specs.Files.{with_file, without_file, edited_at};
+ghost use Rattle.hir_session.specs.Files.{with_file, without_file};
 ghost use Rattle.hir_session.specs.Crates.{id_of};
-ghost use Rattle.hir_session.specs.Marking.{AreHit};
 ghost use Rattle.hir_session.specs.SessionState.{SessionState, Resolution, workspace_of, finished_of, beginning_of, is_marked, IsResolutionOf, IsSound};
 ghost use Rattle.hir_session.specs.Due.{root_place, Grows, Resolved, HasOverlongRun};
 ghost use Rattle.hir_session.specs.Refusals.{first_out_of_order, verdict_of_new, IsNewMemory, verdict_of_apply, verdict_of_source, IsEditMemory};
-ghost use Rattle.hir_session.specs.Changes.{with_files, Becomes, Applies, Refreshes, RefreshesPartly};
+ghost use Rattle.hir_session.specs.Changes.{Becomes, Applies, Refreshes, RefreshesPartly};
 
 mod queries;
 
-use crate::beginning::{first_late, infos_of};
-use crate::crate_info::CrateInfo;
+use crate::beginning::{crates_of, first_late};
+use crate::edited_file::FileEdit;
 use crate::error::{EditError, NewSessionError, RefreshError};
-use crate::file_trees::check_source;
-use crate::files::Files;
 use crate::front::{has_deep_condition, has_long_path};
-use crate::judge::affected;
+use crate::inputs::Inputs;
+use crate::invalidate::{Invalidation, invalidated};
 use crate::kept::Kept;
-use crate::not_yet::is_any_untaken;
-use crate::sources::resolve_crate;
+use crate::not_yet::{is_any_untaken, is_source_taken_now};
 use hir_base::file_path::FilePath;
 use hir_base::ids::{Crate, MapId};
 use hir_base::limit::Limit;
 use hir_base::place::Place;
 use hir_def_collector::collector::collected::Collected;
-use hir_def_collector::laws::{answers_stand_as_tables_grow, runs_name_what_is_there};
+use hir_item_tree::check::check;
 use hir_item_tree::source::Source;
 use hir_tables::Tables;
 use hir_wire::command::CrateInput;
@@ -46,23 +54,22 @@ pub const MAX_CRATES: usize = 10000;
 /// Crates and files as they were handed in, and for each place that was resolved what its names stand for.
 #[derive(Drop)]
 pub struct Session {
-    crates: Vec<CrateInfo>,
+    inputs: Inputs,
     tables: Tables,
-    files: Files,
     kept: Kept,
 }
 
 impl Model for Session {
-    ghost use Rattle.hir_session.specs.SessionState.{SessionState, IsSound};
+    ghost use Rattle.hir_session.specs.SessionState.{SessionState, IsSound, state_of};
     ghost use Rattle.hir_session.specs.Codes.{coded_session};
 
     ghost Value = { SessionState };
 
     ghost coded = { coded_session };
 
-    ghost view = { λ s. record { crates = s.crates.items; tables = s.tables; files = s.files; kept = s.kept } };
+    ghost view = { λ s. state_of s.inputs s.tables s.kept };
 
-    ghost invariant = { λ s. IsSound (record { crates = s.crates.items; tables = s.tables; files = s.files; kept = s.kept }) };
+    ghost invariant = { λ s. IsSound (state_of s.inputs s.tables s.kept) };
 }
 
 /// Puts the place of a crate's root at the end.
@@ -70,6 +77,18 @@ fn note(alloc: Global, done: &mut Vec<Place>, k: u32) -> Result<(), AllocError>
     ensures ok { OnOk result (done.new.items ≡ done.old.items ++ root_place (id_of k) ∷ []) }
 {
     done.push(Place::new(Crate(k), Vec::new(alloc)))?;
+    Ok(())
+}
+
+/// Whether a source can be taken, is within the limits, and has each id once.
+fn check_source(alloc: Global, source: &Source) -> Result<(), EditError>
+    ensures accepted { OnOk result (verdict_of_source (source_view source.now) ≡ Ok tt) }
+    ensures refused { IfErr result (λ e. IsEditMemory e ⊎ (verdict_of_source (source_view source.now) ≡ Err e)) }
+{
+    if !is_source_taken_now(source) {
+        return Err(EditError::NotYet);
+    }
+    check(alloc, source)?;
     Ok(())
 }
 
@@ -100,43 +119,23 @@ impl Session {
         Ok(session)
     }
 
-    /// What is true of each session.
-    #[doc(hidden)]
-    pub fn sound(&self)
-        ensures sound { IsSound self.now }
-    {
-        let _kept = &self.kept;
-    }
-
-    /// The places of which the run asked for something that is altered, where a file gets a source or is removed.
-    fn affected(
-        &self,
-        alloc: Global,
-        file: &FilePath,
-        new: Option<&Source>,
-    ) -> Result<Vec<MapId>, AllocError>
-        ensures hit { IfOk result (λ hits. AreHit self.now.tables (workspace_of self.now)
-            (workspace_of (with_files self.now (edited_at self.now.files file.now (option_map (λ s. source_view s.now) new.entry))))
-            self.now.kept (length self.now.crates) hits.items) }
-    {
-        affected(
-            alloc,
-            &self.crates,
-            &self.tables,
-            &self.files,
-            &self.kept,
-            file,
-            new,
-        )
-    }
-
     /// Sets a checked file, and drops what is kept of what that touches.
     fn keep_file(&mut self, alloc: Global, file: FilePath, source: Source) -> Result<(), AllocError>
         ensures ok { OnOk result (Becomes self.old (with_file self.old.files file (source_view source)) self.new) }
         ensures err { OnErr result (self.new ≡ self.old) }
     {
-        let hits = self.affected(alloc, &file, Some(&source))?;
-        self.files.set(file, source)?;
+        let edit = FileEdit {
+            path: &file,
+            new: Some(&source),
+        };
+        let Invalidation { hits, trees } = invalidated(
+            alloc,
+            &self.inputs,
+            &self.tables,
+            &self.kept,
+            edit,
+        )?;
+        self.inputs.set_file(file, source, trees)?;
         self.kept.forget(&hits);
         Ok(())
     }
@@ -146,8 +145,18 @@ impl Session {
         ensures ok { OnOk result (Becomes self.old (without_file self.old.files file.now) self.new) }
         ensures err { OnErr result (self.new ≡ self.old) }
     {
-        let hits = self.affected(alloc, file, None)?;
-        self.files.remove(file);
+        let edit = FileEdit {
+            path: file,
+            new: None,
+        };
+        let Invalidation { hits, trees } = invalidated(
+            alloc,
+            &self.inputs,
+            &self.tables,
+            &self.kept,
+            edit,
+        )?;
+        self.inputs.remove_file(file, trees);
         self.kept.forget(&hits);
         Ok(())
     }
@@ -181,13 +190,6 @@ impl Session {
         Ok(())
     }
 
-    /// How many crates there are.
-    fn len(&self) -> u32
-        ensures value { result ≡ length self.now.crates }
-    {
-        self.crates.len() as u32
-    }
-
     /// Whether nothing is kept of a crate.
     fn is_marked_at(&self, k: u32) -> bool
         ensures value { result ≡ is_marked self.now (id_of k) }
@@ -203,17 +205,8 @@ impl Session {
         ensures found { IfOk result (λ r. IsResolutionOf self.new (id_of k) (collected_view r)) }
         ensures many { result ≡ Err RefreshError.TooMany → IsOverlong self.new.tables (workspace_of self.new) (finished_of self.new) (beginning_of self.new (id_of k)) }
     {
-        runs_name_what_is_there();
-        answers_stand_as_tables_grow();
-        let found = resolve_crate(
-            alloc,
-            &self.crates,
-            &mut self.tables,
-            &self.files,
-            self.kept.world(),
-            k,
-        )?;
-        Ok(found)
+        self.inputs
+            .resolve(alloc, &mut self.tables, self.kept.world(), k)
     }
 
     /// Resolves the first marked crate.
@@ -239,15 +232,12 @@ impl Session {
         ensures many { result ≡ Err RefreshError.TooMany → HasOverlongRun self.new }
     {
         let mut done = Vec::new(alloc);
-        self.sound();
-        for k in 0..self.len() {
+        for k in 0..self.inputs.crates().len() as u32 {
             if self.is_marked_at(k) {
-                self.sound();
                 note(alloc, &mut done, k)?;
                 self.resolve_at(alloc, k)?;
             }
         }
-        self.sound();
         Ok(done)
     }
 }
@@ -259,11 +249,10 @@ fn begin(alloc: Global, inputs: &Vec<CrateInput>) -> Result<Session, AllocError>
     ensures begins { IfOk result (λ s. Begins (map crate_input_view inputs.now.items) s) }
 {
     let mut tables = Tables::new(alloc);
-    let crates = infos_of(alloc, inputs, &mut tables)?;
+    let crates = crates_of(alloc, inputs, &mut tables)?;
     Ok(Session {
-        crates,
+        inputs: Inputs::new(alloc, crates),
         tables,
-        files: Files::new(alloc),
         kept: Kept::new(alloc),
     })
 }

@@ -24,7 +24,7 @@ fn path_of_file(tables: &Tables, file: HirFileId) -> Option<&FilePath>
 }
 
 /// What holds syntax, where it is a file of the tables.
-fn source_at(
+pub fn source_at(
     alloc: Global,
     tables: &Tables,
     file: HirFileId,

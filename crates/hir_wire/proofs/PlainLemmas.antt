@@ -1,21 +1,23 @@
 -- No reply has a float in it.
-use Rattle.std.proofs.Common.{◌≡◌, List, [], ◌∷◌, map, Bool, false, ◌||◌, Option, Some, None, Result, Ok, Err, IfOk, String, string_bytes, refl, ap, ◌∙◌}
+use Rattle.std.proofs.Common.{◌≡◌, ℕ, List, [], ◌∷◌, map, Bool, false, ◌||◌, Option, Some, None, Result, Ok, Err, IfOk, String, string_bytes, refl, ap, ◌∙◌}
+use Rattle.std.specs.Prelude.{codes}
 use Rattle.std.specs.declared.alloc.AllocError.{AllocError}
 use Rattle.std.specs.declared.alloc.Global.{Global}
-use Rattle.serde_json.specs.Data.{Data}
+use Rattle.serde_json.specs.Data.{Data, string}
 use Rattle.serde_json.specs.View.{items_of}
 use Rattle.serde_json.specs.Written.{has_float, items_have_float, members_have_float, compact_text}
 use Rattle.hir_base.specs.Place.{PlaceValue}
 use Rattle.hir_base.specs.declared.place.PlaceElement.{PlaceElement}
 use Rattle.hir_base.specs.declared.place.PlaceElement.TheVariants as element
-use Rattle.hir_wire.specs.Types.{Answer, AnswerItem, AnswerVisibility, Definition, ImportOrigin, ImportSource, ItemSource, Reply, SourceCall, SourceCallKind, SourceRoot}
+use Rattle.hir_wire.specs.Types.{Answer, AnswerItem, AnswerVisibility, CalledItem, Definition, Diagnostic, DiagnosticKind, ImportOrigin, ImportSource, ItemSource, Reply, SourceCall, SourceCallKind, SourceItem, SourceRoot}
 use Rattle.hir_wire.specs.Types.call
 use Rattle.hir_wire.specs.Types.definition
+use Rattle.hir_wire.specs.Types.diagnostic
 use Rattle.hir_wire.specs.Types.origin
 use Rattle.hir_wire.specs.Types.reply
 use Rattle.hir_wire.specs.Types.root
 use Rattle.hir_wire.specs.Types.visibility
-use Rattle.hir_wire.specs.Replies.{element_data, place_data, root_data, call_data, call_members, source_data, definition_data, origin_data, import_data, or_null, visibility_data, item_data, number_data, answer_data, reply_data}
+use Rattle.hir_wire.specs.Replies.{element_data, place_data, root_data, call_data, call_members, source_data, definition_data, origin_data, import_data, or_null, visibility_data, item_data, item_members, number_data, answer_data, called_data, diagnostic_data, diagnostic_members, reply_data, source_item_data, source_item_members}
 
 neither : (a b : Bool) → a ≡ false → b ≡ false → (a || b) ≡ false
 neither a b p q = ap (λ x. x || b) p ∙ q
@@ -85,11 +87,45 @@ plain_answer a =
     (neither (has_float (or_null item_data a.types)) _ (plain_item a.types)
     (neither (has_float (or_null item_data a.values)) false (plain_item a.values) refl)))
 
+plain_texts : (ts : List (List ℕ)) → items_have_float (items_of (map string ts)) ≡ false
+plain_texts [] = refl
+plain_texts (t ∷ ts) = plain_texts ts
+
+plain_source_item : (i : SourceItem) → members_have_float (source_item_members i) ≡ false
+plain_source_item i = neither (has_float (source_data i.source)) false (plain_source i.source) refl
+
+plain_item_members : (i : SourceItem) (word : List ℕ) (within : Data) → has_float within ≡ false → members_have_float (item_members i word within) ≡ false
+plain_item_members i word within h = neither (members_have_float (source_item_members i)) _ (plain_source_item i) (neither (has_float within) false h refl)
+
+plain_called : (c : CalledItem) → has_float (called_data c) ≡ false
+plain_called c = plain_call c.kind (source_item_members c.item) (plain_source_item c.item)
+
+plain_kind : (k : DiagnosticKind) (within : Data) → has_float within ≡ false → members_have_float (diagnostic_members k within) ≡ false
+plain_kind (diagnostic.UnresolvedModule candidates named) within h =
+    neither (items_have_float (items_of (map string candidates))) _ (plain_texts candidates) (plain_item_members named (codes "unresolved module") within h)
+plain_kind (diagnostic.UnresolvedExternCrate named) within h = plain_item_members named (codes "unresolved extern crate") within h
+plain_kind (diagnostic.UnresolvedImport named place) within h =
+    neither (members_have_float (source_item_members named)) _ (plain_source_item named) (neither (has_float within) false h refl)
+plain_kind (diagnostic.UnconfiguredCode cfg named) within h = plain_item_members named (codes "unconfigured code") within h
+plain_kind (diagnostic.UnresolvedMacroCall call path) within h = neither (has_float (called_data call)) _ (plain_called call) (neither (has_float within) false h refl)
+plain_kind (diagnostic.UnimplementedBuiltinMacro named) within h = plain_item_members named (codes "unimplemented builtin macro") within h
+plain_kind (diagnostic.InvalidDeriveTarget attr named) within h = plain_item_members named (codes "invalid derive target") within h
+plain_kind (diagnostic.MalformedDerive attr named) within h = plain_item_members named (codes "malformed derive") within h
+plain_kind (diagnostic.MacroDefError named message) within h =
+    neither (members_have_float (source_item_members named)) _ (plain_source_item named) (neither (has_float within) false h refl)
+plain_kind (diagnostic.MacroError error named path) within h =
+    neither (members_have_float (source_item_members named)) _ (plain_source_item named) (neither (has_float within) false h refl)
+
+plain_diagnostics : (ds : List Diagnostic) → items_have_float (items_of (map diagnostic_data ds)) ≡ false
+plain_diagnostics [] = refl
+plain_diagnostics (d ∷ ds) = neither (has_float (diagnostic_data d)) _ (plain_kind d.kind (definition_data d.in_module) (plain_definition d.in_module)) (plain_diagnostics ds)
+
 pub plain_reply : (r : Reply) → has_float (reply_data r) ≡ false
 plain_reply reply.Done = refl
 plain_reply (reply.Places places) = neither (items_have_float (items_of (map place_data places))) false (plain_places places) refl
 plain_reply (reply.Answer answer) = neither (has_float (answer_data answer)) false (plain_answer answer) refl
 plain_reply (reply.Status status) = refl
+plain_reply (reply.Diagnostics diagnostics) = neither (items_have_float (items_of (map diagnostic_data diagnostics))) false (plain_diagnostics diagnostics) refl
 plain_reply (reply.Text text) = refl
 plain_reply reply.Json = refl
 plain_reply reply.Command = refl

@@ -4,14 +4,16 @@ use Rattle.serde_json.specs.Data.{Data, null, boolean, number, unsigned, string,
 use Rattle.serde_json.specs.View.{items_of}
 use Rattle.serde_json.specs.Written.{compact_text}
 use Rattle.hir_base.specs.BuiltinType.{builtin_text}
+use Rattle.hir_base.specs.Display.{path_shown}
 use Rattle.hir_base.specs.Limit.{limit_text}
 use Rattle.hir_base.specs.Place.{PlaceValue}
 use Rattle.hir_base.specs.declared.ast_id.SyntaxId.{SyntaxId}
 use Rattle.hir_base.specs.declared.place.PlaceElement.{PlaceElement}
 use Rattle.hir_base.specs.declared.place.PlaceElement.TheVariants as element
-use Rattle.hir_wire.specs.Types.{Answer, AnswerItem, AnswerVisibility, Definition, ImportOrigin, ImportSource, ItemSource, Reply, SourceCall, SourceCallKind, SourceRoot}
+use Rattle.hir_wire.specs.Types.{Answer, AnswerItem, AnswerVisibility, CalledItem, Definition, Diagnostic, DiagnosticKind, ImportOrigin, ImportSource, ItemSource, Reply, SourceCall, SourceCallKind, SourceItem, SourceRoot}
 use Rattle.hir_wire.specs.Types.call
 use Rattle.hir_wire.specs.Types.definition
+use Rattle.hir_wire.specs.Types.diagnostic
 use Rattle.hir_wire.specs.Types.origin
 use Rattle.hir_wire.specs.Types.reply
 use Rattle.hir_wire.specs.Types.root
@@ -100,6 +102,56 @@ answer_data answer =
     object (member (codes "macros") (or_null item_data answer.macros) (member (codes "stop") (or_null number_data answer.stop)
     (member (codes "types") (or_null item_data answer.types) (member (codes "values") (or_null item_data answer.values) no_members))))
 
+-- ---- diagnostics
+
+-- what names an item: its node, and where that is written
+abbrev pub source_item_members : SourceItem → Members
+source_item_members named =
+    member (codes "id") (id_data named.id) (member (codes "in") (source_data named.source) (member (codes "kind") (string (source_word named.kind)) no_members))
+
+abbrev pub source_item_data : SourceItem → Data
+source_item_data named = object (source_item_members named)
+
+-- a macro call, by the called or decorated item
+abbrev pub called_data : CalledItem → Data
+called_data call = object (call_members call.kind (source_item_members call.item))
+
+-- the members of a diagnostic of an item: the item, the word of the kind, and the module
+abbrev pub item_members : SourceItem → List ℕ → Data → Members
+item_members named word within =
+    member (codes "item") (source_item_data named) (member (codes "kind") (string word) (member (codes "module") within no_members))
+
+-- the members of a diagnostic in a module
+abbrev pub diagnostic_members : DiagnosticKind → Data → Members
+diagnostic_members (diagnostic.UnresolvedModule candidates named) within =
+    member (codes "candidates") (array (items_of (map string candidates))) (item_members named (codes "unresolved module") within)
+diagnostic_members (diagnostic.UnresolvedExternCrate named) within = item_members named (codes "unresolved extern crate") within
+diagnostic_members (diagnostic.UnresolvedImport named place) within =
+    member (codes "item") (source_item_data named) (member (codes "kind") (string (codes "unresolved import")) (member (codes "module") within
+    (member (codes "place") (number_data place) no_members)))
+diagnostic_members (diagnostic.UnconfiguredCode cfg named) within =
+    member (codes "cfg") (string cfg) (item_members named (codes "unconfigured code") within)
+diagnostic_members (diagnostic.UnresolvedMacroCall call path) within =
+    member (codes "call") (called_data call) (member (codes "kind") (string (codes "unresolved macro call")) (member (codes "module") within
+    (member (codes "path") (string (path_shown None path)) no_members)))
+diagnostic_members (diagnostic.UnimplementedBuiltinMacro named) within = item_members named (codes "unimplemented builtin macro") within
+diagnostic_members (diagnostic.InvalidDeriveTarget attr named) within =
+    member (codes "attr") (number_data attr) (item_members named (codes "invalid derive target") within)
+diagnostic_members (diagnostic.MalformedDerive attr named) within =
+    member (codes "attr") (number_data attr) (item_members named (codes "malformed derive") within)
+diagnostic_members (diagnostic.MacroDefError named message) within =
+    member (codes "item") (source_item_data named) (member (codes "kind") (string (codes "macro def error")) (member (codes "message") (string message)
+    (member (codes "module") within no_members)))
+diagnostic_members (diagnostic.MacroError error named path) within =
+    member (codes "error") (string error) (member (codes "item") (source_item_data named) (member (codes "kind") (string (codes "macro error"))
+    (member (codes "module") within (member (codes "path") (string (path_shown None path)) no_members))))
+
+-- a diagnostic
+abbrev pub diagnostic_data : Diagnostic → Data
+diagnostic_data d = object (diagnostic_members d.kind (definition_data d.in_module))
+
+-- ---- replies
+
 -- what went well
 abbrev pub success : Data → Data
 success d = object (member (codes "ok") d no_members)
@@ -114,6 +166,7 @@ reply_data reply.Done = success null
 reply_data (reply.Places places) = success (array (items_of (map place_data places)))
 reply_data (reply.Answer answer) = success (answer_data answer)
 reply_data (reply.Status status) = success (string (status_word status))
+reply_data (reply.Diagnostics diagnostics) = success (array (items_of (map diagnostic_data diagnostics)))
 reply_data (reply.Text text) = success (string (string_bytes text))
 reply_data reply.Json = refusal (codes "json") no_members
 reply_data reply.Command = refusal (codes "command") no_members
@@ -140,6 +193,7 @@ is_fixed reply.Done = true
 is_fixed (reply.Places places) = false
 is_fixed (reply.Answer answer) = false
 is_fixed (reply.Status status) = true
+is_fixed (reply.Diagnostics diagnostics) = false
 is_fixed (reply.Text text) = false
 is_fixed reply.Json = true
 is_fixed reply.Command = true

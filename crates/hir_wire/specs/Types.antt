@@ -25,6 +25,10 @@ pub use Rattle.hir_wire.specs.declared.command.MacroStyle.{MacroStyle}
 pub use Rattle.hir_wire.specs.declared.command.MacroStyle.TheVariants as style
 pub use Rattle.hir_wire.specs.declared.command.Shadow.{Shadow}
 pub use Rattle.hir_wire.specs.declared.command.Shadow.TheVariants as shadow
+pub use Rattle.hir_wire.specs.declared.diagnostic.CalledItem.{CalledItem}
+pub use Rattle.hir_wire.specs.declared.diagnostic.Diagnostic.{Diagnostic}
+pub use Rattle.hir_wire.specs.declared.diagnostic.DiagnosticKind.{DiagnosticKind}
+pub use Rattle.hir_wire.specs.declared.diagnostic.DiagnosticKind.TheVariants as diagnostic
 pub use Rattle.hir_wire.specs.declared.edit.Edit.{Edit}
 pub use Rattle.hir_wire.specs.declared.edit.Edit.TheVariants as edit
 pub use Rattle.hir_wire.specs.declared.read_error.ReadError.{ReadError}

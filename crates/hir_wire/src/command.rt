@@ -117,6 +117,10 @@ pub enum Command {
     Status {
         at: Place,
     },
+    /// What couldn't be resolved in a crate.
+    Diagnostics {
+        krate: Crate,
+    },
     /// The page of a file's tree in a crate.
     Tree {
         krate: Crate,

@@ -3,6 +3,7 @@
 
 pub mod answer;
 pub mod command;
+pub mod diagnostic;
 pub mod edit;
 pub mod json;
 pub mod read;
@@ -15,6 +16,7 @@ pub use answer::{
     SourceCall, SourceCallKind, SourceCalls, SourceItem, SourceKind, SourceRoot,
 };
 pub use command::{Command, CrateInput, Dependencies, Dependency, MacroStyle, Shadow};
+pub use diagnostic::{CalledItem, Diagnostic, DiagnosticKind, Diagnostics, Texts};
 pub use edit::Edit;
 pub use hir_base::place::{Place, PlaceElement};
 pub use read::line::read_command;

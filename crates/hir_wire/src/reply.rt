@@ -2,6 +2,7 @@
 ghost use Rattle.std.specs.Prelude.{◌≡◌};
 
 use crate::answer::Answer;
+use crate::diagnostic::Diagnostics;
 use hir_base::ast_id::{AstKind, SyntaxId};
 use hir_base::ids::Crate;
 use hir_base::limit::Limit;
@@ -53,6 +54,7 @@ pub enum Reply {
     Places(Places),
     Answer(Answer),
     Status(Status),
+    Diagnostics(Diagnostics),
     /// A page.
     Text(String),
     /// The line is no JSON.

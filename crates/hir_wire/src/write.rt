@@ -2,4 +2,5 @@
 
 pub mod answer;
 pub mod definition;
+pub mod diagnostic;
 pub mod reply;

@@ -5,11 +5,12 @@ ghost use Rattle.hir_def_collector.specs.Asked.{IsOwnPart};
 ghost use Rattle.hir_def_collector.specs.Keys.{map_keys};
 
 use crate::source_database::Key;
-use hir_base::ids::{Crate, MapId};
+use hir_base::ids::MapId;
+use hir_crate_graph::crate_set::CrateSet;
+use hir_crate_graph::crates::Crates;
 use hir_def_map::nameres::DefMap;
 use hir_def_map::nameres::local_def_map::LocalDefMap;
 use hir_scope::imports::ImportOrExternCrate;
-use std::collections::{BTreeSet, btree_set};
 use std::marker::Model;
 use std::rc::Rc;
 
@@ -28,12 +29,12 @@ pub struct Collected {
     pub asked: Asked,
 }
 
-/// The keys that a run asked for: those of its steps, and the map of each crate on which its crate stands. The latter
+/// The keys that a run asked for: those of its steps, and the map of each crate on which its crate depends. The latter
 /// are shared with the crate's data, so that a chain of crates doesn't keep a key for each pair.
 #[derive(Drop)]
 pub struct Asked {
     own: Vec<Key>,
-    behind: Rc<BTreeSet<Crate>>,
+    dependencies: Rc<CrateSet>,
 }
 
 impl Model for Asked {
@@ -43,15 +44,15 @@ impl Model for Asked {
 
     ghost Value = { List Key };
 
-    ghost view = { λ a. a.own.items ++ map_keys a.behind.value.keys };
+    ghost view = { λ a. a.own.items ++ map_keys a.dependencies.value };
 }
 
 impl Asked {
     /// The keys of steps, and the maps of these crates.
-    pub fn new(own: Vec<Key>, behind: Rc<BTreeSet<Crate>>) -> Asked
-        ensures value { result ≡ own.items ++ map_keys behind.value.keys }
+    pub fn new(own: Vec<Key>, dependencies: Rc<CrateSet>) -> Asked
+        ensures value { result ≡ own.items ++ map_keys dependencies.value }
     {
-        Asked { own, behind }
+        Asked { own, dependencies }
     }
 
     /// The keys of the steps: all but those maps.
@@ -67,7 +68,7 @@ impl Asked {
     {
         AskedKeys {
             own: self.own.as_slice(),
-            behind: self.behind.iter(),
+            dependencies: self.dependencies.iter(),
         }
     }
 }
@@ -76,7 +77,7 @@ impl Asked {
 #[derive(Drop)]
 pub struct AskedKeys<'a> {
     own: &'a [Key],
-    behind: btree_set::Iter<'a, Crate>,
+    dependencies: Crates<'a>,
 }
 
 impl<'a> Model for AskedKeys<'a> {
@@ -86,7 +87,7 @@ impl<'a> Model for AskedKeys<'a> {
 
     ghost Value = { List Key };
 
-    ghost view = { λ k. k.own.now ++ map_keys k.behind };
+    ghost view = { λ k. k.own.now ++ map_keys k.dependencies };
 }
 
 impl<'a> Iterator for AskedKeys<'a> {
@@ -101,8 +102,8 @@ impl<'a> Iterator for AskedKeys<'a> {
             self.own = others;
             return Some(*key);
         }
-        match self.behind.next() {
-            Some(krate) => Some(Key::Map(MapId::of_crate(*krate))),
+        match self.dependencies.next() {
+            Some(krate) => Some(Key::Map(MapId::of_crate(krate))),
             None => None,
         }
     }

@@ -6,18 +6,17 @@ ghost use Rattle.hir_def_collector.specs.CrateTop.{builtin_tools, crate_data_of,
 
 use crate::collector::known_name::known_name;
 use hir_base::edition::Edition;
-use hir_base::ids::Crate;
 use hir_base::mod_path::{ModPath, PathKind};
 use hir_base::name::Name;
+use hir_crate_graph::crate_set::CrateSet;
 use hir_def_map::nameres::crate_data::DefMapCrateData;
 use hir_item_tree::attrs::{Attr, AttrsOrCfg};
 use hir_item_tree::raw_attr::{AttrInput, TokenTree};
 use std::alloc::{AllocError, Global};
-use std::collections::BTreeSet;
 use std::rc::Rc;
 
 /// Whether an attribute's path is this name alone.
-fn is_keyed(attr: &Attr, key: &str) -> bool
+pub fn is_keyed(attr: &Attr, key: &str) -> bool
     ensures value { result ≡ is_keyed key.now (numbered attr.now) }
 {
     match (attr.meta.path.kind(), attr.meta.path.segments()) {
@@ -149,17 +148,17 @@ fn builtin_tools(alloc: Global) -> Result<Vec<Name>, AllocError>
     Ok(tools)
 }
 
-/// The crate_data of a crate with these attributes at its top, which stands on these crates.
+/// The data of a crate with these attributes at its top, and these transitive dependencies.
 pub fn top_data(
     alloc: Global,
     edition: Edition,
     attrs: &AttrsOrCfg,
-    behind: Rc<BTreeSet<Crate>>,
+    transitive: Rc<CrateSet>,
 ) -> Result<DefMapCrateData, AllocError>
-    ensures value { IfOk result (λ crate_data. crate_data ≡ crate_data_of edition (collected_of attrs.now).attributes behind.value.keys) }
+    ensures value { IfOk result (λ crate_data. crate_data ≡ crate_data_of edition (collected_of attrs.now).attributes transitive.value) }
 {
     let attrs = attrs.attrs.as_slice();
-    let mut crate_data = DefMapCrateData::new(alloc, edition, behind);
+    let mut crate_data = DefMapCrateData::new(alloc, edition, transitive);
     crate_data.set_rustc_coherence_is_core(says(attrs, "rustc_coherence_is_core"));
     crate_data.set_no_core(says(attrs, "no_core"));
     crate_data.set_no_std(says(attrs, "no_std"));

@@ -2,17 +2,17 @@
 ghost use Rattle.std.specs.Prelude.{◌≡◌, ◌≤◌, true, [], map, OnOk};
 ghost use Rattle.hir_item_tree.specs.Collected.{is_enabled};
 ghost use Rattle.hir_item_tree.specs.KeptForest.{leaf, function, structure, union_structure, constant, static_item, trait_item, type_alias};
-ghost use Rattle.hir_def_map.specs.Parts.{part_of};
+ghost use Rattle.hir_def_map.specs.WorldParts.{part_of};
 ghost use Rattle.hir_def_collector.specs.Keys.{Environment};
 ghost use Rattle.hir_def_collector.specs.State.{with_map, counted};
 ghost use Rattle.hir_def_collector.specs.ItemIds.{module_id};
-ghost use Rattle.hir_def_collector.specs.Items.{constructor_of, declared_struct, meet_of, own_visibility, type_declaration, value_declaration, visibility_in};
+ghost use Rattle.hir_def_collector.specs.Items.{constructor_of, declared_struct, meet_of, own_visibility, type_declaration, value_declaration};
+ghost use Rattle.hir_import_resolution.specs.Visibilities.{visibility_in};
 ghost use Rattle.hir_def_collector.specs.TreeReads.{head_of};
 ghost use Rattle.hir_def_collector.specs.Steps.{visit, with_declaration};
 ghost use Rattle.hir_def_collector.specs.Moves.{Handles};
 
 use crate::collector::declaration::Declaration;
-use crate::collector::imports::lesser;
 use crate::collector::run::Run;
 use crate::collector::site::{ItemHead, Site};
 use crate::collector::{CollectError, STEP_LIMIT};
@@ -22,6 +22,7 @@ use hir_base::ids::{
 };
 use hir_base::name::Name;
 use hir_def_map::world::part::WorldPart;
+use hir_import_resolution::answers::lesser;
 use hir_item_tree::kinds::Struct;
 use hir_item_tree::raw_visibility::RawVisibility;
 use hir_item_tree::shape::FieldsShape;
@@ -35,7 +36,7 @@ pub fn declare(run: &mut Run, home: u32, declaration: Declaration) -> Result<(),
 {
     let Declaration { name, def, items } = declaration;
     run.declare(home, def)?;
-    run.bind(home, name, items, None)?;
+    run.bind(home, name, items)?;
     run.tick()?;
     Ok(())
 }
@@ -44,13 +45,13 @@ pub fn declare(run: &mut Run, home: u32, declaration: Declaration) -> Result<(),
 fn declare_type(
     run: &mut Run,
     world: WorldPart<'_>,
-    site: Site,
+    site: &Site,
     head: ItemHead<'_>,
     name: &Name,
     def: ModuleDefId,
 ) -> Result<(), CollectError>
-    ensures ok { OnOk result (run.new ≡ counted (with_map run.old (with_declaration run.old.map site.home
-        (type_declaration name.now def (own_visibility (part_of world.entry) run.old.local run.old.map site (head_of head.entry)))))) }
+    ensures ok { OnOk result (run.new ≡ counted (with_map run.old (with_declaration run.old.map site.now.home
+        (type_declaration name.now def (own_visibility (part_of world.entry) run.old.local run.old.map site.now (head_of head.entry)))))) }
     ensures many { result ≡ Err CollectError.TooMany → STEP_LIMIT ≤ run.old.count }
 {
     let vis = run.visibility(world, site, head);
@@ -67,13 +68,13 @@ fn declare_type(
 fn declare_value(
     run: &mut Run,
     world: WorldPart<'_>,
-    site: Site,
+    site: &Site,
     head: ItemHead<'_>,
     name: &Name,
     def: ModuleDefId,
 ) -> Result<(), CollectError>
-    ensures ok { OnOk result (run.new ≡ counted (with_map run.old (with_declaration run.old.map site.home
-        (value_declaration name.now def (own_visibility (part_of world.entry) run.old.local run.old.map site (head_of head.entry)))))) }
+    ensures ok { OnOk result (run.new ≡ counted (with_map run.old (with_declaration run.old.map site.now.home
+        (value_declaration name.now def (own_visibility (part_of world.entry) run.old.local run.old.map site.now (head_of head.entry)))))) }
     ensures many { result ≡ Err CollectError.TooMany → STEP_LIMIT ≤ run.old.count }
 {
     let vis = run.visibility(world, site, head);
@@ -90,12 +91,12 @@ fn declare_value(
 pub fn declare_function(
     run: &mut Run,
     world: WorldPart<'_>,
-    site: Site,
+    site: &Site,
     head: ItemHead<'_>,
     name: &Name,
 ) -> Result<(), CollectError>
     requires enabled { is_enabled (head_of head).attributes ≡ true }
-    ensures ok { OnOk result ((env : Environment) → Handles env (part_of world.entry) run.old run.new (visit site (leaf (head_of head.entry) (function name.now))) []) }
+    ensures ok { OnOk result ((env : Environment) → Handles env (part_of world.entry) run.old run.new (visit site.now (leaf (head_of head.entry) (function name.now))) []) }
     ensures many { result ≡ Err CollectError.TooMany → STEP_LIMIT ≤ run.old.count }
 {
     let def = ModuleDefId::FunctionId(FunctionId {
@@ -114,12 +115,12 @@ pub fn declare_function(
 pub fn declare_const(
     run: &mut Run,
     world: WorldPart<'_>,
-    site: Site,
+    site: &Site,
     head: ItemHead<'_>,
     name: &Name,
 ) -> Result<(), CollectError>
     requires enabled { is_enabled (head_of head).attributes ≡ true }
-    ensures ok { OnOk result ((env : Environment) → Handles env (part_of world.entry) run.old run.new (visit site (leaf (head_of head.entry) (constant (Some name.now)))) []) }
+    ensures ok { OnOk result ((env : Environment) → Handles env (part_of world.entry) run.old run.new (visit site.now (leaf (head_of head.entry) (constant (Some name.now)))) []) }
     ensures many { result ≡ Err CollectError.TooMany → STEP_LIMIT ≤ run.old.count }
 {
     let def = ModuleDefId::ConstId(ConstId {
@@ -138,12 +139,12 @@ pub fn declare_const(
 pub fn declare_static(
     run: &mut Run,
     world: WorldPart<'_>,
-    site: Site,
+    site: &Site,
     head: ItemHead<'_>,
     name: &Name,
 ) -> Result<(), CollectError>
     requires enabled { is_enabled (head_of head).attributes ≡ true }
-    ensures ok { OnOk result ((env : Environment) → Handles env (part_of world.entry) run.old run.new (visit site (leaf (head_of head.entry) (static_item name.now))) []) }
+    ensures ok { OnOk result ((env : Environment) → Handles env (part_of world.entry) run.old run.new (visit site.now (leaf (head_of head.entry) (static_item name.now))) []) }
     ensures many { result ≡ Err CollectError.TooMany → STEP_LIMIT ≤ run.old.count }
 {
     let def = ModuleDefId::StaticId(StaticId {
@@ -162,12 +163,12 @@ pub fn declare_static(
 pub fn declare_type_alias(
     run: &mut Run,
     world: WorldPart<'_>,
-    site: Site,
+    site: &Site,
     head: ItemHead<'_>,
     name: &Name,
 ) -> Result<(), CollectError>
     requires enabled { is_enabled (head_of head).attributes ≡ true }
-    ensures ok { OnOk result ((env : Environment) → Handles env (part_of world.entry) run.old run.new (visit site (leaf (head_of head.entry) (type_alias name.now))) []) }
+    ensures ok { OnOk result ((env : Environment) → Handles env (part_of world.entry) run.old run.new (visit site.now (leaf (head_of head.entry) (type_alias name.now))) []) }
     ensures many { result ≡ Err CollectError.TooMany → STEP_LIMIT ≤ run.old.count }
 {
     let def = ModuleDefId::TypeAliasId(TypeAliasId {
@@ -186,12 +187,12 @@ pub fn declare_type_alias(
 pub fn declare_trait(
     run: &mut Run,
     world: WorldPart<'_>,
-    site: Site,
+    site: &Site,
     head: ItemHead<'_>,
     name: &Name,
 ) -> Result<(), CollectError>
     requires enabled { is_enabled (head_of head).attributes ≡ true }
-    ensures ok { OnOk result ((env : Environment) → Handles env (part_of world.entry) run.old run.new (visit site (leaf (head_of head.entry) (trait_item name.now))) []) }
+    ensures ok { OnOk result ((env : Environment) → Handles env (part_of world.entry) run.old run.new (visit site.now (leaf (head_of head.entry) (trait_item name.now))) []) }
     ensures many { result ≡ Err CollectError.TooMany → STEP_LIMIT ≤ run.old.count }
 {
     let def = ModuleDefId::TraitId(TraitId {
@@ -210,12 +211,12 @@ pub fn declare_trait(
 pub fn declare_union(
     run: &mut Run,
     world: WorldPart<'_>,
-    site: Site,
+    site: &Site,
     head: ItemHead<'_>,
     name: &Name,
 ) -> Result<(), CollectError>
     requires enabled { is_enabled (head_of head).attributes ≡ true }
-    ensures ok { OnOk result ((env : Environment) (fields : _) → Handles env (part_of world.entry) run.old run.new (visit site (leaf (head_of head.entry) (union_structure name.now fields))) []) }
+    ensures ok { OnOk result ((env : Environment) (fields : _) → Handles env (part_of world.entry) run.old run.new (visit site.now (leaf (head_of head.entry) (union_structure name.now fields))) []) }
     ensures many { result ≡ Err CollectError.TooMany → STEP_LIMIT ≤ run.old.count }
 {
     let def = ModuleDefId::AdtId(AdtId::UnionId(UnionId {
@@ -298,12 +299,12 @@ fn struct_items(def: ModuleDefId, own: Visibility, constructor: Option<Visibilit
 pub fn declare_struct(
     run: &mut Run,
     world: WorldPart<'_>,
-    site: Site,
+    site: &Site,
     head: ItemHead<'_>,
     item: Struct<'_>,
 ) -> Result<(), CollectError>
     requires enabled { is_enabled (head_of head).attributes ≡ true }
-    ensures ok { OnOk result ((env : Environment) → Handles env (part_of world.entry) run.old run.new (visit site (leaf (head_of head.entry) (structure item.entry.name.now item.entry.shape item.entry.fields.now))) []) }
+    ensures ok { OnOk result ((env : Environment) → Handles env (part_of world.entry) run.old run.new (visit site.now (leaf (head_of head.entry) (structure item.entry.name.now item.entry.shape item.entry.fields.now))) []) }
     ensures many { result ≡ Err CollectError.TooMany → STEP_LIMIT ≤ run.old.count }
 {
     let at = run.module_id(site.home);

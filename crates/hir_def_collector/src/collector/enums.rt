@@ -2,8 +2,8 @@
 ghost use Rattle.std.specs.Prelude.{◌≡◌, ◌≤◌, true, [], OnOk, IfOk, option_map};
 ghost use Rattle.hir_item_tree.specs.Collected.{is_enabled};
 ghost use Rattle.hir_item_tree.specs.KeptForest.{leaf, enumeration};
-ghost use Rattle.hir_def_map.specs.Parts.{part_of};
-ghost use Rattle.hir_def_collector.specs.Keys.{environment};
+ghost use Rattle.hir_def_map.specs.WorldParts.{part_of};
+ghost use Rattle.hir_def_collector.specs.Keys.{Environment, source_in};
 ghost use Rattle.hir_def_collector.specs.Enums.{variant_of, variants_by_name, variants_of};
 ghost use Rattle.hir_def_collector.specs.TreeReads.{head_of};
 ghost use Rattle.hir_def_collector.specs.Steps.{visit};
@@ -13,16 +13,14 @@ use crate::collector::declaration::Declaration;
 use crate::collector::declare::declare;
 use crate::collector::run::Run;
 use crate::collector::site::{ItemHead, Site};
-use crate::collector::sources::variants_at;
 use crate::collector::{CollectError, STEP_LIMIT};
-use crate::source_database::SourceDatabase;
 use hir_base::ids::{AdtId, EnumId, EnumVariantId, ItemLoc, ModuleDefId};
 use hir_base::name::Name;
 use hir_def_map::nameres::enum_variants::{EnumVariant, EnumVariants};
 use hir_def_map::world::part::WorldPart;
 use hir_item_tree::side_lists::VariantItem;
+use hir_item_tree::source_tree::SourceTree;
 use hir_scope::per_ns::PerNs;
-use hir_tables::Tables;
 use std::alloc::{AllocError, Global};
 
 /// A variant of an enum.
@@ -53,12 +51,12 @@ fn by_name(alloc: Global, id: EnumId, items: &[VariantItem]) -> Result<EnumVaria
 fn variants_of(
     alloc: Global,
     id: EnumId,
-    found: Option<Vec<VariantItem>>,
+    found: Option<&[VariantItem]>,
 ) -> Result<EnumVariants, AllocError>
-    ensures value { IfOk result (λ variants. variants ≡ variants_of id (option_map (λ vs. vs.items) found)) }
+    ensures value { IfOk result (λ variants. variants ≡ variants_of id (option_map (λ vs. vs.now) found.entry)) }
 {
     match found {
-        Some(items) => by_name(alloc, id, &items),
+        Some(items) => by_name(alloc, id, items),
         None => Ok(EnumVariants::new(alloc)),
     }
 }
@@ -66,17 +64,18 @@ fn variants_of(
 /// Declares an enum, and keeps its variants, which it asks for.
 ///
 /// After rust-analyzer's `EnumVariants`.
-pub fn declare_enum<D: SourceDatabase>(
+pub fn declare_enum(
     run: &mut Run,
-    db: &D,
     world: WorldPart<'_>,
-    locations: &Tables,
-    site: Site,
+    source: &SourceTree,
+    site: &Site,
     head: ItemHead<'_>,
     name: &Name,
 ) -> Result<(), CollectError>
     requires enabled { is_enabled (head_of head).attributes ≡ true }
-    ensures ok { OnOk result (Handles (environment locations.now (D.workspace db.now)) (part_of world.entry) run.old run.new (visit site (leaf (head_of head.entry) (enumeration name.now))) []) }
+    ensures ok { OnOk result ((env : Environment)
+        → source_in env.tables env.workspace (record { krate = run.old.map.id.krate; id = site.now.tree }) ≡ source.now
+        → Handles env (part_of world.entry) run.old run.new (visit site.now (leaf (head_of head.entry) (enumeration name.now))) []) }
     ensures many { result ≡ Err CollectError.TooMany → STEP_LIMIT ≤ run.old.count }
 {
     let id = EnumId {
@@ -88,8 +87,7 @@ pub fn declare_enum<D: SourceDatabase>(
         },
     };
     let vis = run.visibility(world, site, head);
-    let found = variants_at(run.allocator(), db, locations, id)?;
-    let variants = variants_of(run.allocator(), id, found)?;
+    let variants = variants_of(run.allocator(), id, source.variants(head.id))?;
     run.add_enum(id, variants)?;
     let def = ModuleDefId::AdtId(AdtId::EnumId(id));
     let declaration = Declaration {

@@ -1,6 +1,6 @@
 //! What all modules of a crate find.
 ghost use Rattle.std.specs.Prelude.{◌≡◌, [], IfOk, option_map};
-ghost use Rattle.hir_def_map.specs.Parts.{part_of};
+ghost use Rattle.hir_def_map.specs.WorldParts.{part_of};
 ghost use Rattle.hir_def_collector.specs.Preludes.{edition_module, extern_prelude, is_kept_away, joins, module_named, module_of, prelude_crate, prelude_of, prelude_path};
 
 use crate::collector::known_name::known_name;

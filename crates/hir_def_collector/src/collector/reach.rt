@@ -4,7 +4,7 @@ ghost use Rattle.hir_item_tree.specs.Collected.{is_enabled};
 ghost use Rattle.hir_item_tree.specs.Imports.{imports_of};
 ghost use Rattle.hir_item_tree.specs.KeptForest.{extern_crate, leaf, import};
 ghost use Rattle.hir_item_tree.specs.UseTree.{use_tree_view};
-ghost use Rattle.hir_def_map.specs.State.{Maps};
+ghost use Rattle.hir_def_map.specs.Overlay.{Maps};
 ghost use Rattle.hir_def_collector.specs.Keys.{Environment};
 ghost use Rattle.hir_def_collector.specs.State.{counted, with_imports, with_local};
 ghost use Rattle.hir_def_collector.specs.Imports.{crate_import, extern_after, path_of_crate, reached_import};
@@ -13,12 +13,12 @@ ghost use Rattle.hir_def_collector.specs.TreeReads.{head_of};
 ghost use Rattle.hir_def_collector.specs.Steps.{visit};
 ghost use Rattle.hir_def_collector.specs.Moves.{Handles};
 
-use crate::collector::imports::{ImportSource, ReachedImport};
 use crate::collector::run::Run;
 use crate::collector::site::{ItemHead, Site};
 use crate::collector::{CollectError, STEP_LIMIT};
 use hir_base::ids::{ExternCrateId, ItemLoc, UseId};
 use hir_base::mod_path::{ModPath, PathKind};
+use hir_import_resolution::{ImportDirective, ImportSource};
 use hir_item_tree::expand::Import;
 use hir_item_tree::raw_visibility::RawVisibility;
 use hir_item_tree::shape::{ExternCrateName, ImportAlias, ImportKind};
@@ -71,7 +71,7 @@ fn reach_all(
             kind,
             alias,
         } = import;
-        run.reach(ReachedImport {
+        run.reach(ImportDirective {
             home,
             source: ImportSource::Use {
                 id: ImportId { use_, idx: place },
@@ -88,12 +88,12 @@ fn reach_all(
 /// Lists a `use` item, and notes its imports.
 pub fn reach_use(
     run: &mut Run,
-    site: Site,
+    site: &Site,
     head: ItemHead<'_>,
     tree: &UseTree,
 ) -> Result<(), CollectError>
     requires enabled { is_enabled (head_of head).attributes ≡ true }
-    ensures ok { OnOk result ((env : Environment) (finished : Maps) → Handles env finished run.old run.new (visit site (leaf (head_of head.entry) (import (use_tree_view tree.now)))) []) }
+    ensures ok { OnOk result ((env : Environment) (finished : Maps) → Handles env finished run.old run.new (visit site.now (leaf (head_of head.entry) (import (use_tree_view tree.now)))) []) }
     ensures many { result ≡ Err CollectError.TooMany → STEP_LIMIT ≤ run.old.count }
 {
     let use_ = UseId {
@@ -138,17 +138,17 @@ fn clone_alias(alias: &Option<ImportAlias>) -> Result<Option<ImportAlias>, Alloc
 /// An `extern crate` of a site as an import.
 fn crate_import(
     run: &Run,
-    site: Site,
+    site: &Site,
     head: ItemHead<'_>,
     id: ExternCrateId,
     name: &ExternCrateName,
     alias: &Option<ImportAlias>,
-) -> Result<ReachedImport, AllocError>
-    requires own { id ≡ extern_crate_id run.now.map site head.id }
+) -> Result<ImportDirective, AllocError>
+    requires own { id ≡ extern_crate_id run.now.map site.now head.id }
     ensures value { IfOk result (λ import. import
-        ≡ crate_import run.now.map run.now.dependencies site (head_of head.entry) name.now alias.now) }
+        ≡ crate_import run.now.map run.now.dependencies site.now (head_of head.entry) name.now alias.now) }
 {
-    Ok(ReachedImport {
+    Ok(ImportDirective {
         home: site.home,
         source: ImportSource::ExternCrate {
             id,
@@ -166,13 +166,13 @@ fn crate_import(
 /// After rust-analyzer's `ModCollector`, at an `extern crate`.
 pub fn reach_extern_crate(
     run: &mut Run,
-    site: Site,
+    site: &Site,
     head: ItemHead<'_>,
     name: &ExternCrateName,
     alias: &Option<ImportAlias>,
 ) -> Result<(), CollectError>
     requires enabled { is_enabled (head_of head).attributes ≡ true }
-    ensures ok { OnOk result ((env : Environment) (finished : Maps) → Handles env finished run.old run.new (visit site (leaf (head_of head.entry) (extern_crate name.now alias.now))) []) }
+    ensures ok { OnOk result ((env : Environment) (finished : Maps) → Handles env finished run.old run.new (visit site.now (leaf (head_of head.entry) (extern_crate name.now alias.now))) []) }
     ensures many { result ≡ Err CollectError.TooMany → STEP_LIMIT ≤ run.old.count }
 {
     let id = ExternCrateId {

@@ -1,52 +1,50 @@
 //! Where a run stands, and what each change leaves.
 ghost use Rattle.std.specs.Prelude.{◌≡◌, ◌<◌, ◌≤◌, length, OnOk, IfOk};
-ghost use Rattle.std.specs.Prelude.{◌∷◌, ◌++◌, [], Some, false};
+ghost use Rattle.std.specs.Prelude.{◌∷◌, [], Some};
 ghost use Rattle.hir_def_map.specs.State.{with_enum, with_module, new_id, new_module, with_declared, with_use, with_impl, with_extern_block, with_extern_crate, with_unnamed_const};
-ghost use Rattle.hir_def_map.specs.Parts.{part_of};
-ghost use Rattle.hir_def_collector.specs.State.{with_local, with_asked, with_map, with_imports, with_taken, counted};
+ghost use Rattle.hir_def_map.specs.WorldParts.{part_of};
+ghost use Rattle.hir_def_map.specs.Macros.{with_diagnostic};
+ghost use Rattle.hir_import_resolution.specs.Inner.State.{state_in};
+ghost use Rattle.hir_import_resolution.specs.Visibilities.{visibility_in};
+ghost use Rattle.hir_def_collector.specs.State.{at_rest, import_state, with_local, with_asked, with_map, with_imports, counted};
 ghost use Rattle.hir_def_collector.specs.ItemIds.{container_of, module_id};
-ghost use Rattle.hir_def_collector.specs.Items.{own_visibility, visibility_in};
+ghost use Rattle.hir_def_collector.specs.Items.{bound_in, own_visibility};
 ghost use Rattle.hir_def_collector.specs.TreeReads.{head_of};
-ghost use Rattle.hir_def_collector.specs.Imports.{answer_to, bound_as, bound_in, crate_named, dependency_named, extern_after, pushing, taking_at};
+ghost use Rattle.hir_def_collector.specs.Imports.{crate_named, dependency_named, extern_after};
 ghost use Rattle.hir_def_collector.specs.Start.{core_by};
-ghost use Rattle.hir_def_collector.specs.Keys.{map_keys};
-ghost use Rattle.hir_def_collector.specs.Derivation.{collected_view, leftover_among};
+ghost use Rattle.hir_def_collector.specs.ModuleFiles.{file_key};
+ghost use Rattle.hir_def_collector.specs.Moves.{AreUntaken};
 
-use crate::collector::collected::{Asked, Collected};
-use crate::collector::imports::{
-    ImportSource, Namespaces, ReachedImport, Taken, Taking, answer, answer_of_crate, imported,
-    is_one_name, kept,
-};
-use crate::collector::leftovers::untaken;
 use crate::collector::preludes::prelude;
 use crate::collector::site::{ItemHead, Site};
 use crate::collector::{CollectError, STEP_LIMIT, Start};
 use crate::source_database::{Dependency, Key};
+use hir_base::ast_id::{EditionedFileId, FileId, HirFileId};
+use hir_base::cfg_options::CfgOptions;
 use hir_base::ids::{
     ConstId, Crate, EnumId, ExternBlockId, ExternCrateId, ImplId, ItemContainerId, MapId,
     ModuleDefId, ModuleId, UseId,
 };
 use hir_base::name::Name;
-use hir_def_map::def_maps::DefMaps;
 use hir_def_map::nameres::DefMap;
 use hir_def_map::nameres::crate_data::DefMapCrateData;
+use hir_def_map::nameres::diagnostics::DefDiagnostic;
 use hir_def_map::nameres::enum_variants::EnumVariants;
 use hir_def_map::nameres::local_def_map::LocalDefMap;
 use hir_def_map::nameres::module_data::ModuleData;
 use hir_def_map::nameres::origin::ModuleOrigin;
-use hir_def_map::nameres::path_resolution::{ReachedFixedPoint, ResolvePathResult};
 use hir_def_map::world::part::WorldPart;
+use hir_glob_imports::GlobImports;
+use hir_import_resolution::answers::visibility;
+use hir_import_resolution::{ImportDirective, ImportSource, Imports, Taken};
 use hir_item_tree::raw_visibility::RawVisibility;
-use hir_item_tree::shape::{ExternCrateName, ImportKind};
+use hir_item_tree::shape::ExternCrateName;
 use hir_item_tree::tree_id::{TreeId, TreeKey};
 use hir_scope::glob_imports::PerNsGlobImports;
-use hir_scope::imports::ImportOrExternCrate;
 use hir_scope::per_ns::PerNs;
 use hir_scope::visibility::Visibility;
 use std::alloc::{AllocError, Global};
-use std::collections::BTreeSet;
 use std::marker::Model;
-use std::rc::Rc;
 
 /// Where a run stands, what it has still to visit aside.
 #[derive(Drop)]
@@ -54,8 +52,9 @@ pub struct Run {
     map: DefMap,
     local: LocalDefMap,
     dependencies: Vec<Dependency>,
+    options: CfgOptions,
     from_glob_import: PerNsGlobImports,
-    reached: Vec<ReachedImport>,
+    reached: Vec<ImportDirective>,
     taken: Vec<Taken>,
     asked: Vec<Key>,
     count: u32,
@@ -65,6 +64,7 @@ impl Model for Run {
     ghost use Rattle.std.specs.Prelude.{◌≡◌, ◌≤◌};
     ghost use Rattle.hir_def_map.specs.State.{no_globs};
     ghost use Rattle.hir_def_collector.specs.Codes.{coded_core};
+    ghost use Rattle.hir_def_collector.specs.Moves.{AreUntaken};
     ghost use Rattle.hir_def_collector.specs.State.{Core};
     ghost use Rattle.hir_def_collector.specs.declared.collector.TheConstants.{STEP_LIMIT};
 
@@ -72,20 +72,10 @@ impl Model for Run {
 
     ghost coded = { coded_core };
 
-    ghost view = { λ r. record { map = r.map; local = r.local; dependencies = r.dependencies.items; reached = r.reached.items; taken = r.taken.items; asked = r.asked.items; count = r.count } };
+    ghost view = { λ r. record { map = r.map; local = r.local; dependencies = r.dependencies.items; options = r.options; reached = r.reached.items; taken = r.taken.items; asked = r.asked.items; count = r.count } };
 
-    // No glob brings anything yet.
-    ghost invariant = { λ r. (r.count ≤ STEP_LIMIT) × (r.from_glob_import ≡ no_globs) };
-}
-
-/// What pushes: an import, or a declaration.
-fn pushing(source: Option<ImportSource>) -> Option<ImportOrExternCrate>
-    ensures value { result ≡ pushing source }
-{
-    match source {
-        Some(source) => Some(source.way()),
-        None => None,
-    }
+    // Before imports are resolved no glob is recorded, and no import taken.
+    ghost invariant = { λ r. (r.count ≤ STEP_LIMIT) × (r.from_glob_import ≡ no_globs) × AreUntaken r.taken.items };
 }
 
 /// The first crate of a name.
@@ -108,10 +98,11 @@ impl Run {
         crate_data: DefMapCrateData,
         local: LocalDefMap,
         dependencies: Vec<Dependency>,
+        options: CfgOptions,
         start: Start,
         tree: TreeId,
     ) -> Result<Run, AllocError>
-        ensures value { IfOk result (λ run. run ≡ core_by (part_of world.entry) crate_data local dependencies.items start tree) }
+        ensures value { IfOk result (λ run. run ≡ core_by (part_of world.entry) crate_data local dependencies.items options start tree) }
     {
         let krate = start.krate();
         let root = ModuleData::new(alloc, start.origin(), Visibility::Public, None);
@@ -124,6 +115,7 @@ impl Run {
             map,
             local,
             dependencies,
+            options,
             from_glob_import: PerNsGlobImports::new(alloc),
             reached: Vec::new(alloc),
             taken: Vec::new(alloc),
@@ -150,8 +142,8 @@ impl Run {
     }
 
     /// What holds the items of a site.
-    pub fn container(&self, site: Site) -> ItemContainerId
-        ensures value { result ≡ container_of self.now.map site }
+    pub fn container(&self, site: &Site) -> ItemContainerId
+        ensures value { result ≡ container_of self.now.map site.now }
     {
         match site.extern_block {
             Some(block) => ItemContainerId::ExternBlockId(block),
@@ -160,7 +152,6 @@ impl Run {
     }
 
     /// What a visibility means that is written in a module; one whose path leads to no module counts as public.
-    #[tactic(auto, unfolding(crate::specs::Items::visibility_in, hir_def_map::specs::DefMaps::maps_of))]
     pub fn visibility_in(
         &self,
         world: WorldPart<'_>,
@@ -169,12 +160,12 @@ impl Run {
     ) -> Visibility
         ensures value { result ≡ visibility_in (part_of world.entry) self.now.local self.now.map at raw.now }
     {
-        DefMaps::new(world, &self.map).visibility_from_ast(Some(&self.local), at, raw)
+        visibility(&self.map, &self.local, world, at, raw)
     }
 
     /// The visibility of an item at a site.
-    pub fn visibility(&self, world: WorldPart<'_>, site: Site, head: ItemHead<'_>) -> Visibility
-        ensures value { result ≡ own_visibility (part_of world.entry) self.now.local self.now.map site (head_of head.entry) }
+    pub fn visibility(&self, world: WorldPart<'_>, site: &Site, head: ItemHead<'_>) -> Visibility
+        ensures value { result ≡ own_visibility (part_of world.entry) self.now.local self.now.map site.now (head_of head.entry) }
     {
         self.visibility_in(world, self.module_id(site.home), head.visibility)
     }
@@ -192,13 +183,6 @@ impl Run {
         self.count
     }
 
-    /// How many imports were come upon.
-    pub fn reached_len(&self) -> usize
-        ensures value { result ≡ length self.now.reached }
-    {
-        self.reached.len()
-    }
-
     /// Counts a step.
     pub fn tick(&mut self) -> Result<(), CollectError>
         ensures ok { OnOk result (self.new ≡ counted self.old) }
@@ -211,38 +195,15 @@ impl Run {
         Ok(())
     }
 
-    /// Binds items under a name in a module, by an import or by a declaration.
+    /// Binds what a declaration brings under a name in a module.
     ///
     /// After rust-analyzer's `DefCollector::update`.
-    pub fn bind(
-        &mut self,
-        home: u32,
-        name: Name,
-        items: PerNs,
-        source: Option<ImportSource>,
-    ) -> Result<(), AllocError>
-        ensures ok { OnOk result (self.new ≡ with_map self.old (bound_in self.old.map home name items source)) }
+    pub fn bind(&mut self, home: u32, name: Name, items: PerNs) -> Result<(), AllocError>
+        ensures ok { OnOk result (self.new ≡ with_map self.old (bound_in self.old.map home name items)) }
     {
-        let import = pushing(source);
         self.map
-            .push(&mut self.from_glob_import, home, name, items, import)?;
+            .push(&mut self.from_glob_import, home, name, items, None)?;
         Ok(())
-    }
-
-    /// Binds items under the name that an import gives in a module, if it gives one.
-    pub fn bind_as(
-        &mut self,
-        home: u32,
-        name: Option<Name>,
-        items: PerNs,
-        source: ImportSource,
-    ) -> Result<(), AllocError>
-        ensures ok { OnOk result (self.new ≡ with_map self.old (bound_as self.old.map home name items (Some source))) }
-    {
-        match name {
-            Some(name) => self.bind(home, name, items, Some(source)),
-            None => Ok(()),
-        }
     }
 
     /// Makes a module.
@@ -279,6 +240,45 @@ impl Run {
         self.asked.push(Key::Variants(id))?;
         self.map.add_enum(id, variants)?;
         Ok(())
+    }
+
+    /// The tree of a file in the crate's edition, under the crate.
+    pub fn file_key(&self, id: FileId) -> TreeKey
+        ensures value { result ≡ file_key self.now.map.id.krate self.now.map.crate_data.edition id }
+    {
+        TreeKey {
+            krate: self.map.id().krate,
+            id: TreeId {
+                file: HirFileId::File(EditionedFileId {
+                    file_id: id,
+                    edition: self.map.edition(),
+                }),
+                block: None,
+            },
+        }
+    }
+
+    /// Notes a key that was asked for.
+    pub fn ask(&mut self, key: Key) -> Result<(), AllocError>
+        ensures ok { OnOk result (self.new ≡ with_asked self.old key) }
+    {
+        self.asked.push(key)?;
+        Ok(())
+    }
+
+    /// Adds a diagnostic.
+    pub fn tell(&mut self, report: DefDiagnostic) -> Result<(), AllocError>
+        ensures ok { OnOk result (self.new ≡ with_map self.old (with_diagnostic self.old.map report)) }
+    {
+        self.map.add_diagnostic(report)?;
+        Ok(())
+    }
+
+    /// The options of the crate that are set.
+    pub fn options(&self) -> &CfgOptions
+        ensures value { result.now ≡ self.now.options }
+    {
+        &self.options
     }
 
     /// Lists a `use` item in a module.
@@ -332,7 +332,7 @@ impl Run {
     }
 
     /// Lets paths begin with the name of an `extern crate` of the crate's root module.
-    pub fn add_extern(&mut self, import: &ReachedImport) -> Result<(), AllocError>
+    pub fn add_extern(&mut self, import: &ImportDirective) -> Result<(), AllocError>
         ensures ok { OnOk result (self.new ≡ with_local self.old (extern_after self.old.map self.old.local import.now)) }
     {
         if import.home != 0 || self.map.id().block.is_some() {
@@ -357,100 +357,33 @@ impl Run {
     }
 
     /// Notes an import that was come upon.
-    pub fn reach(&mut self, import: ReachedImport) -> Result<(), AllocError>
+    pub fn reach(&mut self, import: ImportDirective) -> Result<(), AllocError>
         ensures ok { OnOk result (self.new ≡ with_imports self.old (import ∷ [])) }
     {
+        let taken = Taken::nothing(self.allocator());
         self.reached.push(import)?;
-        self.taken.push(Taken {
-            namespaces: Namespaces {
-                types: false,
-                values: false,
-                macros: false,
-            },
-            crossed: false,
-        })?;
+        self.taken.push(taken)?;
         Ok(())
     }
 
-    /// Notes what the takings of an import have reached.
-    pub fn note(&mut self, i: usize, taken: Taken)
-        ensures value { self.new ≡ with_taken self.old i taken }
+    /// The imports that were come upon, none of them taken, and the keys that were asked for.
+    pub fn into_imports(self) -> (Imports, Vec<Key>)
+        ensures imports { state_in result.0 ≡ import_state (at_rest self) }
+        ensures no_globs { result.0.globs.edges ≡ [] × result.0.globs.brought ≡ [] × result.0.globs.pending ≡ [] }
+        ensures untaken { AreUntaken result.0.taken.items }
+        ensures asked { result.1.items ≡ self.asked }
+        ensures small { result.0.count ≤ STEP_LIMIT }
     {
-        if i < self.taken.len() {
-            self.taken[i] = taken;
-        }
-    }
-
-    /// The answer to an import now.
-    fn answer_to(&self, world: WorldPart<'_>, import: &ReachedImport) -> ResolvePathResult
-        ensures value { result ≡ answer_to (part_of world.entry) self.now.local self.now.map import.now }
-    {
-        let at = self.module_id(import.home);
-        match import.source {
-            ImportSource::Use {
-                kind: ImportKind::Plain | ImportKind::TypeOnly,
-                ..
-            } => answer(&self.map, &self.local, world, at, &import.path),
-            ImportSource::Use {
-                kind: ImportKind::Glob,
-                ..
-            } => ResolvePathResult::unresolved(ReachedFixedPoint::No),
-            ImportSource::ExternCrate { krate, .. } => answer_of_crate(krate),
-        }
-    }
-
-    /// The taking that is due of the import at the place: where its path reaches a namespace that no
-    /// taking of it reached, all that it reaches now is bound.
-    pub fn taking(&self, world: WorldPart<'_>, i: usize) -> Result<Option<Taking>, AllocError>
-        ensures value { IfOk result (λ taking. taking ≡ taking_at (part_of world.entry) self.now i) }
-    {
-        let Some(import) = self.reached.get(i) else {
-            return Ok(None);
-        };
-        let Some(before) = self.taken.get(i) else {
-            return Ok(None);
-        };
-        let answer = self.answer_to(world, import);
-        if !Namespaces::of(answer.resolved_def).goes_beyond(before.namespaces) {
-            return Ok(None);
-        }
-        let own = self.visibility_in(world, self.module_id(import.home), &import.visibility);
-        Ok(Some(Taking {
-            home: import.home,
-            name: import.name()?,
-            items: imported(
-                &self.map,
-                world,
-                own,
-                is_one_name(&import.path),
-                kept(import.source.kind(), answer),
-            ),
-            source: import.source,
-            taken: before.and(answer),
-        }))
-    }
-
-    /// The imports that were never taken, in the order in which they were come upon.
-    pub fn leftover(&self, alloc: Global) -> Result<Vec<ImportOrExternCrate>, AllocError>
-        ensures value { IfOk result (λ ids. ids.items ≡ leftover_among self.now.reached self.now.taken) }
-    {
-        untaken(alloc, &self.reached, &self.taken)
-    }
-
-    /// What a run comes to.
-    pub fn finish(
-        self,
-        leftover: Vec<ImportOrExternCrate>,
-        behind: Rc<BTreeSet<Crate>>,
-    ) -> Collected
-        ensures value { collected_view result ≡ record { map = self.map; local = self.local; leftover = leftover.items; round_limit_met = false; asked = self.asked ++ map_keys behind.value.keys } }
-    {
-        Collected {
+        let globs = GlobImports::new(self.allocator());
+        let imports = Imports {
             map: self.map,
             local: self.local,
-            leftover,
-            round_limit_met: false,
-            asked: Asked::new(self.asked, behind),
-        }
+            from_glob_import: self.from_glob_import,
+            imports: self.reached,
+            taken: self.taken,
+            globs,
+            count: self.count,
+        };
+        (imports, self.asked)
     }
 }

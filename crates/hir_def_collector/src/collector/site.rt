@@ -12,9 +12,10 @@ use hir_item_tree::kinds::RawVisibilityId;
 use hir_item_tree::raw_visibility::RawVisibility;
 use hir_item_tree::rows::ModItemId;
 use hir_item_tree::tree_id::TreeId;
+use hir_mod_dir::ModDir;
 
 /// Where an item is written.
-#[derive(Clone, Copy)]
+#[derive(Drop)]
 pub struct Site {
     /// The number of the module that declares it.
     pub home: u32,
@@ -22,6 +23,10 @@ pub struct Site {
     pub tree: TreeId,
     /// The extern block that holds it, if one does.
     pub extern_block: Option<ExternBlockId>,
+    /// The directory in which the files of the modules that it declares are looked for.
+    pub dir: ModDir,
+    /// How many expansions and passed-over attributes are around it: none as long as nothing is called.
+    pub level: u32,
 }
 
 /// What every item has.

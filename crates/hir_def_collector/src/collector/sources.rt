@@ -1,45 +1,37 @@
 //! What is there at the keys of sources, by the numbers of trees.
-ghost use Rattle.std.specs.Prelude.{◌≡◌, IfOk, option_map};
-ghost use Rattle.hir_def_collector.specs.Keys.{tree_at, variants_at};
+ghost use Rattle.std.specs.Prelude.{◌≡◌, IfOk};
+ghost use Rattle.hir_def_collector.specs.Keys.{absent_source, source_in};
 
 use crate::source_database::SourceDatabase;
-use hir_base::ids::EnumId;
-use hir_item_tree::item_tree::ItemTree;
-use hir_item_tree::side_lists::VariantItem;
-use hir_item_tree::tree_id::{TreeId, TreeKey};
+use hir_base::cfg_options::CfgOptions;
+use hir_item_tree::source_tree::SourceTree;
+use hir_item_tree::tree_id::TreeKey;
 use hir_tables::Tables;
 use std::alloc::{AllocError, Global};
+use std::rc::Rc;
 
-/// The items of a source; where a number means nothing there are none.
-pub fn tree_at<D: SourceDatabase>(
+/// What a source has under a crate; where its number means nothing, it is absent.
+pub fn source_at<D: SourceDatabase>(
     alloc: Global,
-    db: &D,
+    db: &mut D,
     locations: &Tables,
     key: TreeKey,
-) -> Result<ItemTree, AllocError>
-    ensures value { IfOk result (λ tree. tree ≡ (tree_at locations.now (D.workspace db.now) key).tree) }
+) -> Result<Rc<SourceTree>, AllocError>
+    ensures value { IfOk result (λ source. source.value ≡ source_in locations.now (D.workspace db.old) key) }
+    ensures same { D.workspace db.new ≡ D.workspace db.old }
 {
     match locations.source_of(key.id) {
         Some(source) => db.tree(alloc, key.krate, source),
-        None => Ok(ItemTree::empty(alloc)),
+        None => absent_source(alloc),
     }
 }
 
-/// The variants of an enum, where it is there, but for those that a condition disables.
-pub fn variants_at<D: SourceDatabase>(
-    alloc: Global,
-    db: &D,
-    locations: &Tables,
-    id: EnumId,
-) -> Result<Option<Vec<VariantItem>>, AllocError>
-    ensures value { IfOk result (λ found. option_map (λ vs. vs.items) found ≡ variants_at locations.now (D.workspace db.now) id) }
+/// What a source has that is absent.
+fn absent_source(alloc: Global) -> Result<Rc<SourceTree>, AllocError>
+    ensures value { IfOk result (λ source. source.value ≡ absent_source) }
 {
-    let tree = TreeId {
-        file: id.loc.file_id,
-        block: id.loc.block,
-    };
-    match locations.source_of(tree) {
-        Some(source) => db.variants(alloc, id.loc.container.map.krate, source, id.loc.id),
-        None => Ok(None),
-    }
+    let front = Vec::new(alloc);
+    let options = CfgOptions::new(alloc);
+    let source = SourceTree::new(alloc, None, &front, &options)?;
+    Ok(Rc::new(alloc, source)?)
 }

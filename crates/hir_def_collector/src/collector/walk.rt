@@ -1,18 +1,24 @@
 //! The walk over the items of a tree.
-ghost use Rattle.std.specs.Prelude.{◌≡◌, ◌<◌, ◌≤◌, true, ◌∷◌, [], List, length, slice_get, OnOk, IfOk, IfSome};
+ghost use Rattle.std.specs.Prelude.{◌≡◌, ◌<◌, ◌≤◌, true, ◌∷◌, [], List, length, map, OnOk, IfOk, IsSome};
 ghost use Rattle.std.specs.List.{All};
+ghost use Rattle.hir_base.specs.Cfg.{cfg_view};
 ghost use Rattle.hir_item_tree.specs.Collected.{is_enabled};
-ghost use Rattle.hir_item_tree.specs.KeptForest.{KeptItem, Leaf, KeptForest, all_items, leaf, holder, constant, implementation, extern_block, inline_module};
-ghost use Rattle.hir_item_tree.specs.Kinds.{kind_content};
+ghost use Rattle.hir_item_tree.specs.KeptForest.{KeptItem, all_items, leaf, holder, constant, implementation, extern_block, inline_module, outline_module};
+ghost use Rattle.hir_item_tree.specs.Kinds.{kind_content, kind_of};
 ghost use Rattle.hir_item_tree.specs.Rows.{held_numbers, item_of, items_at, numbers_of};
-ghost use Rattle.hir_def_map.specs.State.{Maps};
-ghost use Rattle.hir_def_map.specs.Parts.{part_of};
-ghost use Rattle.hir_def_collector.specs.Keys.{Environment, environment};
-ghost use Rattle.hir_def_collector.specs.State.{visits};
-ghost use Rattle.hir_def_collector.specs.Steps.{visit};
+ghost use Rattle.hir_tables.specs.Tables.{KeepsTables, TablesValue, source_of};
+ghost use Rattle.hir_def_map.specs.Overlay.{Maps};
+ghost use Rattle.hir_def_map.specs.declared.nameres.diagnostics.DefDiagnostic.{DefDiagnostic};
+ghost use Rattle.hir_def_map.specs.WorldParts.{part_of};
+ghost use Rattle.hir_def_collector.specs.Workspace.{Workspace};
+ghost use Rattle.hir_def_collector.specs.Keys.{Environment, source_in};
+ghost use Rattle.hir_def_collector.specs.ItemIds.{module_id, node_of};
+ghost use Rattle.hir_def_collector.specs.Items.{file_origin, inline_origin};
+ghost use Rattle.hir_def_collector.specs.Reports.{IsUnconfigured, IsUnresolvedModule};
+ghost use Rattle.hir_def_collector.specs.Steps.{inside_file, visit};
 ghost use Rattle.hir_def_collector.specs.TreeReads.{head_of, visits_at};
 ghost use Rattle.hir_def_collector.specs.Derivation.{IsFull};
-ghost use Rattle.hir_def_collector.specs.Moves.{Handles, Walks, WalksTooFar};
+ghost use Rattle.hir_def_collector.specs.Moves.{Drops, GoesInside, Handles, IsHeld, MayTake, OnceGrown, TakesFile, Tells, Walks, WalksTooFar, found_view, is_single, opened, visits_of};
 
 use crate::collector::declaration::Declaration;
 use crate::collector::declare::{
@@ -20,33 +26,42 @@ use crate::collector::declare::{
     declare_type_alias, declare_union,
 };
 use crate::collector::enums::declare_enum;
+use crate::collector::module_files::{FoundFile, file_of, find_file, path_attr};
 use crate::collector::reach::{reach_extern_crate, reach_use};
+use crate::collector::reports::{unconfigured, unresolved_module};
 use crate::collector::run::Run;
 use crate::collector::site::{ItemHead, Site, head_at};
 use crate::collector::{CollectError, STEP_LIMIT};
 use crate::source_database::SourceDatabase;
-use hir_base::ast_id::{AstId, AstKind};
+use hir_base::ast_id::{AstId, AstKind, EditionedFileId, HirFileId, SyntaxId};
+use hir_base::cfg::CfgExpr;
 use hir_base::ids::{ConstId, ExternBlockId, ImplId, ItemLoc, ModuleDefId};
 use hir_base::name::Name;
 use hir_def_map::nameres::origin::ModuleOrigin;
 use hir_def_map::world::part::WorldPart;
-use hir_item_tree::item_tree::ItemTree;
-use hir_item_tree::kinds::{Mod, ModItemKind, ModKind};
+use hir_item_tree::kinds::{ModItemKind, ModKind};
 use hir_item_tree::rows::ModItemId;
+use hir_item_tree::source_tree::SourceTree;
+use hir_item_tree::tree_id::TreeId;
+use hir_mod_dir::Candidate;
 use hir_scope::per_ns::PerNs;
 use hir_tables::Tables;
+use std::rc::Rc;
 
-/// Items of a tree that are visited next, and where they are written.
-#[derive(Clone, Copy)]
-struct Inside<'a> {
-    site: Site,
-    ids: &'a [ModItemId],
+/// Items that are visited next, and where they are written.
+#[derive(Drop)]
+pub enum Inside<'a> {
+    Nothing,
+    /// Those that an item holds.
+    Held { site: Site, ids: &'a [ModItemId] },
+    /// Those of a module's file.
+    File { site: Site, source: Rc<SourceTree> },
 }
 
 /// Lists a constant that has no name.
-fn list_const(run: &mut Run, site: Site, head: ItemHead<'_>) -> Result<(), CollectError>
+fn list_const(run: &mut Run, site: &Site, head: ItemHead<'_>) -> Result<(), CollectError>
     requires enabled { is_enabled (head_of head).attributes ≡ true }
-    ensures ok { OnOk result ((env : Environment) (finished : Maps) → Handles env finished run.old run.new (visit site (leaf (head_of head.entry) (constant None))) []) }
+    ensures ok { OnOk result ((env : Environment) (finished : Maps) → Handles env finished run.old run.new (visit site.now (leaf (head_of head.entry) (constant None))) []) }
     ensures many { result ≡ Err CollectError.TooMany → STEP_LIMIT ≤ run.old.count }
 {
     let id = ConstId {
@@ -66,12 +81,12 @@ fn list_const(run: &mut Run, site: Site, head: ItemHead<'_>) -> Result<(), Colle
 fn visit_const(
     run: &mut Run,
     world: WorldPart<'_>,
-    site: Site,
+    site: &Site,
     head: ItemHead<'_>,
     name: &Option<Name>,
 ) -> Result<(), CollectError>
     requires enabled { is_enabled (head_of head).attributes ≡ true }
-    ensures ok { OnOk result ((env : Environment) → Handles env (part_of world.entry) run.old run.new (visit site (leaf (head_of head.entry) (constant name.now))) []) }
+    ensures ok { OnOk result ((env : Environment) → Handles env (part_of world.entry) run.old run.new (visit site.now (leaf (head_of head.entry) (constant name.now))) []) }
     ensures many { result ≡ Err CollectError.TooMany → STEP_LIMIT ≤ run.old.count }
 {
     match name {
@@ -84,12 +99,12 @@ fn visit_const(
 /// Lists an impl.
 fn list_impl(
     run: &mut Run,
-    site: Site,
+    site: &Site,
     head: ItemHead<'_>,
     of_trait: bool,
 ) -> Result<(), CollectError>
     requires enabled { is_enabled (head_of head).attributes ≡ true }
-    ensures ok { OnOk result ((env : Environment) (finished : Maps) → Handles env finished run.old run.new (visit site (leaf (head_of head.entry) (implementation of_trait))) []) }
+    ensures ok { OnOk result ((env : Environment) (finished : Maps) → Handles env finished run.old run.new (visit site.now (leaf (head_of head.entry) (implementation of_trait))) []) }
     ensures many { result ≡ Err CollectError.TooMany → STEP_LIMIT ≤ run.old.count }
 {
     let id = ImplId {
@@ -105,30 +120,32 @@ fn list_impl(
     Ok(())
 }
 
-/// Makes a module that is written where it is declared, lists it and binds it; where its items are written.
+/// The node of a `mod` item.
+fn mod_node(tree: TreeId, id: SyntaxId) -> AstId
+    ensures value { result ≡ node_of tree AstKind.Module id }
+{
+    AstId {
+        file_id: tree.file,
+        block: tree.block,
+        kind: AstKind::Module,
+        id,
+    }
+}
+
+/// Makes a module, lists it and binds it; its number.
 fn open(
     run: &mut Run,
     world: WorldPart<'_>,
-    site: Site,
+    site: &Site,
     head: ItemHead<'_>,
     name: &Name,
-) -> Result<Site, CollectError>
-    requires in_range { site.home < length run.old.map.modules }
-    requires enabled { is_enabled (head_of head).attributes ≡ true }
-    ensures ok { IfOk result (λ inside. (env : Environment) (items : KeptForest) → Handles env (part_of world.entry) run.old run.new
-        (visit site (holder (head_of head.entry) (inline_module name.now) items)) (visits inside items)) }
-    ensures in_range { IfOk result (λ inside. inside.home < length run.new.map.modules) }
+    origin: ModuleOrigin,
+) -> Result<u32, CollectError>
+    requires in_range { site.now.home < length run.old.map.modules }
+    ensures made { IfOk result (λ home. home ≡ length run.old.map.modules) }
+    ensures ok { OnOk result (run.new ≡ opened (part_of world.entry) run.old site.now (head_of head.entry) name.now origin) }
     ensures many { result ≡ Err CollectError.TooMany → IsFull run.old.count run.old.map }
 {
-    let origin = ModuleOrigin::Inline {
-        definition_tree_id: site.tree,
-        definition: AstId {
-            file_id: site.tree.file,
-            block: site.tree.block,
-            kind: AstKind::Module,
-            id: head.id,
-        },
-    };
     let vis = run.visibility(world, site, head);
     let made = run.open(site.home, name.clone()?, origin, vis)?;
     let def = ModuleDefId::ModuleId(made);
@@ -138,20 +155,212 @@ fn open(
         items: PerNs::types(def, vis, None),
     };
     declare(run, site.home, declaration)?;
-    Ok(Site {
-        home: made.index,
-        tree: site.tree,
-        extern_block: None,
+    Ok(made.index)
+}
+
+/// Handles a module that is written where it is declared; its items are visited next, unless it is too deep.
+fn visit_inline<'a>(
+    run: &mut Run,
+    world: WorldPart<'_>,
+    site: &Site,
+    head: ItemHead<'_>,
+    name: &Name,
+    ids: &'a [ModItemId],
+) -> Result<Inside<'a>, CollectError>
+    requires in_range { site.now.home < length run.old.map.modules }
+    requires enabled { is_enabled (head_of head).attributes ≡ true }
+    ensures ok { IfOk result (λ inside. (env : Environment) (items : List KeptItem) → Handles env (part_of world.entry) run.old run.new
+        (visit site.now (holder (head_of head.entry) (inline_module name.now) (items_at items (numbers_of ids.entry.now)))) (visits_of items inside)) }
+    ensures within { IfOk result (λ inside. (tables : TablesValue) (w : Workspace) →
+        GoesInside tables w run.old.map.id.krate (length run.new.map.modules) site.now (numbers_of ids.entry.now) inside) }
+    ensures many { result ≡ Err CollectError.TooMany → IsFull run.old.count run.old.map }
+{
+    let path = path_attr(head.attrs.attrs.as_slice());
+    let dir = site
+        .dir
+        .descend_into_definition(run.allocator(), name, path)?;
+    let node = mod_node(site.tree, head.id);
+    let origin = ModuleOrigin::Inline {
+        definition_tree_id: site.tree,
+        definition: node,
+    };
+    let home = open(run, world, site, head, name, origin)?;
+    let Some(dir) = dir else {
+        return Ok(Inside::Nothing);
+    };
+    Ok(Inside::Held {
+        site: Site {
+            home,
+            tree: site.tree,
+            extern_block: None,
+            dir,
+            level: site.level,
+        },
+        ids,
     })
 }
 
-/// Lists an extern block; where its items are written.
-fn enter(run: &mut Run, site: Site, head: ItemHead<'_>) -> Result<Site, CollectError>
-    requires in_range { site.home < length run.old.map.modules }
+/// Makes a module whose items are in a file of its own; where they are written.
+fn open_file(
+    run: &mut Run,
+    world: WorldPart<'_>,
+    site: &Site,
+    head: ItemHead<'_>,
+    name: &Name,
+    file: &FoundFile,
+) -> Result<Site, CollectError>
+    requires in_range { site.now.home < length run.old.map.modules }
+    ensures inside { IfOk result (λ inside. inside ≡ inside_file run.old.map (found_view file.now)) }
+    ensures ok { OnOk result (run.new ≡ opened (part_of world.entry) run.old site.now (head_of head.entry) name.now
+        (file_origin site.now.tree head.entry.id run.old.map.crate_data.edition (found_view file.now))) }
+    ensures many { result ≡ Err CollectError.TooMany → IsFull run.old.count run.old.map }
+{
+    let definition = EditionedFileId {
+        file_id: file.id,
+        edition: run.map().edition(),
+    };
+    let dir = file.dir.clone()?;
+    let origin = ModuleOrigin::File {
+        is_mod_rs: file.is_mod_rs,
+        declaration: mod_node(site.tree, head.id),
+        declaration_tree_id: site.tree,
+        definition,
+    };
+    let home = open(run, world, site, head, name, origin)?;
+    Ok(Site {
+        home,
+        tree: TreeId {
+            file: HirFileId::File(definition),
+            block: None,
+        },
+        extern_block: None,
+        dir,
+        level: 0,
+    })
+}
+
+/// Drops a `mod` item whose file is disabled at its top.
+fn drop_file(
+    run: &mut Run,
+    site: &Site,
+    head: ItemHead<'_>,
+    cfg: &CfgExpr,
+) -> Result<(), CollectError>
+    ensures ok { OnOk result (Drops (IsUnconfigured (module_id run.old.map site.now.home) (node_of site.now.tree AstKind.Module head.entry.id) (cfg_view cfg.now) run.old.options) run.old run.new) }
+    ensures many { result ≡ Err CollectError.TooMany → STEP_LIMIT ≤ run.old.count }
+{
+    let at = run.module_id(site.home);
+    let node = mod_node(site.tree, head.id);
+    let told = unconfigured(run.allocator(), at, node, cfg, run.options())?;
+    run.tell(told)?;
+    run.tick()?;
+    Ok(())
+}
+
+/// Makes a module whose file isn't found: it has no items.
+fn miss_file(
+    run: &mut Run,
+    world: WorldPart<'_>,
+    site: &Site,
+    head: ItemHead<'_>,
+    name: &Name,
+    candidates: &[Candidate],
+) -> Result<(), CollectError>
+    requires in_range { site.now.home < length run.old.map.modules }
+    ensures ok { OnOk result (Tells (IsUnresolvedModule (module_id run.old.map site.now.home) (node_of site.now.tree AstKind.Module head.entry.id) (map (λ c. c.text) candidates.now))
+        (opened (part_of world.entry) run.old site.now (head_of head.entry) name.now (inline_origin site.now.tree head.entry.id)) run.new) }
+    ensures many { result ≡ Err CollectError.TooMany → IsFull run.old.count run.old.map
+        × ((d : DefDiagnostic) × IsUnresolvedModule (module_id run.old.map site.now.home) (node_of site.now.tree AstKind.Module head.entry.id) (map (λ c. c.text) candidates.now) d) }
+{
+    let node = mod_node(site.tree, head.id);
+    let at = run.module_id(site.home);
+    let told = unresolved_module(run.allocator(), at, node, candidates)?;
+    let origin = ModuleOrigin::Inline {
+        definition_tree_id: site.tree,
+        definition: node,
+    };
+    open(run, world, site, head, name, origin)?;
+    run.tell(told)?;
+    Ok(())
+}
+
+/// Handles a module whose items are in a file of its own, which was found; its items are visited next, unless the file
+/// is disabled at its top.
+fn take_file<'a>(
+    run: &mut Run,
+    world: WorldPart<'_>,
+    site: &Site,
+    head: ItemHead<'_>,
+    name: &Name,
+    file: FoundFile,
+) -> Result<Inside<'a>, CollectError>
+    requires in_range { site.now.home < length run.old.map.modules }
+    ensures ok { IfOk result (λ inside. TakesFile (part_of world.entry) site.now (head_of head.entry) name.now (found_view file) file.source.value run.old run.new inside) }
+    ensures many { result ≡ Err CollectError.TooMany → IsFull run.old.count run.old.map × MayTake site.now (head_of head.entry) (found_view file) run.old }
+{
+    if let Some(cfg) = &file.source.tree().top_level_attrs().disabled {
+        drop_file(run, site, head, cfg)?;
+        return Ok(Inside::Nothing);
+    }
+    let site = open_file(run, world, site, head, name, &file)?;
+    Ok(Inside::File {
+        site,
+        source: file.source,
+    })
+}
+
+/// Handles a module whose items are in a file of its own.
+fn visit_outline<'a, D: SourceDatabase>(
+    run: &mut Run,
+    db: &mut D,
+    world: WorldPart<'_>,
+    locations: &mut Tables,
+    site: &Site,
+    head: ItemHead<'_>,
+    name: &Name,
+) -> Result<Inside<'a>, CollectError>
+    requires in_range { site.now.home < length run.old.map.modules }
     requires enabled { is_enabled (head_of head).attributes ≡ true }
-    ensures ok { IfOk result (λ inside. (env : Environment) (finished : Maps) (items : KeptForest) → Handles env finished run.old run.new
-        (visit site (holder (head_of head.entry) extern_block items)) (visits inside items)) }
-    ensures in_range { IfOk result (λ inside. inside.home < length run.new.map.modules) }
+    requires meant { IsSome (source_of locations.old site.now.tree) }
+    ensures kept { KeepsTables locations.old locations.new }
+    ensures same { D.workspace db.new ≡ D.workspace db.old }
+    ensures ok { IfOk result (λ inside. OnceGrown locations.new (D.workspace db.old) (λ env. (items : List KeptItem) → Handles env (part_of world.entry) run.old run.new
+        (visit site.now (leaf (head_of head.entry) (outline_module name.now))) (visits_of items inside))) }
+    ensures within { IfOk result (λ inside. GoesInside locations.new (D.workspace db.old) run.old.map.id.krate (length run.new.map.modules) site.now [] inside) }
+    ensures many { result ≡ Err CollectError.TooMany → OnceGrown locations.new (D.workspace db.old)
+        (λ env. WalksTooFar env (part_of world.entry) run.old (visit site.now (leaf (head_of head.entry) (outline_module name.now)) ∷ [])) }
+{
+    let path = path_attr(head.attrs.attrs.as_slice());
+    let candidates = site.dir.candidates(run.allocator(), name, path)?;
+    let declaring = file_of(locations, site.tree)?;
+    let found = find_file(
+        run,
+        db,
+        locations,
+        declaring.as_ref(),
+        candidates.as_slice(),
+    )?;
+    let Some(file) = found else {
+        miss_file(run, world, site, head, name, candidates.as_slice())?;
+        return Ok(Inside::Nothing);
+    };
+    let inside = take_file(run, world, site, head, name, file)?;
+    Ok(inside)
+}
+
+/// Lists an extern block; its items are visited next.
+fn enter<'a>(
+    run: &mut Run,
+    site: &Site,
+    head: ItemHead<'_>,
+    ids: &'a [ModItemId],
+) -> Result<Inside<'a>, CollectError>
+    requires in_range { site.now.home < length run.old.map.modules }
+    requires enabled { is_enabled (head_of head).attributes ≡ true }
+    ensures ok { IfOk result (λ inside. (env : Environment) (finished : Maps) (items : List KeptItem) → Handles env finished run.old run.new
+        (visit site.now (holder (head_of head.entry) extern_block (items_at items (numbers_of ids.entry.now)))) (visits_of items inside)) }
+    ensures within { IfOk result (λ inside. (tables : TablesValue) (w : Workspace) →
+        GoesInside tables w run.old.map.id.krate (length run.new.map.modules) site.now (numbers_of ids.entry.now) inside) }
     ensures many { result ≡ Err CollectError.TooMany → STEP_LIMIT ≤ run.old.count }
 {
     let id = ExternBlockId {
@@ -162,168 +371,217 @@ fn enter(run: &mut Run, site: Site, head: ItemHead<'_>) -> Result<Site, CollectE
             id: head.id,
         },
     };
+    let dir = site.dir.clone()?;
     run.list_extern_block(site.home, id)?;
     run.tick()?;
-    Ok(Site {
-        home: site.home,
-        tree: site.tree,
-        extern_block: Some(id),
+    Ok(Inside::Held {
+        site: Site {
+            home: site.home,
+            tree: site.tree,
+            extern_block: Some(id),
+            dir,
+            level: site.level,
+        },
+        ids,
     })
 }
 
-/// Handles a module; which items are visited next.
-fn visit_mod<'a>(
+/// Handles an item that isn't disabled and holds no others, modules aside.
+fn visit_leaf(
     run: &mut Run,
     world: WorldPart<'_>,
-    site: Site,
+    source: &SourceTree,
+    site: &Site,
     head: ItemHead<'_>,
-    item: Mod<'a>,
-) -> Result<Inside<'a>, CollectError>
-    requires in_range { site.home < length run.old.map.modules }
+    item: ModItemKind<'_>,
+) -> Result<(), CollectError>
     requires enabled { is_enabled (head_of head).attributes ≡ true }
-    ensures ok { IfOk result (λ inside. (env : Environment) (items : List KeptItem) → Handles env (part_of world.entry) run.old run.new
-        (visit site (item_of items (head_of head.entry) (kind_content (ModItemKind.Mod item.entry))))
-        (visits inside.site (items_at items (numbers_of inside.ids.now)))) }
-    ensures numbers { IfOk result (λ inside. numbers_of inside.ids.now ≡ held_numbers (kind_content (ModItemKind.Mod item.entry))) }
-    ensures in_range { IfOk result (λ inside. inside.site.home < length run.new.map.modules) }
-    ensures many { result ≡ Err CollectError.TooMany → IsFull run.old.count run.old.map }
+    requires single { is_single item ≡ true }
+    ensures ok { OnOk result ((env : Environment)
+        → source_in env.tables env.workspace (record { krate = run.old.map.id.krate; id = site.now.tree }) ≡ source.now → (items : List KeptItem)
+        → Handles env (part_of world.entry) run.old run.new (visit site.now (item_of items (head_of head.entry) (kind_content item.entry))) []) }
+    ensures many { result ≡ Err CollectError.TooMany → STEP_LIMIT ≤ run.old.count }
 {
-    match item.kind {
-        ModKind::Inline { items } => {
-            let site = open(run, world, site, head, item.name)?;
-            Ok(Inside { site, ids: items })
+    match item {
+        ModItemKind::Use(item) => reach_use(run, site, head, item.use_tree),
+        ModItemKind::Function(item) => declare_function(run, world, site, head, item.name),
+        ModItemKind::Struct(item) => declare_struct(run, world, site, head, item),
+        ModItemKind::Union(item) => declare_union(run, world, site, head, item.name),
+        ModItemKind::Enum(item) => declare_enum(run, world, source, site, head, item.name),
+        ModItemKind::Const(item) => visit_const(run, world, site, head, item.name),
+        ModItemKind::Static(item) => declare_static(run, world, site, head, item.name),
+        ModItemKind::Trait(item) => declare_trait(run, world, site, head, item.name),
+        ModItemKind::Impl(item) => list_impl(run, site, head, item.of_trait),
+        ModItemKind::TypeAlias(item) => declare_type_alias(run, world, site, head, item.name),
+        ModItemKind::ExternCrate(item) => {
+            reach_extern_crate(run, site, head, item.name, item.alias)
         }
-        ModKind::Outline => {
+        ModItemKind::MacroCall(_) | ModItemKind::MacroRules(_) | ModItemKind::Macro2(_) => {
             run.tick()?;
-            Ok(Inside { site, ids: &[] })
+            Ok(())
+        }
+        ModItemKind::Mod(_) | ModItemKind::ExternBlock(_) => Ok(()),
+    }
+}
+
+/// The kind of the node of an item.
+fn kind_of(item: ModItemKind<'_>) -> AstKind
+    ensures value { result ≡ kind_of item.entry }
+{
+    match item {
+        ModItemKind::Use(_) => AstKind::Use,
+        ModItemKind::ExternCrate(_) => AstKind::ExternCrate,
+        ModItemKind::ExternBlock(_) => AstKind::ExternBlock,
+        ModItemKind::Function(_) => AstKind::Fn,
+        ModItemKind::Struct(_) => AstKind::Struct,
+        ModItemKind::Union(_) => AstKind::Union,
+        ModItemKind::Enum(_) => AstKind::Enum,
+        ModItemKind::Const(_) => AstKind::Const,
+        ModItemKind::Static(_) => AstKind::Static,
+        ModItemKind::Trait(_) => AstKind::Trait,
+        ModItemKind::Impl(_) => AstKind::Impl,
+        ModItemKind::TypeAlias(_) => AstKind::TypeAlias,
+        ModItemKind::Mod(_) => AstKind::Module,
+        ModItemKind::MacroCall(_) => AstKind::MacroCall,
+        ModItemKind::MacroRules(_) => AstKind::MacroRules,
+        ModItemKind::Macro2(_) => AstKind::MacroDef,
+    }
+}
+
+/// Handles an item that isn't disabled; which items are visited next: those that it holds, or those of its file.
+fn visit_item<'a, D: SourceDatabase>(
+    run: &mut Run,
+    db: &mut D,
+    world: WorldPart<'_>,
+    locations: &mut Tables,
+    source: &SourceTree,
+    site: &Site,
+    head: ItemHead<'_>,
+    item: ModItemKind<'a>,
+) -> Result<Inside<'a>, CollectError>
+    requires in_range { site.now.home < length run.old.map.modules }
+    requires enabled { is_enabled (head_of head).attributes ≡ true }
+    requires held { IsHeld locations.old (D.workspace db.old) run.old.map.id.krate site.now.tree source.now }
+    ensures kept { KeepsTables locations.old locations.new }
+    ensures same { D.workspace db.new ≡ D.workspace db.old }
+    ensures ok { IfOk result (λ inside. OnceGrown locations.new (D.workspace db.old) (λ env. (items : List KeptItem) → Handles env (part_of world.entry) run.old run.new
+        (visit site.now (item_of items (head_of head.entry) (kind_content item.entry))) (visits_of items inside))) }
+    ensures within { IfOk result (λ inside. GoesInside locations.new (D.workspace db.old) run.old.map.id.krate (length run.new.map.modules) site.now
+        (held_numbers (kind_content item.entry)) inside) }
+    ensures many { result ≡ Err CollectError.TooMany → OnceGrown locations.new (D.workspace db.old) (λ env. (items : List KeptItem) →
+        WalksTooFar env (part_of world.entry) run.old (visit site.now (item_of items (head_of head.entry) (kind_content item.entry)) ∷ [])) }
+{
+    match item {
+        ModItemKind::Mod(item) => match item.kind {
+            ModKind::Inline { items } => visit_inline(run, world, site, head, item.name, items),
+            ModKind::Outline => visit_outline(run, db, world, locations, site, head, item.name),
+        },
+        ModItemKind::ExternBlock(item) => enter(run, site, head, item.children),
+        other => {
+            visit_leaf(run, world, source, site, head, other)?;
+            Ok(Inside::Nothing)
         }
     }
 }
 
-/// Handles an item that isn't disabled; which items are visited next: those that it holds.
-fn visit_item<'a, D: SourceDatabase>(
+/// Drops an item that a condition leaves out, with all in it.
+fn drop_item(
     run: &mut Run,
-    db: &D,
-    world: WorldPart<'_>,
-    locations: &Tables,
-    site: Site,
-    head: ItemHead<'_>,
-    item: ModItemKind<'a>,
-) -> Result<Inside<'a>, CollectError>
-    requires in_range { site.home < length run.old.map.modules }
-    requires enabled { is_enabled (head_of head).attributes ≡ true }
-    ensures ok { IfOk result (λ inside. (items : List KeptItem) → Handles (environment locations.now (D.workspace db.now)) (part_of world.entry) run.old run.new
-        (visit site (item_of items (head_of head.entry) (kind_content item.entry)))
-        (visits inside.site (items_at items (numbers_of inside.ids.now)))) }
-    ensures numbers { IfOk result (λ inside. numbers_of inside.ids.now ≡ held_numbers (kind_content item.entry)) }
-    ensures in_range { IfOk result (λ inside. inside.site.home < length run.new.map.modules) }
-    ensures many { result ≡ Err CollectError.TooMany → IsFull run.old.count run.old.map }
+    site: &Site,
+    id: SyntaxId,
+    item: ModItemKind<'_>,
+    cfg: &CfgExpr,
+) -> Result<(), CollectError>
+    ensures ok { OnOk result (Drops (IsUnconfigured (module_id run.old.map site.now.home) (node_of site.now.tree (kind_of item.entry) id) (cfg_view cfg.now) run.old.options) run.old run.new) }
+    ensures many { result ≡ Err CollectError.TooMany → STEP_LIMIT ≤ run.old.count }
 {
-    let nothing = Inside { site, ids: &[] };
-    match item {
-        ModItemKind::Mod(item) => visit_mod(run, world, site, head, item),
-        ModItemKind::ExternBlock(item) => {
-            let site = enter(run, site, head)?;
-            Ok(Inside {
-                site,
-                ids: item.children,
-            })
-        }
-        ModItemKind::Use(item) => {
-            reach_use(run, site, head, item.use_tree)?;
-            Ok(nothing)
-        }
-        ModItemKind::Function(item) => {
-            declare_function(run, world, site, head, item.name)?;
-            Ok(nothing)
-        }
-        ModItemKind::Struct(item) => {
-            declare_struct(run, world, site, head, item)?;
-            Ok(nothing)
-        }
-        ModItemKind::Union(item) => {
-            declare_union(run, world, site, head, item.name)?;
-            Ok(nothing)
-        }
-        ModItemKind::Enum(item) => {
-            declare_enum(run, db, world, locations, site, head, item.name)?;
-            Ok(nothing)
-        }
-        ModItemKind::Const(item) => {
-            visit_const(run, world, site, head, item.name)?;
-            Ok(nothing)
-        }
-        ModItemKind::Static(item) => {
-            declare_static(run, world, site, head, item.name)?;
-            Ok(nothing)
-        }
-        ModItemKind::Trait(item) => {
-            declare_trait(run, world, site, head, item.name)?;
-            Ok(nothing)
-        }
-        ModItemKind::Impl(item) => {
-            list_impl(run, site, head, item.of_trait)?;
-            Ok(nothing)
-        }
-        ModItemKind::TypeAlias(item) => {
-            declare_type_alias(run, world, site, head, item.name)?;
-            Ok(nothing)
-        }
-        ModItemKind::ExternCrate(item) => {
-            reach_extern_crate(run, site, head, item.name, item.alias)?;
-            Ok(nothing)
-        }
-        ModItemKind::MacroCall(_) | ModItemKind::MacroRules(_) | ModItemKind::Macro2(_) => {
-            run.tick()?;
-            Ok(nothing)
-        }
-    }
+    let node = AstId {
+        file_id: site.tree.file,
+        block: site.tree.block,
+        kind: kind_of(item),
+        id,
+    };
+    let at = run.module_id(site.home);
+    let told = unconfigured(run.allocator(), at, node, cfg, run.options())?;
+    run.tell(told)?;
+    run.tick()?;
+    Ok(())
+}
+
+/// A number; it is one of 64 bits.
+fn counted(number: usize) -> usize
+    ensures value { result ≡ number }
+    ensures below { number < 18446744073709551616 }
+{
+    number
 }
 
 /// Handles an item, and all that is in it.
 #[cycle(walk)]
 fn walk_item<D: SourceDatabase>(
     run: &mut Run,
-    db: &D,
+    db: &mut D,
     world: WorldPart<'_>,
-    locations: &Tables,
-    tree: &ItemTree,
-    site: Site,
+    locations: &mut Tables,
+    source: &SourceTree,
+    site: &Site,
     id: ModItemId,
 ) -> Result<(), CollectError>
-    requires in_range { site.home < length run.old.map.modules }
-    requires there { id.0 < length (all_items tree.now.items) }
-    ensures ok { OnOk result (Walks (environment locations.now (D.workspace db.now)) (part_of world.entry) run.old run.new (visits_at tree.now site (id.0 ∷ []))) }
-    ensures many { result ≡ Err CollectError.TooMany → WalksTooFar (environment locations.now (D.workspace db.now)) (part_of world.entry) run.old (visits_at tree.now site (id.0 ∷ [])) }
+    requires in_range { site.now.home < length run.old.map.modules }
+    requires held { IsHeld locations.old (D.workspace db.old) run.old.map.id.krate site.now.tree source.now }
+    requires there { id.0 < length (all_items source.now.tree.items) }
+    ensures kept { KeepsTables locations.old locations.new }
+    ensures same { D.workspace db.new ≡ D.workspace db.old }
+    ensures ok { OnOk result (OnceGrown locations.new (D.workspace db.old)
+        (λ env. Walks env (part_of world.entry) run.old run.new (visits_at source.now.tree site.now (id.0 ∷ [])))) }
+    ensures many { result ≡ Err CollectError.TooMany → OnceGrown locations.new (D.workspace db.old)
+        (λ env. WalksTooFar env (part_of world.entry) run.old (visits_at source.now.tree site.now (id.0 ∷ []))) }
 {
-    let head = head_at(tree, id);
-    if !head.attrs.is_enabled() {
-        run.tick()?;
+    let head = head_at(source.tree(), id);
+    let item = source.tree().index(id);
+    if let Some(cfg) = &head.attrs.disabled {
+        drop_item(run, site, head.id, item, cfg)?;
         return Ok(());
     }
-    let inside = visit_item(run, db, world, locations, site, head, tree.index(id))?;
-    walk_all(run, db, world, locations, tree, inside.site, inside.ids)?;
-    Ok(())
+    let inside = visit_item(run, db, world, locations, source, site, head, item)?;
+    match inside {
+        Inside::Nothing => Ok(()),
+        Inside::Held { site, ids } => {
+            walk_all(run, db, world, locations, source, &site, ids)?;
+            Ok(())
+        }
+        Inside::File { site, source } => {
+            let ids = source.tree().top_level_items();
+            walk_all(run, db, world, locations, &source, &site, ids)?;
+            Ok(())
+        }
+    }
 }
 
 /// Handles items of a tree that are written at a site, one after another, each with all that is in it.
 #[cycle(walk)]
 pub fn walk_all<D: SourceDatabase>(
     run: &mut Run,
-    db: &D,
+    db: &mut D,
     world: WorldPart<'_>,
-    locations: &Tables,
-    tree: &ItemTree,
-    site: Site,
+    locations: &mut Tables,
+    source: &SourceTree,
+    site: &Site,
     ids: &[ModItemId],
 ) -> Result<(), CollectError>
-    requires in_range { site.home < length run.old.map.modules }
-    requires there { All (λ n. n < length (all_items tree.now.items)) (numbers_of ids.now) }
-    ensures ok { OnOk result (Walks (environment locations.now (D.workspace db.now)) (part_of world.entry) run.old run.new (visits_at tree.now site (numbers_of ids.now))) }
-    ensures many { result ≡ Err CollectError.TooMany → WalksTooFar (environment locations.now (D.workspace db.now)) (part_of world.entry) run.old (visits_at tree.now site (numbers_of ids.now)) }
+    requires in_range { site.now.home < length run.old.map.modules }
+    requires held { IsHeld locations.old (D.workspace db.old) run.old.map.id.krate site.now.tree source.now }
+    requires there { All (λ n. n < length (all_items source.now.tree.items)) (numbers_of ids.now) }
+    ensures kept { KeepsTables locations.old locations.new }
+    ensures same { D.workspace db.new ≡ D.workspace db.old }
+    ensures ok { OnOk result (OnceGrown locations.new (D.workspace db.old)
+        (λ env. Walks env (part_of world.entry) run.old run.new (visits_at source.now.tree site.now (numbers_of ids.now)))) }
+    ensures many { result ≡ Err CollectError.TooMany → OnceGrown locations.new (D.workspace db.old)
+        (λ env. WalksTooFar env (part_of world.entry) run.old (visits_at source.now.tree site.now (numbers_of ids.now))) }
 {
     for id in ids {
-        walk_item(run, db, world, locations, tree, site, *id)?;
+        let id = ModItemId(counted(id.0));
+        walk_item(run, db, world, locations, source, site, id)?;
     }
     Ok(())
 }

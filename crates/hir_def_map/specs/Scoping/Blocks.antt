@@ -4,8 +4,8 @@ use Rattle.hir_base.specs.declared.ids.ModuleId.{ModuleId}
 use Rattle.hir_base.specs.declared.mod_path.PathKind.{PathKind}
 use Rattle.hir_base.specs.declared.mod_path.PathKind.TheVariants as kinds
 use Rattle.hir_scope.specs.PerNs.{or_of}
-use Rattle.hir_def_map.specs.State.{Maps, map_in}
-use Rattle.hir_def_map.specs.Chains.{holders_in}
+use Rattle.hir_def_map.specs.Overlay.{Maps, map_in}
+use Rattle.hir_def_map.specs.Ancestors.{holders_in}
 use Rattle.hir_def_map.specs.Scoping.Asking.{Asking}
 use Rattle.hir_def_map.specs.Scoping.FirstSegment.{extern_name, is_block_root, name_in_preludes}
 use Rattle.hir_def_map.specs.Scoping.Segments.{rest, unresolved}

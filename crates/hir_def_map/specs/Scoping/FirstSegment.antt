@@ -15,7 +15,8 @@ use Rattle.hir_scope.specs.PerNs.{Item, nothing, types_only, macros_only, or_of}
 use Rattle.hir_scope.specs.declared.per_ns.PerNs.{PerNs}
 use Rattle.hir_scope.specs.declared.visibility.Visibility.TheVariants.{Public}
 use Rattle.hir_scope.specs.Scope.Reads.{legacy_at}
-use Rattle.hir_def_map.specs.State.{Local, Map, Maps, ModuleValue, at_name, crate_root, entry_in, map_in, module_in}
+use Rattle.hir_def_map.specs.State.{Local, Map, ModuleValue, at_name, crate_root}
+use Rattle.hir_def_map.specs.Overlay.{Maps, entry_in, map_in, module_in}
 use Rattle.hir_base.specs.declared.resolve_mode.BuiltinShadowMode.{BuiltinShadowMode}
 use Rattle.hir_base.specs.declared.resolve_mode.BuiltinShadowMode.TheVariants as shadow_modes
 use Rattle.hir_base.specs.declared.resolve_mode.MacroSubNs.{MacroSubNs}

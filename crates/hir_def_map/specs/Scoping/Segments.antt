@@ -13,8 +13,9 @@ use Rattle.hir_scope.specs.declared.per_ns.PerNs.{PerNs}
 use Rattle.hir_scope.specs.declared.visibility.Visibility.{Visibility}
 use Rattle.hir_scope.specs.ModuleTree.{same_crate}
 use Rattle.hir_scope.specs.Visibility.{is_visible}
-use Rattle.hir_def_map.specs.State.{Maps, Variants, at_name, entry_in, variants_in}
-use Rattle.hir_def_map.specs.Chains.{above_in, holders_in}
+use Rattle.hir_def_map.specs.Overlay.{Maps, entry_in, variants_in}
+use Rattle.hir_def_map.specs.State.{Variants, at_name}
+use Rattle.hir_def_map.specs.Ancestors.{above_in, holders_in}
 use Rattle.hir_def_map.specs.Scoping.FirstSegment.{is_block_root}
 use Rattle.hir_def_map.specs.declared.nameres.enum_variants.EnumVariant.{EnumVariant}
 use Rattle.hir_def_map.specs.declared.nameres.path_resolution.ReachedFixedPoint.{ReachedFixedPoint}

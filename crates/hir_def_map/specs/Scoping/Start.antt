@@ -13,7 +13,8 @@ use Rattle.hir_scope.specs.declared.visibility.Visibility.TheVariants.{Public}
 use Rattle.hir_scope.specs.ModuleTree.{same_block, same_crate}
 use Rattle.hir_scope.specs.PerNs.{types_only}
 pub use Rattle.hir_def_map.specs.State.{crate_root}
-use Rattle.hir_def_map.specs.State.{Map, Maps, map_in, parent_in}
+use Rattle.hir_def_map.specs.State.{Map}
+use Rattle.hir_def_map.specs.Overlay.{Maps, map_in, parent_in}
 use Rattle.hir_def_map.specs.Scoping.Asking.{Asking}
 use Rattle.hir_def_map.specs.Scoping.FirstSegment.{extern_name, is_block_root, name_in_module, name_in_crate_root_or_extern_prelude, shadow_before}
 use Rattle.hir_def_map.specs.Scoping.Segments.{nearest_non_block_module, rest, unresolved}

@@ -1,9 +1,9 @@
 //! Asking about a module and about those that hold it, after rust-analyzer's `with_ancestor_maps`.
 ghost use Rattle.std.specs.Prelude.{◌≡◌, ◌∷◌};
 ghost use Rattle.hir_def_map.specs.AskMaps.{AsksMaps, with_maps};
-ghost use Rattle.hir_def_map.specs.Chains.{holders_in};
+ghost use Rattle.hir_def_map.specs.Ancestors.{holders_in};
 ghost use Rattle.hir_def_map.specs.DefMaps.{maps_of};
-ghost use Rattle.hir_def_map.specs.State.{beside};
+ghost use Rattle.hir_def_map.specs.Overlay.{overlay};
 ghost use Rattle.hir_def_map.specs.World.{finished_in};
 
 use crate::def_maps::DefMaps;
@@ -46,8 +46,8 @@ impl DefMap {
         f: F,
     ) -> Option<T>
         requires { F.IsAlwaysCallable f }
-        ensures value { AsksMaps F.step f (with_maps (beside (finished_in world.now.maps) self.now)
-            (at ∷ holders_in (beside (finished_in world.now.maps) self.now) at)) result }
+        ensures value { AsksMaps F.step f (with_maps (overlay (finished_in world.now.maps) self.now)
+            (at ∷ holders_in (overlay (finished_in world.now.maps) self.now) at)) result }
     {
         let maps = DefMaps::new(WorldPart::all(world), self);
         maps.with_ancestor_maps(at, f)

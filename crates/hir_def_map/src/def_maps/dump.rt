@@ -3,7 +3,7 @@ ghost use Rattle.std.specs.Prelude.{◌≡◌, OnOk};
 ghost use Rattle.std.specs.String.{string_bytes};
 ghost use Rattle.hir_def_map.specs.DefMaps.{maps_of};
 ghost use Rattle.hir_def_map.specs.Dump.{pages_outwards};
-ghost use Rattle.hir_def_map.specs.Branches.{with_pages};
+ghost use Rattle.hir_def_map.specs.Inner.Branches.{with_pages};
 
 use crate::def_maps::DefMaps;
 use hir_base::ids::ModuleId;

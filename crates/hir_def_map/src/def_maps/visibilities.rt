@@ -1,7 +1,7 @@
 //! What visibilities mean over several maps.
 ghost use Rattle.std.specs.Prelude.{◌≡◌, false, map, IfOk, IfSome, option_copied};
 ghost use Rattle.hir_scope.specs.Visibility.{is_visible, lesser_of, IsMeet};
-ghost use Rattle.hir_def_map.specs.Chains.{above_in, holders_in};
+ghost use Rattle.hir_def_map.specs.Ancestors.{above_in, holders_in};
 ghost use Rattle.hir_def_map.specs.DefMaps.{maps_of};
 ghost use Rattle.hir_def_map.specs.Scoping.Asking.{local_of};
 ghost use Rattle.hir_def_map.specs.Visibilities.{assoc_visibility_of, resolved_visibility, written_visibility};

@@ -12,12 +12,13 @@ ghost use Rattle.hir_def_map.specs.Reads.{feature_in};
 use hir_base::edition::Edition;
 use hir_base::ids::Crate;
 use hir_base::name::Name;
+use hir_crate_graph::CrateSet;
 use std::alloc::{AllocError, Global};
 use std::collections::BTreeSet;
 use std::marker::Model;
 use std::rc::Rc;
 
-/// What a crate's top says, and the crates on which it stands, after rust-analyzer's `DefMapCrateData`.
+/// The crate-level attributes and the transitive dependencies of a crate, after rust-analyzer's `DefMapCrateData`.
 ///
 /// The maps of a crate's blocks have it too.
 #[derive(Drop)]
@@ -29,7 +30,7 @@ pub struct DefMapCrateData {
     no_core: bool,
     no_std: bool,
     recursion_limit: u32,
-    dependencies: Rc<BTreeSet<Crate>>,
+    dependencies: Rc<CrateSet>,
 }
 
 impl Model for DefMapCrateData {
@@ -45,18 +46,14 @@ impl Model for DefMapCrateData {
       no_core = d.no_core;
       no_std = d.no_std;
       recursion_limit = d.recursion_limit;
-      dependencies = d.dependencies.value.keys;
+      dependencies = d.dependencies.value;
     } };
 }
 
 impl DefMapCrateData {
-    /// The data of a crate that says nothing at its top and stands, directly or through others, on these.
-    pub fn new(
-        alloc: Global,
-        edition: Edition,
-        dependencies: Rc<BTreeSet<Crate>>,
-    ) -> DefMapCrateData
-        ensures value { result ≡ record (new_data edition) { dependencies = dependencies.value.keys } }
+    /// The data of a crate without crate-level attributes, with these transitive dependencies.
+    pub fn new(alloc: Global, edition: Edition, dependencies: Rc<CrateSet>) -> DefMapCrateData
+        ensures value { result ≡ record (new_data edition) { dependencies = dependencies.value } }
     {
         DefMapCrateData {
             edition,
@@ -92,16 +89,16 @@ impl DefMapCrateData {
         self.edition
     }
 
-    /// Whether a crate is one on which this one stands.
+    /// Whether a crate is a transitive dependency of this one.
     pub fn depends_on(&self, krate: Crate) -> bool
         ensures value { result ≡ list_any (same_crate krate) self.now.dependencies }
     {
-        self.dependencies.contains(&krate)
+        self.dependencies.contains(krate)
     }
 
-    /// The crates on which this one stands, directly or through others.
-    pub fn dependencies(&self) -> &BTreeSet<Crate>
-        ensures value { result.now.keys ≡ self.now.dependencies }
+    /// The transitive dependencies.
+    pub fn dependencies(&self) -> &CrateSet
+        ensures value { result.now ≡ self.now.dependencies }
     {
         &self.dependencies
     }
@@ -224,7 +221,7 @@ fn copied_features(alloc: Global, features: &BTreeSet<Name>) -> Result<BTreeSet<
 
 impl PartialEq for DefMapCrateData {
     ghost use Rattle.std.specs.Cmp.{partial_equiv_from_equiv};
-    ghost use Rattle.hir_def_map.specs.Same.{same_data, same_data_equiv};
+    ghost use Rattle.hir_def_map.specs.Equality.{same_data, same_data_equiv};
 
     ghost eq = { same_data };
 
@@ -243,7 +240,7 @@ impl PartialEq for DefMapCrateData {
 }
 
 impl Eq for DefMapCrateData {
-    ghost use Rattle.hir_def_map.specs.Same.{same_data_equiv};
+    ghost use Rattle.hir_def_map.specs.Equality.{same_data_equiv};
 
     ghost laws = { same_data_equiv };
 }

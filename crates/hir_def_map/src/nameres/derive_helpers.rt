@@ -82,7 +82,7 @@ pub fn push_helper(
 
 impl PartialEq for DeriveHelpers {
     ghost use Rattle.std.specs.Cmp.{partial_equiv_from_equiv};
-    ghost use Rattle.hir_def_map.specs.SameMacros.{same_helpers, same_helpers_equiv};
+    ghost use Rattle.hir_def_map.specs.Inner.MacroEquality.{same_helpers, same_helpers_equiv};
 
     ghost eq = { same_helpers };
 
@@ -94,7 +94,7 @@ impl PartialEq for DeriveHelpers {
 }
 
 impl Eq for DeriveHelpers {
-    ghost use Rattle.hir_def_map.specs.SameMacros.{same_helpers_equiv};
+    ghost use Rattle.hir_def_map.specs.Inner.MacroEquality.{same_helpers_equiv};
 
     ghost laws = { same_helpers_equiv };
 }

@@ -1,16 +1,17 @@
 //! What couldn't be resolved or read, after rust-analyzer's `nameres/diagnostics.rs`.
-ghost use Rattle.std.specs.Prelude.{◌≡◌, ◌++◌, ◌∷◌, [], OnOk, OnErr};
+ghost use Rattle.std.specs.Prelude.{◌≡◌, ◌++◌, ◌∷◌, [], map, IfOk, OnOk, OnErr};
 ghost use Rattle.std.specs.Slice.Iter.{iter_rest};
+ghost use Rattle.hir_def_map.specs.Diagnostics.{diagnostic_view, kind_view, node_of};
 ghost use Rattle.hir_def_map.specs.declared.nameres.diagnostics.DefDiagnosticKind.TheVariants as kinds;
 
-use hir_base::ast_id::{AstId, AttrId};
+use hir_base::ast_id::{AstId, AstKind, AttrId};
 use hir_base::cfg::CfgExpr;
 use hir_base::cfg_options::CfgOptions;
 use hir_base::ids::{ModuleId, UseId};
 pub use hir_base::macro_kind::MacroCallKind;
 use hir_base::mod_path::ModPath;
 use hir_base::text::Text;
-use std::alloc::AllocError;
+use std::alloc::{AllocError, Global};
 use std::marker::Model;
 
 #[derive(Drop, PartialEq, Eq)]
@@ -63,6 +64,102 @@ pub enum DefDiagnosticKind {
     },
 }
 
+/// A copy of texts; their bytes are shared.
+fn copied_texts(alloc: Global, texts: &[Text]) -> Result<Vec<Text>, AllocError>
+    ensures value { IfOk result (λ copy. copy.items ≡ texts.now) }
+{
+    let mut copy = Vec::new(alloc);
+    for text in texts {
+        copy.push(text.clone()?)?;
+    }
+    Ok(copy)
+}
+
+impl DefDiagnosticKind {
+    /// The same; no text is copied.
+    pub fn clone(&self, alloc: Global) -> Result<DefDiagnosticKind, AllocError>
+        ensures value { IfOk result (λ kind. kind_view kind ≡ kind_view self.now) }
+    {
+        match self {
+            DefDiagnosticKind::UnresolvedModule { ast, candidates } => {
+                Ok(DefDiagnosticKind::UnresolvedModule {
+                    ast: *ast,
+                    candidates: copied_texts(alloc, candidates.as_slice())?,
+                })
+            }
+            DefDiagnosticKind::UnresolvedExternCrate { ast } => {
+                Ok(DefDiagnosticKind::UnresolvedExternCrate { ast: *ast })
+            }
+            DefDiagnosticKind::UnresolvedImport { id, index } => {
+                Ok(DefDiagnosticKind::UnresolvedImport {
+                    id: *id,
+                    index: *index,
+                })
+            }
+            DefDiagnosticKind::UnconfiguredCode { ast_id, cfg, opts } => {
+                Ok(DefDiagnosticKind::UnconfiguredCode {
+                    ast_id: *ast_id,
+                    cfg: cfg.clone(alloc)?,
+                    opts: opts.clone()?,
+                })
+            }
+            DefDiagnosticKind::UnresolvedMacroCall { ast, path } => {
+                Ok(DefDiagnosticKind::UnresolvedMacroCall {
+                    ast: *ast,
+                    path: path.clone()?,
+                })
+            }
+            DefDiagnosticKind::UnimplementedBuiltinMacro { ast } => {
+                Ok(DefDiagnosticKind::UnimplementedBuiltinMacro { ast: *ast })
+            }
+            DefDiagnosticKind::InvalidDeriveTarget { ast, id } => {
+                Ok(DefDiagnosticKind::InvalidDeriveTarget { ast: *ast, id: *id })
+            }
+            DefDiagnosticKind::MalformedDerive { ast, id } => {
+                Ok(DefDiagnosticKind::MalformedDerive { ast: *ast, id: *id })
+            }
+            DefDiagnosticKind::MacroDefError { ast, message } => {
+                Ok(DefDiagnosticKind::MacroDefError {
+                    ast: *ast,
+                    message: message.clone()?,
+                })
+            }
+            DefDiagnosticKind::MacroError { ast, path, err } => Ok(DefDiagnosticKind::MacroError {
+                ast: *ast,
+                path: path.clone()?,
+                err: err.clone()?,
+            }),
+        }
+    }
+
+    /// The node that it is about: the item, or the macro call.
+    pub fn ast_id(&self) -> AstId
+        ensures value { result ≡ node_of (kind_view self.now) }
+    {
+        match self {
+            DefDiagnosticKind::UnresolvedModule { ast, .. } => *ast,
+            DefDiagnosticKind::UnresolvedExternCrate { ast } => *ast,
+            DefDiagnosticKind::UnresolvedImport { id, .. } => AstId {
+                file_id: id.loc.file_id,
+                block: id.loc.block,
+                kind: AstKind::Use,
+                id: id.loc.id,
+            },
+            DefDiagnosticKind::UnconfiguredCode { ast_id, .. } => *ast_id,
+            DefDiagnosticKind::UnresolvedMacroCall { ast, .. } => match *ast {
+                MacroCallKind::FnLike { ast } => ast,
+                MacroCallKind::Derive { ast, .. } => ast,
+                MacroCallKind::Attr { ast, .. } => ast,
+            },
+            DefDiagnosticKind::UnimplementedBuiltinMacro { ast } => *ast,
+            DefDiagnosticKind::InvalidDeriveTarget { ast, .. } => *ast,
+            DefDiagnosticKind::MalformedDerive { ast, .. } => *ast,
+            DefDiagnosticKind::MacroDefError { ast, .. } => *ast,
+            DefDiagnosticKind::MacroError { ast, .. } => *ast,
+        }
+    }
+}
+
 /// What went wrong, and the module in which it did.
 #[derive(Drop, PartialEq, Eq)]
 pub struct DefDiagnostic {
@@ -71,6 +168,16 @@ pub struct DefDiagnostic {
 }
 
 impl DefDiagnostic {
+    /// The same; no text is copied.
+    pub fn clone(&self, alloc: Global) -> Result<DefDiagnostic, AllocError>
+        ensures value { IfOk result (λ d. diagnostic_view d ≡ diagnostic_view self.now) }
+    {
+        Ok(DefDiagnostic {
+            in_module: self.in_module,
+            kind: self.kind.clone(alloc)?,
+        })
+    }
+
     pub fn unresolved_module(
         container: ModuleId,
         declaration: AstId,
@@ -177,7 +284,7 @@ pub struct DefDiagnostics {
 
 impl Model for DefDiagnostics {
     ghost use Rattle.std.specs.Prelude.{List};
-    ghost use Rattle.hir_def_map.specs.Codes.{coded_diagnostics};
+    ghost use Rattle.hir_def_map.specs.Inner.Codes.{coded_diagnostics};
     ghost use Rattle.hir_def_map.specs.declared.nameres.diagnostics.DefDiagnostic.{DefDiagnostic};
 
     ghost Value = { List DefDiagnostic };
@@ -192,6 +299,15 @@ impl DefDiagnostics {
         ensures value { result ≡ diagnostics.items }
     {
         DefDiagnostics { diagnostics }
+    }
+
+    /// The same; no text is copied.
+    pub fn clone(&self, alloc: Global) -> Result<DefDiagnostics, AllocError>
+        ensures value { IfOk result (λ copy. map diagnostic_view copy ≡ map diagnostic_view self.now) }
+    {
+        Ok(DefDiagnostics {
+            diagnostics: copied(alloc, self.diagnostics.as_slice())?,
+        })
     }
 
     pub fn iter(&self) -> std::slice::Iter<'_, DefDiagnostic>
@@ -216,9 +332,19 @@ impl DefDiagnostics {
     }
 }
 
+fn copied(alloc: Global, diagnostics: &[DefDiagnostic]) -> Result<Vec<DefDiagnostic>, AllocError>
+    ensures value { IfOk result (λ copy. map diagnostic_view copy.items ≡ map diagnostic_view diagnostics.now) }
+{
+    let mut copy = Vec::new(alloc);
+    for diagnostic in diagnostics {
+        copy.push(diagnostic.clone(alloc)?)?;
+    }
+    Ok(copy)
+}
+
 impl PartialEq for DefDiagnostics {
     ghost use Rattle.std.specs.Cmp.{partial_equiv_from_equiv};
-    ghost use Rattle.hir_def_map.specs.SameMacros.{same_diagnostics, same_diagnostics_equiv};
+    ghost use Rattle.hir_def_map.specs.Inner.MacroEquality.{same_diagnostics, same_diagnostics_equiv};
 
     ghost eq = { same_diagnostics };
 
@@ -230,7 +356,7 @@ impl PartialEq for DefDiagnostics {
 }
 
 impl Eq for DefDiagnostics {
-    ghost use Rattle.hir_def_map.specs.SameMacros.{same_diagnostics_equiv};
+    ghost use Rattle.hir_def_map.specs.Inner.MacroEquality.{same_diagnostics_equiv};
 
     ghost laws = { same_diagnostics_equiv };
 }

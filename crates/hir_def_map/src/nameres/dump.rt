@@ -1,10 +1,11 @@
 //! A map as text, for tests of whoever fills it, after rust-analyzer's `DefMap::dump`.
 ghost use Rattle.std.specs.Prelude.{◌≡◌, [], ◌∷◌, ◌++◌, length, map, reverse, IfOk, OnOk};
 ghost use Rattle.std.specs.String.{string_bytes};
-ghost use Rattle.hir_def_map.specs.State.{beside, module_at};
+ghost use Rattle.hir_def_map.specs.Overlay.{overlay};
+ghost use Rattle.hir_def_map.specs.State.{module_at};
 ghost use Rattle.hir_def_map.specs.World.{finished_in};
 ghost use Rattle.hir_def_map.specs.Dump.{dump_of, pages_of, path_below, root_path};
-ghost use Rattle.hir_def_map.specs.Branches.{branch_below, branches_below, own_page, with_page, with_pages};
+ghost use Rattle.hir_def_map.specs.Inner.Branches.{branch_below, branches_below, own_page, with_page, with_pages};
 
 use crate::def_maps::DefMaps;
 use crate::nameres::DefMap;
@@ -28,7 +29,7 @@ struct Branch {
 
 impl Model for Branch {
     ghost use Rattle.std.specs.String.{string_bytes};
-    ghost use Rattle.hir_def_map.specs.Branches.{BranchValue};
+    ghost use Rattle.hir_def_map.specs.Inner.Branches.{BranchValue};
 
     ghost Value = { BranchValue };
 
@@ -78,7 +79,7 @@ impl DefMap {
     /// The modules of the map as text, each with its path and its scope, then those of the map that holds its block, and so on
     /// outwards; between each and the next stands an empty line.
     pub fn dump(&self, alloc: Global, world: &World) -> Result<String, AllocError>
-        ensures ok { IfOk result (λ text. string_bytes text ≡ dump_of (beside (finished_in world.now.maps) self.now) self.now.id) }
+        ensures ok { IfOk result (λ text. string_bytes text ≡ dump_of (overlay (finished_in world.now.maps) self.now) self.now.id) }
     {
         let maps = DefMaps::new(WorldPart::all(world), self);
         let mut buf = String::new(alloc);

@@ -66,7 +66,7 @@ impl EnumVariants {
 
 impl PartialEq for EnumVariants {
     ghost use Rattle.std.specs.Cmp.{partial_equiv_from_equiv};
-    ghost use Rattle.hir_def_map.specs.Same.{same_variants, same_variants_equiv};
+    ghost use Rattle.hir_def_map.specs.Equality.{same_variants, same_variants_equiv};
 
     ghost eq = { same_variants };
 
@@ -78,7 +78,7 @@ impl PartialEq for EnumVariants {
 }
 
 impl Eq for EnumVariants {
-    ghost use Rattle.hir_def_map.specs.Same.{same_variants_equiv};
+    ghost use Rattle.hir_def_map.specs.Equality.{same_variants_equiv};
 
     ghost laws = { same_variants_equiv };
 }

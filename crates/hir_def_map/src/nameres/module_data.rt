@@ -6,7 +6,7 @@ ghost use Rattle.hir_scope.specs.Scope.Push.{pushed_globs, push_changes};
 ghost use Rattle.hir_def_map.specs.Declaration.{listed};
 ghost use Rattle.hir_def_map.specs.Origins.{declaration_of, source_of};
 ghost use Rattle.hir_def_map.specs.Scoping.FirstSegment.{last_macro};
-ghost use Rattle.hir_def_map.specs.Same.{same_contents, same_place};
+ghost use Rattle.hir_def_map.specs.Equality.{same_contents, same_place};
 ghost use Rattle.hir_def_map.specs.State.{at_name, pushed_module, with_child, with_module_scope};
 
 mod scope_mut;
@@ -212,7 +212,7 @@ impl ModuleData {
 
 impl PartialEq for ModuleData {
     ghost use Rattle.std.specs.Cmp.{partial_equiv_from_equiv};
-    ghost use Rattle.hir_def_map.specs.Same.{same_module, same_module_equiv};
+    ghost use Rattle.hir_def_map.specs.Equality.{same_module, same_module_equiv};
 
     ghost eq = { same_module };
 
@@ -224,7 +224,7 @@ impl PartialEq for ModuleData {
 }
 
 impl Eq for ModuleData {
-    ghost use Rattle.hir_def_map.specs.Same.{same_module_equiv};
+    ghost use Rattle.hir_def_map.specs.Equality.{same_module_equiv};
 
     ghost laws = { same_module_equiv };
 }

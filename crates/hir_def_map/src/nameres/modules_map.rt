@@ -2,7 +2,7 @@
 ghost use Rattle.std.specs.Prelude.{◌≡◌, ◌<◌, ◌++◌, [], ◌∷◌, length, slice_get, true, Some, IfOk, OnOk, OnErr};
 ghost use Rattle.std.specs.Borrow.{sem};
 ghost use Rattle.hir_def_map.specs.Declaration.{listed};
-ghost use Rattle.hir_def_map.specs.ModulesMap.{has_id, LendsEach, LendsOne};
+ghost use Rattle.hir_def_map.specs.Inner.ModulesMap.{has_id, LendsEach, LendsOne};
 ghost use Rattle.hir_def_map.specs.State.{changed_at, changes_module, globs_in, pushed_module, with_child, with_module_scope};
 
 use crate::nameres::declaration::{Declaration, list_in};
@@ -145,7 +145,7 @@ impl DerefSliceMut for ModulesMap {
 /// A module by its id, on the condition that it's there.
 impl Index<ModuleId> for ModulesMap {
     ghost use Rattle.std.specs.Prelude.{◌≡◌, true, Some, slice_get};
-    ghost use Rattle.hir_def_map.specs.ModulesMap.{has_id};
+    ghost use Rattle.hir_def_map.specs.Inner.ModulesMap.{has_id};
 
     type Output = ModuleData;
 
@@ -171,7 +171,7 @@ impl IndexMut<ModuleId> for ModulesMap {
 
 impl PartialEq for ModulesMap {
     ghost use Rattle.std.specs.Cmp.{partial_equiv_from_equiv};
-    ghost use Rattle.hir_def_map.specs.Same.{same_modules, same_modules_equiv};
+    ghost use Rattle.hir_def_map.specs.Equality.{same_modules, same_modules_equiv};
 
     ghost eq = { same_modules };
 
@@ -183,7 +183,7 @@ impl PartialEq for ModulesMap {
 }
 
 impl Eq for ModulesMap {
-    ghost use Rattle.hir_def_map.specs.Same.{same_modules_equiv};
+    ghost use Rattle.hir_def_map.specs.Equality.{same_modules_equiv};
 
     ghost laws = { same_modules_equiv };
 }

@@ -12,7 +12,7 @@
 //! asks. While a map is being built, its own names may still grow, so an answer also says whether further items could
 //! change it.
 ghost use Rattle.std.specs.Prelude.{◌≡◌, None, option_copied};
-ghost use Rattle.hir_def_map.specs.State.{beside};
+ghost use Rattle.hir_def_map.specs.Overlay.{overlay};
 ghost use Rattle.hir_def_map.specs.World.{finished_in};
 ghost use Rattle.hir_def_map.specs.Scoping.{resolution_of};
 ghost use Rattle.hir_def_map.specs.Scoping.Asking.{by_other, local_of};
@@ -23,6 +23,7 @@ mod blocks;
 mod first_segment;
 pub mod query;
 mod segments;
+pub mod slots;
 mod start;
 
 use crate::def_maps::DefMaps;
@@ -81,7 +82,7 @@ impl DefMap {
         shadow: BuiltinShadowMode,
         sub_ns: Option<MacroSubNs>,
     ) -> ResolvePathResult
-        ensures resolves { result ≡ resolution_of (beside (finished_in world.now.maps) self.now)
+        ensures resolves { result ≡ resolution_of (overlay (finished_in world.now.maps) self.now)
             (record { local = local_of (option_copied local.entry); mode = mode; shadow = shadow; sub_ns = sub_ns }) at path.now }
     {
         let maps = DefMaps::new(WorldPart::all(world), self);
@@ -98,9 +99,9 @@ impl DefMap {
         shadow: BuiltinShadowMode,
         sub_ns: Option<MacroSubNs>,
     ) -> (PerNs, Option<usize>)
-        ensures items { result.0 ≡ (resolution_of (beside (finished_in world.now.maps) self.now)
+        ensures items { result.0 ≡ (resolution_of (overlay (finished_in world.now.maps) self.now)
             (by_other (local_of (option_copied local.entry)) shadow sub_ns) at path.now).resolved_def }
-        ensures stop { result.1 ≡ (resolution_of (beside (finished_in world.now.maps) self.now)
+        ensures stop { result.1 ≡ (resolution_of (overlay (finished_in world.now.maps) self.now)
             (by_other (local_of (option_copied local.entry)) shadow sub_ns) at path.now).segment_index }
     {
         let mode = ResolveMode::Other;
@@ -119,11 +120,11 @@ impl DefMap {
         path: &ModPath,
         shadow: BuiltinShadowMode,
     ) -> (PerNs, Option<usize>, ResolvePathResultPrefixInfo)
-        ensures items { result.0 ≡ (from_start (beside (finished_in world.now.maps) self.now)
+        ensures items { result.0 ≡ (from_start (overlay (finished_in world.now.maps) self.now)
             (by_other (local_of (option_copied local.entry)) shadow None) at path.now.kind path.now.segments).resolved_def }
-        ensures stop { result.1 ≡ (from_start (beside (finished_in world.now.maps) self.now)
+        ensures stop { result.1 ≡ (from_start (overlay (finished_in world.now.maps) self.now)
             (by_other (local_of (option_copied local.entry)) shadow None) at path.now.kind path.now.segments).segment_index }
-        ensures prefix { result.2 ≡ (from_start (beside (finished_in world.now.maps) self.now)
+        ensures prefix { result.2 ≡ (from_start (overlay (finished_in world.now.maps) self.now)
             (by_other (local_of (option_copied local.entry)) shadow None) at path.now.kind path.now.segments).prefix_info }
     {
         let maps = DefMaps::new(WorldPart::all(world), self);
@@ -143,7 +144,7 @@ impl DefMap {
         at: ModuleId,
         path: &ModPath,
     ) -> PerNs
-        ensures value { result ≡ reached_items (beside (finished_in world.now.maps) self.now) (local_of (option_copied local.entry)) at path.now }
+        ensures value { result ≡ reached_items (overlay (finished_in world.now.maps) self.now) (local_of (option_copied local.entry)) at path.now }
     {
         let maps = DefMaps::new(WorldPart::all(world), self);
         maps.reached_items(local, at, path)

@@ -1,7 +1,7 @@
 //! Modules by their ids, and what lies above them.
 ghost use Rattle.std.specs.Prelude.{◌≡◌};
-ghost use Rattle.hir_def_map.specs.Chains.{leads_to_root, own_frame, parent_number, step_in};
-ghost use Rattle.hir_def_map.specs.Named.{each_leads_to_root, has_its_parents, is_parent_in};
+ghost use Rattle.hir_def_map.specs.Ancestors.{leads_to_root, own_frame, parent_number, step_in};
+ghost use Rattle.hir_def_map.specs.References.{each_leads_to_root, has_its_parents, is_parent_in};
 
 use crate::nameres::DefMap;
 use hir_base::ids::{MapId, ModuleId};

@@ -1,7 +1,7 @@
 //! Which finished maps name a map.
 ghost use Rattle.std.specs.Prelude.{◌≡◌, ◌∷◌, [], IfSome, IfNone, OnOk, OnErr, true, false};
 ghost use Rattle.hir_base.specs.declared.ids.MapId.{MapId};
-ghost use Rattle.hir_def_map.specs.Dependents.{is_dependent, Enters, IsSame, IsSameBut, Leaves};
+ghost use Rattle.hir_def_map.specs.Inner.Dependents.{is_dependent, Enters, IsSame, IsSameBut, Leaves};
 
 use hir_base::ids::MapId;
 use std::alloc::{AllocError, Global};

@@ -1,4 +1,4 @@
-//! A finished map, and what stands beside it.
+//! A finished map, and what a world keeps with it.
 
 use crate::nameres::DefMap;
 use crate::nameres::local_def_map::LocalDefMap;
@@ -13,6 +13,6 @@ pub struct Finished {
     pub local: LocalDefMap,
     /// The module that holds the block, the one that holds that one's block, and so on.
     pub holders: Vec<ModuleId>,
-    /// Maps that it names: on each that it names it depends through these.
+    /// The recorded ones of the maps that it refers to: on all others it depends through these.
     pub named: BTreeSet<MapId>,
 }

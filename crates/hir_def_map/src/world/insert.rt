@@ -4,10 +4,10 @@ ghost use Rattle.std.specs.Vec.{vec_capacity};
 ghost use Rattle.std.specs.BTreeMap.{btree_map_len, get, is_at, IsUnchanged, Updates};
 ghost use Rattle.hir_base.specs.contracts.ids.MapIdOrd.TheImpl as map_order;
 ghost use Rattle.hir_base.specs.declared.ids.MapId.{MapId};
-ghost use Rattle.hir_def_map.specs.State.{holders_under, with_map};
-ghost use Rattle.hir_def_map.specs.Dependents.{HasRoom, IsEntered, IsIndexed};
-ghost use Rattle.hir_def_map.specs.Inserted.{may_join, Inserts};
-ghost use Rattle.hir_def_map.specs.Kept.{IsKeptOf};
+ghost use Rattle.hir_def_map.specs.Overlay.{holders_under, with_map};
+ghost use Rattle.hir_def_map.specs.Inner.Dependents.{HasRoom, IsEntered, IsIndexed};
+ghost use Rattle.hir_def_map.specs.Insertion.{may_join, Inserts};
+ghost use Rattle.hir_def_map.specs.Inner.Recorded.{IsRecordedFor};
 ghost use Rattle.hir_def_map.specs.World.{finished_in, local_in};
 
 use crate::nameres::DefMap;
@@ -22,7 +22,7 @@ use std::collections::{BTreeMap, BTreeSet};
 /// Why a map doesn't join the finished ones, in the order in which it is looked for.
 #[derive(Clone, Copy, Debug, PartialEq, Eq)]
 pub enum InsertError {
-    /// A map of its id is there, or it isn't complete beside those that are there.
+    /// A map of its id is there, or it isn't well-formed over those that are there.
     Unchecked,
     Memory,
 }
@@ -136,21 +136,21 @@ impl World {
         }
     }
 
-    /// What stands beside a map once it's finished.
-    fn beside(
+    /// The modules that hold a map, and the maps that are recorded for it.
+    fn records_of(
         &self,
         map: &DefMap,
         local: &LocalDefMap,
     ) -> Result<(Vec<ModuleId>, BTreeSet<MapId>), AllocError>
         ensures holders { IfOk result (λ both. both.0.items ≡ holders_under (finished_in self.now.maps) map.now.id map.now.holder) }
-        ensures named { IfOk result (λ both. IsKeptOf self.now.maps both.1 map.now local.now) }
+        ensures named { IfOk result (λ both. IsRecordedFor self.now.maps both.1 map.now local.now) }
     {
         let holders = self.holders_under(map.id(), map.parent())?;
-        let named = self.kept(map, local)?;
+        let named = self.recorded(map, local)?;
         Ok((holders, named))
     }
 
-    /// Adds a finished map, if none has its id and all that it names is there.
+    /// Adds a finished map, if none has its id and it is well-formed over those that are there.
     pub fn insert(&mut self, map: DefMap, local: LocalDefMap) -> Result<(), Refused>
         ensures answer { Inserts (may_join (finished_in self.old.maps) map local) map local result }
         ensures maps { OnOk result ((id : MapId) → finished_in self.new.maps id ≡ with_map (finished_in self.old.maps) map local id) }
@@ -165,7 +165,7 @@ impl World {
                 why: InsertError::Unchecked,
             });
         }
-        let (holders, named) = match self.beside(&map, &local) {
+        let (holders, named) = match self.records_of(&map, &local) {
             Ok(both) => both,
             Err(_) => {
                 return Err(Refused {

@@ -1,8 +1,8 @@
 //! Look-ups of finished maps.
 ghost use Rattle.std.specs.Prelude.{◌≡◌, option_map, length, slice_get};
-ghost use Rattle.hir_def_map.specs.State.{map_in};
-ghost use Rattle.hir_def_map.specs.Chains.{frames_of, head_of, holders_of_frame};
-ghost use Rattle.hir_def_map.specs.Named.{crate_map};
+ghost use Rattle.hir_def_map.specs.Overlay.{map_in};
+ghost use Rattle.hir_def_map.specs.Ancestors.{frames_of, head_of, holders_of_frame};
+ghost use Rattle.hir_def_map.specs.References.{crate_map};
 ghost use Rattle.hir_def_map.specs.World.{finished_in, local_in};
 
 use crate::nameres::DefMap;
@@ -33,7 +33,7 @@ impl World {
     }
 
     /// The module that holds the block of a map.
-    #[tactic(auto, unfolding(crate::specs::World::finished_in, crate::specs::Chains::frames_of))]
+    #[tactic(auto, unfolding(crate::specs::World::finished_in, crate::specs::Ancestors::frames_of))]
     pub fn holder(&self, id: MapId) -> Option<ModuleId>
         ensures value { result ≡ head_of (holders_of_frame (frames_of (finished_in self.now.maps) id)) }
     {

@@ -1,19 +1,18 @@
-//! A part of a world.
-ghost use Rattle.std.specs.Prelude.{◌≡◌, option_copied, option_map};
+//! A restricted view of a world.
+ghost use Rattle.std.specs.Prelude.{◌≡◌, true, option_copied, option_map};
 ghost use Rattle.std.specs.List.{list_any};
 ghost use Rattle.hir_base.specs.contracts.ids.MapIdPartialEq.TheImpl as map_id;
-ghost use Rattle.hir_def_map.specs.Among.{among};
-ghost use Rattle.hir_def_map.specs.Chains.{frames_of, head_of, holders_of_frame};
-ghost use Rattle.hir_def_map.specs.Parts.{are_within, is_within, part_of};
-ghost use Rattle.hir_def_map.specs.State.{Placed, map_in};
+ghost use Rattle.hir_def_map.specs.WorldParts.{among, are_within, is_within, part_of};
+ghost use Rattle.hir_def_map.specs.Ancestors.{frames_of, head_of, holders_of_frame};
+ghost use Rattle.hir_def_map.specs.Overlay.{Placed, map_in};
 ghost use Rattle.hir_def_map.specs.World.{finished_in, placed_of};
 
 use crate::nameres::DefMap;
 use crate::nameres::local_def_map::LocalDefMap;
 use crate::world::World;
 use crate::world::finished::Finished;
-use hir_base::ids::{Crate, MapId, ModuleId};
-use std::collections::BTreeSet;
+use hir_base::ids::{MapId, ModuleId};
+use hir_crate_graph::CrateSet;
 
 /// The maps of a world that may be read: all, or those of some crates and those in which some modules lie that hold a
 /// block.
@@ -23,13 +22,13 @@ use std::collections::BTreeSet;
 pub struct WorldPart<'a> {
     world: &'a World,
     /// Without it all maps may be read.
-    crates: Option<&'a BTreeSet<Crate>>,
+    crates: Option<&'a CrateSet>,
     holders: &'a [ModuleId],
 }
 
 impl<'a> WorldPart<'a> {
     /// All maps.
-    #[tactic(auto, unfolding(crate::specs::Parts::part_of))]
+    #[tactic(auto, unfolding(crate::specs::WorldParts::part_of))]
     pub fn all(world: &'a World) -> WorldPart<'a>
         ensures value { part_of result ≡ finished_in world.now.maps }
     {
@@ -44,13 +43,9 @@ impl<'a> WorldPart<'a> {
     ///
     /// What a crate reads has no holders. A block reads also the module that holds it, the one that holds that one's
     /// block, and so on.
-    #[tactic(auto, unfolding(crate::specs::Parts::part_of))]
-    pub fn among(
-        world: &'a World,
-        crates: &'a BTreeSet<Crate>,
-        holders: &'a [ModuleId],
-    ) -> WorldPart<'a>
-        ensures value { part_of result ≡ among crates.now.keys holders.now (finished_in world.now.maps) }
+    #[tactic(auto, unfolding(crate::specs::WorldParts::part_of))]
+    pub fn among(world: &'a World, crates: &'a CrateSet, holders: &'a [ModuleId]) -> WorldPart<'a>
+        ensures value { part_of result ≡ among crates.now holders.now (finished_in world.now.maps) }
     {
         WorldPart {
             world,
@@ -78,13 +73,32 @@ impl<'a> WorldPart<'a> {
     {
         match self.crates {
             Some(crates) => {
-                (id.block.is_none() && crates.contains(&id.krate)) || self.has_holder_in(id)
+                (id.block.is_none() && crates.contains(id.krate)) || self.has_holder_in(id)
             }
             None => true,
         }
     }
 
-    fn are_within(&self, modules: &[ModuleId]) -> bool
+    /// Whether the holders have the modules among them in this order, which is told by one walk over them.
+    ///
+    /// What holds a block's map is at the end of the list of what holds the block itself.
+    fn are_in_order(&self, modules: &[ModuleId]) -> bool
+        ensures within { result ≡ true → are_within (option_copied self.now.crates) self.now.holders.now modules.now ≡ true }
+    {
+        let mut left = modules;
+        let mut holders = self.holders;
+        'next: while let [holder, others @ ..] = holders {
+            if let [module, rest @ ..] = left {
+                if holder.map == module.map {
+                    left = rest;
+                }
+            }
+            holders = others;
+        }
+        left.is_empty()
+    }
+
+    fn are_each_within(&self, modules: &[ModuleId]) -> bool
         ensures value { result ≡ are_within (option_copied self.now.crates) self.now.holders.now modules.now }
     {
         let mut left = modules;
@@ -95,6 +109,12 @@ impl<'a> WorldPart<'a> {
             left = others;
         }
         true
+    }
+
+    fn are_within(&self, modules: &[ModuleId]) -> bool
+        ensures value { result ≡ are_within (option_copied self.now.crates) self.now.holders.now modules.now }
+    {
+        self.are_in_order(modules) || self.are_each_within(modules)
     }
 
     /// The finished map of an id, where it is there and may be read with all that holds it.
@@ -138,7 +158,7 @@ impl<'a> WorldPart<'a> {
     }
 
     /// The module that holds the block of a map.
-    #[tactic(auto, unfolding(crate::specs::Chains::frames_of))]
+    #[tactic(auto, unfolding(crate::specs::Ancestors::frames_of))]
     pub fn holder(&self, id: MapId) -> Option<ModuleId>
         ensures value { result ≡ head_of (holders_of_frame (frames_of (part_of self.now) id)) }
     {

@@ -4,8 +4,8 @@ ghost use Rattle.std.specs.Vec.{vec_capacity, vec_len};
 ghost use Rattle.std.specs.BTreeMap.{btree_map_len, get, IsUnchanged, Updates};
 ghost use Rattle.hir_base.specs.declared.ids.MapId.{MapId};
 ghost use Rattle.hir_base.specs.contracts.ids.MapIdOrd.TheImpl as map_order;
-ghost use Rattle.hir_def_map.specs.Dependents.{HasRoom, IsIndexed};
-ghost use Rattle.hir_def_map.specs.Removal.{names_in, Depends, IsClosed, IsFalling};
+ghost use Rattle.hir_def_map.specs.Inner.Dependents.{HasRoom, IsIndexed};
+ghost use Rattle.hir_def_map.specs.Removal.{refers_in, Depends, IsClosed, IsFalling};
 
 use crate::world::World;
 use crate::world::dependents::Dependents;
@@ -77,8 +77,8 @@ impl World {
     /// It takes no memory, so it never fails. Its cost grows with the maps that fall and what these name, and hardly with those that stay.
     pub fn remove_with_dependents(&mut self, id: MapId) -> Result<(), AllocError>
         ensures ok { result ≡ Ok tt }
-        ensures gone { (k : MapId) → Depends (names_in self.old.maps) id k → get map_order.ghosts.cmp self.new.maps k ≡ None }
-        ensures stay { (k : MapId) → ¬ Depends (names_in self.old.maps) id k
+        ensures gone { (k : MapId) → Depends (refers_in self.old.maps) id k → get map_order.ghosts.cmp self.new.maps k ≡ None }
+        ensures stay { (k : MapId) → ¬ Depends (refers_in self.old.maps) id k
             → get map_order.ghosts.cmp self.new.maps k ≡ get map_order.ghosts.cmp self.old.maps k }
         ensures absent { get map_order.ghosts.cmp self.old.maps id ≡ None → IsUnchanged self.old.maps self.new.maps }
     {

@@ -1,8 +1,8 @@
 -- What lies above a module hangs on frames alone.
 use Rattle.std.proofs.Common.{◌≡◌}
 use Rattle.hir_base.specs.declared.ids.MapId.{MapId}
-use Rattle.hir_def_map.specs.State.{Maps}
-use Rattle.hir_def_map.specs.Chains.{above_by, above_in, frames_of, holders_by}
+use Rattle.hir_def_map.specs.Overlay.{Maps}
+use Rattle.hir_def_map.specs.Ancestors.{above_by, above_in, frames_of, holders_by}
 use Rattle.hir_def_map.proofs.Grown.{frames_of-pushed}
 use Rattle.hir_def_map.proofs.Listed.{frames_of-listed}
 use Rattle.hir_def_map_laws.specs.Building.{KeepsPlaces}

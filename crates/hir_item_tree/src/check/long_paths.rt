@@ -116,14 +116,7 @@ fn any_long_in(node: &Node) -> bool
                 nodes: Some(nodes),
                 ..
             } => any_long_path(nodes),
-            NodeKind::ExternCrate { .. }
-            | NodeKind::Fn { .. }
-            | NodeKind::Const { .. }
-            | NodeKind::Static { .. }
-            | NodeKind::TypeAlias { .. }
-            | NodeKind::Module { nodes: None, .. }
-            | NodeKind::MacroRules { .. }
-            | NodeKind::MacroDef { .. } => false,
+            _ => false,
         }
 }
 

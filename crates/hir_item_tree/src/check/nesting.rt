@@ -28,18 +28,7 @@ fn fits_depth(node: &Node, left: u32) -> bool
         NodeKind::ExternBlock { nodes }
         | NodeKind::Trait { items: nodes, .. }
         | NodeKind::Impl { items: nodes, .. } => fit_depth(nodes, left),
-        NodeKind::Use { .. }
-        | NodeKind::ExternCrate { .. }
-        | NodeKind::Fn { .. }
-        | NodeKind::Struct { .. }
-        | NodeKind::Union { .. }
-        | NodeKind::Enum { .. }
-        | NodeKind::Const { .. }
-        | NodeKind::Static { .. }
-        | NodeKind::TypeAlias { .. }
-        | NodeKind::MacroCall { .. }
-        | NodeKind::MacroRules { .. }
-        | NodeKind::MacroDef { .. } => true,
+        _ => true,
     }
 }
 
@@ -75,18 +64,7 @@ fn any_deep_tree_in(node: &Node) -> bool
             nodes: Some(nodes),
             ..
         } => any_deep_tree(nodes),
-        NodeKind::ExternCrate { .. }
-        | NodeKind::Fn { .. }
-        | NodeKind::Struct { .. }
-        | NodeKind::Union { .. }
-        | NodeKind::Enum { .. }
-        | NodeKind::Const { .. }
-        | NodeKind::Static { .. }
-        | NodeKind::TypeAlias { .. }
-        | NodeKind::Module { nodes: None, .. }
-        | NodeKind::MacroCall { .. }
-        | NodeKind::MacroRules { .. }
-        | NodeKind::MacroDef { .. } => false,
+        _ => false,
     }
 }
 
@@ -185,18 +163,7 @@ fn any_deep_cfg_in(node: &Node) -> bool
                 nodes: Some(nodes),
                 ..
             } => any_deep_cfg(nodes),
-            NodeKind::Use { .. }
-            | NodeKind::ExternCrate { .. }
-            | NodeKind::Fn { .. }
-            | NodeKind::Struct { .. }
-            | NodeKind::Union { .. }
-            | NodeKind::Const { .. }
-            | NodeKind::Static { .. }
-            | NodeKind::TypeAlias { .. }
-            | NodeKind::Module { nodes: None, .. }
-            | NodeKind::MacroCall { .. }
-            | NodeKind::MacroRules { .. }
-            | NodeKind::MacroDef { .. } => false,
+            _ => false,
         }
 }
 

@@ -16,45 +16,18 @@ use std::collections::HashSet;
 fn push_ids(out: &mut Vec<NodeId>, node: &Node) -> Result<(), AllocError>
     ensures ok { OnOk result (out.new.items ≡ out.old.items ++ item_ids (node_view node.now)) }
 {
-    let id = node.id;
+    push_id(out, node.ast_kind(), node.id)?;
     match &node.kind {
-        NodeKind::Use { .. } => push_id(out, AstKind::Use, id),
-        NodeKind::ExternCrate { .. } => push_id(out, AstKind::ExternCrate, id),
-        NodeKind::Fn { .. } => push_id(out, AstKind::Fn, id),
-        NodeKind::Struct { .. } => push_id(out, AstKind::Struct, id),
-        NodeKind::Union { .. } => push_id(out, AstKind::Union, id),
-        NodeKind::Enum { variants, .. } => {
-            push_id(out, AstKind::Enum, id)?;
-            push_variant_ids(out, variants)
-        }
-        NodeKind::Const { .. } => push_id(out, AstKind::Const, id),
-        NodeKind::Static { .. } => push_id(out, AstKind::Static, id),
-        NodeKind::TypeAlias { .. } => push_id(out, AstKind::TypeAlias, id),
-        NodeKind::MacroCall { .. } => push_id(out, AstKind::MacroCall, id),
-        NodeKind::MacroRules { .. } => push_id(out, AstKind::MacroRules, id),
-        NodeKind::MacroDef { .. } => push_id(out, AstKind::MacroDef, id),
-        NodeKind::Module { nodes: None, .. } => push_id(out, AstKind::Module, id),
-        NodeKind::Module {
+        NodeKind::Enum { variants, .. } => push_variant_ids(out, variants),
+        NodeKind::ExternBlock { nodes }
+        | NodeKind::Trait { items: nodes, .. }
+        | NodeKind::Impl { items: nodes, .. }
+        | NodeKind::Module {
             nodes: Some(nodes),
             ..
-        } => push_with_nodes(out, AstKind::Module, id, nodes),
-        NodeKind::ExternBlock { nodes } => push_with_nodes(out, AstKind::ExternBlock, id, nodes),
-        NodeKind::Trait { items, .. } => push_with_nodes(out, AstKind::Trait, id, items),
-        NodeKind::Impl { items, .. } => push_with_nodes(out, AstKind::Impl, id, items),
+        } => push_all_ids(out, nodes),
+        _ => Ok(()),
     }
-}
-
-#[cycle(push)]
-fn push_with_nodes(
-    out: &mut Vec<NodeId>,
-    kind: AstKind,
-    id: SyntaxId,
-    nodes: &Vec<Node>,
-) -> Result<(), AllocError>
-    ensures ok { OnOk result (out.new.items ≡ out.old.items ++ node_id kind id ∷ ids (nodes_view nodes.now.items)) }
-{
-    push_id(out, kind, id)?;
-    push_all_ids(out, nodes)
 }
 
 /// Adds the ids of nodes, of their variants and of those inside, in preorder.

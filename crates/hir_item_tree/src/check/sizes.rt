@@ -24,15 +24,7 @@ fn spend(node: &Node, left: u32) -> Option<u32>
             nodes: Some(nodes),
             ..
         } => spend_all(nodes, left),
-        NodeKind::ExternCrate { .. }
-        | NodeKind::Fn { .. }
-        | NodeKind::Const { .. }
-        | NodeKind::Static { .. }
-        | NodeKind::TypeAlias { .. }
-        | NodeKind::Module { nodes: None, .. }
-        | NodeKind::MacroCall { .. }
-        | NodeKind::MacroRules { .. }
-        | NodeKind::MacroDef { .. } => Some(left),
+        _ => Some(left),
     }
 }
 

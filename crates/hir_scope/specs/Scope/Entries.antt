@@ -17,7 +17,7 @@ use Rattle.hir_scope.specs.contracts.imports.ImportIdOrd.TheImpl as import_id
 use Rattle.hir_scope.specs.declared.imports.ImportOrGlob.{ImportOrGlob}
 use Rattle.hir_scope.specs.declared.imports.ImportOrGlob.TheVariants as value
 
--- the names of a scope in order, each once: those that stand for something, and those that were pushed with nothing
+-- the names of a scope in order, each once: the bound ones, and the unresolved ones
 abbrev pub scope_names : ScopeValue → List (List ℕ)
 scope_names scope =
     merge (slice_cmp nat_cmp)

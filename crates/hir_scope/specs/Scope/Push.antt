@@ -16,7 +16,7 @@ use Rattle.hir_scope.specs.contracts.imports.ImportOrGlobOrd.TheImpl as value_or
 use Rattle.hir_scope.specs.declared.imports.ImportOrExternCrate.{ImportOrExternCrate}
 use Rattle.hir_scope.specs.declared.imports.ImportOrGlob.{ImportOrGlob}
 use Rattle.hir_scope.specs.declared.per_ns.PerNs.{PerNs}
-use Rattle.hir_scope.specs.Bindings.{Candidate, PushesSlot, Records, type_candidate, value_candidate, macro_candidate, slot_at, taken, written_items, written_places, written_records, Slot, slot_after_push, history_of, prevailing, first_of}
+use Rattle.hir_scope.specs.Bindings.{Candidate, PushesSlot, Records, type_candidate, value_candidate, macro_candidate, slot_at, slot_after_candidate, taken, written_items, written_places, written_records, Slot}
 use Rattle.hir_scope.specs.declared.item_scope.push.Candidates.{Candidates}
 use Rattle.hir_scope.specs.Globs.{Place, GlobNames}
 use Rattle.hir_scope.specs.Scope.{ScopeValue}
@@ -25,7 +25,7 @@ use Rattle.std.specs.declared.cmp.Ordering.{Ordering}
 use Rattle.hir_scope.specs.declared.imports.ImportOrDef.{ImportOrDef}
 use Rattle.hir_scope.specs.Entries.{value_at}
 
--- ---- the candidates of a push that change their slots
+-- ---- the candidates that change their slots
 
 abbrev pub taken_type : ScopeValue → GlobNames → Place → PerNs → Option ImportOrExternCrate
     → Option (Candidate ModuleDefId ImportOrExternCrate)
@@ -91,11 +91,11 @@ written_globs place candidates globs = record {
 
 -- ---- a whole push
 
--- whether a name is among those that were pushed with nothing
+-- whether a name is unresolved: it was pushed with nothing
 abbrev pub is_unresolved : ScopeValue → List ℕ → Bool
 is_unresolved scope name = list_any (is_at (slice_cmp nat_cmp name)) scope.unresolved
 
--- the names that were pushed with nothing, with one more unless it is there
+-- the unresolved names with one more, unless it is there
 abbrev pub with_unresolved : ScopeValue → List ℕ → ScopeValue
 with_unresolved scope name = record scope {
   unresolved =
@@ -135,6 +135,14 @@ macro_slot scope globs place = slot_at scope.macros globs.macros place
 abbrev pub IsPush : Type 1
 IsPush = Place → PerNs → Option ImportOrExternCrate
     → ScopeValue → GlobNames → ScopeValue → GlobNames → Type 0
+
+-- what a name of a module stands for after items are pushed to it by an import
+abbrev pub binding_after : ScopeValue → GlobNames → Place → PerNs → Option ImportOrExternCrate → PerNs
+binding_after scope globs place items import = record {
+  types = (slot_after_candidate module_def.ghosts.eq item_import.ghosts.eq (type_candidate items.types import) (type_slot scope globs place)).bound;
+  values = (slot_after_candidate module_def.ghosts.eq value_import.ghosts.eq (value_candidate items.values import) (value_slot scope globs place)).bound;
+  macros = (slot_after_candidate makro.ghosts.eq item_import.ghosts.eq (macro_candidate items.macros import) (macro_slot scope globs place)).bound;
+}
 
 -- the slots of types take a push
 abbrev pub PushesType : IsPush
@@ -188,7 +196,22 @@ slots_of scope globs place = record {
   macros = macro_slot scope globs place;
 }
 
--- a name was not among those that were pushed with nothing, and is now
+-- a name wasn't unresolved, and is now
 pub record IsNewlyUnresolved (name : List ℕ) (old new : ScopeValue) : Type 0 where
   pub before : is_unresolved old name ≡ false
   pub after : is_unresolved new name ≡ true
+
+-- what a scope declares, its unnamed traits, its textual macros and its calls stay
+pub record SameDeclarations (old new : ScopeValue) : Type 0 where
+  pub declarations : new.declarations ≡ old.declarations
+  pub impls : new.impls ≡ old.impls
+  pub builtin_derive_impls : new.builtin_derive_impls ≡ old.builtin_derive_impls
+  pub extern_blocks : new.extern_blocks ≡ old.extern_blocks
+  pub unnamed_consts : new.unnamed_consts ≡ old.unnamed_consts
+  pub unnamed_traits : new.unnamed_traits ≡ old.unnamed_traits
+  pub use_decls : new.use_decls ≡ old.use_decls
+  pub extern_crate_decls : new.extern_crate_decls ≡ old.extern_crate_decls
+  pub legacy_macros : new.legacy_macros ≡ old.legacy_macros
+  pub attr_macros : new.attr_macros ≡ old.attr_macros
+  pub macro_calls : new.macro_calls ≡ old.macro_calls
+  pub derive_macros : new.derive_macros ≡ old.derive_macros

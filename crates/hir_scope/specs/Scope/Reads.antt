@@ -14,7 +14,7 @@ use Rattle.hir_base.specs.contracts.ast_id.AttrIdPartialEq.TheImpl as attr
 use Rattle.hir_base.specs.declared.ast_id.AttrId.{AttrId}
 use Rattle.hir_scope.specs.declared.visibility.Visibility.{Visibility}
 use Rattle.hir_scope.specs.Scope.{ScopeValue, DeriveCalls, DeriveCall}
-use Rattle.hir_scope.specs.Entries.{item_at}
+use Rattle.hir_scope.specs.Entries.{any_value, item_at}
 use Rattle.std.specs.Borrow.{Bor}
 use Rattle.hir_base.specs.contracts.ids.ModuleDefIdPartialEq.TheImpl as module_def
 use Rattle.hir_base.specs.contracts.macro_kind.MacroIdPartialEq.TheImpl as makro
@@ -26,8 +26,9 @@ use Rattle.hir_base.specs.declared.ids.ImplId.{ImplId}
 use Rattle.hir_base.specs.declared.ids.ModuleId.{ModuleId}
 use Rattle.hir_base.specs.declared.ids.ModuleDefId.TheVariants as def
 use Rattle.hir_scope.specs.declared.imports.ImportOrExternCrate.{ImportOrExternCrate}
-use Rattle.hir_scope.specs.declared.item_scope.impls.ImplKind.{ImplKind}
-use Rattle.hir_scope.specs.declared.item_scope.impls.ImplKind.TheVariants.{Any, OfTrait, Inherent}
+use Rattle.hir_scope.specs.declared.imports.ImportOrGlob.{ImportOrGlob}
+use Rattle.hir_scope.specs.declared.item_scope.iter.impls.ImplKind.{ImplKind}
+use Rattle.hir_scope.specs.declared.item_scope.iter.impls.ImplKind.TheVariants.{Any, OfTrait, Inherent}
 
 -- the definition and visibility of a type
 abbrev pub type_at : ScopeValue → List ℕ → Option (ModuleDefId × Visibility)
@@ -36,6 +37,18 @@ type_at scope name = option_map (λ item. (item.def, item.vis)) (item_at scope.t
 -- the macro of a name
 abbrev pub macro_at : ScopeValue → List ℕ → Option MacroId
 macro_at scope name = option_map (λ item. item.def) (item_at scope.macros name)
+
+-- whether some name stands for a type that passes a test
+abbrev pub binds_type : (Item ModuleDefId ImportOrExternCrate → Bool) → ScopeValue → Bool
+binds_type test scope = any_value test scope.types
+
+-- the same of values
+abbrev pub binds_value : (Item ModuleDefId ImportOrGlob → Bool) → ScopeValue → Bool
+binds_value test scope = any_value test scope.values
+
+-- the same of macros
+abbrev pub binds_macro : (Item MacroId ImportOrExternCrate → Bool) → ScopeValue → Bool
+binds_macro test scope = any_value test scope.macros
 
 -- the macros of a name in textual scope, the last one last
 abbrev pub legacy_at : ScopeValue → List ℕ → Option (List MacroId)

@@ -1,4 +1,4 @@
--- What do updates and removals make of a scope, and what does a procedural macro's crate leave to see?
+-- What do updates and removals make of a scope, and what may other crates see of a procedural-macro crate?
 pub use Rattle.hir_scope_table.specs.Table.{with_visibility, with_definition, is_definition, without_definition}
 use Rattle.std.specs.Prelude.{ℕ, Bool, false, List, Option, None, Some, cond, map}
 use Rattle.std.specs.Ordering.{nat_cmp}
@@ -23,15 +23,15 @@ use Rattle.hir_scope.specs.declared.imports.ImportOrExternCrate.{ImportOrExternC
 use Rattle.hir_scope.specs.declared.visibility.Visibility.TheVariants.{PubCrate}
 use Rattle.hir_scope.specs.Scope.{ScopeValue}
 
--- the import of an unnamed trait that is there, or else the new one
-abbrev pub kept_import : Option (Item (Unit {0}) ImportId) → Option ImportId → Option ImportId
-kept_import None import = import
-kept_import (Some kept) import = kept.import
+-- the import of an unnamed trait: that of the first push stays
+abbrev pub unnamed_import : Option (Item (Unit {0}) ImportId) → Option ImportId → Option ImportId
+unnamed_import None import = import
+unnamed_import (Some bound) import = bound.import
 
 -- the unnamed traits with one more; one that is there takes the visibility, and keeps its import
 abbrev pub with_unnamed_trait : List (TraitId × Item (Unit {0}) ImportId) → TraitId → Visibility → Option ImportId → List (TraitId × Item (Unit {0}) ImportId)
 with_unnamed_trait traits tr vis import =
-    insert_entry trait_id.ghosts.eq traits tr (record { def = tt; vis = vis; import = kept_import (lookup (trait_id.ghosts.eq tr) traits) import })
+    insert_entry trait_id.ghosts.eq traits tr (record { def = tt; vis = vis; import = unnamed_import (lookup (trait_id.ghosts.eq tr) traits) import })
 
 -- an item that the crate alone may see
 abbrev pub censored_item : {D I : Type 0} → Crate → Item D I → Item D I

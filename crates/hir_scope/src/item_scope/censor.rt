@@ -1,4 +1,4 @@
-//! What a procedural macro's crate leaves to see, after rust-analyzer's `censor_non_proc_macros`.
+//! Hiding what a procedural-macro crate doesn't export, after rust-analyzer's `censor_non_proc_macros`.
 ghost use Rattle.std.specs.Prelude.{◌≡◌};
 ghost use Rattle.hir_scope.specs.Scope.Updates.{censored, censored_vis, censored_macros, censored_scope};
 
@@ -12,7 +12,7 @@ use hir_base::name::Name;
 use indexmap::IndexMap;
 use std::collections::BTreeMap;
 
-/// Leaves each item to the crate alone.
+/// Restricts each item to the crate.
 fn censor<Def: Copy, Import: Copy>(items: &mut BTreeMap<Name, Item<Def, Import>>, krate: Crate)
     ensures value { items.new.entries ≡ censored krate items.old.entries }
 {
@@ -22,7 +22,7 @@ fn censor<Def: Copy, Import: Copy>(items: &mut BTreeMap<Name, Item<Def, Import>>
     });
 }
 
-/// Leaves each trait to the crate alone.
+/// Restricts each trait to the crate.
 fn censor_traits(traits: &mut IndexMap<TraitId, Item<(), ImportId>>, krate: Crate)
     ensures value { traits.new.entries ≡ censored krate traits.old.entries }
 {
@@ -32,7 +32,7 @@ fn censor_traits(traits: &mut IndexMap<TraitId, Item<(), ImportId>>, krate: Crat
     });
 }
 
-/// Who may see a macro of a procedural macro's crate.
+/// The visibility of a macro of a procedural-macro crate.
 fn censored_vis(
     krate: Crate,
     def: MacroId,
@@ -47,7 +47,7 @@ fn censored_vis(
     }
 }
 
-/// Leaves each macro to the crate alone, except procedural macros that it binds itself.
+/// Restricts each macro to the crate, except procedural macros that it binds itself.
 fn censor_macros(macros: &mut BTreeMap<Name, MacrosItem>, krate: Crate)
     ensures value { macros.new.entries ≡ censored_macros krate macros.old.entries }
 {
@@ -58,7 +58,7 @@ fn censor_macros(macros: &mut BTreeMap<Name, MacrosItem>, krate: Crate)
 }
 
 impl ItemScope {
-    /// Leaves everything to the crate alone, except procedural macros that it binds itself.
+    /// Restricts everything to the crate, except procedural macros that it binds itself.
     pub fn censor_non_proc_macros(&mut self, krate: Crate)
         ensures value { self.new ≡ censored_scope krate self.old }
     {

@@ -10,7 +10,7 @@ ghost use Rattle.hir_scope.specs.Dump.{import_word, value_import_word, style_mar
 
 use crate::imports::{ImportOrExternCrate, ImportOrGlob};
 use crate::item_scope::ItemScope;
-use crate::item_scope::entries::import_as_item;
+use crate::item_scope::iter::entries::import_as_item;
 use crate::per_ns::{MacrosItem, PerNs, TypesItem, ValuesItem};
 use hir_base::edition::Edition;
 use hir_base::ids::ModuleDefId;

@@ -145,7 +145,7 @@ impl ItemScope {
         ensures value_records { OnOk result (RecordsValue lookup def import self.old glob_imports.old self.new) }
         ensures macro_records { OnOk result (RecordsMacro lookup def import self.old glob_imports.old self.new) }
 
-        // Room is made before anything is written.
+        // All memory is reserved before anything is written.
         ensures err { OnErr result (self.new ≡ self.old) }
         ensures err_globs { OnErr result (glob_imports.new ≡ glob_imports.old) }
     {

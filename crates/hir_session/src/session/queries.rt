@@ -3,30 +3,33 @@ ghost use Rattle.std.specs.Prelude.{◌≡◌, ◌⊎◌, IfOk, IfErr, Ok, Err, 
 ghost use Rattle.hir_base.specs.Refusal.{Gives};
 ghost use Rattle.hir_item_tree.specs.Source.{source_view};
 ghost use Rattle.hir_session.specs.Files.{file_at};
-ghost use Rattle.hir_session.specs.SessionState.{read_of, kept_of};
-ghost use Rattle.hir_session.specs.Refusals.{IsQueryMemory, IsTreeTextMemory};
-ghost use Rattle.hir_session.specs.Status.{map_of, module_of, status_of};
+ghost use Rattle.hir_session.specs.SessionState.{kept_of};
+ghost use Rattle.hir_session.specs.Diagnostics.{diagnostics_of};
+ghost use Rattle.hir_session.specs.Refusals.{IsDiagnosticsMemory, IsQueryMemory, IsTreeTextMemory};
+ghost use Rattle.hir_session.specs.Status.{status_of};
+ghost use Rattle.hir_wire.specs.declared.reply.Status.TheVariants as status;
 ghost use Rattle.hir_session.specs.Crates.{id_of};
-ghost use Rattle.hir_session.specs.Answers.{answer_from, answer_of};
+ghost use Rattle.hir_session.specs.Answers.{answer_kept, answer_of};
 ghost use Rattle.hir_session.specs.AnswersStand.{AnswersStand};
 ghost use Rattle.hir_session.specs.TreeText.{tree_text_of};
 
 use super::Session;
 use crate::answers::{answer_at, module_below_root};
-use crate::error::{QueryError, TreeTextError};
-use crate::file_trees::page_at;
+use crate::crate_info::CrateInfo;
+use crate::diagnostics::diagnostics_at;
+use crate::error::{DiagnosticsError, QueryError, TreeTextError};
+use crate::files::Files;
 use hir_base::file_path::FilePath;
 use hir_base::ids::{Crate, MapId};
 use hir_base::mod_path::ModPath;
-use hir_base::place::{Place, PlaceElement};
-use hir_def_collector::laws::runs_bind_from_sources;
+use hir_base::place::Place;
 use hir_def_map::def_maps::DefMaps;
-use hir_def_map::laws::{paths_answer_from_sources, paths_lead_to_what_is_there};
 use hir_def_map::nameres::DefMap;
 use hir_def_map::world::part::WorldPart;
 use hir_item_tree::source::Source;
 use hir_wire::answer::Answer;
 use hir_wire::command::{MacroStyle, Shadow};
+use hir_wire::diagnostic::Diagnostics;
 use hir_wire::reply::Status;
 use std::alloc::Global;
 
@@ -45,7 +48,7 @@ impl Session {
     pub fn source(&self, file: &FilePath) -> Option<&Source>
         ensures value { option_map (λ s. source_view s.now) result ≡ file_at self.now.files file.now }
     {
-        self.files.get(file)
+        self.inputs.files().get(file)
     }
 
     /// How the answers at a place stand.
@@ -53,7 +56,7 @@ impl Session {
         ensures value { result ≡ status_of self.now place.now }
     {
         let krate = place.krate();
-        if krate.0 as usize >= self.crates.len() {
+        if krate.0 as usize >= self.inputs.crates().len() {
             return Status::Unknown;
         }
         let Some(found) = self.kept.get(MapId::of_crate(krate)) else {
@@ -65,6 +68,20 @@ impl Session {
         }
     }
 
+    /// The crates in the order of their numbers.
+    pub fn crates(&self) -> &[CrateInfo]
+        ensures value { result.now ≡ self.now.crates }
+    {
+        self.inputs.crates().as_slice()
+    }
+
+    /// The files that are there, in the order of their paths.
+    pub fn files(&self) -> &Files
+        ensures value { result.now ≡ self.now.files }
+    {
+        self.inputs.files()
+    }
+
     /// What a path means over what is kept.
     fn answer_kept(
         &self,
@@ -74,33 +91,32 @@ impl Session {
         shadow: Shadow,
         style: Option<MacroStyle>,
     ) -> Result<Answer, QueryError>
-        ensures answer { Gives IsQueryMemory result (answer_from self.now.tables.files (read_of self.now (map_of place.now)) (kept_of self.now (map_of place.now))
-            (module_of self.now place.now) path.now shadow style) }
+        ensures answer { Gives IsQueryMemory result (answer_kept self.now place.now path.now shadow style) }
+        ensures stands { status.Current ≡ status_of self.now place.now → IfOk result (λ answer. AnswersStand self.now place.now path.now shadow style answer) }
     {
-        let Some(found) = self.kept.get(MapId::of_crate(place.krate())) else {
+        let krate = place.krate();
+        let Some(found) = self.kept.get(MapId::of_crate(krate)) else {
             return Err(QueryError::UnknownPlace);
         };
-        let Some(info) = self.crates.get(place.krate().0 as usize) else {
+        let Some(transitive) = self.inputs.crates().transitive_dependencies(krate) else {
             return Err(QueryError::UnknownPlace);
         };
-        match module_below_root(found.map, place.elements()) {
-            Some(at) => {
-                let read = WorldPart::among(self.kept.world(), info.behind(), &[]);
-                let maps = DefMaps::new(read, found.map);
-                let answer = answer_at(
-                    alloc,
-                    &self.tables,
-                    &maps,
-                    found.local,
-                    at,
-                    path,
-                    shadow,
-                    style,
-                )?;
-                Ok(answer)
-            }
-            None => Err(QueryError::UnknownPlace),
-        }
+        let Some(at) = module_below_root(found.map, place.elements()) else {
+            return Err(QueryError::UnknownPlace);
+        };
+        let read = WorldPart::among(self.kept.world(), transitive, &[]);
+        let maps = DefMaps::new(read, found.map);
+        let answer = answer_at(
+            alloc,
+            &self.tables,
+            &maps,
+            found.local,
+            at,
+            path,
+            shadow,
+            style,
+        )?;
+        Ok(answer)
     }
 
     /// What a path means, asked from the module that a place names.
@@ -115,15 +131,8 @@ impl Session {
         ensures answer { Gives IsQueryMemory result (answer_of self.now place.now path.now shadow style) }
         ensures stands { IfOk result (λ answer. AnswersStand self.now place.now path.now shadow style answer) }
     {
-        self.sound();
-        runs_bind_from_sources();
-        paths_answer_from_sources();
-        paths_lead_to_what_is_there();
         match self.status(place) {
-            Status::Current => {
-                let answer = self.answer_kept(alloc, place, path, shadow, style)?;
-                Ok(answer)
-            }
+            Status::Current => self.answer_kept(alloc, place, path, shadow, style),
             Status::Stale => Err(QueryError::StalePlace),
             Status::Unknown => Err(QueryError::UnknownPlace),
         }
@@ -139,17 +148,33 @@ impl Session {
         ensures page { IfOk result (λ text. tree_text_of self.now krate file.now ≡ Ok (string_bytes text)) }
         ensures refused { IfErr result (λ e. IsTreeTextMemory e ⊎ (tree_text_of self.now krate file.now ≡ Err e)) }
     {
-        let Some(info) = self.crates.get(krate.0 as usize) else {
+        let Some(info) = self.inputs.crates().get(krate) else {
             return Err(TreeTextError::UnknownCrate);
         };
-        let text = page_at(
-            alloc,
-            &self.crates,
-            &self.files,
-            krate,
-            file,
-            info.config().edition,
-        )?;
+        let edition = info.config().edition;
+        let tree = self.inputs.tree(alloc, krate, file)?;
+        let text = tree.tree().pretty_print(edition)?;
         Ok(text)
+    }
+
+    /// What couldn't be resolved in a crate, in the order in which it was come upon.
+    pub fn diagnostics(&self, alloc: Global, krate: Crate) -> Result<Diagnostics, DiagnosticsError>
+        ensures told { Gives IsDiagnosticsMemory result (diagnostics_of self.now krate) }
+    {
+        let Some(transitive) = self.inputs.crates().transitive_dependencies(krate) else {
+            return Err(DiagnosticsError::UnknownCrate);
+        };
+        let Some(found) = self.kept.get(MapId::of_crate(krate)) else {
+            return Err(DiagnosticsError::StalePlace);
+        };
+        let read = WorldPart::among(self.kept.world(), transitive, &[]);
+        let maps = DefMaps::new(read, found.map);
+        let told = diagnostics_at(
+            alloc,
+            &self.tables,
+            &maps,
+            found.map.diagnostics().as_slice(),
+        )?;
+        Ok(Diagnostics::new(told))
     }
 }

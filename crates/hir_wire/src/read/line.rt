@@ -23,6 +23,7 @@ pub enum Verb {
     Refresh,
     Resolve,
     Status,
+    Diagnostics,
     Tree,
 }
 
@@ -39,6 +40,7 @@ impl Word for Verb {
             "refresh" => Some(Verb::Refresh),
             "resolve" => Some(Verb::Resolve),
             "status" => Some(Verb::Status),
+            "diagnostics" => Some(Verb::Diagnostics),
             "tree" => Some(Verb::Tree),
             _ => None,
         }
@@ -140,6 +142,16 @@ fn read_status(alloc: Global, members: &Map<String, Value>) -> Result<Command, R
     }
 }
 
+fn read_diagnostics(alloc: Global, members: &Map<String, Value>) -> Result<Command, ReadError>
+    ensures value { Reads command_view
+        (fields_of Verb.Diagnostics (members_view members.now.entries)) result }
+{
+    match required(alloc, members, "crate") {
+        Ok(krate) => Ok(Command::Diagnostics { krate }),
+        Err(error) => Err(error),
+    }
+}
+
 #[tactic(auto, unfolding(crate::specs::Commands::tree_in))]
 fn read_tree(alloc: Global, members: &Map<String, Value>) -> Result<Command, ReadError>
     ensures value { Reads command_view (tree_in (members_view members.now.entries)) result }
@@ -168,6 +180,7 @@ fn read_verb_fields(
         Verb::Refresh => Ok(Command::Refresh),
         Verb::Resolve => read_resolve(alloc, members),
         Verb::Status => read_status(alloc, members),
+        Verb::Diagnostics => read_diagnostics(alloc, members),
         Verb::Tree => read_tree(alloc, members),
     }
 }

@@ -140,7 +140,8 @@ fn item_in_crate(alloc: Global, krate: Crate, item: &SourceItem) -> Result<Value
     json!(in alloc; {"crate": krate.0, "id": id, "in": source, "kind": kind})
 }
 
-fn source_word(kind: SourceKind) -> &'static str
+/// The word of a source item's kind.
+pub fn source_word(kind: SourceKind) -> &'static str
     ensures value { result.now ≡ source_word kind }
 {
     match kind {

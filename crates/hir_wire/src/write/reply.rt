@@ -8,6 +8,7 @@ ghost use Rattle.hir_wire.specs.Words.{status_word};
 use crate::reply::{Reply, Status};
 use crate::write::answer::answer_value;
 use crate::write::definition::{id_value, kind_word, place_value};
+use crate::write::diagnostic::diagnostics_list;
 use hir_base::ast_id::{AstKind, SyntaxId};
 use hir_base::ids::Crate;
 use hir_base::limit::Limit;
@@ -88,6 +89,10 @@ fn reply_value(alloc: Global, reply: &Reply) -> Result<Value, AllocError>
         }
         Reply::Answer(answer) => success(alloc, answer_value(alloc, answer)?),
         Reply::Status(status) => success(alloc, Value::try_from_str(alloc, status_word(*status))?),
+        Reply::Diagnostics(diagnostics) => {
+            let values = diagnostics_list(alloc, diagnostics.as_slice())?;
+            success(alloc, Value::Array(values))
+        }
         Reply::Text(text) => success(alloc, Value::try_from_str(alloc, text.as_str())?),
         Reply::Json => refusal(alloc, "json"),
         Reply::Command => refusal(alloc, "command"),

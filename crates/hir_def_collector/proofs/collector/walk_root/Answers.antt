@@ -1,30 +1,61 @@
-use Rattle.std.proofs.Common.{rules, ◌∙◌, ◌<◌, length, sym}
+use Rattle.std.proofs.Common.{rules, ◌≡◌, ◌∙◌, ◌<◌, true, false, None, length, sym, ap, subst}
 use Rattle.std.proofs.lemmas.List.Elements.{All-map}
+use Rattle.std.specs.List.{All}
+use Rattle.hir_item_tree.specs.Collected.{is_enabled}
+use Rattle.hir_item_tree.specs.ItemTree.{Tree}
 use Rattle.hir_item_tree.specs.KeptForest.{all_items}
+use Rattle.hir_item_tree.specs.Rows.{items_at, numbers_of}
 use Rattle.hir_item_tree.specs.declared.rows.ModItemId.{ModItemId}
-use Rattle.hir_def_map.specs.Parts.{part_of}
+use Rattle.hir_mod_dir.specs.Directory.{Directory}
+use Rattle.hir_def_map.specs.WorldParts.{part_of}
 use Rattle.hir_def_collector.specs.Keys.{environment}
+use Rattle.hir_def_collector.specs.Moves.{Walks, WalksTooFar}
 use Rattle.hir_def_collector.specs.Start.{root_site}
+use Rattle.hir_def_collector.specs.TreeReads.{visits_at}
+use Rattle.hir_def_collector.proofs.Numbers.{tables_stay}
 use Rattle.hir_def_collector.proofs.Walked.{spent_present, walks_disabled, walks_present}
 use Rattle.hir_def_collector.proofs.collector.walk_root.Goals as goal
 
+pub returns-then-not-is_enabled_at_top-clause-kept : goal.returns-then-not-is_enabled_at_top-clause-kept
+returns-then-not-is_enabled_at_top-clause-kept g c = tables_stay c.args.locations.now
+
 pub returns-then-not-is_enabled_at_top-clause-ok : goal.returns-then-not-is_enabled_at_top-clause-ok
 returns-then-not-is_enabled_at_top-clause-ok g c =
-    walks_disabled (environment c.args.locations.now (g.D.SourceDatabase.workspace c.args.db.now)) (part_of c.args.world) (root_site c.args.id) c.args.tree.now c.args.run.now
-    (sym c.is_enabled_at_top.ensures.value ∙ c.if-not-is_enabled_at_top.true)
-
-pub returns-clause-ok : goal.returns-clause-ok
-returns-clause-ok g c =
-    walks_present (environment c.args.locations.now (g.D.SourceDatabase.workspace c.args.db.now)) (part_of c.args.world) (root_site c.args.id) c.args.tree.now c.args.run.now c.top_level_items.result.now
-    (sym c.is_enabled_at_top.ensures.value ∙ c.if-not-is_enabled_at_top.false) c.top_level_items.ensures.value
-    c.walk_all.new.run c.in_ok-walk_all.ensures.ok
-
-pub returns-in_err-walk_all-clause-many : goal.returns-in_err-walk_all-clause-many
-returns-in_err-walk_all-clause-many g c h =
-    spent_present (environment c.args.locations.now (g.D.SourceDatabase.workspace c.args.db.now)) (part_of c.args.world) (root_site c.args.id) c.args.tree.now c.args.run.now c.top_level_items.result.now
-    (sym c.is_enabled_at_top.ensures.value ∙ c.if-not-is_enabled_at_top.false) c.top_level_items.ensures.value
-    (c.in_err-walk_all.ensures.many (search rules))
+    let off : is_enabled c.args.source.now.tree.attributes ≡ false =
+    ap (λ (t : Tree). is_enabled t.attributes) (sym c.tree.ensures.value) ∙ sym c.is_enabled_at_top.ensures.value ∙ c.if-not-is_enabled_at_top.true in
+    walks_disabled (environment c.args.locations.now (g.D.SourceDatabase.workspace c.args.db.now)) (part_of c.args.world) (root_site c.args.id) c.args.source.now.tree c.args.run.now off
 
 pub walk_all-requires-clause-there : goal.walk_all-requires-clause-there
 walk_all-requires-clause-there g c =
-    All-map (λ n. n < length (all_items c.args.tree.now.items)) (λ (id : ModItemId). id.0) c.top_level_items.result.now c.top_level_items.ensures.there
+    All-map (λ n. n < length (all_items c.args.source.now.tree.items)) (λ (id : ModItemId). id.0) c.top_level_items-ids.result.now
+    (subst (λ (t : Tree). All (λ (id : ModItemId). id.0 < length (all_items t.items)) c.top_level_items-ids.result.now) c.tree-2.ensures.value c.top_level_items-ids.ensures.there)
+
+pub returns-clause-ok : goal.returns-clause-ok
+returns-clause-ok g c =
+    let env = environment c.walk_all.new.locations (g.D.SourceDatabase.workspace c.args.db.now) in
+    let part = part_of c.args.world in
+    let tree = c.args.source.now.tree in
+    let ids = c.top_level_items-ids.result.now in
+    let on : is_enabled tree.attributes ≡ true =
+    ap (λ (t : Tree). is_enabled t.attributes) (sym c.tree.ensures.value) ∙ sym c.is_enabled_at_top.ensures.value ∙ c.if-not-is_enabled_at_top.false in
+    let all : items_at (all_items tree.items) (numbers_of ids) ≡ tree.items =
+    subst (λ (t : Tree). items_at (all_items t.items) (numbers_of ids) ≡ t.items) c.tree-2.ensures.value c.top_level_items-ids.ensures.value in
+    let walks : Walks env part c.args.run.now c.walk_all.new.run (visits_at tree (root_site c.args.id) (numbers_of ids)) =
+    subst (λ (d : Directory). Walks env part c.args.run.now c.walk_all.new.run (visits_at tree (record { home = 0; tree = c.args.id; extern_block = None; dir = d; level = 0 }) (numbers_of ids))) c.root.ensures.value
+    (c.in_ok-walk_all.ensures.ok c.walk_all.new.locations (tables_stay c.walk_all.new.locations)) in
+    walks_present env part (root_site c.args.id) tree c.args.run.now ids on all c.walk_all.new.run walks
+
+pub returns-in_err-walk_all-clause-many : goal.returns-in_err-walk_all-clause-many
+returns-in_err-walk_all-clause-many g c = λ h.
+    let env = environment c.walk_all.new.locations (g.D.SourceDatabase.workspace c.args.db.now) in
+    let part = part_of c.args.world in
+    let tree = c.args.source.now.tree in
+    let ids = c.top_level_items-ids.result.now in
+    let on : is_enabled tree.attributes ≡ true =
+    ap (λ (t : Tree). is_enabled t.attributes) (sym c.tree.ensures.value) ∙ sym c.is_enabled_at_top.ensures.value ∙ c.if-not-is_enabled_at_top.false in
+    let all : items_at (all_items tree.items) (numbers_of ids) ≡ tree.items =
+    subst (λ (t : Tree). items_at (all_items t.items) (numbers_of ids) ≡ t.items) c.tree-2.ensures.value c.top_level_items-ids.ensures.value in
+    let far : WalksTooFar env part c.args.run.now (visits_at tree (root_site c.args.id) (numbers_of ids)) =
+    subst (λ (d : Directory). WalksTooFar env part c.args.run.now (visits_at tree (record { home = 0; tree = c.args.id; extern_block = None; dir = d; level = 0 }) (numbers_of ids))) c.root.ensures.value
+    (c.in_err-walk_all.ensures.many (search rules) c.walk_all.new.locations (tables_stay c.walk_all.new.locations)) in
+    spent_present env part (root_site c.args.id) tree c.args.run.now ids on all far

@@ -1,6 +1,6 @@
 -- It begins with what its root file writes, and each step adds only that or what a path answers.
 use Rattle.std.proofs.Common.{refl}
-use Rattle.hir_def_collector.specs.Derivation.{read_by}
+use Rattle.hir_def_collector.specs.Start.{read_by}
 use Rattle.hir_def_collector.proofs.Sourced.{ends_sourced}
 use Rattle.hir_def_collector.proofs.laws.runs_bind_from_sources.Goals as goal
 

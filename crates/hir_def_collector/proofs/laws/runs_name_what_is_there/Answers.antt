@@ -1,6 +1,6 @@
 -- It begins with what is there, and each step leaves it so.
 use Rattle.std.proofs.Common.{refl}
-use Rattle.hir_def_collector.specs.Derivation.{read_by}
+use Rattle.hir_def_collector.specs.Start.{read_by}
 use Rattle.hir_def_collector.proofs.Whole.{ends_whole}
 use Rattle.hir_def_collector.proofs.laws.runs_name_what_is_there.Goals as goal
 

@@ -1,7 +1,7 @@
 //! The scope of a module, to be changed.
 ghost use Rattle.std.specs.Prelude.{◌≡◌};
 ghost use Rattle.std.specs.Borrow.{sem};
-ghost use Rattle.hir_def_map.specs.LentScopes.{LendsScope};
+ghost use Rattle.hir_def_map.specs.Inner.LentScopes.{LendsScope};
 
 use crate::nameres::module_data::ModuleData;
 use hir_scope::item_scope::ItemScope;

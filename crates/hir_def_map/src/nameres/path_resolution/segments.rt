@@ -1,8 +1,8 @@
 //! The further segments of a path.
-ghost use Rattle.std.specs.Prelude.{◌≡◌, ◌+◌, ◌<◌, ◌^◌, length, cond};
+ghost use Rattle.std.specs.Prelude.{◌≡◌, ℕ, ◌+◌, ◌<◌, ◌^◌, length, cond};
 ghost use Rattle.hir_scope.specs.PerNs.{keep_item};
 ghost use Rattle.hir_scope.specs.Visibility.{is_visible};
-ghost use Rattle.hir_def_map.specs.Chains.{above_in, holders_in};
+ghost use Rattle.hir_def_map.specs.Ancestors.{above_in, holders_in};
 ghost use Rattle.hir_def_map.specs.DefMaps.{maps_of};
 ghost use Rattle.hir_def_map.specs.Scoping.Segments.{after_enum, after_variant, crossing, nearest_non_block_module, resolved, rest, seen, stopped, through_adt, unresolved, variant_bound};
 
@@ -162,6 +162,29 @@ impl DefMaps<'_> {
         }
     }
 
+    /// The type that a name stands for in a module, where another module may see it.
+    pub fn seen_type(&self, from: ModuleId, at: ModuleId, name: &Name) -> Option<TypesItem>
+        ensures value { result ≡ (seen (maps_of self.now) from at name.now).types }
+    {
+        self.seen_item(from, self.entry(at, name).types)
+    }
+
+    /// What a name stands for in a module, as far as another module may see it: before further segments its type alone,
+    /// which is all that they are looked up in.
+    fn seen_before(&self, from: ModuleId, at: ModuleId, name: &Name, others: &[Name]) -> PerNs
+        ensures value { (onward : ModuleId) (i : ℕ) → rest (maps_of self.now) onward others.now i result
+            ≡ rest (maps_of self.now) onward others.now i (seen (maps_of self.now) from at name.now) }
+    {
+        match others {
+            [] => self.seen(from, at, name),
+            [_, ..] => PerNs {
+                types: self.seen_type(from, at, name),
+                values: None,
+                macros: None,
+            },
+        }
+    }
+
     /// The module, or the nearest of those that hold it that is no block's root.
     #[tactic(auto, using(crate::proofs::Blocks::stops), unfolding(crate::specs::Scoping::Segments::nearest_non_block_module))]
     pub fn nearest_non_block_module(&self, module: ModuleId) -> ModuleId
@@ -228,11 +251,11 @@ impl DefMaps<'_> {
                 _ => return ResolvePathResult::stopped(at, item).after_crossing(has_crossed),
             };
             if below.map.krate == from.map.krate {
-                now = self.seen(from, below, segment);
+                now = self.seen_before(from, below, segment, others);
             } else {
                 from = self.nearest_non_block_module(below);
                 has_crossed = true;
-                now = self.seen(from, from, segment);
+                now = self.seen_before(from, from, segment, others);
             }
             at += 1;
             left = others;

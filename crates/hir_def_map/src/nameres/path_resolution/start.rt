@@ -54,7 +54,7 @@ impl DefMaps<'_> {
 
     /// The module so many levels above, where there are as many; a block's root counts as the module that holds it.
     #[tactic(auto, using(crate::proofs::Climb::climbs))]
-    fn climb(&self, levels: u8, from: ModuleId) -> Option<ModuleId>
+    pub fn climb(&self, levels: u8, from: ModuleId) -> Option<ModuleId>
         ensures value { result ≡ climb (maps_of self.now) levels from }
     {
         let mut at = from;

@@ -1,16 +1,15 @@
 -- The parts are those of a session that begins, and such a session is sound.
+use Rattle.std.proofs.Common.{refl}
 use Rattle.std.proofs.lemmas.List.{length-map}
 use Rattle.hir_wire.specs.CommandValue.{crate_input_view}
 use Rattle.hir_session.proofs.Start.{begins_sound, begins_with}
 use Rattle.hir_session.proofs.session.begin.Goals as goal
 
 pub invariant_of-result : goal.invariant_of-result
-invariant_of-result c = begins_sound _ _ (rw (length-map c.args.inputs.now.items crate_input_view) c.requires.few) c.requires.ordered
-    (begins_with c.args.inputs.now.items _ _ _ _ c.in_ok-crates.ensures.made c.in_ok-crates.ensures.built c.requires.ordered c.in_ok-crates.ensures.rooted
-    c.new.ensures.value c.new-2.ensures.none)
+invariant_of-result c = rw c.new.ensures.value (begins_sound _ _ (rw (length-map c.args.inputs.now.items crate_input_view) c.requires.few) c.requires.ordered
+    (begins_with c.args.inputs.now.items _ _ _ _ c.in_ok-crates.ensures.made c.in_ok-crates.ensures.rooted refl c.new-2.ensures.none))
 
 pub returns : goal.returns
 returns c = record {
-  begins = begins_with c.args.inputs.now.items _ _ _ _ c.in_ok-crates.ensures.made c.in_ok-crates.ensures.built c.requires.ordered c.in_ok-crates.ensures.rooted
-      c.new.ensures.value c.new-2.ensures.none;
+  begins = rw c.new.ensures.value (begins_with c.args.inputs.now.items _ _ _ _ c.in_ok-crates.ensures.made c.in_ok-crates.ensures.rooted refl c.new-2.ensures.none);
 }

@@ -1,11 +1,10 @@
 use Rattle.std.proofs.Common.{refl}
-use Rattle.hir_def_collector.specs.Steps.{declares_item}
-use Rattle.hir_def_collector.proofs.Made.{made}
+use Rattle.hir_def_collector.proofs.Made.{declared}
 use Rattle.hir_def_collector.proofs.collector.declare.declare_struct.Goals as goal
 
 pub returns-clause-ok : goal.returns-clause-ok
 returns-clause-ok c = λ env. record {
   step = λ rest.
-      made (declares_item _ _ rest) (record { here = record { next = refl; enabled = c.requires.enabled }; declares = refl }) tt
+      declared _ _ _ _ rest c.requires.enabled refl
       (rw (c.in_ok-declare.ensures.ok, c.struct_items.ensures.value, c.constructor-constructor.ensures.value, c.visibility-own.ensures.value, c.module_id-at.ensures.value, c.in_ok-clone.ensures.value) refl);
 }

@@ -1,9 +1,8 @@
 use Rattle.std.proofs.Common.{refl}
-use Rattle.hir_def_collector.specs.Steps.{declares_item}
-use Rattle.hir_def_collector.proofs.Made.{made}
+use Rattle.hir_def_collector.proofs.Made.{declared}
 use Rattle.hir_def_collector.proofs.collector.declare.declare_trait.Goals as goal
 
 pub returns-clause-ok : goal.returns-clause-ok
 returns-clause-ok c = λ env. record {
-  step = λ rest. made (declares_item _ _ rest) (record { here = record { next = refl; enabled = c.requires.enabled }; declares = refl }) tt (rw (c.in_ok-declare_type.ensures.ok, c.module_id.ensures.value) refl);
+  step = λ rest. declared _ _ _ _ rest c.requires.enabled refl (rw (c.in_ok-declare_type.ensures.ok, c.module_id.ensures.value) refl);
 }

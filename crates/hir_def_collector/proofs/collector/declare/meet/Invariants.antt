@@ -1,6 +1,7 @@
 use Rattle.std.proofs.Common.{◌≡◌, drop, map}
-use Rattle.hir_def_map.specs.Parts.{part_of}
-use Rattle.hir_def_collector.specs.Items.{meet_of, visibility_in}
+use Rattle.hir_def_map.specs.WorldParts.{part_of}
+use Rattle.hir_def_collector.specs.Items.{meet_of}
+use Rattle.hir_import_resolution.specs.Visibilities.{visibility_in}
 use Rattle.hir_def_collector.proofs.collector.declare.meet.Given as goal
 
 abbrev pub invariant-loop-other : goal.invariant-loop-other

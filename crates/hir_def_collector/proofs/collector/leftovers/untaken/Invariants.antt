@@ -3,4 +3,4 @@ use Rattle.hir_def_collector.specs.Derivation.{leftover_among}
 use Rattle.hir_def_collector.proofs.collector.leftovers.untaken.Given as goal
 
 abbrev pub invariant-loop-i : goal.invariant-loop-i
-invariant-loop-i l = l.leftover.items ++ leftover_among (drop l.i l.reached) (drop l.i l.taken) ≡ leftover_among l.reached l.taken
+invariant-loop-i l = l.leftover.items ++ leftover_among (drop l.i l.imports) (drop l.i l.taken) ≡ leftover_among l.imports l.taken

@@ -1,45 +1,48 @@
--- A step takes no module away, so the site's is still there.
-use Rattle.std.proofs.Common.{[], refl, inl, inr}
-use Rattle.hir_def_map.specs.State.{no_maps}
-use Rattle.hir_def_collector.proofs.Walked.{nowhere, still_there, passed}
+use Rattle.std.proofs.Common.{rules, ◌≡◌, ◌∷◌, [], List, true, refl, inl, sym, subst}
+use Rattle.hir_item_tree.specs.KeptForest.{KeptItem}
+use Rattle.hir_item_tree.specs.Kinds.{kind_content}
+use Rattle.hir_item_tree.specs.Rows.{item_of}
+use Rattle.hir_tables.specs.Tables.{KeepsTables}
+use Rattle.hir_def_map.specs.WorldParts.{part_of}
+use Rattle.hir_def_collector.specs.Keys.{environment}
+use Rattle.hir_def_collector.specs.Moves.{is_single}
+use Rattle.hir_def_collector.specs.TreeReads.{head_of}
+use Rattle.hir_def_collector.proofs.Numbers.{tables_stay}
+use Rattle.hir_def_collector.proofs.Outline.{held_grown, held_source}
+use Rattle.hir_def_collector.proofs.Walked.{block_here, far_item, inline_here, single_here}
 use Rattle.hir_def_collector.proofs.collector.walk.visit_item.Goals as goal
 
-pub returns-in_ok-reach_use-in-Use-clause-in_range : goal.returns-in_ok-reach_use-in-Use-clause-in_range
-returns-in_ok-reach_use-in-Use-clause-in_range g c = still_there _ _ _ _ _ (c.in_ok-reach_use-in-Use.ensures.ok nowhere no_maps) c.requires.in_range
+pub returns-in_err-visit_leaf-in_default : goal.returns-in_err-visit_leaf-in_default
+returns-in_err-visit_leaf-in_default g c = record {
+  kept = tables_stay c.args.locations.now;
+  same = refl;
+  ok = search rules;
+  within = search rules;
+  many = λ h grown k items.
+      let single : is_single c.args.item ≡ true = search rules in
+      far_item (environment grown (g.D.SourceDatabase.workspace c.args.db.now)) (part_of c.args.world) c.args.site.now items (head_of c.args.head) c.args.item c.args.run.now c.requires.enabled (single_here items (head_of c.args.head) c.args.item single)
+      (inl (c.in_err-visit_leaf-in_default.ensures.many (search rules)));
+}
 
-pub returns-in_ok-reach_extern_crate-in-ExternCrate-clause-in_range : goal.returns-in_ok-reach_extern_crate-in-ExternCrate-clause-in_range
-returns-in_ok-reach_extern_crate-in-ExternCrate-clause-in_range g c = still_there _ _ _ _ _ (c.in_ok-reach_extern_crate-in-ExternCrate.ensures.ok nowhere no_maps) c.requires.in_range
+pub returns-in-Inline-clause-many : goal.returns-in-Inline-clause-many
+returns-in-Inline-clause-many g c = λ h grown k items.
+    far_item (environment grown (g.D.SourceDatabase.workspace c.args.db.now)) (part_of c.args.world) c.args.site.now items (head_of c.args.head) c.args.item c.args.run.now c.requires.enabled
+    (inline_here items (head_of c.args.head) c.args.item c.in-Mod.item c.in-Inline.items c.in-Mod.is c.in-Inline.is) (c.visit_inline.ensures.many h)
 
-pub returns-in_ok-declare_function-in-Function-clause-in_range : goal.returns-in_ok-declare_function-in-Function-clause-in_range
-returns-in_ok-declare_function-in-Function-clause-in_range g c = still_there _ _ _ _ _ (c.in_ok-declare_function-in-Function.ensures.ok nowhere) c.requires.in_range
+pub returns-in-ExternBlock-clause-many : goal.returns-in-ExternBlock-clause-many
+returns-in-ExternBlock-clause-many g c = λ h grown k items.
+    far_item (environment grown (g.D.SourceDatabase.workspace c.args.db.now)) (part_of c.args.world) c.args.site.now items (head_of c.args.head) c.args.item c.args.run.now c.requires.enabled
+    (block_here items (head_of c.args.head) c.args.item c.in-ExternBlock.item c.in-ExternBlock.is) (inl (c.enter.ensures.many h))
 
-pub returns-in_ok-declare_struct-in-Struct-clause-in_range : goal.returns-in_ok-declare_struct-in-Struct-clause-in_range
-returns-in_ok-declare_struct-in-Struct-clause-in_range g c = still_there _ _ _ _ _ (c.in_ok-declare_struct-in-Struct.ensures.ok nowhere) c.requires.in_range
-
-pub returns-in_ok-declare_union-in-Union-clause-in_range : goal.returns-in_ok-declare_union-in-Union-clause-in_range
-returns-in_ok-declare_union-in-Union-clause-in_range g c = still_there _ _ _ _ _ (c.in_ok-declare_union-in-Union.ensures.ok nowhere []) c.requires.in_range
-
-pub returns-in_ok-visit_const-in-Const-clause-in_range : goal.returns-in_ok-visit_const-in-Const-clause-in_range
-returns-in_ok-visit_const-in-Const-clause-in_range g c = still_there _ _ _ _ _ (c.in_ok-visit_const-in-Const.ensures.ok nowhere) c.requires.in_range
-
-pub returns-in_ok-declare_static-in-Static-clause-in_range : goal.returns-in_ok-declare_static-in-Static-clause-in_range
-returns-in_ok-declare_static-in-Static-clause-in_range g c = still_there _ _ _ _ _ (c.in_ok-declare_static-in-Static.ensures.ok nowhere) c.requires.in_range
-
-pub returns-in_ok-declare_trait-in-Trait-clause-in_range : goal.returns-in_ok-declare_trait-in-Trait-clause-in_range
-returns-in_ok-declare_trait-in-Trait-clause-in_range g c = still_there _ _ _ _ _ (c.in_ok-declare_trait-in-Trait.ensures.ok nowhere) c.requires.in_range
-
-pub returns-in_ok-list_impl-in-Impl-clause-in_range : goal.returns-in_ok-list_impl-in-Impl-clause-in_range
-returns-in_ok-list_impl-in-Impl-clause-in_range g c = still_there _ _ _ _ _ (c.in_ok-list_impl-in-Impl.ensures.ok nowhere no_maps) c.requires.in_range
-
-pub returns-in_ok-declare_type_alias-in-TypeAlias-clause-in_range : goal.returns-in_ok-declare_type_alias-in-TypeAlias-clause-in_range
-returns-in_ok-declare_type_alias-in-TypeAlias-clause-in_range g c = still_there _ _ _ _ _ (c.in_ok-declare_type_alias-in-TypeAlias.ensures.ok nowhere) c.requires.in_range
-
-pub returns-in_ok-tick-in-MacroCall-clause-ok : goal.returns-in_ok-tick-in-MacroCall-clause-ok
-returns-in_ok-tick-in-MacroCall-clause-ok g c = λ items. elim c.in-MacroCall.is [
-  | inl p ↦ rw p.1 (passed _ _ _ _ _ c.requires.enabled refl c.in_ok-tick-in-MacroCall.ensures.ok)
-  | inr (inl p) ↦ rw p.1 (passed _ _ _ _ _ c.requires.enabled refl c.in_ok-tick-in-MacroCall.ensures.ok)
-  | inr (inr p) ↦ rw p.1 (passed _ _ _ _ _ c.requires.enabled refl c.in_ok-tick-in-MacroCall.ensures.ok)
-]
-
-pub returns-in_ok-declare_enum-in-Enum-clause-in_range : goal.returns-in_ok-declare_enum-in-Enum-clause-in_range
-returns-in_ok-declare_enum-in-Enum-clause-in_range g c = still_there _ _ _ _ _ c.in_ok-declare_enum-in-Enum.ensures.ok c.requires.in_range
+pub returns-in_ok-visit_leaf-in_default : goal.returns-in_ok-visit_leaf-in_default
+returns-in_ok-visit_leaf-in_default g c = record {
+  kept = tables_stay c.args.locations.now;
+  same = refl;
+  ok = λ grown k items.
+      let w = g.D.SourceDatabase.workspace c.args.db.now in
+      let krate = c.args.run.now.map.id.krate in
+      let held = held_grown c.args.locations.now grown w krate c.args.site.now.tree c.args.source.now k c.requires.held in
+      c.in_ok-visit_leaf-in_default.ensures.ok (environment grown w) (held_source grown w krate c.args.site.now.tree c.args.source.now held) items;
+  within = tt;
+  many = λ h. absurd (let no : ⊥ = cc in no);
+}

@@ -1,6 +1,6 @@
 -- The module that has been reached leads to the same one.
 use Rattle.std.proofs.Common.{◌≡◌, length}
-use Rattle.hir_def_map.specs.Chains.{holders_in}
+use Rattle.hir_def_map.specs.Ancestors.{holders_in}
 use Rattle.hir_def_map.specs.DefMaps.{maps_of}
 use Rattle.hir_def_map.specs.Scoping.Segments.{nearest_non_block_module}
 use Rattle.hir_def_map.proofs.def_maps.DefMaps.nearest_non_block_module.Given as goal

@@ -1,16 +1,16 @@
 -- The maps that are seen at once are those of the world and this one.
 use Rattle.std.proofs.Common.{◌≡◌, ◌∷◌, ap, ◌∙◌, subst}
 use Rattle.hir_def_map.specs.AskMaps.{AsksMaps, with_maps}
-use Rattle.hir_def_map.specs.Chains.{holders_in}
+use Rattle.hir_def_map.specs.Ancestors.{holders_in}
 use Rattle.hir_def_map.specs.DefMaps.{maps_of}
-use Rattle.hir_def_map.specs.State.{Maps, beside}
+use Rattle.hir_def_map.specs.Overlay.{Maps, overlay}
 use Rattle.hir_def_map.specs.World.{finished_in}
 use Rattle.hir_def_map.proofs.nameres.DefMap.with_ancestor_maps.Given as given
 use Rattle.hir_def_map.proofs.nameres.DefMap.with_ancestor_maps.Goals as goal
 
 pub returns : goal.returns
 returns g c =
-    let is : maps_of c.new-maps.result ≡ beside (finished_in c.args.world.now.maps) c.args.self.now =
-    c.new-maps.ensures.value ∙ ap (λ (finished : Maps). beside finished c.args.self.now) c.all.ensures.value
+    let is : maps_of c.new-maps.result ≡ overlay (finished_in c.args.world.now.maps) c.args.self.now =
+    c.new-maps.ensures.value ∙ ap (λ (finished : Maps). overlay finished c.args.self.now) c.all.ensures.value
     in
     record { value = subst (λ (maps : Maps). AsksMaps (given.F-step g) c.args.f (with_maps maps (c.args.at ∷ holders_in maps c.args.at)) c.with_ancestor_maps.result) is c.with_ancestor_maps.ensures.value }

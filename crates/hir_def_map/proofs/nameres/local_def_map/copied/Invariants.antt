@@ -1,13 +1,12 @@
 -- What was copied and what is left are all.
-use Rattle.std.proofs.Common.{◌≡◌, ◌++◌, length}
-use Rattle.std.specs.Cmp.Lexicographic.{slice_cmp}
-use Rattle.std.specs.List.Sorted.{IsStrictlySortedBy}
+use Rattle.std.proofs.Common.{◌≡◌, ◌++◌, nat_eq, length}
+use Rattle.std.specs.Cmp.Lexicographic.{pointwise}
+use Rattle.std.specs.List.{IsDistinct}
 use Rattle.std.specs.Map.{keys_of}
-use Rattle.std.specs.Ordering.{nat_cmp}
 use Rattle.hir_def_map.proofs.nameres.local_def_map.copied.Given as goal
 
 abbrev pub invariant-next : goal.invariant-next
-invariant-next l = IsStrictlySortedBy (slice_cmp nat_cmp) (keys_of l.entries.entries) × (l.copy.entries ++ l.left ≡ l.entries.entries)
+invariant-next l = IsDistinct (pointwise nat_eq) (keys_of l.entries.entries) × (l.copy.entries ++ l.left ≡ l.entries.entries)
 
 abbrev pub decreases-next : goal.decreases-next
 decreases-next l = length l.left

@@ -4,7 +4,7 @@ use Rattle.std.specs.BTreeMap.{Updates}
 use Rattle.hir_base.specs.declared.ids.MapId.{MapId}
 use Rattle.hir_base.specs.contracts.ids.MapIdOrd.TheImpl as map_order
 use Rattle.hir_def_map.specs.declared.world.finished.Finished.{Finished}
-use Rattle.hir_def_map.specs.Dependents.{Leaves}
+use Rattle.hir_def_map.specs.Inner.Dependents.{Leaves}
 use Rattle.hir_def_map.proofs.Entries.{alike_index, joined_index, refused_index}
 use Rattle.hir_def_map.proofs.world.insert.add_entered.Goals as goal
 

@@ -3,7 +3,7 @@ use Rattle.hir_base.specs.contracts.ast_id.AstIdPartialEq.TheImpl as ast_id
 use Rattle.hir_scope.proofs.Rewrites.{set_value-same, on_err}
 use Rattle.hir_scope.proofs.item_scope.macro_calls.push_derive_attribute.Goals as goal
 
--- the list that refused the macro is as it was, and so the entries are
+-- the list whose allocation failed is unchanged, and so are the entries
 pub returns-in_err-push-clause-err : goal.returns-in_err-push-clause-err
 returns-in_err-push-clause-err c =
     on_err c.from_residual.result ((c.get_mut.follows.holds c.push.new.self).0

@@ -3,7 +3,7 @@ use Rattle.std.specs.Cmp.Lexicographic.{pointwise}
 use Rattle.hir_scope.proofs.Rewrites.{set_value-same, on_err}
 use Rattle.hir_scope.proofs.item_scope.macro_calls.push_legacy_macro.Goals as goal
 
--- the list that refused the macro is as it was, and so the entries are
+-- the list whose allocation failed is unchanged, and so are the entries
 pub returns-in_err-push-in-Some-clause-err : goal.returns-in_err-push-in-Some-clause-err
 returns-in_err-push-in-Some-clause-err c =
     on_err c.from_residual.result ((c.get_mut.follows.holds c.push.new.self).0

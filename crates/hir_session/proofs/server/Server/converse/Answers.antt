@@ -3,7 +3,13 @@ use Rattle.std.specs.Io.KnownBytes.{Consumes, IsAtEnd}
 use Rattle.std.proofs.KnownBytes.{Consumes-nil, Appends-nil, Consumes-trans, Consumes-kept}
 use Rattle.hir_session.specs.Runs.{Ends}
 use Rattle.hir_session.proofs.RunLemmas.{so_far, ends_at, breaks_at, Fed-append}
+use Rattle.hir_session.proofs.Headline.{headline}
+use Rattle.hir_session.proofs.LowerLaws.{paths_answer, paths_lead, runs_bind}
+use Rattle.hir_session.specs.Headline.{RepliesHoldTheHeadline}
 use Rattle.hir_session.proofs.server.Server.converse.Goals as goal
+
+holds : RepliesHoldTheHeadline
+holds = headline runs_bind paths_answer paths_lead
 
 pub loop-turn-init : goal.loop-turn-init
 loop-turn-init g c = λ open_line. ([], Consumes-nil _, record { answers = []; answered = refl; written = Appends-nil _; open_line = open_line })
@@ -12,14 +18,14 @@ pub returns-in-Err : goal.returns-in-Err
 returns-in-Err g c = record {
   converses = λ open_line first.
       let (input, consumed, fed) = c.loop-turn.invariant open_line in
-      (input, Consumes-kept _ _ _ input consumed c.in-Err.ensures.bytes, so_far c.replies_hold_the_headline.ensures.law c.args.self.now c.loop-turn.self input _ _ first fed);
+      (input, Consumes-kept _ _ _ input consumed c.in-Err.ensures.bytes, so_far holds c.args.self.now c.loop-turn.self input _ _ first fed);
 }
 
 pub returns : goal.returns
 returns g c = record {
   converses = λ open_line first.
       let (input, consumed, fed) = c.loop-turn.invariant open_line in
-      (input, consumed, so_far c.replies_hold_the_headline.ensures.law c.args.self.now c.loop-turn.self input _ _ first fed);
+      (input, consumed, so_far holds c.args.self.now c.loop-turn.self input _ _ first fed);
 }
 
 pub loop-turn-preserved : goal.loop-turn-preserved
@@ -66,6 +72,6 @@ returns-then-count-eq0 g c = record {
       let end : IsAtEnd r2 = c.in-Ok.ensures.bytes.1 c.if-count-eq0.true room in (
         input,
         subst (Consumes r0 r2) (ap (λ bs. input ++ bs) none ∙ append-nil input) all,
-        ends_at c.replies_hold_the_headline.ensures.law c.finish.result c.args.self.now now input r2 _ _ _ first end fed (c.finish.ensures.ok _ fed.open_line) (c.finish.ensures.err _ fed.open_line),
+        ends_at holds c.finish.result c.args.self.now now input r2 _ _ _ first end fed (c.finish.ensures.ok _ fed.open_line) (c.finish.ensures.err _ fed.open_line),
       );
 }

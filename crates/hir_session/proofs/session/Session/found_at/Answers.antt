@@ -1,29 +1,32 @@
--- The run read the maps of the crates on which its crate stands, each of which is current and names only what is there.
+-- The run read the maps of the crates on which its crate depends, each of which is current and names only what is there.
+use Rattle.std.proofs.Common.{◌≡◌, subst, sym, Err}
+use Rattle.hir_def_map.specs.Overlay.{Maps}
+use Rattle.hir_def_collector.specs.Derivation.{IsOverlong}
+use Rattle.hir_session.specs.Crates.{beginning_in}
+use Rattle.hir_session.specs.Inputs.{InputsValue, workspace_by}
+use Rattle.hir_session.specs.Kept.{finished_by}
+use Rattle.hir_session.specs.declared.error.RefreshError.TheVariants as refresh_error
+use Rattle.hir_session.proofs.LowerLaws.{answers_stand, asked_keys_have_meaning, looks_stand, runs_name}
 use Rattle.hir_session.proofs.Resolving.{found_of, grown_of, grown_sound}
+use Rattle.hir_session.proofs.Truth.{on_ok}
 use Rattle.hir_session.proofs.session.Session.found_at.Goals as goal
 
 pub invariant_of-self : goal.invariant_of-self
-invariant_of-self c =
-    let law = c.answers_stand_as_tables_grow.ensures in
-    grown_sound law.looks law.meaning law.answers _ _ c.resolve_crate.ensures.kept c.self.invariant
-
-pub returns-in_err-found-clause-grown : goal.returns-in_err-found-clause-grown
-returns-in_err-found-clause-grown c =
-    let law = c.answers_stand_as_tables_grow.ensures in
-    grown_of law.looks law.meaning law.answers _ _ c.resolve_crate.ensures.kept _ c.self.view_is c.self.invariant
-
-pub invariant_of-self-2 : goal.invariant_of-self-2
-invariant_of-self-2 c =
-    let law = c.answers_stand_as_tables_grow.ensures in
-    grown_sound law.looks law.meaning law.answers _ _ c.resolve_crate.ensures.kept c.self.invariant
+invariant_of-self c = rw c.resolve.ensures.same (grown_sound looks_stand asked_keys_have_meaning answers_stand _ _ c.resolve.ensures.kept c.self.invariant)
 
 pub returns-clause-grown : goal.returns-clause-grown
-returns-clause-grown c =
-    let law = c.answers_stand_as_tables_grow.ensures in
-    grown_of law.looks law.meaning law.answers _ _ c.resolve_crate.ensures.kept _ c.self.view_is c.self.invariant
+returns-clause-grown c = rw c.resolve.ensures.same (grown_of looks_stand asked_keys_have_meaning answers_stand _ _ c.resolve.ensures.kept _ c.self.view_is c.self.invariant)
 
 pub returns-clause-found : goal.returns-clause-found
-returns-clause-found c =
-    let law = c.answers_stand_as_tables_grow.ensures in
-    found_of law.looks law.meaning law.answers _ _ c.resolve_crate.ensures.kept _ c.self.view_is c.self.invariant c.runs_name_what_is_there.ensures.there
-    c.args.k c.requires.first _ _ c.world.ensures.value c.in_ok-found.ensures.resolved
+returns-clause-found c = rw c.resolve.ensures.same (on_ok c.resolve.result
+    (λ r resolved. found_of looks_stand asked_keys_have_meaning answers_stand _ _ c.resolve.ensures.kept _ c.self.view_is c.self.invariant runs_name
+    c.args.k c.requires.first _ _ c.world.ensures.value resolved)
+    c.resolve.ensures.resolved)
+
+pub returns-clause-many : goal.returns-clause-many
+returns-clause-many c =
+    subst (λ (i : InputsValue). c.resolve.result ≡ Err refresh_error.TooMany
+    → IsOverlong c.resolve.new.tables (workspace_by i) (finished_by c.self.inside.kept) (beginning_in i.crates c.args.k)) (sym c.resolve.ensures.same)
+    (subst (λ (finished : Maps). c.resolve.result ≡ Err refresh_error.TooMany
+    → IsOverlong c.resolve.new.tables (workspace_by c.self.inside.inputs) finished (beginning_in c.self.inside.inputs.crates c.args.k))
+    c.world.ensures.value c.resolve.ensures.many)

@@ -4,10 +4,13 @@ use Rattle.hir_item_tree.specs.Source.{source_view}
 use Rattle.hir_session.proofs.Sound.{edited_sound, edited_becomes}
 use Rattle.hir_session.proofs.session.Session.keep_file.Goals as goal
 
+pub invariant_of-self : goal.invariant_of-self
+invariant_of-self c = rw c.in_err-set_file.ensures.err c.self.invariant
+
 pub invariant_of-self-2 : goal.invariant_of-self-2
-invariant_of-self-2 c = edited_sound _ c.args.self.now _ c.args.file (Some (source_view c.args.source)) _ _
-    c.self.view_is c.self.invariant c.in_ok-set.ensures.ok c.in_ok-hits.ensures.hit c.forget.ensures.forgotten
+invariant_of-self-2 c = rw c.in_ok-set_file.ensures.ok (edited_sound _ c.args.file (Some (source_view c.args.source)) _ _
+    c.self.invariant c.in_ok-hits.ensures.hit c.forget.ensures.forgotten)
 
 pub returns-clause-ok : goal.returns-clause-ok
-returns-clause-ok c = edited_becomes _ c.args.self.now _ c.args.file (Some (source_view c.args.source)) _ _
-    c.self.view_is c.self.invariant c.in_ok-set.ensures.ok c.in_ok-hits.ensures.hit c.forget.ensures.forgotten
+returns-clause-ok c = rw c.in_ok-set_file.ensures.ok (edited_becomes _ c.args.file (Some (source_view c.args.source)) _ _
+    _ c.self.view_is c.self.invariant c.in_ok-hits.ensures.hit c.forget.ensures.forgotten)

@@ -1,26 +1,29 @@
 -- Each crate in turn is either not due, or the first that still is.
-use Rattle.std.proofs.Common.{◌∙◌, sym, List, length, arith, ap}
+use Rattle.std.proofs.Common.{◌≡◌, ◌∙◌, sym, subst, List, [], length, arith, ap}
 use Rattle.hir_session.specs.Changes.{RefreshesPartly}
 use Rattle.hir_session.specs.Crates.{CrateValue}
 use Rattle.std.specs.Prelude.{is_none}
 use Rattle.hir_session.specs.Crates.{id_of}
 use Rattle.hir_session.specs.Kept.{Resolutions, kept_in}
+use Rattle.hir_session.specs.SessionState.{SessionState}
 use Rattle.hir_scope.proofs.Rewrites.{on_err}
-use Rattle.hir_session.proofs.Due.{refreshing-start, refreshing-grown, refreshing-more, refreshing-skip, refreshing-end, passed_on, overlong_first}
+use Rattle.hir_session.proofs.Due.{IsRefreshing, refreshing-start, refreshing-grown, refreshing-more, refreshing-skip, refreshing-end, passed_on, overlong_first}
 use Rattle.hir_session.proofs.session.Session.refresh.Goals as goal
 use Rattle.hir_session.proofs.session.Session.refresh.Goals.{then-is_marked_at+in_ok-note+in_ok-resolve_at, else-is_marked_at}
 
 pub loop-k-init : goal.loop-k-init
-loop-k-init c = rw c.new-done.ensures.items (refreshing-start _ c.sound.ensures.sound)
+loop-k-init c = rw c.new-done.ensures.items (subst (λ (s : SessionState). IsRefreshing s s [] 0) c.self.view_is (refreshing-start _ c.self.invariant))
 
 pub returns-clause-refreshes : goal.returns-clause-refreshes
 returns-clause-refreshes c =
     let count = ap (λ (xs : List CrateValue). length xs) c.loop-k.invariant.so_far.crates in
+    let all : length c.crates.result.now ≡ length c.args.self.now.crates = ap (λ (xs : List CrateValue). length xs) (c.crates.ensures.value ∙ ap (λ (s : SessionState). s.crates) c.self.view_is) in
     refreshing-end c.loop-k.k c.loop-k.invariant (omega arith)
 
 pub returns-in_err-resolve_at-clause-many : goal.returns-in_err-resolve_at-clause-many
 returns-in_err-resolve_at-clause-many c = λ many.
     let count = ap (λ (xs : List CrateValue). length xs) c.loop-k.invariant.so_far.crates in
+    let all : length c.crates.result.now ≡ length c.args.self.now.crates = ap (λ (xs : List CrateValue). length xs) (c.crates.ensures.value ∙ ap (λ (s : SessionState). s.crates) c.self.view_is) in
     let grown = c.in_err-resolve_at.ensures.err in
     let now = ap (λ (xs : List CrateValue). length xs) grown.crates in
     overlong_first c.loop-k.k (refreshing-grown c.loop-k.k c.loop-k.invariant grown) (omega arith)
@@ -38,6 +41,7 @@ returns-in_err-resolve_at-clause-err c =
 pub loop-k-preserved : goal.loop-k-preserved
 loop-k-preserved c =
     let count = ap (λ (xs : List CrateValue). length xs) c.loop-k.invariant.so_far.crates in
+    let all : length c.crates.result.now ≡ length c.args.self.now.crates = ap (λ (xs : List CrateValue). length xs) (c.crates.ensures.value ∙ ap (λ (s : SessionState). s.crates) c.self.view_is) in
     elim c.if-is_marked_at.branch [
       | then-is_marked_at+in_ok-note+in_ok-resolve_at w ↦
           let found = w.in_ok-resolve_at.ensures.ok in

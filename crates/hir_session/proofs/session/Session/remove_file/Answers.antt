@@ -4,9 +4,9 @@ use Rattle.hir_session.proofs.Sound.{edited_sound, edited_becomes}
 use Rattle.hir_session.proofs.session.Session.remove_file.Goals as goal
 
 pub invariant_of-self : goal.invariant_of-self
-invariant_of-self c = edited_sound _ c.args.self.now _ c.args.file.now None _ _
-    c.self.view_is c.self.invariant c.remove.ensures.value c.in_ok-hits.ensures.hit c.forget.ensures.forgotten
+invariant_of-self c = rw c.remove_file.ensures.value (edited_sound _ c.args.file.now None _ _
+    c.self.invariant c.in_ok-hits.ensures.hit c.forget.ensures.forgotten)
 
 pub returns-clause-ok : goal.returns-clause-ok
-returns-clause-ok c = edited_becomes _ c.args.self.now _ c.args.file.now None _ _
-    c.self.view_is c.self.invariant c.remove.ensures.value c.in_ok-hits.ensures.hit c.forget.ensures.forgotten
+returns-clause-ok c = rw c.remove_file.ensures.value (edited_becomes _ c.args.file.now None _ _
+    _ c.self.view_is c.self.invariant c.in_ok-hits.ensures.hit c.forget.ensures.forgotten)

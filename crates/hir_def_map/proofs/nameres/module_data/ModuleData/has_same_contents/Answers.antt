@@ -3,7 +3,7 @@ use Rattle.std.proofs.Common.{◌≡◌, ◌∙◌, ap, sym, Bool, true, ◌&&�
 use Rattle.hir_base.specs.contracts.ids.ModuleIdPartialEq.TheImpl as module_id
 use Rattle.hir_scope.specs.Inner.Equality.{same_scope}
 use Rattle.hir_def_map.specs.State.{ModuleValue}
-use Rattle.hir_def_map.specs.Same.{same_by_name, same_contents}
+use Rattle.hir_def_map.specs.Equality.{same_by_name, same_contents}
 use Rattle.hir_def_map.proofs.nameres.module_data.ModuleData.has_same_contents.Goals as goal
 
 contents_from : (a b x y : ModuleValue) → a ≡ x → b ≡ y → (r s : Bool) → r ≡ true → r ≡ same_by_name module_id.ghosts.eq a.children b.children → s ≡ same_scope a.scope b.scope → s ≡ same_contents x y

@@ -1,0 +1,214 @@
+-- A run's map seen from a state on the way: each module lists what it lists there, and what is still to be visited declares.
+use Rattle.std.proofs.Common.{◌≡◌, ◌∙◌, ◌<◌, ◌≤◌, ◌+◌, ℕ, List, [], ◌∷◌, ◌++◌, length, Option, Some, inl, inr, refl, sym, ap, subst, arith, append-nil, append_assoc}
+use Rattle.std.proofs.lemmas.Bool.{cases_lt}
+use Rattle.hir_base.specs.declared.ids.MapId.{MapId}
+use Rattle.hir_base.specs.declared.ids.ModuleDefId.{ModuleDefId}
+use Rattle.hir_base.specs.declared.ids.ModuleDefId.TheVariants as definitions
+use Rattle.hir_item_tree.specs.KeptForest.{KeptForest, KeptItem, item, no_items}
+use Rattle.hir_scope.specs.declared.visibility.Visibility.{Visibility}
+use Rattle.hir_tables.specs.Tables.{TablesValue}
+use Rattle.hir_def_map.specs.Overlay.{Maps}
+use Rattle.hir_def_map.specs.State.{CrateData, Map, ModuleValue, module_at, new_id, new_module, numbered}
+use Rattle.hir_def_map.proofs.StaysWellFormed.{length-made}
+use Rattle.hir_def_map.specs.declared.nameres.origin.ModuleOrigin.{ModuleOrigin}
+use Rattle.hir_def_collector.specs.declared.collector.site.Site.{Site}
+use Rattle.hir_def_collector.specs.Causes.{declarations_of}
+use Rattle.hir_def_collector.specs.Changes.{Change, makes, act, perform}
+use Rattle.hir_def_collector.specs.Derivation.{CollectedValue}
+use Rattle.hir_def_collector.specs.ItemIds.{module_id}
+use Rattle.hir_def_collector.specs.Start.{Beginning}
+use Rattle.hir_def_collector.specs.State.{State, Visit, visits}
+use Rattle.hir_def_collector.specs.Steps.{visit}
+use Rattle.hir_def_collector.specs.Workspace.{Workspace}
+use Rattle.hir_def_collector.proofs.InRange.{VisitsBelow}
+use Rattle.hir_def_collector_laws.specs.Declares.{Declares, DeclaresOne, IsModuleOf, module_alone}
+use Rattle.hir_def_collector_laws.specs.Modules.{ListsItsItems}
+use Rattle.hir_def_collector_laws.proofs.Lists.{at_home, at_home-above, at_home-below, at_home-both, at_home-nothing, at_home-same}
+use Rattle.hir_def_collector_laws.proofs.Listings.{Stays, StaysAt, Stays-perform, Stays-trans, added-perform, all_added, all_made, data-perform, id-perform, length-perform, made_there}
+
+module _ (tables : TablesValue) (w : Workspace) (finished : Maps) (from : Beginning) (answer : CollectedValue) where
+  -- ---- what visits declare
+
+  abbrev pub AllDeclare : List Visit → Type 0
+  AllDeclare [] = Unit {0}
+  AllDeclare (v ∷ vs) = ((defs : List ModuleDefId) × DeclaresOne tables w finished answer v.item v.site defs) × AllDeclare vs
+
+  -- in a module
+  abbrev pub gathered : ℕ → (vs : List Visit) → AllDeclare vs → List ModuleDefId
+  gathered k [] p = []
+  gathered k (v ∷ vs) p = at_home v.site.home k p.0.0 ++ gathered k vs p.1
+
+  -- the items of one site, all together
+  abbrev pub altogether : (s : Site) (is : KeptForest) → AllDeclare (visits s is) → List ModuleDefId
+  altogether s no_items p = []
+  altogether s (item i is) p = p.0.0 ++ altogether s is p.1
+
+  pub declare_altogether : (s : Site) (is : KeptForest) (p : AllDeclare (visits s is)) → Declares tables w finished answer is s (altogether s is p)
+  declare_altogether s no_items p = refl
+  declare_altogether s (item i is) p = (p.0.0, altogether s is p.1, p.0.1, declare_altogether s is p.1, refl)
+
+  pub gathered_at : (k : ℕ) (s : Site) (is : KeptForest) (p : AllDeclare (visits s is)) → gathered k (visits s is) p ≡ at_home s.home k (altogether s is p)
+  gathered_at k s no_items p = sym (at_home-nothing s.home k)
+  gathered_at k s (item i is) p = ap (λ (xs : List ModuleDefId). at_home s.home k p.0.0 ++ xs) (gathered_at k s is p.1) ∙ sym (at_home-both s.home k p.0.0 (altogether s is p.1))
+
+  pub gathered_below : (k : ℕ) (vs : List Visit) (p : AllDeclare vs) → VisitsBelow k vs → gathered k vs p ≡ []
+  gathered_below k [] p f = refl
+  gathered_below k (v ∷ vs) p f = ap (λ (xs : List ModuleDefId). xs ++ gathered k vs p.1) (at_home-below v.site.home k p.0.0 f.0) ∙ gathered_below k vs p.1 f.1
+
+  abbrev pub earlier : (xs ys : List Visit) → AllDeclare (xs ++ ys) → AllDeclare xs
+  earlier [] ys p = tt
+  earlier (x ∷ xs) ys p = (p.0, earlier xs ys p.1)
+
+  abbrev pub others : (xs ys : List Visit) → AllDeclare (xs ++ ys) → AllDeclare ys
+  others [] ys p = p
+  others (x ∷ xs) ys p = others xs ys p.1
+
+  pub gathered_both : (k : ℕ) (xs ys : List Visit) (p : AllDeclare (xs ++ ys)) → gathered k (xs ++ ys) p ≡ gathered k xs (earlier xs ys p) ++ gathered k ys (others xs ys p)
+  gathered_both k [] ys p = refl
+  gathered_both k (x ∷ xs) ys p =
+      ap (λ (zs : List ModuleDefId). at_home x.site.home k p.0.0 ++ zs) (gathered_both k xs ys p.1)
+      ∙ sym (append_assoc (at_home x.site.home k p.0.0) (gathered k xs (earlier xs ys p.1)) (gathered k ys (others xs ys p.1)))
+
+  -- ---- a map on the way, and what is to be visited
+
+  pub record IsAhead (m : Map) (vs : List Visit) : Type 0 where
+    pub id : m.id ≡ answer.map.id
+    pub edition : m.crate_data.edition ≡ answer.map.crate_data.edition
+    pub fewer : length m.modules ≤ length answer.map.modules
+    pub stays : Stays m answer.map
+    pub pending : AllDeclare vs
+    pub lists : (k : ℕ) → k < length m.modules → declarations_of (module_at answer.map k) ≡ declarations_of (module_at m k) ++ gathered k vs pending
+    pub modules : (k : ℕ) → length m.modules ≤ k → k < length answer.map.modules → ListsItsItems tables w finished from answer k
+
+  module _ (s : State) (cs : List Change) where
+    abbrev before : Map
+    before = s.core.map
+
+    abbrev after : Map
+    after = (perform s cs).core.map
+
+    -- back over changes, where what they list and what comes next is what is declared before
+    pub back : {next vs : List Visit} (q : IsAhead after next) (pending : AllDeclare vs)
+        → ((k : ℕ) → k < length before.modules → all_added cs k ++ gathered k next q.pending ≡ gathered k vs pending)
+        → ((k : ℕ) → length before.modules ≤ k → k < length answer.map.modules → ListsItsItems tables w finished from answer k) → IsAhead before vs
+    back {next = next} {vs = vs} q pending same modules =
+        let more : length after.modules ≡ length before.modules + all_made cs = length-perform cs s in
+        record {
+          id = sym (id-perform cs s) ∙ q.id;
+          edition = sym (ap (λ (d : CrateData). d.edition) (data-perform cs s)) ∙ q.edition;
+          fewer = omega (arith, more, q.fewer);
+          stays = Stays-trans before after answer.map (Stays-perform cs s) q.stays;
+          pending = pending;
+          lists = λ k low.
+              q.lists k (omega (arith, more, low))
+              ∙ ap (λ (xs : List ModuleDefId). xs ++ gathered k next q.pending) (added-perform cs s k low)
+              ∙ append_assoc (declarations_of (module_at before k)) (all_added cs k) (gathered k next q.pending)
+              ∙ ap (λ (xs : List ModuleDefId). declarations_of (module_at before k) ++ xs) (same k low);
+          modules = modules;
+        }
+
+    -- where no module is made
+    pub back_same : {next vs : List Visit} (q : IsAhead after next) (pending : AllDeclare vs) → all_made cs ≡ 0
+        → ((k : ℕ) → all_added cs k ++ gathered k next q.pending ≡ gathered k vs pending) → IsAhead before vs
+    back_same q pending none_made same =
+        let more : length after.modules ≡ length before.modules + all_made cs = length-perform cs s in
+        back q pending (λ k low. same k) (λ k past below. q.modules k (omega (arith, more, none_made, past)) below)
+
+    -- an item that lists what it declares
+    pub back_one : (site : Site) (i : KeptItem) (rest : List Visit) (defs : List ModuleDefId) → DeclaresOne tables w finished answer i site defs → all_made cs ≡ 0
+        → ((k : ℕ) → all_added cs k ≡ at_home site.home k defs) → IsAhead after rest → IsAhead before (visit site i ∷ rest)
+    back_one site i rest defs declares none_made adds q =
+        back_same q ((defs, declares), q.pending) none_made (λ k. ap (λ (xs : List ModuleDefId). xs ++ gathered k rest q.pending) (adds k))
+
+  -- ---- a module that is made
+
+  module _ (s : State) (home : ℕ) (name : List ℕ) (origin : ModuleOrigin) (vis : Visibility) (cs : List Change) (low : home < length s.core.map.modules) (none_made : all_made cs ≡ 0)
+      (adds : (k : ℕ) → all_added cs k ≡ at_home home k (definitions.ModuleId (new_id s.core.map) ∷ [])) where
+    abbrev old_map : Map
+    old_map = s.core.map
+
+    abbrev number : ℕ
+    number = length s.core.map.modules
+
+    abbrev made : State
+    made = act s (makes home name origin vis)
+
+    abbrev new_map : Map
+    new_map = (perform made cs).core.map
+
+    more : length new_map.modules ≡ number + 1
+    more =
+        let all : length new_map.modules ≡ number + (1 + all_made cs) = length-perform (makes home name origin vis ∷ cs) s in
+        omega (arith, all, none_made)
+
+    there : module_at made.core.map number ≡ Some (new_module origin vis (Some (module_id old_map home)))
+    there = made_there old_map home name (new_module origin vis (Some (module_id old_map home)))
+
+    module _ {next : List Visit} (q : IsAhead new_map next) where
+      in_answer : number < length answer.map.modules
+      in_answer = let fewer : length new_map.modules ≤ length answer.map.modules = q.fewer in omega (arith, more, fewer)
+
+      own_id : old_map.id ≡ answer.map.id
+      own_id = sym (id-perform (makes home name origin vis ∷ cs) s) ∙ q.id
+
+      pub is_module : (site : Site) → site.home ≡ home → IsModuleOf answer.map site origin number
+      is_module site same =
+          let stays : StaysAt (module_at answer.map number) (new_module origin vis (Some (module_id old_map home))) = Stays-trans made.core.map new_map answer.map (Stays-perform cs made) q.stays number _ there in
+          record {
+            value = stays.value;
+            there = stays.there;
+            origin_is = stays.origin;
+            parent = stays.parent ∙ ap (λ (id : MapId). Some (numbered id home)) own_id ∙ ap (λ (h : ℕ). Some (numbered answer.map.id h)) (sym same);
+          }
+
+      -- it lists what comes next in it
+      pub module_lists : declarations_of (module_at answer.map number) ≡ gathered number next q.pending
+      module_lists =
+          let one_more : length made.core.map.modules ≡ number + 1 = length-made old_map home name (new_module origin vis (Some (module_id old_map home))) in
+          let inside_made : number < length made.core.map.modules = omega (arith, one_more) in
+          q.lists number (omega (arith, more))
+          ∙ ap (λ (xs : List ModuleDefId). xs ++ gathered number next q.pending)
+          (added-perform cs made number inside_made ∙ ap (λ (o : Option ModuleValue). declarations_of o ++ all_added cs number) there ∙ adds number ∙ at_home-below home number _ low)
+
+      pub back_made : (site : Site) (i : KeptItem) (rest : List Visit) → site.home ≡ home → DeclaresOne tables w finished answer i site (module_alone answer.map number) → ListsItsItems tables w finished from answer number
+          → (pending : AllDeclare rest) → ((k : ℕ) → k < number → gathered k next q.pending ≡ gathered k rest pending) → IsAhead old_map (visit site i ∷ rest)
+      back_made site i rest same declares lists pending gathers =
+          back s (makes home name origin vis ∷ cs) q ((module_alone answer.map number, declares), pending)
+          (λ k below.
+          ap (λ (xs : List ModuleDefId). xs ++ gathered k next q.pending)
+          (adds k ∙ ap (λ (id : MapId). at_home home k (definitions.ModuleId (numbered id number) ∷ [])) own_id
+          ∙ ap (λ (h : ℕ). at_home h k (module_alone answer.map number)) (sym same))
+          ∙ ap (λ (xs : List ModuleDefId). at_home site.home k (module_alone answer.map number) ++ xs) (gathers k below))
+          (λ k past below. elim (cases_lt number k) [
+            | inl later ↦ q.modules k (omega (arith, more, later)) below
+            | inr here ↦ subst (λ (n : ℕ). ListsItsItems tables w finished from answer n) (omega (arith, past, here)) lists
+          ])
+
+    -- where the items of one site in it come next
+    module _ (inner : Site) (items : KeptForest) (rest : List Visit) (here : inner.home ≡ number) (apart : VisitsBelow number rest) (q : IsAhead new_map (visits inner items ++ rest)) where
+      abbrev first_visits : AllDeclare (visits inner items)
+      first_visits = earlier (visits inner items) rest q.pending
+
+      abbrev last_visits : AllDeclare rest
+      last_visits = others (visits inner items) rest q.pending
+
+      abbrev inside_defs : List ModuleDefId
+      inside_defs = altogether inner items first_visits
+
+      gathered_here : gathered number (visits inner items ++ rest) q.pending ≡ inside_defs
+      gathered_here =
+          gathered_both number (visits inner items) rest q.pending
+          ∙ ap (λ (xs : List ModuleDefId). gathered number (visits inner items) first_visits ++ xs) (gathered_below number rest last_visits apart)
+          ∙ append-nil (gathered number (visits inner items) first_visits)
+          ∙ gathered_at number inner items first_visits
+          ∙ ap (λ (h : ℕ). at_home h number inside_defs) here
+          ∙ at_home-same number inside_defs
+
+      pub items_listed : Declares tables w finished answer items inner (declarations_of (module_at answer.map number))
+      items_listed = subst (λ (defs : List ModuleDefId). Declares tables w finished answer items inner defs) (sym (module_lists q ∙ gathered_here)) (declare_altogether inner items first_visits)
+
+      pub items_apart : (k : ℕ) → k < number → gathered k (visits inner items ++ rest) q.pending ≡ gathered k rest last_visits
+      items_apart k low_k =
+          gathered_both k (visits inner items) rest q.pending
+          ∙ ap (λ (xs : List ModuleDefId). xs ++ gathered k rest last_visits)
+          (gathered_at k inner items first_visits ∙ at_home-above inner.home k inside_defs (omega (arith, low_k, here)))

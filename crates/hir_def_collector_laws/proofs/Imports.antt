@@ -1,0 +1,73 @@
+-- So is each import that is left over, and each glob.
+use Rattle.std.proofs.Common.{◌≡◌, zero, suc, List, [], ◌∷◌, Some, Bool, true, false, cond, sym, ap, subst, arith, Contains}
+use Rattle.std.proofs.lemmas.List.Elements.{Contains-append_left}
+use Rattle.hir_base.specs.declared.ids.MapId.{MapId}
+use Rattle.hir_scope.specs.declared.imports.ImportOrExternCrate.{ImportOrExternCrate}
+use Rattle.hir_tables.specs.Tables.{TablesValue}
+use Rattle.hir_def_map.specs.Overlay.{Maps}
+use Rattle.hir_glob_imports.specs.declared.edge.Edge.{Edge}
+use Rattle.hir_import_resolution.specs.Directives.{TakenValue, glob_of, is_untaken, way_of}
+use Rattle.hir_import_resolution.specs.declared.directive.ImportDirective.{ImportDirective}
+use Rattle.hir_def_collector.specs.declared.source_database.Key.{Key}
+use Rattle.hir_def_collector.specs.Derivation.{CollectedValue, Ends, leftover_among}
+use Rattle.hir_def_collector.specs.Keys.{map_keys}
+use Rattle.hir_def_collector.specs.Start.{Beginning, begin_of, krate_of, read_by}
+use Rattle.hir_def_collector.specs.Workspace.{Workspace, transitive_dependencies_in}
+use Rattle.hir_def_collector.proofs.Asks.{still_asked}
+use Rattle.hir_def_collector_laws.specs.Imports.{GlobsAreWritten, HasImport, ImportsAreWritten, IsImport, LeftoversAreWritten}
+use Rattle.hir_def_collector_laws.proofs.Lists.{at_first, later}
+use Rattle.hir_def_collector_laws.proofs.Written.{AreAsked, IsAllWritten, IsOfGlob, import_among, written-start, written-Steps}
+
+-- an import that is left over was found
+record IsLeftOf (rs : List ImportDirective) (way : ImportOrExternCrate) : Type 0 where
+  directive : ImportDirective
+  among : Contains rs directive
+  is : way_of directive.source ≡ way
+
+left_of : (rs : List ImportDirective) (ts : List TakenValue) (way : ImportOrExternCrate) → Contains (leftover_among rs ts) way → IsLeftOf rs way
+left_of [] ts way (n, below, is) = absurd (omega arith)
+left_of (r ∷ rs) [] way (n, below, is) = absurd (omega arith)
+left_of (r ∷ rs) (t ∷ ts) way h = go (is_untaken t) (λ c. left_of rs ts way c) h
+  where
+    behind : IsLeftOf rs way → IsLeftOf (r ∷ rs) way
+    behind p = record { directive = p.directive; among = later r rs p.directive p.among; is = p.is }
+
+    go : (b : Bool) → (Contains (leftover_among rs ts) way → IsLeftOf rs way) → Contains (cond b (way_of r.source ∷ leftover_among rs ts) (leftover_among rs ts)) way → IsLeftOf (r ∷ rs) way
+    go true others (zero, below, is) = record { directive = r; among = at_first r rs; is = is }
+    go true others (suc n, below, is) = behind (others (n, omega (arith, below), is))
+    go false others c = behind (others c)
+
+module _ (tables : TablesValue) (w : Workspace) (finished : Maps) (from : Beginning) (answer : CollectedValue) (e : Ends tables w finished from answer) where
+  pub answer_here : answer.map.id.krate ≡ krate_of from.start
+  answer_here = ap (λ (id : MapId). id.krate) e.own
+
+  pub answer_asked : AreAsked tables w from answer e.last
+  answer_asked key h = subst (λ (ks : List Key). Contains ks key) (sym e.asked_is) (Contains-append_left e.last.core.asked (map_keys (transitive_dependencies_in w (krate_of from.start))) key h)
+
+  pub first_written : IsAllWritten tables w from answer (begin_of tables w finished from)
+  first_written = written-start tables w from answer (read_by w finished from.start) answer_here e.own (λ key h. answer_asked key (still_asked e.derived key h))
+
+  written : IsAllWritten tables w from answer e.last
+  written = written-Steps tables w from answer answer_here e.derived answer_asked first_written
+
+  pub import_written : (r : ImportDirective) → Contains e.last.core.reached r → IsImport tables w from answer r
+  import_written r h = import_among tables w from answer e.last.core.reached r written.imports h
+
+  pub leftover_written : (way : ImportOrExternCrate) → Contains answer.leftover way → HasImport tables w from answer (λ r. way_of r.source ≡ way)
+  leftover_written way h =
+      let p : IsLeftOf e.last.core.reached way = left_of e.last.core.reached e.last.core.taken way (subst (λ (ways : List ImportOrExternCrate). Contains ways way) e.leftover_is h) in
+      record { directive = p.directive; is_import = import_written p.directive p.among; is_such = p.is }
+
+  pub glob_written : (edge : Edge) → Contains e.last.globs.edges edge → HasImport tables w from answer (λ r. (glob_of r.source ≡ Some edge.id) × (r.home ≡ edge.importer))
+  glob_written edge h =
+      let p : IsOfGlob tables w from answer e.last.core.reached edge = written.globs edge h in
+      record { directive = p.directive; is_import = import_written p.directive p.among; is_such = (p.is_glob, p.into) }
+
+pub imports_are_written : ImportsAreWritten
+imports_are_written tables w finished from answer e r h = import_written tables w finished from answer e r h
+
+pub leftovers_are_written : LeftoversAreWritten
+leftovers_are_written tables w finished from answer e way h = leftover_written tables w finished from answer e way h
+
+pub globs_are_written : GlobsAreWritten
+globs_are_written tables w finished from answer e edge h = glob_written tables w finished from answer e edge h

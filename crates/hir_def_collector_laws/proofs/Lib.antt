@@ -1,0 +1,12 @@
+pub mod Lists
+pub mod Found
+-- ---- imports
+pub mod Written
+pub mod Imports
+pub mod Entries
+pub mod Bindings
+-- ---- definitions
+pub mod Listings
+pub mod Ahead
+pub mod Backwards
+pub mod Modules

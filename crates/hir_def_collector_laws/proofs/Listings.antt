@@ -1,0 +1,232 @@
+-- What changes add to the lists of modules, and what they leave of modules.
+use Rattle.std.proofs.Common.{◌≡◌, ◌∙◌, ◌<◌, ◌+◌, ℕ, zero, suc, List, [], ◌∷◌, ◌++◌, length, map as list_map, slice_get, Option, None, Some, refl, sym, ap, subst, arith, append-nil, append_assoc}
+use Rattle.hir_base.specs.declared.ids.ModuleDefId.{ModuleDefId}
+use Rattle.hir_scope.specs.Scope.{ScopeValue}
+use Rattle.hir_def_map.specs.Declaration.{listed}
+use Rattle.hir_def_map.specs.State.{Map, ModuleValue, changed_at, module_at, new_id, new_module, numbered, with_child, with_module, with_module_scope, with_scope}
+use Rattle.hir_def_map.specs.declared.nameres.declaration.Declaration.{Declaration as Listing}
+use Rattle.hir_def_map.specs.declared.nameres.declaration.Declaration.TheVariants as listings
+use Rattle.hir_def_map.proofs.Grown.{length-changed}
+use Rattle.hir_def_map.proofs.StaysWellFormed.{length-made}
+use Rattle.hir_import_resolution.specs.Changes.{Change as ImportChange}
+use Rattle.hir_def_collector.specs.Causes.{declarations_of}
+use Rattle.hir_def_collector.specs.Changes.{Change, lists, makes, gives_variants, begins_paths, reaches, changes_imports, tells, goes_on, act, perform}
+use Rattle.hir_def_collector.specs.ItemIds.{module_id}
+use Rattle.hir_def_collector.specs.State.{State, import_state}
+use Rattle.hir_def_collector.proofs.Bound.{keeps-edit}
+use Rattle.hir_def_collector.proofs.Changes.{Keeps-act}
+use Rattle.hir_def_collector.proofs.Grows.{Grows-act}
+use Rattle.hir_def_collector.proofs.ImportEdits.{Edit, edit, edit_of, edited, map_after}
+use Rattle.hir_def_collector.proofs.Lists.{get_left}
+use Rattle.hir_def_collector_laws.proofs.Lists.{at_home}
+
+-- ---- what is listed
+
+-- a change of one module that leaves its list
+unlisted : (ms : List ModuleValue) (at : ℕ) (change : ModuleValue → ModuleValue) → ((m : ModuleValue) → (change m).scope.declarations ≡ m.scope.declarations) → (k : ℕ)
+    → declarations_of (slice_get (changed_at ms at change) k) ≡ declarations_of (slice_get ms k)
+unlisted [] at change keeps k = refl
+unlisted (m ∷ ms) zero change keeps zero = keeps m
+unlisted (m ∷ ms) zero change keeps (suc k) = refl
+unlisted (m ∷ ms) (suc at) change keeps zero = refl
+unlisted (m ∷ ms) (suc at) change keeps (suc k) = unlisted ms at change keeps k
+
+-- one more definition
+listed_at : (ms : List ModuleValue) (home : ℕ) (def : ModuleDefId) (k : ℕ) → k < length ms
+    → declarations_of (slice_get (changed_at ms home (with_module_scope (listed (listings.Def def)))) k) ≡ declarations_of (slice_get ms k) ++ at_home home k (def ∷ [])
+listed_at [] home def k low = absurd (omega arith)
+listed_at (m ∷ ms) zero def zero low = refl
+listed_at (m ∷ ms) zero def (suc k) low = sym (append-nil (declarations_of (slice_get ms k)))
+listed_at (m ∷ ms) (suc home) def zero low = sym (append-nil m.scope.declarations)
+listed_at (m ∷ ms) (suc home) def (suc k) low = listed_at ms home def k (omega arith)
+
+abbrev pub added_by : ℕ → Listing → ℕ → List ModuleDefId
+added_by home (listings.Def def) k = at_home home k (def ∷ [])
+added_by home (listings.Use use_) k = []
+added_by home (listings.ExternCrate extern_crate) k = []
+added_by home (listings.Impl imp is_trait_impl) k = []
+added_by home (listings.ExternBlock extern_block) k = []
+added_by home (listings.UnnamedConst konst) k = []
+
+-- what a change adds to the list of a module
+abbrev pub added : Change → ℕ → List ModuleDefId
+added (lists home d) k = added_by home d k
+added (makes home name origin visibility) k = []
+added (gives_variants id variants) k = []
+added (begins_paths r) k = []
+added (reaches rs) k = []
+added (changes_imports c) k = []
+added (tells d) k = []
+added (goes_on visits) k = []
+
+abbrev pub all_added : List Change → ℕ → List ModuleDefId
+all_added [] k = []
+all_added (c ∷ cs) k = added c k ++ all_added cs k
+
+same_list : (xs : List ModuleDefId) {ys : List ModuleDefId} → ys ≡ xs → ys ≡ xs ++ []
+same_list xs e = e ∙ sym (append-nil xs)
+
+added-scope : (m : Map) (at : ℕ) (change : ScopeValue → ScopeValue) → ((s : ScopeValue) → (change s).declarations ≡ s.declarations) → (k : ℕ)
+    → declarations_of (module_at (with_scope m at change) k) ≡ declarations_of (module_at m k) ++ []
+added-scope m at change keeps k = same_list (declarations_of (module_at m k)) (unlisted m.modules at (with_module_scope change) (λ v. keeps v.scope) k)
+
+added-listed : (m : Map) (home : ℕ) (d : Listing) (k : ℕ) → k < length m.modules
+    → declarations_of (module_at (with_scope m home (listed d)) k) ≡ declarations_of (module_at m k) ++ added_by home d k
+added-listed m home (listings.Def def) k low = listed_at m.modules home def k low
+added-listed m home (listings.Use use_) k low = added-scope m home (listed (listings.Use use_)) (λ s. refl) k
+added-listed m home (listings.ExternCrate extern_crate) k low = added-scope m home (listed (listings.ExternCrate extern_crate)) (λ s. refl) k
+added-listed m home (listings.Impl imp is_trait_impl) k low = added-scope m home (listed (listings.Impl imp is_trait_impl)) (λ s. refl) k
+added-listed m home (listings.ExternBlock extern_block) k low = added-scope m home (listed (listings.ExternBlock extern_block)) (λ s. refl) k
+added-listed m home (listings.UnnamedConst konst) k low = added-scope m home (listed (listings.UnnamedConst konst)) (λ s. refl) k
+
+added-edited : (m : Map) (o : Option (ℕ × Edit)) (k : ℕ) → declarations_of (module_at (edited m o) k) ≡ declarations_of (module_at m k) ++ []
+added-edited m None k = same_list (declarations_of (module_at m k)) refl
+added-edited m (Some e) k = added-scope m e.0 (edit (numbered m.id e.0) e.1) (λ s. (keeps-edit (numbered m.id e.0) e.1).declared s) k
+
+added-act : (s : State) (c : Change) (k : ℕ) → k < length s.core.map.modules
+    → declarations_of (module_at (act s c).core.map k) ≡ declarations_of (module_at s.core.map k) ++ added c k
+added-act s (lists home d) k low = added-listed s.core.map home d k low
+added-act s (makes home name origin visibility) k low =
+    let ms : List ModuleValue = s.core.map.modules in
+    let changed : List ModuleValue = changed_at ms home (with_child name (new_id s.core.map)) in
+    let as_long : length changed ≡ length ms = length-changed ms home (with_child name (new_id s.core.map)) in
+    same_list (declarations_of (module_at s.core.map k)) (ap declarations_of (get_left changed _ k (omega (arith, as_long))) ∙ unlisted ms home (with_child name (new_id s.core.map)) (λ m. refl) k)
+added-act s (gives_variants id variants) k low = same_list (declarations_of (module_at s.core.map k)) refl
+added-act s (begins_paths r) k low = same_list (declarations_of (module_at s.core.map k)) refl
+added-act s (reaches rs) k low = same_list (declarations_of (module_at s.core.map k)) refl
+added-act s (changes_imports c) k low =
+    ap (λ (m : Map). declarations_of (module_at m k)) (map_after (import_state s) c) ∙ added-edited s.core.map (edit_of (import_state s) c) k
+added-act s (tells d) k low = same_list (declarations_of (module_at s.core.map k)) refl
+added-act s (goes_on visits) k low = same_list (declarations_of (module_at s.core.map k)) refl
+
+pub added-perform : (cs : List Change) (s : State) (k : ℕ) → k < length s.core.map.modules
+    → declarations_of (module_at (perform s cs).core.map k) ≡ declarations_of (module_at s.core.map k) ++ all_added cs k
+added-perform [] s k low = same_list (declarations_of (module_at s.core.map k)) refl
+added-perform (c ∷ cs) s k low =
+    added-perform cs (act s c) k (omega (arith, low, (Grows-act s c).longer))
+    ∙ ap (λ (xs : List ModuleDefId). xs ++ all_added cs k) (added-act s c k low)
+    ∙ append_assoc (declarations_of (module_at s.core.map k)) (added c k) (all_added cs k)
+
+pub nothing_added : (cs : List ImportChange) (k : ℕ) → all_added (list_map changes_imports cs) k ≡ []
+nothing_added [] k = refl
+nothing_added (c ∷ cs) k = nothing_added cs k
+
+-- ---- how many modules there are
+
+abbrev pub made_by : Change → ℕ
+made_by (lists home d) = 0
+made_by (makes home name origin visibility) = 1
+made_by (gives_variants id variants) = 0
+made_by (begins_paths r) = 0
+made_by (reaches rs) = 0
+made_by (changes_imports c) = 0
+made_by (tells d) = 0
+made_by (goes_on visits) = 0
+
+abbrev pub all_made : List Change → ℕ
+all_made [] = 0
+all_made (c ∷ cs) = made_by c + all_made cs
+
+length-scope : (m : Map) (at : ℕ) (change : ScopeValue → ScopeValue) → length (with_scope m at change).modules ≡ length m.modules + 0
+length-scope m at change = let same : length (with_scope m at change).modules ≡ length m.modules = length-changed m.modules at (with_module_scope change) in omega arith
+
+length-edited : (m : Map) (o : Option (ℕ × Edit)) → length (edited m o).modules ≡ length m.modules + 0
+length-edited m None = omega arith
+length-edited m (Some e) = length-scope m e.0 (edit (numbered m.id e.0) e.1)
+
+length-act : (s : State) (c : Change) → length (act s c).core.map.modules ≡ length s.core.map.modules + made_by c
+length-act s (lists home d) = length-scope s.core.map home (listed d)
+length-act s (makes home name origin visibility) = length-made s.core.map home name (new_module origin visibility (Some (module_id s.core.map home)))
+length-act s (gives_variants id variants) = omega arith
+length-act s (begins_paths r) = omega arith
+length-act s (reaches rs) = omega arith
+length-act s (changes_imports c) = ap (λ (m : Map). length m.modules) (map_after (import_state s) c) ∙ length-edited s.core.map (edit_of (import_state s) c)
+length-act s (tells d) = omega arith
+length-act s (goes_on visits) = omega arith
+
+pub length-perform : (cs : List Change) (s : State) → length (perform s cs).core.map.modules ≡ length s.core.map.modules + all_made cs
+length-perform [] s = omega arith
+length-perform (c ∷ cs) s = let later = length-perform cs (act s c) in let now = length-act s c in omega (arith, later, now)
+
+pub nothing_made : (cs : List ImportChange) → all_made (list_map changes_imports cs) ≡ 0
+nothing_made [] = refl
+nothing_made (c ∷ cs) = omega (arith, nothing_made cs)
+
+-- ---- what stays of modules, and of the map
+
+-- a module is there with this origin and parent
+pub record StaysAt (o : Option ModuleValue) (v : ModuleValue) : Type 0 where
+  pub value : ModuleValue
+  pub there : o ≡ Some value
+  pub origin : value.origin ≡ v.origin
+  pub parent : value.parent ≡ v.parent
+
+abbrev pub Stays : Map → Map → Type 0
+Stays old new = (k : ℕ) (v : ModuleValue) → module_at old k ≡ Some v → StaysAt (module_at new k) v
+
+stays_changed : (ms : List ModuleValue) (at : ℕ) (change : ModuleValue → ModuleValue) → ((m : ModuleValue) → (change m).origin ≡ m.origin) → ((m : ModuleValue) → (change m).parent ≡ m.parent)
+    → (k : ℕ) (v : ModuleValue) → slice_get ms k ≡ Some v → StaysAt (slice_get (changed_at ms at change) k) v
+stays_changed [] at change origin parent k v e = absurd (let no : ⊥ = cc in no)
+stays_changed (m ∷ ms) zero change origin parent zero v e =
+    let same : m ≡ v = cc in
+    record { value = change m; there = refl; origin = origin m ∙ ap (λ (x : ModuleValue). x.origin) same; parent = parent m ∙ ap (λ (x : ModuleValue). x.parent) same }
+stays_changed (m ∷ ms) zero change origin parent (suc k) v e = record { value = v; there = e; origin = refl; parent = refl }
+stays_changed (m ∷ ms) (suc at) change origin parent zero v e = record { value = v; there = e; origin = refl; parent = refl }
+stays_changed (m ∷ ms) (suc at) change origin parent (suc k) v e = stays_changed ms at change origin parent k v e
+
+stays_longer : (ms more : List ModuleValue) (k : ℕ) (v : ModuleValue) → StaysAt (slice_get ms k) v → StaysAt (slice_get (ms ++ more) k) v
+stays_longer [] more k v p = let missing : None ≡ Some p.value = p.there in absurd (let no : ⊥ = cc in no)
+stays_longer (m ∷ ms) more zero v p = record { value = p.value; there = p.there; origin = p.origin; parent = p.parent }
+stays_longer (m ∷ ms) more (suc k) v p = stays_longer ms more k v p
+
+Stays-same : (m : Map) → Stays m m
+Stays-same m k v e = record { value = v; there = e; origin = refl; parent = refl }
+
+Stays-scope : (m : Map) (at : ℕ) (change : ScopeValue → ScopeValue) → Stays m (with_scope m at change)
+Stays-scope m at change k v e = stays_changed m.modules at (with_module_scope change) (λ x. refl) (λ x. refl) k v e
+
+Stays-edited : (m : Map) (o : Option (ℕ × Edit)) → Stays m (edited m o)
+Stays-edited m None = Stays-same m
+Stays-edited m (Some e) = Stays-scope m e.0 (edit (numbered m.id e.0) e.1)
+
+Stays-act : (s : State) (c : Change) → Stays s.core.map (act s c).core.map
+Stays-act s (lists home d) = Stays-scope s.core.map home (listed d)
+Stays-act s (makes home name origin visibility) = λ k v e.
+    stays_longer (changed_at s.core.map.modules home (with_child name (new_id s.core.map))) _ k v
+    (stays_changed s.core.map.modules home (with_child name (new_id s.core.map)) (λ x. refl) (λ x. refl) k v e)
+Stays-act s (gives_variants id variants) = λ k v e. record { value = v; there = e; origin = refl; parent = refl }
+Stays-act s (begins_paths r) = Stays-same s.core.map
+Stays-act s (reaches rs) = Stays-same s.core.map
+Stays-act s (changes_imports c) = subst (λ (m : Map). Stays s.core.map m) (sym (map_after (import_state s) c)) (Stays-edited s.core.map (edit_of (import_state s) c))
+Stays-act s (tells d) = λ k v e. record { value = v; there = e; origin = refl; parent = refl }
+Stays-act s (goes_on visits) = Stays-same s.core.map
+
+pub Stays-trans : (a b c : Map) → Stays a b → Stays b c → Stays a c
+Stays-trans a b c p q k v e =
+    let one = p k v e in
+    let two = q k one.value one.there in
+    record { value = two.value; there = two.there; origin = two.origin ∙ one.origin; parent = two.parent ∙ one.parent }
+
+pub Stays-perform : (cs : List Change) (s : State) → Stays s.core.map (perform s cs).core.map
+Stays-perform [] s = Stays-same s.core.map
+Stays-perform (c ∷ cs) s = Stays-trans s.core.map (act s c).core.map (perform (act s c) cs).core.map (Stays-act s c) (Stays-perform cs (act s c))
+
+pub id-perform : (cs : List Change) (s : State) → (perform s cs).core.map.id ≡ s.core.map.id
+id-perform [] s = refl
+id-perform (c ∷ cs) s = id-perform cs (act s c) ∙ (Keeps-act s c).id
+
+pub data-perform : (cs : List Change) (s : State) → (perform s cs).core.map.crate_data ≡ s.core.map.crate_data
+data-perform [] s = refl
+data-perform (c ∷ cs) s = data-perform cs (act s c) ∙ (Keeps-act s c).crate_data
+
+-- ---- the module that is made
+
+new_there : (ms : List ModuleValue) (v : ModuleValue) → slice_get (ms ++ v ∷ []) (length ms) ≡ Some v
+new_there [] v = refl
+new_there (m ∷ ms) v = new_there ms v
+
+pub made_there : (m : Map) (home : ℕ) (name : List ℕ) (new : ModuleValue) → module_at (with_module m home name new) (length m.modules) ≡ Some new
+made_there m home name new =
+    let changed : List ModuleValue = changed_at m.modules home (with_child name (new_id m)) in
+    let as_long : length changed ≡ length m.modules = length-changed m.modules home (with_child name (new_id m)) in
+    subst (λ (k : ℕ). slice_get (changed ++ new ∷ []) k ≡ Some new) as_long (new_there changed new)

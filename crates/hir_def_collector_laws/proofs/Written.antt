@@ -1,0 +1,365 @@
+-- Each import of a run is written in a tree that was asked for.
+use Rattle.std.proofs.Common.{◌≡◌, ◌∙◌, ◌<◌, ℕ, zero, suc, List, [], ◌∷◌, ◌++◌, Bool, true, false, Option, None, Some, map as list_map, inl, inr, refl, sym, ap, subst, arith, Contains}
+use Rattle.std.proofs.lemmas.List.Elements.{Contains-append_cases, Contains-append_left, Contains-append_right}
+use Rattle.hir_base.specs.declared.ids.Crate.{Crate}
+use Rattle.hir_base.specs.declared.ids.MapId.{MapId}
+use Rattle.hir_base.specs.declared.ids.UseId.{UseId}
+use Rattle.hir_item_tree.specs.Collected.{is_enabled}
+use Rattle.hir_item_tree.specs.Imports.{imports_of}
+use Rattle.hir_item_tree.specs.ItemTree.{Tree}
+use Rattle.hir_item_tree.specs.KeptForest.{Head, Holder, KeptItem, KeptForest, extern_crate, holder, import, inline_module, item, leaf, no_items}
+use Rattle.hir_item_tree.specs.UseTree.{UseTree}
+use Rattle.hir_item_tree.specs.declared.shape.ExternCrateName.{ExternCrateName}
+use Rattle.hir_item_tree.specs.declared.tree_id.TreeId.{TreeId}
+use Rattle.hir_item_tree.specs.declared.tree_id.TreeKey.{TreeKey}
+use Rattle.hir_use_tree.specs.declared.imports.Import.{Import}
+use Rattle.hir_use_tree.specs.declared.imports.ImportAlias.{ImportAlias}
+use Rattle.hir_mod_dir.specs.Directory.{Directory}
+use Rattle.hir_mod_dir.specs.ModuleFiles.{inline_directory}
+use Rattle.hir_tables.specs.Tables.{TablesValue}
+use Rattle.hir_def_map.specs.Overlay.{Maps}
+use Rattle.hir_def_map.specs.State.{Map, numbered}
+use Rattle.hir_glob_imports.specs.Rules.{Act, brings, copies, follows, raises}
+use Rattle.hir_glob_imports.specs.View.{View}
+use Rattle.hir_glob_imports.specs.Waves.{Records, widens, stays, adds}
+use Rattle.hir_glob_imports.specs.declared.edge.Edge.{Edge}
+use Rattle.hir_import_resolution.specs.Changes.{Change as ImportChange, along, keeps_trait, pushes, records, takes}
+use Rattle.hir_import_resolution.specs.Directives.{glob_of}
+use Rattle.hir_import_resolution.specs.Rules.{Rule as ImportRule, May as MayImport, acts as import_acts, goes_along, takes_glob, takes_import}
+use Rattle.hir_import_resolution.specs.declared.directive.ImportDirective.{ImportDirective}
+use Rattle.hir_def_collector.specs.declared.collector.site.Site.{Site}
+use Rattle.hir_def_collector.specs.declared.source_database.Dependency.{Dependency}
+use Rattle.hir_def_collector.specs.declared.source_database.Key.{Key}
+use Rattle.hir_def_collector.specs.declared.source_database.Key.TheVariants as keys
+use Rattle.hir_def_collector.specs.Changes.{Change, lists, makes, gives_variants, begins_paths, reaches, changes_imports, tells, goes_on, act}
+use Rattle.hir_def_collector.specs.Derivation.{CollectedValue}
+use Rattle.hir_def_collector.specs.Imports.{crate_import, crate_named, reached_import}
+use Rattle.hir_def_collector.specs.Keys.{environment, tree_at}
+use Rattle.hir_def_collector.specs.ModuleFiles.{ModuleFile, Search, file_key, file_tree}
+use Rattle.hir_def_collector.specs.Start.{Beginning, krate_of, root_key, root_site, root_tree, start_of, tree_visits}
+use Rattle.hir_def_collector.specs.State.{State, Visit, import_state, visits}
+use Rattle.hir_def_collector.specs.Steps.{Rule, drops_item, passes_over, declares_item, declares_enum, lists_constant, lists_impl, opens_module, opens_file, drops_file, misses_file, enters_block, reaches_imports, reaches_crate, resolves_imports, May, Opens, Sees, Step, Steps, acts, asking, inside_block, inside_file, inside_module, keys_read, more, none, path_of, reads, search_readings, visits_inside}
+use Rattle.hir_def_collector.specs.Workspace.{Workspace, dependencies_in}
+use Rattle.hir_def_collector.proofs.Asks.{only, still_asked-Step}
+use Rattle.hir_def_collector.proofs.Changes.{AllFine, Keeps, Keeps-act, asked-Step, perform_keeps}
+use Rattle.hir_def_collector.proofs.ImportEdits.{imports_after}
+use Rattle.hir_def_collector.proofs.ModuleFiles.{found_read}
+use Rattle.hir_def_collector_laws.specs.Imports.{IsImport}
+use Rattle.hir_def_collector_laws.specs.Written.{IsIn, IsWritten, behind, first, inside}
+use Rattle.hir_def_collector_laws.proofs.Found.{found_seen}
+use Rattle.hir_def_collector_laws.proofs.Lists.{at_first, later, replaced, standing}
+
+-- ---- items in items
+
+deeper : {head : Head} {kind : Holder} {items : KeptForest} {i : KeptItem} → is_enabled head.attributes ≡ true → IsIn i items → (all : KeptForest) → IsIn (holder head kind items) all → IsIn i all
+deeper {head = head} {kind = kind} {items = items} on p all (first others) = inside head kind items others on p
+deeper on p all (behind before others q) = behind before others (deeper on p others q)
+deeper on p all (inside h k is others e q) = inside h k is others e (deeper on p is q)
+
+module _ (tables : TablesValue) (w : Workspace) (from : Beginning) (answer : CollectedValue) where
+  abbrev own : MapId
+  own = answer.map.id
+
+  abbrev key_in : MapId → TreeId → TreeKey
+  key_in id tree = record { krate = id.krate; id = tree }
+
+  abbrev Placed : MapId → TreeId → KeptItem → Type 0
+  Placed id tree i = IsWritten tables w answer.asked (key_in id tree) i
+
+  -- each visit is of an item that is written in its tree
+  abbrev pub ArePlaced : List Visit → Type 0
+  ArePlaced [] = Unit {0}
+  ArePlaced (v ∷ vs) = Placed own v.site.tree v.item × ArePlaced vs
+
+  -- each import is written
+  abbrev pub AreImports : List ImportDirective → Type 0
+  AreImports [] = Unit {0}
+  AreImports (r ∷ rs) = IsImport tables w from answer r × AreImports rs
+
+  -- an import that is a glob of this id into this module
+  pub record IsOfGlob (imports : List ImportDirective) (edge : Edge) : Type 0 where
+    pub directive : ImportDirective
+    pub among : Contains imports directive
+    pub is_glob : glob_of directive.source ≡ Some edge.id
+    pub into : directive.home ≡ edge.importer
+
+  abbrev pub AreOfGlobs : List ImportDirective → List Edge → Type 0
+  AreOfGlobs imports edges = (edge : Edge) → Contains edges edge → IsOfGlob imports edge
+
+  pub record IsAllWritten (s : State) : Type 0 where
+    pub id : s.core.map.id ≡ own
+    pub dependencies : s.core.dependencies ≡ dependencies_in w (krate_of from.start)
+    pub visits : ArePlaced s.agenda
+    pub imports : AreImports s.core.reached
+    pub globs : AreOfGlobs s.core.reached s.globs.edges
+
+  -- ---- lists
+
+  placed_before : (s : Site) (is : KeptForest) (rest : List Visit) → ((i : KeptItem) → IsIn i is → Placed own s.tree i) → ArePlaced rest → ArePlaced (visits s is ++ rest)
+  placed_before s no_items rest all f = f
+  placed_before s (item i is) rest all f = (all i (first is), placed_before s is rest (λ j h. all j (behind i is h)) f)
+
+  placed_visits : (s : Site) (is : KeptForest) → ((i : KeptItem) → IsIn i is → Placed own s.tree i) → ArePlaced (visits s is)
+  placed_visits s no_items all = tt
+  placed_visits s (item i is) all = (all i (first is), placed_visits s is (λ j h. all j (behind i is h)))
+
+  pub placed_next : (vs : List Visit) (v : Visit) (rest : List Visit) → ArePlaced vs → vs ≡ v ∷ rest → Placed own v.site.tree v.item × ArePlaced rest
+  placed_next vs v rest f e = subst ArePlaced e f
+
+  placed_inside : {head : Head} {kind : Holder} {items : KeptForest} (tree : TreeId) → is_enabled head.attributes ≡ true → Placed own tree (holder head kind items) → (i : KeptItem) → IsIn i items → Placed own tree i
+  placed_inside tree on p i h = record { key_asked = p.key_asked; top = p.top; within = deeper on h (tree_at tables w (key_in own tree)).tree.items p.within }
+
+  imports_joined : (rs ts : List ImportDirective) → AreImports rs → AreImports ts → AreImports (rs ++ ts)
+  imports_joined [] ts f g = g
+  imports_joined (r ∷ rs) ts f g = (f.0, imports_joined rs ts f.1 g)
+
+  pub import_among : (rs : List ImportDirective) (r : ImportDirective) → AreImports rs → Contains rs r → IsImport tables w from answer r
+  import_among [] r f (n, below, is) = absurd (omega arith)
+  import_among (x ∷ xs) r f (zero, below, is) = subst (λ (y : ImportDirective). IsImport tables w from answer y) is f.0
+  import_among (x ∷ xs) r f (suc n, below, is) = import_among xs r f.1 (n, omega (arith, below), is)
+
+  -- ---- imports of one item
+
+  module _ (site : Site) (head : Head) (on : is_enabled head.attributes ≡ true) where
+    abbrev use_in : MapId → UseId
+    use_in id = record { loc = record { container = numbered id site.home; file_id = site.tree.file; block = site.tree.block; id = head.id } }
+
+    leaves : (tree : UseTree) → Placed own site.tree (leaf head (import tree)) → (is : List Import) → ((i : Import) → Contains is i → Contains (imports_of tree) i)
+        → AreImports (list_map (reached_import site.home (use_in own) head.visibility) is)
+    leaves tree p [] all = tt
+    leaves tree p (i ∷ is) all = (
+      record {
+        of_source = record {
+          head = head;
+          tree = tree;
+          written = p;
+          enabled = on;
+          node = refl;
+          module_is = refl;
+          written_import = i;
+          is_leaf = all i (at_first i is);
+          place = refl;
+          kind_is = refl;
+          path = refl;
+          alias = refl;
+          visibility = refl;
+        };
+      },
+      leaves tree p is (λ j h. all j (later i is j h)),
+    )
+
+    all_leaves : (id : MapId) → id ≡ own → (tree : UseTree) → Placed own site.tree (leaf head (import tree)) → AreImports (list_map (reached_import site.home (use_in id) head.visibility) (imports_of tree))
+    all_leaves id e tree p =
+        subst (λ (x : MapId). AreImports (list_map (reached_import site.home (use_in x) head.visibility) (imports_of tree))) (sym e) (leaves tree p (imports_of tree) (λ i h. h))
+
+    one_crate : (m : Map) → m.id ≡ own → own.krate ≡ krate_of from.start → (name : ExternCrateName) (alias : Option ImportAlias) → Placed own site.tree (leaf head (extern_crate name alias))
+        → (dependencies : List Dependency) → dependencies ≡ dependencies_in w (krate_of from.start) → IsImport tables w from answer (crate_import m dependencies site head name alias)
+    one_crate m e here name alias p dependencies same =
+        subst (λ (id : MapId). IsImport tables w from answer (crate_import (record m { id = id }) dependencies site head name alias)) (sym e) (record {
+          of_source = record {
+            head = head;
+            name = name;
+            written = p;
+            enabled = on;
+            node = refl;
+            module_is = refl;
+            path = refl;
+            visibility = refl;
+            names = ap (λ (k : Crate). crate_named k (dependencies_in w (krate_of from.start)) name) (sym here) ∙ ap (λ (ds : List Dependency). crate_named own.krate ds name) (sym same);
+          };
+        })
+
+  -- ---- changes
+
+  -- what comes next and what is found is written
+  abbrev IsFineImport : State → ImportChange → Type 0
+  IsFineImport s (pushes home name items source) = Unit {0}
+  IsFineImport s (keeps_trait finished home id vis by) = Unit {0}
+  IsFineImport s (takes i t) = Unit {0}
+  IsFineImport s (records edges) = AreOfGlobs s.core.reached edges
+  IsFineImport s (along finished a) = Unit {0}
+
+  abbrev IsFine : State → Change → Type 0
+  IsFine s (lists home d) = Unit {0}
+  IsFine s (makes home name origin visibility) = Unit {0}
+  IsFine s (gives_variants id variants) = Unit {0}
+  IsFine s (begins_paths r) = Unit {0}
+  IsFine s (reaches rs) = AreImports rs
+  IsFine s (changes_imports c) = IsFineImport s c
+  IsFine s (tells d) = Unit {0}
+  IsFine s (goes_on vs) = ArePlaced vs
+
+  more_imports : (rs ts : List ImportDirective) (edges : List Edge) → AreOfGlobs rs edges → AreOfGlobs (rs ++ ts) edges
+  more_imports rs ts edges f edge h =
+      let g : IsOfGlob rs edge = f edge h in
+      record { directive = g.directive; among = Contains-append_left rs ts g.directive g.among; is_glob = g.is_glob; into = g.into }
+
+  -- a change of what isn't spoken of here
+  same_but : (s t : State) → Keeps s t → t.agenda ≡ s.agenda → t.core.reached ≡ s.core.reached → t.globs.edges ≡ s.globs.edges → IsAllWritten s → IsAllWritten t
+  same_but s t keeps agenda reached edges f = record {
+    id = keeps.id ∙ f.id;
+    dependencies = keeps.dependencies ∙ f.dependencies;
+    visits = subst ArePlaced (sym agenda) f.visits;
+    imports = subst AreImports (sym reached) f.imports;
+    globs = subst (λ (rs : List ImportDirective). AreOfGlobs rs t.globs.edges) (sym reached) (subst (AreOfGlobs s.core.reached) (sym edges) f.globs);
+  }
+
+  written-imports : (s : State) (c : ImportChange) → IsAllWritten s → IsFineImport s c → IsAllWritten (act s (changes_imports c))
+  written-imports s (pushes home None items source) f fine = same_but s _ (Keeps-act s (changes_imports (pushes home None items source))) refl refl refl f
+  written-imports s (pushes home (Some name) items source) f fine = same_but s _ (Keeps-act s (changes_imports (pushes home (Some name) items source))) refl refl refl f
+  written-imports s (keeps_trait finished home None vis by) f fine = same_but s _ (Keeps-act s (changes_imports (keeps_trait finished home None vis by))) refl refl refl f
+  written-imports s (keeps_trait finished home (Some id) vis by) f fine = same_but s _ (Keeps-act s (changes_imports (keeps_trait finished home (Some id) vis by))) refl refl refl f
+  written-imports s (takes i t) f fine = same_but s _ (Keeps-act s (changes_imports (takes i t))) refl refl refl f
+  written-imports s (records edges) f fine =
+      let keeps : Keeps s (act s (changes_imports (records edges))) = Keeps-act s (changes_imports (records edges)) in
+      record { id = keeps.id ∙ f.id; dependencies = keeps.dependencies ∙ f.dependencies; visits = f.visits; imports = f.imports; globs = fine }
+  written-imports s (along finished a) f fine =
+      same_but s _ (Keeps-act s (changes_imports (along finished a))) refl (imports_after (import_state s) (along finished a)) (edges_along finished a) f
+    where
+      edges_along : (finished : Maps) (a : Act) → (act s (changes_imports (along finished a))).globs.edges ≡ s.globs.edges
+      edges_along finished (copies slot of vis by) = refl
+      edges_along finished (brings slot by) = refl
+      edges_along finished (follows slot of vis) = refl
+      edges_along finished (raises slot vis) = refl
+
+  written-act : (s : State) (c : Change) → IsAllWritten s → IsFine s c → IsAllWritten (act s c)
+  written-act s (lists home d) f fine = same_but s _ (Keeps-act s (lists home d)) refl refl refl f
+  written-act s (makes home name origin visibility) f fine = same_but s _ (Keeps-act s (makes home name origin visibility)) refl refl refl f
+  written-act s (gives_variants id variants) f fine = same_but s _ (Keeps-act s (gives_variants id variants)) refl refl refl f
+  written-act s (begins_paths r) f fine = same_but s _ (Keeps-act s (begins_paths r)) refl refl refl f
+  written-act s (reaches rs) f fine = record {
+    id = f.id;
+    dependencies = f.dependencies;
+    visits = f.visits;
+    imports = imports_joined s.core.reached rs f.imports fine;
+    globs = more_imports s.core.reached rs s.globs.edges f.globs;
+  }
+  written-act s (changes_imports c) f fine = written-imports s c f fine
+  written-act s (tells d) f fine = same_but s _ (Keeps-act s (tells d)) refl refl refl f
+  written-act s (goes_on vs) f fine = record { id = f.id; dependencies = f.dependencies; visits = fine; imports = f.imports; globs = f.globs }
+
+  -- ---- rules
+
+  module _ (here : own.krate ≡ krate_of from.start) (finished : Maps) (s : State) (f : IsAllWritten s) where
+    -- the next item is written in its tree, and so is each that stays
+    next : (v : Visit) (rest : List Visit) → s.agenda ≡ v ∷ rest → Placed own v.site.tree v.item
+    next v rest e = (placed_next s.agenda v rest f.visits e).0
+
+    left : (v : Visit) (rest : List Visit) → s.agenda ≡ v ∷ rest → ArePlaced rest
+    left v rest e = (placed_next s.agenda v rest f.visits e).1
+
+    -- the items of a module that is written where it is declared
+    module_inside : (site : Site) (head : Head) (name : List ℕ) (items : KeptForest) (rest : List Visit) (dir : Option Directory) → is_enabled head.attributes ≡ true
+        → Placed own site.tree (holder head (inline_module name) items) → ArePlaced rest → ArePlaced (visits_inside s.core.map site dir items ++ rest)
+    module_inside site head name items rest None on p g = g
+    module_inside site head name items rest (Some dir) on p g = placed_before (inside_module s.core.map site dir) items rest (placed_inside site.tree on p) g
+
+    -- those of a file
+    file_inside : (site : Site) (head : Head) (name : List ℕ) (search : Search) (file : ModuleFile) (rest : List Visit) → Opens s site head name search file rest
+        → Sees (environment tables w) finished (search_readings s.core.map search) → ((key : TreeKey) → Contains (keys_read (search_readings s.core.map search)) (keys.Tree key) → Contains answer.asked (keys.Tree key))
+        → (i : KeptItem) → IsIn i file.tree.items → Placed own (file_tree s.core.map.crate_data.edition file.id) i
+    file_inside site head name search file rest may sees read i h =
+        let m : Map = s.core.map in
+        let key : TreeKey = file_key m.id.krate m.crate_data.edition file.id in
+        let is : (tree_at tables w key).tree ≡ file.tree = found_seen tables w finished m.id.krate m.crate_data.edition search.absent search.found file may.found sees in
+        subst (λ (id : MapId). Placed id (file_tree m.crate_data.edition file.id) i) f.id
+        (record {
+          key_asked = read key (found_read m.id.krate m.crate_data.edition search.absent search.found file may.found);
+          top = subst (λ (t : Tree). is_enabled t.attributes ≡ true) (sym is) may.enabled;
+          within = subst (λ (t : Tree). IsIn i t.items) (sym is) h;
+        })
+
+    along_fine : (acts : List Act) (t : State) → AllFine IsFine t (list_map changes_imports (list_map (along finished) acts))
+    along_fine [] t = tt
+    along_fine (a ∷ acts) t = (tt, along_fine acts (act t (changes_imports (along finished a))))
+
+    -- the globs that are recorded once one is
+    recorded : {v : View} (new : List Edge) (e : Edge) → IsOfGlob s.core.reached e → Records v s.globs.edges new e → AreOfGlobs s.core.reached new
+    recorded new e g (widens j d wide at ends by is) edge h =
+        elim (replaced s.globs.edges j _ edge (subst (λ (xs : List Edge). Contains xs edge) is h)) as (λ _. IsOfGlob s.core.reached edge) [
+          | inl old ↦ f.globs edge old
+          | inr now ↦
+              let before : IsOfGlob s.core.reached d = f.globs d (standing s.globs.edges j d at) in
+              subst (λ (x : Edge). IsOfGlob s.core.reached x) now (record { directive = before.directive; among = before.among; is_glob = before.is_glob; into = before.into })
+        ]
+    recorded new e g (stays j d at ends by is) edge h = f.globs edge (subst (λ (xs : List Edge). Contains xs edge) is h)
+    recorded new e g (adds apart is) edge h =
+        elim (Contains-append_cases s.globs.edges (e ∷ []) edge (subst (λ (xs : List Edge). Contains xs edge) is h)) as (λ _. IsOfGlob s.core.reached edge) [
+          | inl old ↦ f.globs edge old
+          | inr now ↦ subst (λ (x : Edge). IsOfGlob s.core.reached x) (only e edge now) g
+        ]
+
+    imports_fine : (rule : ImportRule) → MayImport finished (import_state s) rule → AllFine IsFine s (list_map changes_imports (import_acts finished (import_state s) rule))
+    imports_fine (takes_import i r t) may = (tt, (tt, (tt, tt)))
+    imports_fine (takes_glob i r t by target edges) may = (
+      tt,
+      (
+        recorded edges _ (record { directive = r; among = standing s.core.reached i r may.import; is_glob = may.is_glob; into = refl }) may.recorded,
+        tt,
+      ),
+    )
+    imports_fine (goes_along rule) may = along_fine _ s
+
+    all_fine : (r : Rule) → May finished s r → Sees (environment tables w) finished (reads s r)
+        → ((key : TreeKey) → Contains (keys_read (reads s r)) (keys.Tree key) → Contains answer.asked (keys.Tree key)) → AllFine IsFine (asking s r) (acts finished s r)
+    all_fine (drops_item v report rest) may sees read = (left v rest may.next, (tt, tt))
+    all_fine (passes_over site head l rest) may sees read = (left _ rest may.here.next, tt)
+    all_fine (declares_item v d rest) may sees read = (left v rest may.here.next, (tt, (tt, tt)))
+    all_fine (declares_enum site head name found rest) may sees read = (left _ rest may.next, (tt, (tt, (tt, tt))))
+    all_fine (lists_constant site head rest) may sees read = (left _ rest may.next, (tt, tt))
+    all_fine (lists_impl site head of_trait rest) may sees read = (left _ rest may.next, (tt, tt))
+    all_fine (opens_module site head name items rest) may sees read =
+        (tt, (module_inside site head name items rest (inline_directory site.dir name (path_of head)) may.enabled (next _ rest may.next) (left _ rest may.next), (tt, (tt, tt))))
+    all_fine (opens_file site head name search file rest) may sees read =
+        (tt, (placed_before (inside_file s.core.map file) file.tree.items rest (file_inside site head name search file rest may sees read) (left _ rest may.looks.here.next), (tt, (tt, tt))))
+    all_fine (drops_file site head name search report rest) may sees read = (left _ rest may.looks.here.next, (tt, tt))
+    all_fine (misses_file site head name search report rest) may sees read = (tt, (left _ rest may.looks.here.next, (tt, (tt, (tt, tt)))))
+    all_fine (enters_block site head items rest) may sees read =
+        (placed_before (inside_block s.core.map site head) items rest (placed_inside site.tree may.enabled (next _ rest may.next)) (left _ rest may.next), (tt, tt))
+    all_fine (reaches_imports site head tree rest) may sees read =
+        (left _ rest may.next, (all_leaves site head may.enabled s.core.map.id f.id tree (next _ rest may.next), (tt, tt)))
+    all_fine (reaches_crate site head name alias rest) may sees read =
+        (left _ rest may.next, (tt, ((one_crate site head may.enabled s.core.map f.id here name alias (next _ rest may.next) s.core.dependencies f.dependencies, tt), (tt, tt))))
+    all_fine (resolves_imports rule) may sees read = imports_fine rule may
+
+  -- ---- steps
+
+  -- the trees that a state has asked for are among those of the answer
+  abbrev pub AreAsked : State → Type 0
+  AreAsked s = (key : Key) → Contains s.core.asked key → Contains answer.asked key
+
+  written-Step : {finished : Maps} {old new : State} → own.krate ≡ krate_of from.start → Step (environment tables w) finished old new → AreAsked new → IsAllWritten old → IsAllWritten new
+  written-Step {finished = finished} {old = old} here step asked f =
+      let read : (key : TreeKey) → Contains (keys_read (reads old step.rule)) (keys.Tree key) → Contains answer.asked (keys.Tree key) =
+      λ key h. asked (keys.Tree key) (subst (λ (ks : List Key). Contains ks (keys.Tree key)) (sym (asked-Step step)) (Contains-append_right old.core.asked (keys_read (reads old step.rule)) (keys.Tree key) h)) in
+      let begun : IsAllWritten (asking old step.rule) = record { id = f.id; dependencies = f.dependencies; visits = f.visits; imports = f.imports; globs = f.globs } in
+      let done = perform_keeps IsAllWritten IsFine written-act (acts finished old step.rule) (asking old step.rule) begun (all_fine here finished old f step.rule step.may step.sees read) in
+      subst IsAllWritten (sym step.is) (record { id = done.id; dependencies = done.dependencies; visits = done.visits; imports = done.imports; globs = done.globs })
+
+  pub written-Steps : {finished : Maps} {first_state last : State} → own.krate ≡ krate_of from.start → Steps (environment tables w) finished first_state last → AreAsked last → IsAllWritten first_state → IsAllWritten last
+  written-Steps here none asked f = f
+  written-Steps here (more old new before step) asked f =
+      written-Step here step asked (written-Steps here before (λ key h. asked key (still_asked-Step step key h)) f)
+
+  -- ---- where a run begins
+
+  pub written-start : (finished : Maps) → own.krate ≡ krate_of from.start → own ≡ (start_of tables w finished from).core.map.id → AreAsked (start_of tables w finished from) → IsAllWritten (start_of tables w finished from)
+  written-start finished here same asked = record {
+    id = sym same;
+    dependencies = refl;
+    visits = go (is_enabled (root_tree tables w from).attributes) refl;
+    imports = tt;
+    globs = λ edge h. absurd (no_edge edge h);
+  }
+    where
+      no_edge : (edge : Edge) → Contains [] edge → ⊥
+      no_edge edge (n, below, is) = let past : n < 0 = below in omega arith
+
+      placed : is_enabled (root_tree tables w from).attributes ≡ true → (i : KeptItem) → IsIn i (root_tree tables w from).items → Placed own from.tree i
+      placed on i h =
+          subst (λ (k : Crate). IsWritten tables w answer.asked (record { krate = k; id = from.tree }) i) (sym here)
+          (record { key_asked = asked (root_key from.start from.tree) (0, omega arith, refl); top = on; within = h })
+
+      go : (b : Bool) → is_enabled (root_tree tables w from).attributes ≡ b → ArePlaced (tree_visits (root_site from.tree) (root_tree tables w from))
+      go true e = rw e (placed_visits (root_site from.tree) (root_tree tables w from).items (placed e))
+      go false e = rw e tt

@@ -1,0 +1,6 @@
+-- ---- where imports are written
+pub mod Written
+pub mod Imports
+-- ---- where definitions are written
+pub mod Declares
+pub mod Modules

@@ -1,0 +1,71 @@
+-- What does each module of a run's map list?
+use Rattle.std.specs.Prelude.{◌≡◌, ◌<◌, ℕ, Bool, true, List, length, None, Some, Contains, if◌then◌else◌}
+use Rattle.hir_base.specs.declared.ast_id.AstId.{AstId}
+use Rattle.hir_base.specs.declared.ast_id.FileId.{FileId}
+use Rattle.hir_item_tree.specs.Collected.{is_enabled}
+use Rattle.hir_item_tree.specs.ItemTree.{Tree as ItemTree}
+use Rattle.hir_item_tree.specs.KeptForest.{Head, KeptForest, holder, inline_module, leaf, no_items, outline_module}
+use Rattle.hir_item_tree.specs.declared.tree_id.TreeId.{TreeId}
+use Rattle.hir_item_tree.specs.declared.tree_id.TreeKey.{TreeKey}
+use Rattle.hir_mod_dir.specs.ModuleFiles.{inline_directory}
+use Rattle.hir_tables.specs.Tables.{TablesValue}
+use Rattle.hir_def_map.specs.Overlay.{Maps}
+use Rattle.hir_def_map.specs.State.{ModuleValue, module_at}
+use Rattle.hir_def_map.specs.declared.nameres.origin.ModuleOrigin.{ModuleOrigin}
+use Rattle.hir_def_map.specs.declared.nameres.origin.ModuleOrigin.TheVariants as origins
+use Rattle.hir_def_collector.specs.declared.collector.site.Site.{Site}
+use Rattle.hir_def_collector.specs.declared.source_database.Key.TheVariants.{Tree}
+use Rattle.hir_def_collector.specs.Derivation.{CollectedValue, Ends}
+use Rattle.hir_def_collector.specs.Items.{inline_origin}
+use Rattle.hir_def_collector.specs.Keys.{tree_at}
+use Rattle.hir_def_collector.specs.ModuleFiles.{Search, file_key, file_tree, module_file}
+use Rattle.hir_def_collector.specs.Start.{Beginning, origin_of, read_by, root_site, root_tree}
+use Rattle.hir_def_collector.specs.Steps.{path_of}
+use Rattle.hir_def_collector.specs.Workspace.{Workspace}
+use Rattle.hir_def_collector_laws.specs.Declares.{Declares, IsLookedFor}
+use Rattle.hir_def_collector_laws.specs.Written.{IsWritten}
+
+-- the items of a tree; none where it is disabled at its top
+abbrev pub items_of : ItemTree → KeptForest
+items_of tree = if is_enabled tree.attributes then tree.items else no_items
+
+-- a tree under a crate
+abbrev pub key_of : CollectedValue → TreeId → TreeKey
+key_of answer tree = record { krate = answer.map.id.krate; id = tree }
+
+-- these are the items of a module
+pub data HasItems (tables : TablesValue) (w : Workspace) (finished : Maps) (from : Beginning) (answer : CollectedValue) (origin : ModuleOrigin) (s : Site) : KeptForest → Type 0 where
+  -- those of the tree with which the run began, if it is the root
+  of_root : origin ≡ origin_of from.start → s ≡ root_site from.tree → HasItems tables w finished from answer origin s (items_of (root_tree tables w from))
+  -- those of its file, whose tree was asked for
+  of_file : (is_mod_rs : Bool) (declaration : AstId) (declared_in : TreeId) (id : FileId)
+      → origin ≡ origins.File is_mod_rs declaration declared_in (record { file_id = id; edition = answer.map.crate_data.edition }) → s.tree ≡ file_tree answer.map.crate_data.edition id
+      → Contains answer.asked (Tree (file_key answer.map.id.krate answer.map.crate_data.edition id))
+      → HasItems tables w finished from answer origin s (items_of (tree_at tables w (file_key answer.map.id.krate answer.map.crate_data.edition id)).tree)
+  -- those inside the `mod name { .. }` that declares it
+  inside_item : (head : Head) (name : List ℕ) (items : KeptForest) → origin ≡ inline_origin s.tree head.id → is_enabled head.attributes ≡ true
+      → IsWritten tables w answer.asked (key_of answer s.tree) (holder head (inline_module name) items) → HasItems tables w finished from answer origin s items
+  -- none, if that is too deep in the directory of the module around it
+  too_deep : (head : Head) (name : List ℕ) (items : KeptForest) → inline_directory s.dir name (path_of head) ≡ None → origin ≡ inline_origin s.tree head.id → is_enabled head.attributes ≡ true
+      → IsWritten tables w answer.asked (key_of answer s.tree) (holder head (inline_module name) items) → HasItems tables w finished from answer origin s no_items
+  -- or if there is no file for the `mod name;` that declares it
+  without_file : (head : Head) (name : List ℕ) (search : Search) → IsLookedFor tables w finished answer s head name search → module_file search.found ≡ None
+      → origin ≡ inline_origin s.tree head.id → is_enabled head.attributes ≡ true
+      → IsWritten tables w answer.asked (key_of answer s.tree) (leaf head (outline_module name)) → HasItems tables w finished from answer origin s no_items
+
+-- a module lists the definitions that its items declare, in the order of the items
+pub record ListsItsItems (tables : TablesValue) (w : Workspace) (finished : Maps) (from : Beginning) (answer : CollectedValue) (number : ℕ) : Type 0 where
+  pub value : ModuleValue
+  pub there : module_at answer.map number ≡ Some value
+  -- where its items are written, and what they are
+  pub site : Site
+  pub home : site.home ≡ number
+  pub alone : site.extern_block ≡ None
+  pub items : KeptForest
+  pub has : HasItems tables w finished from answer value.origin site items
+  pub lists : Declares tables w finished answer items site value.scope.declarations
+
+-- so a definition is listed exactly where an enabled item of a tree that was asked for writes it
+abbrev pub ModulesListTheirItems : Type 0
+ModulesListTheirItems = (tables : TablesValue) (w : Workspace) (finished : Maps) (from : Beginning) (answer : CollectedValue) → Ends tables w finished from answer
+    → (number : ℕ) → number < length answer.map.modules → ListsItsItems tables w (read_by w finished from.start) from answer number

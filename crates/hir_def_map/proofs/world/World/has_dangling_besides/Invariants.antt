@@ -1,0 +1,14 @@
+-- What is left decides.
+use Rattle.std.proofs.Common.{◌≡◌, length}
+use Rattle.std.specs.List.{list_any}
+use Rattle.hir_def_map.specs.Overlay.{overlay}
+use Rattle.hir_def_map.specs.References.{is_missing, test_of}
+use Rattle.hir_def_map.specs.World.{finished_in}
+use Rattle.hir_def_map.proofs.world.World.has_dangling_besides.Given as goal
+
+abbrev pub invariant-next : goal.invariant-next
+invariant-next l =
+    list_any (test_of (is_missing (overlay (finished_in l.self.maps) l.map))) l.initial.left ≡ list_any (test_of (is_missing (overlay (finished_in l.self.maps) l.map))) l.left
+
+abbrev pub decreases-next : goal.decreases-next
+decreases-next l = length l.left

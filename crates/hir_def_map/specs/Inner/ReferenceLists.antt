@@ -1,0 +1,70 @@
+-- The references of a map, one after another, as the code walks over them; `None` stands for a type that is no reference.
+use Rattle.std.specs.Prelude.{ℕ, Bool, ◌||◌, List, [], ◌∷◌, ◌++◌, Option, None, Some, is_some, cond, map, option_map}
+use Rattle.std.specs.List.{list_any}
+use Rattle.hir_base.specs.declared.ids.Crate.{Crate}
+use Rattle.hir_base.specs.declared.ids.ExternCrateId.{ExternCrateId}
+use Rattle.hir_base.specs.declared.ids.MapId.{MapId}
+use Rattle.hir_base.specs.declared.ids.ModuleDefId.{ModuleDefId}
+use Rattle.hir_base.specs.declared.ids.ModuleId.{ModuleId}
+use Rattle.hir_base.specs.declared.ids.UseId.{UseId}
+use Rattle.hir_scope.specs.declared.imports.ImportOrExternCrate.{ImportOrExternCrate}
+use Rattle.hir_scope.specs.PerNs.{Item}
+use Rattle.hir_def_map.specs.declared.world.reference.Reference.{Reference}
+use Rattle.hir_def_map.specs.declared.world.reference.Reference.TheVariants as reference
+use Rattle.hir_def_map.specs.References.{reference_to, test_of}
+use Rattle.hir_def_map.specs.State.{Local, Map, ModuleValue, crate_map}
+
+-- a module before other references, if there is one
+abbrev pub module_before : Option ModuleId → List (Option Reference) → List (Option Reference)
+module_before None rest = rest
+module_before (Some m) rest = Some (reference.Module m) ∷ rest
+
+-- so a crate's map
+abbrev pub crate_before : Option Crate → List (Option Reference) → List (Option Reference)
+crate_before None rest = rest
+crate_before (Some c) rest = Some (reference.Map (crate_map c)) ∷ rest
+
+abbrev pub child_reference : (List ℕ × ModuleId) → Option Reference
+child_reference child = Some (reference.Module child.1)
+
+abbrev pub type_reference : (List ℕ × Item ModuleDefId ImportOrExternCrate) → Option Reference
+type_reference type = reference_to type.1.def
+
+abbrev pub extern_reference : (List ℕ × (ModuleId × Option ExternCrateId)) → Option Reference
+extern_reference entry = Some (reference.Module entry.1.0)
+
+abbrev pub crate_reference : Crate → Option Reference
+crate_reference c = Some (reference.Map (crate_map c))
+
+-- a parent, children and types
+abbrev pub module_list : Option ModuleId → List (List ℕ × ModuleId) → List (List ℕ × Item ModuleDefId ImportOrExternCrate) → List (Option Reference)
+module_list parent children types = module_before parent (map child_reference children ++ map type_reference types)
+
+-- a prelude, a holder, the crates that paths may begin with, those that are depended on, and a block's crate
+abbrev pub besides_list : Option ModuleId → Option ModuleId → Local → List Crate → Option Crate → List (Option Reference)
+besides_list prelude holder externs crates own =
+    module_before prelude (module_before holder (map extern_reference externs ++ (map crate_reference crates ++ crate_before own [])))
+
+-- the crate of a block's map
+abbrev pub block_crate : MapId → Option Crate
+block_crate id = cond (is_some id.block) (Some id.krate) None
+
+-- the references of a module
+abbrev pub references_in : ModuleValue → List (Option Reference)
+references_in m = module_list m.parent m.children m.scope.types
+
+-- those of a map besides the ones of its modules
+abbrev pub references_besides : Map → Local → List (Option Reference)
+references_besides map local =
+    besides_list (option_map (λ (p : ModuleId × Option UseId). p.0) map.prelude) map.holder local map.crate_data.dependencies (block_crate map.id)
+
+-- ---- whether a test holds of some reference of these lists
+
+abbrev pub listed_in : (Reference → Bool) → ModuleValue → Bool
+listed_in test m = list_any (test_of test) (references_in m)
+
+abbrev pub listed_besides : (Reference → Bool) → Map → Local → Bool
+listed_besides test map local = list_any (test_of test) (references_besides map local)
+
+abbrev pub any_listed : (Reference → Bool) → Map → Local → Bool
+any_listed test map local = list_any (listed_in test) map.modules || listed_besides test map local

@@ -1,0 +1,37 @@
+//! What a map refers to.
+ghost use Rattle.std.specs.Prelude.{◌≡◌};
+ghost use Rattle.hir_def_map.specs.References.{map_of_reference, reference_to};
+
+use hir_base::ids::{AdtId, EnumId, MapId, ModuleDefId, ModuleId};
+
+/// A module, an enum or a map that a map refers to.
+#[derive(Clone, Copy, Debug)]
+pub enum Reference {
+    Module(ModuleId),
+    Enum(EnumId),
+    Map(MapId),
+}
+
+/// What a type is that has to be there: a module or an enum.
+pub fn reference_to(def: ModuleDefId) -> Option<Reference>
+    ensures value { result ≡ reference_to def }
+{
+    match def {
+        ModuleDefId::ModuleId(id) => Some(Reference::Module(id)),
+        ModuleDefId::AdtId(AdtId::EnumId(id)) => Some(Reference::Enum(id)),
+        _ => None,
+    }
+}
+
+impl Reference {
+    /// The map in which it has to be.
+    pub fn map(self) -> MapId
+        ensures value { result ≡ map_of_reference self }
+    {
+        match self {
+            Reference::Module(id) => id.map,
+            Reference::Enum(id) => id.loc.container.map,
+            Reference::Map(id) => id,
+        }
+    }
+}

@@ -1,0 +1,150 @@
+//! The references of a map: one after another.
+//!
+//! A type that is neither a module nor an enum stands in a walk as `None`.
+ghost use Rattle.std.specs.Prelude.{◌≡◌, List, option_map};
+ghost use Rattle.std.specs.Iterator.{YieldsFirst, item_count};
+ghost use Rattle.hir_def_map.specs.Inner.ReferenceLists.{block_crate, references_besides, references_in};
+
+use crate::nameres::DefMap;
+use crate::nameres::local_def_map::LocalDefMap;
+use crate::nameres::module_data::ModuleData;
+use crate::world::reference::{Reference, reference_to};
+use hir_base::ids::{Crate, ExternCrateId, MapId, ModuleDefId, ModuleId};
+use hir_base::name::Name;
+use hir_crate_graph::Crates;
+use hir_scope::imports::ImportOrExternCrate;
+use hir_scope::item_scope::iter::bindings::Bindings;
+use std::collections::btree_map;
+use std::marker::Model;
+
+/// The references of a module: its parent, its children, and its types.
+#[derive(Drop)]
+pub(crate) struct ModuleReferences<'a> {
+    parent: Option<ModuleId>,
+    children: btree_map::Iter<'a, Name, ModuleId>,
+    types: Bindings<'a, ModuleDefId, ImportOrExternCrate>,
+}
+
+impl<'a> Model for ModuleReferences<'a> {
+    ghost use Rattle.std.specs.Prelude.{List, Option};
+    ghost use Rattle.hir_def_map.specs.declared.world.reference.Reference.{Reference};
+    ghost use Rattle.hir_def_map.specs.Inner.ReferenceLists.{module_list};
+
+    ghost Value = { List (Option Reference) };
+
+    ghost view = { λ walk. module_list walk.parent walk.children walk.types };
+}
+
+impl ModuleReferences<'_> {
+    pub(crate) fn of(module: &ModuleData) -> ModuleReferences<'_>
+        ensures value { result ≡ references_in «module».now }
+    {
+        ModuleReferences {
+            parent: module.parent(),
+            children: module.children(),
+            types: module.scope().types(),
+        }
+    }
+}
+
+impl<'a> Iterator for ModuleReferences<'a> {
+    type Item = Option<Reference>;
+
+    ghost next_gives = { YieldsFirst (λ (left : List _). left) };
+
+    ghost remaining = { item_count (λ (left : List _). left) };
+
+    fn next(&mut self) -> Option<Option<Reference>> {
+        if let Some(parent) = self.parent.take() {
+            return Some(Some(Reference::Module(parent)));
+        }
+        if let Some((_, child)) = self.children.next() {
+            return Some(Some(Reference::Module(*child)));
+        }
+        match self.types.next() {
+            Some((_, item)) => Some(reference_to(item.def)),
+            None => None,
+        }
+    }
+}
+
+/// The references of a map besides those of its modules: its prelude, its holder, the crates that its paths may begin
+/// with, those on which its crate depends, and the crate of a block.
+#[derive(Drop)]
+pub(crate) struct MapReferences<'a> {
+    prelude: Option<ModuleId>,
+    holder: Option<ModuleId>,
+    externs: indexmap::map::Iter<'a, Name, (ModuleId, Option<ExternCrateId>)>,
+    crates: Crates<'a>,
+    own: Option<Crate>,
+}
+
+impl<'a> Model for MapReferences<'a> {
+    ghost use Rattle.std.specs.Prelude.{List, Option};
+    ghost use Rattle.hir_def_map.specs.declared.world.reference.Reference.{Reference};
+    ghost use Rattle.hir_def_map.specs.Inner.ReferenceLists.{besides_list};
+
+    ghost Value = { List (Option Reference) };
+
+    ghost view = { λ walk. besides_list walk.prelude walk.holder walk.externs walk.crates walk.own };
+}
+
+/// The crate of a block.
+fn own_crate(id: MapId) -> Option<Crate>
+    ensures value { result ≡ block_crate id }
+{
+    match id.block {
+        Some(_) => Some(id.krate),
+        None => None,
+    }
+}
+
+fn prelude_of(map: &DefMap) -> Option<ModuleId>
+    ensures value { result ≡ option_map (λ p. p.0) map.now.prelude }
+{
+    match map.prelude() {
+        Some((prelude, _)) => Some(prelude),
+        None => None,
+    }
+}
+
+impl MapReferences<'_> {
+    pub(crate) fn of<'a>(map: &'a DefMap, local: &'a LocalDefMap) -> MapReferences<'a>
+        ensures value { result ≡ references_besides map.now local.now }
+    {
+        MapReferences {
+            prelude: prelude_of(map),
+            holder: map.parent(),
+            externs: local.extern_prelude(),
+            crates: map.crate_data().dependencies().iter(),
+            own: own_crate(map.id()),
+        }
+    }
+}
+
+impl<'a> Iterator for MapReferences<'a> {
+    type Item = Option<Reference>;
+
+    ghost next_gives = { YieldsFirst (λ (left : List _). left) };
+
+    ghost remaining = { item_count (λ (left : List _). left) };
+
+    fn next(&mut self) -> Option<Option<Reference>> {
+        if let Some(prelude) = self.prelude.take() {
+            return Some(Some(Reference::Module(prelude)));
+        }
+        if let Some(holder) = self.holder.take() {
+            return Some(Some(Reference::Module(holder)));
+        }
+        if let Some((_, entry)) = self.externs.next() {
+            return Some(Some(Reference::Module(entry.0)));
+        }
+        if let Some(krate) = self.crates.next() {
+            return Some(Some(Reference::Map(MapId { krate, block: None })));
+        }
+        match self.own.take() {
+            Some(krate) => Some(Some(Reference::Map(MapId { krate, block: None }))),
+            None => None,
+        }
+    }
+}

@@ -1,0 +1,251 @@
+-- Finished maps name nothing in a map that isn't among them.
+use Rattle.std.proofs.Common.{◌≡◌, ◌∙◌, ap, sym, subst, refl, ℕ, List, [], ◌∷◌, Bool, true, false, ◌&&◌, ◌||◌, cond, Option, None, Some}
+use Rattle.std.specs.BTreeMap.{BTreeMap, get, is_at}
+use Rattle.std.specs.Cmp.Lexicographic.{slice_cmp}
+use Rattle.std.specs.Cmp.{second_so}
+use Rattle.std.specs.List.{All, list_any}
+use Rattle.std.specs.Map.{lookup}
+use Rattle.std.specs.Option.{option_and_then, option_copied, option_map}
+use Rattle.std.specs.Ordering.{nat_cmp}
+use Rattle.std.specs.Prelude.{is_some, not}
+use Rattle.std.proofs.lemmas.List.Elements.{All-cons, All-nil}
+use mathlib.Core.Bool.{true≢false}
+use Rattle.hir_base.specs.declared.ids.Crate.{Crate}
+use Rattle.hir_base.specs.declared.ids.MapId.{MapId}
+use Rattle.hir_base.specs.declared.ids.ModuleDefId.{ModuleDefId}
+use Rattle.hir_base.specs.declared.ids.ModuleId.{ModuleId}
+use Rattle.hir_base.specs.declared.ids.UseId.{UseId}
+use Rattle.hir_base.specs.contracts.ids.MapIdOrd.TheImpl as map_order
+use Rattle.hir_base.specs.contracts.ids.MapIdPartialEq.TheImpl as map_id
+use Rattle.hir_scope.specs.PerNs.{Item}
+use Rattle.hir_scope.specs.declared.imports.ImportOrExternCrate.{ImportOrExternCrate}
+use Rattle.hir_def_map.specs.Inner.OverlayLaws.{exact_map}
+use Rattle.hir_def_map.specs.Inner.PartLaws.{among-only}
+use Rattle.hir_def_map.specs.Ancestors.{frame_of, frames_of, holders_in, holders_of_frame}
+use Rattle.hir_def_map.specs.References.{any_reference, any_reference_besides, any_reference_in, each_leads_to_root, has_its_parents, is_holder_for, is_missing, is_well_formed, prelude_reference, reference_to, test_child, test_of, test_type}
+use Rattle.hir_def_map.specs.State.{ModuleValue, entry_of, module_at, parent_of}
+use Rattle.hir_def_map.specs.Overlay.{Maps, Placed, entry_in, map_in, overlay, parent_in, placed_in}
+use Rattle.hir_def_map.specs.Scoping.Slots.{is_in, prelude_module_of}
+use Rattle.hir_def_map.specs.World.{IsChecked, finished_in, placed_of}
+use Rattle.hir_def_map.specs.WorldParts.{among, limited_to, part_of}
+use Rattle.hir_def_map.specs.declared.world.finished.Finished.{Finished}
+use Rattle.hir_def_map.specs.declared.world.reference.Reference.{Reference}
+use Rattle.hir_def_map.specs.declared.world.reference.Reference.TheVariants as named
+use Rattle.hir_def_map.proofs.NoneOf.{none_at, none_found, not_first, not_second}
+use Rattle.hir_def_map_laws.proofs.Whole.{elsewhere}
+use Rattle.hir_def_map_laws.specs.ReadLaw.{Fails, FailsAtType, KeepApart, PartsKeepApart, SomeMapsKeepApart, WorldsKeepApart, is_named_in}
+
+-- ---- references of a map in which a test holds nowhere
+
+module _ (own : MapId) (test : Reference → Bool) (weaker : (n : Reference) → test n ≡ false → is_named_in own n ≡ false) where
+  of_one : (o : Option Reference) → test_of test o ≡ false → test_of (is_named_in own) o ≡ false
+  of_one None e = refl
+  of_one (Some n) e = weaker n e
+
+  -- what a module is in
+  parent_apart : (o : Option ModuleValue) → ((m : ModuleValue) → o ≡ Some m → any_reference_in test m ≡ false) → (p : ModuleId) → parent_of o ≡ Some p → is_in own p ≡ false
+  parent_apart None names p e = absurd cc
+  parent_apart (Some m) names p e = go m.parent (not_first (test_of test (option_map named.Module m.parent)) (list_any (test_child test) m.children || list_any (test_type test) m.scope.types) (names m refl)) e
+    where
+      go : (o : Option ModuleId) → test_of test (option_map named.Module o) ≡ false → o ≡ Some p → is_in own p ≡ false
+      go None f g = absurd cc
+      go (Some q) f g = let same : q ≡ p = cc in subst (λ (x : ModuleId). is_in own x ≡ false) same (weaker (named.Module q) f)
+
+  -- what its names stand for
+  types_apart : (o : Option ModuleValue) → ((m : ModuleValue) → o ≡ Some m → any_reference_in test m ≡ false) → (name : List ℕ) → Fails (is_named_in own) (entry_of o name)
+  types_apart None names name = tt
+  types_apart (Some m) names name =
+      go (lookup (is_at (slice_cmp nat_cmp name)) m.scope.types) refl
+    where
+      none : list_any (test_type test) m.scope.types ≡ false
+      none =
+          not_second (list_any (test_child test) m.children) (list_any (test_type test) m.scope.types)
+          (not_second (test_of test (option_map named.Module m.parent)) (list_any (test_child test) m.children || list_any (test_type test) m.scope.types) (names m refl))
+
+      go : (o : Option (Item ModuleDefId ImportOrExternCrate)) → lookup (is_at (slice_cmp nat_cmp name)) m.scope.types ≡ o → FailsAtType (is_named_in own) o
+      go None e = tt
+      go (Some item) e =
+          of_one (reference_to item.def)
+          (none_found (λ (x : Item ModuleDefId ImportOrExternCrate). test_of test (reference_to x.def)) (is_at (slice_cmp nat_cmp name)) m.scope.types item none e)
+
+  prelude_apart : (o : Option (ModuleId × Option UseId)) → test_of test (prelude_reference o) ≡ false → (p : ModuleId) → option_map (λ x. x.0) o ≡ Some p → is_in own p ≡ false
+  prelude_apart None f p e = absurd cc
+  prelude_apart (Some prelude) f p e = let same : prelude.0 ≡ p = cc in subst (λ (m : ModuleId). is_in own m ≡ false) same (weaker (named.Module prelude.0) f)
+
+-- ---- the maps of a world
+
+module _ (maps : BTreeMap MapId Finished) (own : MapId) (checked : IsChecked maps) (absent : finished_in maps own ≡ None) where
+  abbrev world : Maps
+  world = finished_in maps
+
+  found : (id : MapId) (placed : Placed) → world id ≡ Some placed → (f : Finished) × (get map_order.ghosts.cmp maps id ≡ Some f) × (placed_of f ≡ placed)
+  unfolding finished_in
+  found id placed e = go (get map_order.ghosts.cmp maps id) refl e
+    where
+      go : (o : Option Finished) → get map_order.ghosts.cmp maps id ≡ o → option_map placed_of o ≡ Some placed → (f : Finished) × (get map_order.ghosts.cmp maps id ≡ Some f) × (placed_of f ≡ placed)
+      go None s f = absurd cc
+      go (Some x) s f = let same : placed_of x ≡ placed = cc in (x, s, same)
+
+  module _ (id : MapId) (placed : Placed) (there : world id ≡ Some placed) where
+    -- the world with this map of it on top
+    abbrev beside : Maps
+    beside = overlay world placed.map
+
+    abbrev missing : Reference → Bool
+    missing n = is_missing beside n
+
+    own_id : placed.map.id ≡ id
+    own_id = let f = found id placed there in ap (λ (p : Placed). p.map.id) (sym f.2) ∙ (checked.each id f.0 f.1).own
+
+    whole : is_well_formed world placed.map placed.local ≡ true
+    whole = let f = found id placed there in subst (λ (p : Placed). is_well_formed world p.map p.local ≡ true) f.2 (checked.each id f.0 f.1).complete
+
+    none_missing : any_reference missing placed.map placed.local ≡ false
+    none_missing =
+        let held = is_holder_for world placed.map.id placed.map.holder in
+        let names = not (any_reference missing placed.map placed.local) in
+        no (any_reference missing placed.map placed.local)
+        (second_so held names
+        (second_so (has_its_parents placed.map) (held && names)
+        (second_so (each_leads_to_root placed.map) (has_its_parents placed.map && (held && names)) whole)))
+      where
+        no : (b : Bool) → not b ≡ true → b ≡ false
+        no true e = absurd (true≢false (sym e))
+        no false e = refl
+
+    absent_beside : beside own ≡ None
+    absent_beside = go (map_id.ghosts.eq own placed.map.id) refl
+      where
+        go : (b : Bool) → map_id.ghosts.eq own placed.map.id ≡ b → cond b (Some (placed_in world placed.map)) (world own) ≡ None
+        go true s =
+            let same : own ≡ id = exact_map own placed.map.id s ∙ own_id in
+            let both : None ≡ Some placed = sym absent ∙ ap world same ∙ there in
+            absurd cc
+        go false s = absent
+
+    apart : (n : Reference) → missing n ≡ false → is_named_in own n ≡ false
+    apart n e = elsewhere beside own absent_beside n e
+
+    module_names : (at : ℕ) (m : ModuleValue) → module_at placed.map at ≡ Some m → any_reference_in missing m ≡ false
+    module_names at m e =
+        none_at (any_reference_in missing) placed.map.modules (not_first (list_any (any_reference_in missing) placed.map.modules) (any_reference_besides missing placed.map placed.local) none_missing) at m e
+
+    map_types : (at : ℕ) (name : List ℕ) → Fails (is_named_in own) (entry_of (module_at placed.map at) name)
+    map_types at name = types_apart own missing apart (module_at placed.map at) (module_names at) name
+
+    map_parents : (at : ℕ) (p : ModuleId) → parent_of (module_at placed.map at) ≡ Some p → is_in own p ≡ false
+    map_parents at p e = parent_apart own missing apart (module_at placed.map at) (module_names at) p e
+
+    map_prelude : (p : ModuleId) → option_map (λ x. x.0) placed.map.prelude ≡ Some p → is_in own p ≡ false
+    map_prelude p e =
+        prelude_apart own missing apart placed.map.prelude
+        (not_first (test_of missing (prelude_reference placed.map.prelude)) _
+        (not_second (list_any (any_reference_in missing) placed.map.modules) (any_reference_besides missing placed.map placed.local) none_missing))
+        p e
+
+  types : (m : ModuleId) (name : List ℕ) → Fails (is_named_in own) (entry_in world m name)
+  types m name = go (world m.map) refl
+    where
+      go : (o : Option Placed) → world m.map ≡ o → Fails (is_named_in own) (entry_of (option_and_then (λ (placed : Placed). module_at placed.map m.index) o) name)
+      go None s = tt
+      go (Some placed) s = map_types m.map placed s m.index name
+
+  parents : (m p : ModuleId) → parent_in world m ≡ Some p → is_in own p ≡ false
+  parents m p e = go (world m.map) refl e
+    where
+      go : (o : Option Placed) → world m.map ≡ o → parent_of (option_and_then (λ (placed : Placed). module_at placed.map m.index) o) ≡ Some p → is_in own p ≡ false
+      go None s f = absurd cc
+      go (Some placed) s f = map_parents m.map placed s m.index p f
+
+  preludes : (id : MapId) (p : ModuleId) → prelude_module_of (map_in world id) ≡ Some p → is_in own p ≡ false
+  preludes id p e = go (world id) refl e
+    where
+      go : (o : Option Placed) → world id ≡ o → prelude_module_of (option_map (λ (placed : Placed). placed.map) o) ≡ Some p → is_in own p ≡ false
+      go None s f = absurd cc
+      go (Some placed) s f = map_prelude id placed s p f
+
+  holder_apart : (h : ModuleId) → is_some (frames_of world h.map) ≡ true → is_in own h ≡ false
+  unfolding frames_of
+  holder_apart h e = go (is_in own h) refl
+    where
+      go : (b : Bool) → is_in own h ≡ b → is_in own h ≡ false
+      go true s =
+          absurd (true≢false (sym e
+          ∙ ap (λ (id : MapId). is_some (option_map frame_of (world id))) (exact_map h.map own s)
+          ∙ ap (λ (o : Option Placed). is_some (option_map frame_of o)) absent))
+      go false s = s
+
+  holders : (hs : List ModuleId) (id : MapId) → holders_of_frame (frames_of world id) ≡ hs → All (λ (h : ModuleId). is_in own h ≡ false) hs
+  holders [] id e = All-nil (λ (h : ModuleId). is_in own h ≡ false)
+  holders (h ∷ hs) id e =
+      let leads = checked.placed id h hs e in
+      All-cons (λ (x : ModuleId). is_in own x ≡ false) h hs (holder_apart h leads.1) (holders hs h.map leads.2)
+
+  pub KeepApart-world : KeepApart (finished_in maps) own
+  KeepApart-world = record { absent = absent; types = types; parents = parents; holders = λ m. holders (holders_in world m) m.map refl; preludes = preludes }
+
+-- ---- fewer maps
+
+module _ (fewer finished : Maps) (own : MapId) (less : (id : MapId) (placed : Placed) → fewer id ≡ Some placed → finished id ≡ Some placed) (apart : KeepApart finished own) where
+  fewer_absent : fewer own ≡ None
+  fewer_absent = go (fewer own) refl
+    where
+      go : (o : Option Placed) → fewer own ≡ o → fewer own ≡ None
+      go None s = s
+      go (Some placed) s = let both : None ≡ Some placed = sym apart.absent ∙ less own placed s in absurd cc
+
+  fewer_types : (m : ModuleId) (name : List ℕ) → Fails (is_named_in own) (entry_in fewer m name)
+  fewer_types m name = go (fewer m.map) refl
+    where
+      go : (o : Option Placed) → fewer m.map ≡ o → Fails (is_named_in own) (entry_of (option_and_then (λ (x : Placed). module_at x.map m.index) o) name)
+      go None s = tt
+      go (Some placed) s =
+          subst (λ (o : Option Placed). Fails (is_named_in own) (entry_of (option_and_then (λ (x : Placed). module_at x.map m.index) o) name)) (less m.map placed s) (apart.types m name)
+
+  fewer_parents : (m p : ModuleId) → parent_in fewer m ≡ Some p → is_in own p ≡ false
+  fewer_parents m p e = go (fewer m.map) refl e
+    where
+      go : (o : Option Placed) → fewer m.map ≡ o → parent_of (option_and_then (λ (placed : Placed). module_at placed.map m.index) o) ≡ Some p → is_in own p ≡ false
+      go None s f = absurd cc
+      go (Some placed) s f =
+          apart.parents m p (ap (λ (o : Option Placed). parent_of (option_and_then (λ (x : Placed). module_at x.map m.index) o)) (less m.map placed s) ∙ f)
+
+  fewer_holders : (m : ModuleId) → All (λ (h : ModuleId). is_in own h ≡ false) (holders_in fewer m)
+  unfolding frames_of
+  fewer_holders m = go (fewer m.map) refl
+    where
+      go : (o : Option Placed) → fewer m.map ≡ o → All (λ (h : ModuleId). is_in own h ≡ false) (holders_of_frame (option_map frame_of o))
+      go None s = All-nil (λ (h : ModuleId). is_in own h ≡ false)
+      go (Some placed) s =
+          subst (λ (o : Option Placed). All (λ (h : ModuleId). is_in own h ≡ false) (holders_of_frame (option_map frame_of o))) (less m.map placed s) (apart.holders m)
+
+  fewer_preludes : (id : MapId) (p : ModuleId) → prelude_module_of (map_in fewer id) ≡ Some p → is_in own p ≡ false
+  fewer_preludes id p e = go (fewer id) refl e
+    where
+      go : (o : Option Placed) → fewer id ≡ o → prelude_module_of (option_map (λ (placed : Placed). placed.map) o) ≡ Some p → is_in own p ≡ false
+      go None s f = absurd cc
+      go (Some placed) s f =
+          apart.preludes id p (ap (λ (o : Option Placed). prelude_module_of (option_map (λ (x : Placed). x.map) o)) (less id placed s) ∙ f)
+
+  KeepApart-fewer : KeepApart fewer own
+  KeepApart-fewer = record { absent = fewer_absent; types = fewer_types; parents = fewer_parents; holders = fewer_holders; preludes = fewer_preludes }
+
+-- ---- the laws
+
+pub worlds_apart : WorldsKeepApart
+worlds_apart maps own checked absent = KeepApart-world maps own checked absent
+
+pub some_apart : SomeMapsKeepApart
+some_apart crates holders finished own apart =
+    KeepApart-fewer (among crates holders finished) finished own (λ id placed e. (among-only crates holders finished id placed e).1) apart
+
+pub parts_apart : PartsKeepApart
+unfolding part_of
+parts_apart part own absent = go (option_copied part.crates)
+  where
+    whole : KeepApart (finished_in part.world.now.maps) own
+    whole = KeepApart-world part.world.now.maps own part.world.now.checked absent
+
+    go : (o : Option (List Crate)) → KeepApart (limited_to o part.holders.now (finished_in part.world.now.maps)) own
+    go None = whole
+    go (Some crates) = some_apart crates part.holders.now (finished_in part.world.now.maps) own whole

@@ -1,0 +1,57 @@
+-- A map that grows keeps its modules, and the variants of the enums that names stand for.
+use Rattle.std.proofs.Common.{◌≡◌, ◌∙◌, sym, subst, refl, ℕ, ◌<◌, length, Bool, false, Option, None, Some, arith}
+use Rattle.std.specs.Prelude.{is_some, not}
+use Rattle.hir_base.specs.declared.ids.EnumId.{EnumId}
+use Rattle.hir_base.specs.declared.ids.ModuleId.{ModuleId}
+use Rattle.hir_def_map.specs.State.{IsBefore, Map, Variants, entry_at, parent_at, variants_at}
+use Rattle.hir_def_map.specs.Overlay.{Maps}
+use Rattle.hir_def_map.specs.declared.world.reference.Reference.{Reference}
+use Rattle.hir_def_map.specs.declared.world.reference.Reference.TheVariants as named
+use Rattle.hir_def_map_laws.proofs.Changed.{Change, has_others}
+use Rattle.hir_def_map_laws.proofs.Fails.{Fails-weaker}
+use Rattle.hir_def_map_laws.proofs.SameAbove.{before_at, same_numbers_above, same_parent_at}
+use Rattle.hir_def_map_laws.specs.ReadLaw.{Grows, StandsBeside, has_no_variants}
+
+module _ (finished : Maps) (one other : Map) (stands : StandsBeside finished one) (grows : Grows one other) where
+  -- what is above a module comes before it
+  pub parent_below : (at : ℕ) (p : ModuleId) → at < length one.modules → parent_at one at ≡ Some p → p.index < length one.modules
+  parent_below at p low e = go (parent_at one at) (before_at one other grows stands.in_order at low) e
+    where
+      go : (o : Option ModuleId) → IsBefore one.id at o → o ≡ Some p → p.index < length one.modules
+      go None f g = absurd cc
+      go (Some q) f g = let same : q ≡ p = cc in let less : q.index < at = f.1 in subst (λ (x : ModuleId). x.index < length one.modules) same (omega arith)
+
+  -- the enums that have no variants yet
+  abbrev pub lacks : EnumId → Bool
+  lacks id = not (is_some (variants_at one id))
+
+  pub names_have : (n : Reference) → has_no_variants one n ≡ false → has_others one.id lacks n ≡ false
+  names_have (named.Module m) e = refl
+  names_have (named.Enum id) e = e
+  names_have (named.Map id) e = refl
+
+  pub same_variants : (id : EnumId) → lacks id ≡ false → variants_at other id ≡ variants_at one id
+  same_variants id e = go (variants_at one id) refl e
+    where
+      go : (o : Option Variants) → variants_at one id ≡ o → not (is_some o) ≡ false → variants_at other id ≡ variants_at one id
+      go None s f = absurd cc
+      go (Some variants) s f = grows.enums id variants s ∙ sym s
+
+  abbrev pub grown : Change
+  grown = record {
+    finished = finished;
+    one = one;
+    other = other;
+    apart = stands.apart;
+    id = grows.id;
+    holder = grows.holder;
+    crate_data = grows.crate_data;
+    prelude = grows.prelude;
+    bound = Some (length one.modules);
+    parents = same_parent_at one other grows stands.in_order;
+    parents_below = parent_below;
+    above = same_numbers_above one other grows stands.in_order finished;
+    changes = lacks;
+    names = λ at name. Fails-weaker (has_no_variants one) (has_others one.id lacks) names_have (entry_at one at name) (stands.enums at name);
+    variants = same_variants;
+  }

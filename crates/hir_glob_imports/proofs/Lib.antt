@@ -1,0 +1,9 @@
+pub mod Exact
+pub mod EdgeLists
+pub mod Settling
+pub mod Updates
+pub mod Taking
+pub mod Resting
+pub mod Linking
+pub mod Spreading
+pub mod Advancing

@@ -1,0 +1,18 @@
+-- The step is written, and the edges around the slot are to be looked at.
+use Rattle.std.proofs.Common.{rules}
+use Rattle.hir_glob_imports.specs.Rules.{follows_along}
+use Rattle.hir_glob_imports.specs.Waves.{state_of}
+use Rattle.hir_glob_imports.proofs.Taking.{follow_takes, may_follow, spent_by}
+use Rattle.hir_glob_imports.proofs.glob_imports.GlobImports.follow_along.Goals as goal
+
+pub returns-clause-takes : goal.returns-clause-takes
+returns-clause-takes g c =
+    follow_takes g.N.Names.table g.met.N.Names.writes c.args.names.now c.follow.new.names c.args.self.now c.follow.new.self c.spread.new.self c.args.count.now c.follow.new.count
+    c.args.j c.args.edge c.args.slot.now c.requires.recorded c.requires.at c.requires.kept c.args.shown c.requires.update
+    c.in_ok-follow.ensures.is c.in_ok-follow.ensures.pending c.in_ok-spread.ensures.spreads
+
+pub returns-in_err-follow-clause-many : goal.returns-in_err-follow-clause-many
+returns-in_err-follow-clause-many g c = λ h.
+    spent_by g.N.Names.table (state_of c.args.names.now c.args.self.now c.args.count.now) (follows_along c.args.j c.args.edge c.args.slot.now c.args.shown)
+    (may_follow g.N.Names.table c.args.names.now c.args.self.now c.args.count.now c.args.j c.args.edge c.args.slot.now c.requires.recorded c.requires.at c.args.shown c.requires.update)
+    (c.in_err-follow.ensures.many (search rules))

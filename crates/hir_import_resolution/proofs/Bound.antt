@@ -1,0 +1,116 @@
+-- What stands in a resolver once an import has bound something.
+use Rattle.std.proofs.Common.{◌≡◌, ◌∙◌, ap, sym, subst, ℕ, ◌<◌, Bool, List, length, Option, None, Some, is_some, Result, Ok, Err, OnOk}
+use Rattle.hir_base.specs.declared.ids.TraitId.{TraitId}
+use Rattle.hir_scope.specs.declared.imports.ImportId.{ImportId}
+use Rattle.hir_scope.specs.declared.imports.ImportOrExternCrate.{ImportOrExternCrate}
+use Rattle.hir_scope.specs.declared.per_ns.PerNs.{PerNs}
+use Rattle.hir_scope.specs.declared.visibility.Visibility.{Visibility}
+use Rattle.hir_def_map.specs.State.{globs_after, module_at, pushed, with_scope}
+use Rattle.hir_glob_imports.specs.Keys.{slot_at}
+use Rattle.hir_glob_imports.specs.Rules.{BroughtBy, with_brought}
+use Rattle.hir_glob_imports.specs.View.{View}
+use Rattle.hir_glob_imports.specs.Waves.{GlobsValue, IsExplicit, IsKept, brought_of}
+use Rattle.hir_glob_imports.specs.declared.edge.Key.TheVariants.{Types, Values, Macros, Unnamed}
+use Rattle.hir_import_resolution.specs.Changes.{bound_in, forgotten, forgotten_in, kept_vis, with_kept}
+use Rattle.hir_import_resolution.specs.Directives.{way_of}
+use Rattle.hir_import_resolution.specs.Inner.State.{finished_by, state_by}
+use Rattle.hir_import_resolution.specs.Inner.Steps.{IsBound, MayBind}
+use Rattle.hir_import_resolution.specs.Names.{trait_vis, view_of, with_trait}
+use Rattle.hir_import_resolution.specs.Scopes.{value_of}
+use Rattle.hir_import_resolution.specs.declared.directive.ImportSource.{ImportSource}
+use Rattle.hir_import_resolution.specs.declared.resolver.Resolver.{Resolver}
+use Rattle.hir_import_resolution.specs.declared.scopes.OpenScopes.{OpenScopes}
+use Rattle.hir_import_resolution.proofs.Binding.{keep_binds, push_binds}
+
+-- two facts of the state after a call that may fail
+pub on_both : {T E : Type 0} (r : Result T E) (P Q R : Type 0) → (P → Q → R) → OnOk r P → OnOk r Q → OnOk r R
+on_both (Ok x) P Q R f p q = f p q
+on_both (Err e) P Q R f p q = p
+
+-- ---- what globs brought
+
+module _ (home : ℕ) (name n1 n2 n3 : List ℕ) (items : PerNs) (b1 b2 b3 : Bool) (is1 : n1 ≡ name) (is2 : n2 ≡ name) (is3 : n3 ≡ name)
+    (binds1 : b1 ≡ is_some items.types) (binds2 : b2 ≡ is_some items.values) (binds3 : b3 ≡ is_some items.macros) where
+  pub forgotten_thrice : (f0 f1 f2 f3 : BroughtBy) → f1 ≡ forgotten_in home (Types n1) b1 f0 → f2 ≡ forgotten_in home (Values n2) b2 f1
+      → f3 ≡ forgotten_in home (Macros n3) b3 f2 → f3 ≡ forgotten home name items f0
+  forgotten_thrice f0 f1 f2 f3 first second third =
+      third ∙ (λ i. forgotten_in home (Macros (is3 i)) (binds3 i)
+      ((second ∙ (λ j. forgotten_in home (Values (is2 j)) (binds2 j) ((first ∙ (λ k. forgotten_in home (Types (is1 k)) (binds1 k) f0)) j))) i))
+
+  pub kept_thrice : (g0 g1 g2 g3 : GlobsValue) → ((v w : View) → IsKept v g0 → MayBind home (Types n1) b1 v w → IsKept w g1)
+      → ((v w : View) → IsKept v g1 → MayBind home (Values n2) b2 v w → IsKept w g2) → ((v w : View) → IsKept v g2 → MayBind home (Macros n3) b3 v w → IsKept w g3)
+      → (v w : View) → IsKept v g0 → IsBound home name items v w → IsKept w g3
+  kept_thrice g0 g1 g2 g3 first second third v w kept bound =
+      third bound.with_values w
+      (second bound.with_types bound.with_values
+      (first v bound.with_types kept (types bound.types)) (values bound.values)) (macros bound.macros)
+    where
+      types : MayBind home (Types name) (is_some items.types) v bound.with_types → MayBind home (Types n1) b1 v bound.with_types
+      types h = subst (λ (b : Bool). MayBind home (Types n1) b v bound.with_types) (sym binds1)
+          (subst (λ (n : List ℕ). MayBind home (Types n) (is_some items.types) v bound.with_types) (sym is1) h)
+
+      values : MayBind home (Values name) (is_some items.values) bound.with_types bound.with_values → MayBind home (Values n2) b2 bound.with_types bound.with_values
+      values h = subst (λ (b : Bool). MayBind home (Values n2) b bound.with_types bound.with_values) (sym binds2)
+          (subst (λ (n : List ℕ). MayBind home (Values n) (is_some items.values) bound.with_types bound.with_values) (sym is2) h)
+
+      macros : MayBind home (Macros name) (is_some items.macros) bound.with_values w → MayBind home (Macros n3) b3 bound.with_values w
+      macros h = subst (λ (b : Bool). MayBind home (Macros n3) b bound.with_values w) (sym binds3)
+          (subst (λ (n : List ℕ). MayBind home (Macros n) (is_some items.macros) bound.with_values w) (sym is3) h)
+
+-- ---- a push
+
+-- the scopes once items are pushed
+abbrev pub pushed_to : OpenScopes → ℕ → List ℕ → PerNs → ImportOrExternCrate → OpenScopes
+pushed_to s home name items way = record s { map = pushed s.map s.globs home name items (Some way); globs = globs_after s.map s.globs home name items (Some way) }
+
+module _ (r : Resolver) (o : OpenScopes) (g : GlobsValue) (home : ℕ) (name n1 : List ℕ) (items : PerNs) (source : ImportSource) (way : ImportOrExternCrate)
+    (named : n1 ≡ name) (by : way ≡ way_of source) (is : o ≡ pushed_to r.scopes home n1 items way) where
+  pushed_is : o ≡ pushed_to r.scopes home name items (way_of source)
+  pushed_is = is ∙ (λ i. pushed_to r.scopes home (named i) items (by i))
+
+  pub pushed_state : g.edges ≡ r.globs.edges → brought_of g ≡ forgotten home name items (brought_of r.globs)
+      → state_by (record r { scopes = o; globs = g }) ≡ bound_in (state_by r) home name items (Some source)
+  pushed_state edges brought = λ i. record {
+    map = (ap (λ (s : OpenScopes). s.map) pushed_is) i;
+    local = r.local;
+    globs = (ap (λ (s : OpenScopes). s.globs) pushed_is) i;
+    imports = r.imports.items;
+    taken = r.taken.items;
+    edges = edges i;
+    brought = brought i;
+    count = r.count;
+  }
+
+  pub pushed_views : home < length r.scopes.map.modules → IsBound home name items (view_of (value_of r.scopes)) (view_of (value_of o))
+  pushed_views low = subst (λ (s : OpenScopes). IsBound home name items (view_of (value_of r.scopes)) (view_of (value_of s))) (sym pushed_is)
+      (push_binds (value_of r.scopes) home name items (Some (way_of source)) low)
+
+-- ---- a trait without a name
+
+-- the scopes once a module keeps it
+abbrev pub kept_to : OpenScopes → ℕ → TraitId → Visibility → Option ImportId → OpenScopes
+kept_to s home id vis leaf = record s {
+  map = with_scope s.map home (with_trait id (kept_vis (value_of s).finished s.map vis (trait_vis (module_at s.map home) id)) leaf);
+}
+
+module _ (r : Resolver) (o : OpenScopes) (g : GlobsValue) (home : ℕ) (kept : Option TraitId) (id : TraitId) (vis : Visibility) (leaf : Option ImportId)
+    (is_kept : kept ≡ Some id) (is : o ≡ kept_to r.scopes home id vis leaf) where
+  pub kept_state : g.edges ≡ r.globs.edges → brought_of g ≡ with_brought (brought_of r.globs) (slot_at home (Unnamed id)) None
+      → state_by (record r { scopes = o; globs = g }) ≡ with_kept (finished_by r) (state_by r) home kept vis leaf
+  kept_state edges brought = bound ∙ ap (λ (k : Option TraitId). with_kept (finished_by r) (state_by r) home k vis leaf) (sym is_kept)
+    where
+      bound : state_by (record r { scopes = o; globs = g }) ≡ with_kept (finished_by r) (state_by r) home (Some id) vis leaf
+      bound = λ i. record {
+        map = (ap (λ (s : OpenScopes). s.map) is) i;
+        local = r.local;
+        globs = (ap (λ (s : OpenScopes). s.globs) is) i;
+        imports = r.imports.items;
+        taken = r.taken.items;
+        edges = edges i;
+        brought = brought i;
+        count = r.count;
+      }
+
+  pub kept_views : IsExplicit (slot_at home (Unnamed id)) (view_of (value_of r.scopes)) (view_of (value_of o))
+  kept_views = subst (λ (s : OpenScopes). IsExplicit (slot_at home (Unnamed id)) (view_of (value_of r.scopes)) (view_of (value_of s))) (sym is)
+      (keep_binds (value_of r.scopes) home id (kept_vis (value_of r.scopes).finished r.scopes.map vis (trait_vis (module_at r.scopes.map home) id)) leaf)

@@ -1,0 +1,27 @@
+-- what look-ups find
+pub mod Found
+pub mod Lent
+pub mod Targets
+pub mod KeyLists
+-- what is due of an import
+pub mod Due
+pub mod Recorded
+-- steps along globs
+pub mod Writes
+pub mod Along
+-- what a push changes
+pub mod Views
+pub mod Binding
+pub mod Bound
+-- what a resolver does
+pub mod Spread
+pub mod TakenImports
+-- what is queued
+pub mod Waking
+pub mod PathReads
+pub mod Settled
+pub mod Trying
+pub mod Counting
+pub mod Running
+pub mod Passes
+pub mod Starting

@@ -1,0 +1,244 @@
+-- What holds of a resolver between two calls stays so.
+use Rattle.std.proofs.Common.{◌≡◌, ◌≢◌, ◌∙◌, ap, sym, refl, subst, ℕ, ◌<◌, ◌≤◌, Bool, true, false, Option, None, Some, List, [], length, not}
+use Rattle.std.proofs.lemmas.List.{length-map}
+use Rattle.std.specs.Prelude.{slice_get, slice_index_or, slice_set}
+use Rattle.std.specs.declared.alloc.Global.{Global}
+use Rattle.std.specs.declared.vec.Vec.{Vec}
+use Rattle.hir_base.specs.declared.ids.MapId.{MapId}
+use Rattle.hir_def_map.specs.Overlay.{Maps}
+use Rattle.hir_def_map.specs.State.{Local, ModuleValue}
+use Rattle.hir_def_map.specs.WorldParts.{part_of}
+use Rattle.hir_def_map.specs.declared.nameres.path_resolution.slots.Slot.{Slot as PathSlot}
+use Rattle.hir_def_map.specs.declared.world.part.WorldPart.{WorldPart}
+use Rattle.hir_glob_imports.specs.Waves.{GlobsValue}
+use Rattle.hir_glob_imports.specs.declared.edge.Edge.{Edge}
+use Rattle.hir_glob_imports.specs.declared.edge.Slot.{Slot}
+use Rattle.hir_glob_imports.specs.declared.step.TheConstants.{MAX_STEPS}
+use Rattle.hir_worklist.specs.Queue.{IsIdle, Queue, is_unfinished}
+use Rattle.hir_worklist.specs.Settling.{WatchesEach}
+use Rattle.hir_worklist.specs.declared.watchers.Watchers.{Watchers}
+use Rattle.hir_import_resolution.specs.declared.directive.ImportDirective.{ImportDirective}
+use Rattle.hir_import_resolution.specs.declared.resolver.Resolver.{Resolver}
+use Rattle.hir_import_resolution.specs.declared.resolver.steps.Taking.{Taking}
+use Rattle.hir_import_resolution.specs.Directives.{TakenValue, answer_to, taken_after, taken_for, target_of}
+use Rattle.hir_import_resolution.specs.Inner.Queue.{AreIdleSettled, IsBegun, IsRunning, IsSamePass, IsTrying, IsWoken, KeepsWatched, reads_at, slot_cmp}
+use Rattle.hir_import_resolution.specs.Inner.State.{AreRecorded, ChangesSlots, IsApart, IsKeptIn, IsLinked, IsTaken, finished_by, slots_named, state_by, with_queue}
+use Rattle.hir_import_resolution.specs.Inner.Steps.{IsLinkedAt, IsLinking, taking_at}
+use Rattle.hir_import_resolution.specs.Rest.{IsSettled, IsSpent}
+use Rattle.hir_import_resolution.specs.Rules.{Step, Steps}
+use Rattle.hir_import_resolution.specs.State.{ImportState, with_taken}
+use Rattle.hir_import_resolution.proofs.Counting.{counts_on, spent_first, step_first}
+use Rattle.hir_import_resolution.proofs.Due.{Due, due}
+use Rattle.hir_import_resolution.proofs.Settled.{linked_settled, nothing_due, only_one, taken_settled}
+use Rattle.hir_import_resolution.proofs.Trying.{announced, noted, same_scopes, tried}
+use Rattle.hir_import_resolution.proofs.Waking.{still_settled}
+
+-- ---- the queue alone
+
+-- other things are queued
+pub requeued : (r : Resolver) (now then : Option ℕ) (q : Queue) → IsRunning r now → AreIdleSettled r.apart (finished_by r) (state_by r) then q r.watchers
+    → q.finished ≡ r.worklist.finished → IsRunning (record r { worklist = q }) then
+requeued r now then q old idle same = record {
+  begun = record {
+    settled = idle;
+    unfinished = λ p below. ap (λ (f : List Bool). not (slice_index_or f p true)) same ∙ old.begun.unfinished p below;
+    there = old.begun.there;
+    apart = old.begun.apart;
+    kept = old.begun.kept;
+    recorded = old.begun.recorded;
+    fresh = old.begun.fresh;
+    small = old.begun.small;
+  };
+  waved = old.waved;
+}
+
+-- an import watches what it reads
+watched : (r : Resolver) (i : ℕ) (watchers : Watchers PathSlot) → IsRunning r (Some i) → KeepsWatched r.watchers watchers
+    → WatchesEach slot_cmp watchers i (reads_at r.apart (finished_by r) (state_by r) i) → IsTrying (record r { watchers = watchers }) i
+watched r i watchers old keeps watches = record {
+  running = record {
+    begun = record {
+      settled = still_settled (reads_at r.apart (finished_by r) (state_by r)) (IsSettled (finished_by r) (state_by r)) (Some i) r.worklist r.watchers watchers old.begun.settled keeps;
+      unfinished = old.begun.unfinished;
+      there = old.begun.there;
+      apart = old.begun.apart;
+      kept = old.begun.kept;
+      recorded = old.begun.recorded;
+      fresh = old.begun.fresh;
+      small = old.begun.small;
+    };
+    waved = old.waved;
+  };
+  watching = watches;
+}
+
+pub trying_watched : (r0 r1 : Resolver) (i : ℕ) → IsRunning r0 (Some i) → r1 ≡ with_queue r0 r0.worklist r1.watchers → KeepsWatched r0.watchers r1.watchers
+    → WatchesEach slot_cmp r1.watchers i (reads_at r0.apart (finished_by r0) (state_by r0) i) → IsTrying r1 i
+trying_watched r0 r1 i old rest keeps watches = subst (λ (r : Resolver). IsTrying r i) (sym rest) (watched r0 i r1.watchers old keeps watches)
+
+-- nothing was due
+pub tried_running : (r : Resolver) (i : ℕ) → IsTrying r i → taking_at (finished_by r) (state_by r) i ≡ None → IsLinkedAt (finished_by r) (state_by r) i → IsRunning r None
+tried_running r i old none linked = record {
+  begun = record {
+    settled = tried r.apart (finished_by r) (state_by r) i r.worklist r.watchers old.running.begun.settled old.watching (nothing_due (finished_by r) (state_by r) i none linked);
+    unfinished = old.running.begun.unfinished;
+    there = old.running.begun.there;
+    apart = old.running.begun.apart;
+    kept = old.running.begun.kept;
+    recorded = old.running.begun.recorded;
+    fresh = old.running.begun.fresh;
+    small = old.running.begun.small;
+  };
+  waved = old.running.waved;
+}
+
+-- ---- a change of scopes
+
+-- as many modules are there
+same_length : (r0 r1 : Resolver) (slots : List PathSlot) → ChangesSlots r0 r1 slots → length r1.scopes.map.modules ≡ length r0.scopes.map.modules
+same_length r0 r1 slots changes =
+    sym (length-map r1.scopes.map.modules (λ (m : ModuleValue). m.parent)) ∙ ap length changes.among.differs.parents ∙ length-map r0.scopes.map.modules (λ (m : ModuleValue). m.parent)
+
+-- with what is idle settled, all holds
+begun_from : (r0 r1 : Resolver) (now : Option ℕ) (slots : List PathSlot) (q : Queue) (watchers : Watchers PathSlot) (reported : Vec Slot Global) → IsBegun r0 now → ChangesSlots r0 r1 slots
+    → AreIdleSettled r1.apart (finished_by r1) (state_by r1) None q watchers → q.finished ≡ r1.worklist.finished → IsKeptIn r1 → AreRecorded r1 → r1.count ≤ MAX_STEPS → reported.items ≡ []
+    → IsBegun (record r1 { worklist = q; watchers = watchers; changes = reported }) None
+begun_from r0 r1 now slots q watchers reported old changes idle same kept recorded small fresh = record {
+  settled = idle;
+  unfinished = λ p below.
+      ap (λ (f : List Bool). not (slice_index_or f p true)) (same ∙ ap (λ (x : Queue). x.finished) changes.worklist)
+      ∙ old.unfinished p (subst (λ (xs : List ImportDirective). p < length xs) imports below);
+  there = λ p import e.
+      subst (λ (n : ℕ). import.home < n) (sym (same_length r0 r1 slots changes)) (old.there p import (sym (ap (λ (xs : List ImportDirective). slice_get xs p) imports) ∙ e));
+  apart = λ e.
+      subst (λ (w : WorldPart). IsApart (part_of w) r1.scopes.map.id r1.local) (sym changes.world)
+      (subst (λ (m : MapId). IsApart (finished_by r0) m r1.local) (sym changes.among.differs.id)
+      (subst (λ (l : Local). IsApart (finished_by r0) r0.scopes.map.id l) (sym changes.local) (old.apart (sym changes.apart ∙ e))));
+  kept = kept;
+  recorded = recorded;
+  fresh = fresh;
+  small = small;
+}
+  where
+    imports : r1.imports.items ≡ r0.imports.items
+    imports = ap (λ (v : Vec ImportDirective Global). v.items) changes.imports
+
+-- slots changed, and what read them was woken
+pub begun_after : (r0 r1 r2 : Resolver) (now : Option ℕ) (slots : List PathSlot) (taken : List TakenValue) → IsBegun r0 now
+    → AreIdleSettled r0.apart (finished_by r0) (record (state_by r0) { taken = taken }) None r0.worklist r0.watchers → ChangesSlots r0 r1 slots → r1.taken.items ≡ taken
+    → IsKeptIn r1 → AreRecorded r1 → r1.count ≤ MAX_STEPS → r2 ≡ record r1 { worklist = r2.worklist; watchers = r2.watchers; changes = r2.changes }
+    → IsWoken r1.apart slots r1.worklist r1.watchers r2.worklist r2.watchers → r2.changes.items ≡ [] → IsBegun r2 None
+begun_after r0 r1 r2 now slots taken old idle changes noted_is kept recorded small rest woken fresh =
+    subst (λ (r : Resolver). IsBegun r None) (sym rest) (begun_from r0 r1 now slots r2.worklist r2.watchers r2.changes old changes settled woken.pass.finished kept recorded small fresh)
+  where
+    before : IsWoken r0.apart slots r0.worklist r0.watchers r2.worklist r2.watchers
+    before =
+        subst (λ (b : Bool). IsWoken b slots r0.worklist r0.watchers r2.worklist r2.watchers) changes.apart
+        (subst (λ (x : Queue). IsWoken r1.apart slots x r0.watchers r2.worklist r2.watchers) changes.worklist
+        (subst (λ (x : Watchers PathSlot). IsWoken r1.apart slots r1.worklist x r2.worklist r2.watchers) changes.watchers woken))
+
+    after : AreIdleSettled r0.apart (finished_by r0) (state_by r1) None r2.worklist r2.watchers
+    after =
+        announced r0.apart (finished_by r0) (record (state_by r0) { taken = taken }) (state_by r1) slots r0.worklist r2.worklist r0.watchers r2.watchers old.apart changes.among changes.local
+        (ap (λ (v : Vec ImportDirective Global). v.items) changes.imports) noted_is idle before
+
+    settled : AreIdleSettled r1.apart (finished_by r1) (state_by r1) None r2.worklist r2.watchers
+    settled =
+        subst (λ (b : Bool). AreIdleSettled b (finished_by r1) (state_by r1) None r2.worklist r2.watchers) (sym changes.apart)
+        (subst (λ (w : WorldPart). AreIdleSettled r0.apart (part_of w) (state_by r1) None r2.worklist r2.watchers) (sym changes.world) after)
+
+-- an import was taken, and what read its name was woken
+pub begun_taken : (r0 r1 r2 : Resolver) (i : ℕ) (taking : Taking) → taking_at (finished_by r0) (state_by r0) i ≡ Some taking → IsTrying r0 i → IsTaken r0 r1 i taking
+    → IsKeptIn r1 → AreRecorded r1 → r1.count ≤ MAX_STEPS → r2 ≡ with_queue r1 r2.worklist r2.watchers
+    → IsWoken r1.apart (slots_named taking.home taking.name) r1.worklist r1.watchers r2.worklist r2.watchers → IsBegun r2 None
+begun_taken r0 r1 r2 i taking is_due old is kept recorded small rest woken =
+    begun_after r0 r1 r2 (Some i) (slots_named taking.home taking.name) (slice_set r0.taken.items i now) old.running.begun
+    (noted r0.apart (finished_by r0) (state_by r0) i now r0.worklist r0.watchers old.running.begun.settled old.watching (taken_settled (finished_by r0) (state_by r0) i taking d))
+    is.changes (is.taken d.t d.before ∙ (λ j. slice_set r0.taken.items i (taken_after d.t (d.is j).answer))) kept recorded small
+    (rest ∙ (λ j. record r1 { worklist = r2.worklist; watchers = r2.watchers; changes = sym changes j })) woken
+    (ap (λ (v : Vec Slot Global). v.items) (changes ∙ is.reported) ∙ old.running.begun.fresh)
+  where
+    d : Due (finished_by r0) (state_by r0) i taking
+    d = due (finished_by r0) (state_by r0) i taking is_due
+
+    now : TakenValue
+    now = taken_after d.t (answer_to (finished_by r0) r0.local r0.scopes.map d.r)
+
+    changes : r2.changes ≡ r1.changes
+    changes = ap (λ (r : Resolver). r.changes) rest
+
+-- a glob was recorded
+pub begun_linked : (r0 r1 : Resolver) (i : ℕ) (edge : Edge) → taking_at (finished_by r0) (state_by r0) i ≡ None → IsLinking (finished_by r0) (state_by r0) i edge → IsTrying r0 i
+    → IsLinked r0 r1 i edge → IsKeptIn r1 → AreRecorded r1 → r1.count ≤ MAX_STEPS → IsBegun r1 None
+begun_linked r0 r1 i edge none linking old is kept recorded small =
+    begun_from r0 r1 (Some i) [] r1.worklist r1.watchers r1.changes old.running.begun is.changes settled refl kept recorded small
+    (ap (λ (v : Vec Slot Global). v.items) is.reported ∙ old.running.begun.fresh)
+  where
+    now : TakenValue
+    now = taken_for linking.t edge.source
+
+    reaches : (r : ImportDirective) → slice_get r0.imports.items i ≡ Some r → target_of (finished_by r0) r0.local r0.scopes.map r ≡ Some edge.source
+    reaches r e = let same : linking.r ≡ r = only_one (slice_get r0.imports.items i) linking.r r linking.import e in
+        (λ j. target_of (finished_by r0) r0.local r0.scopes.map (sym same j)) ∙ linking.reaches ∙ (λ j. Some (sym linking.is j).source)
+
+    idle : AreIdleSettled r0.apart (finished_by r0) (with_taken (state_by r0) i now) None r0.worklist r0.watchers
+    idle =
+        noted r0.apart (finished_by r0) (state_by r0) i now r0.worklist r0.watchers old.running.begun.settled old.watching
+        (linked_settled (finished_by r0) (state_by r0) i linking.t edge.source none linking.before reaches)
+
+    after : AreIdleSettled r0.apart (finished_by r0) (state_by r1) None r0.worklist r0.watchers
+    after =
+        same_scopes r0.apart (finished_by r0) (with_taken (state_by r0) i now) (state_by r1) None r0.worklist r0.watchers (λ j. (is.scopes j).map) is.changes.local
+        (ap (λ (v : Vec ImportDirective Global). v.items) is.changes.imports) (is.taken linking.t linking.before) idle
+
+    settled : AreIdleSettled r1.apart (finished_by r1) (state_by r1) None r1.worklist r1.watchers
+    settled =
+        subst (λ (b : Bool). AreIdleSettled b (finished_by r1) (state_by r1) None r1.worklist r1.watchers) (sym is.changes.apart)
+        (subst (λ (w : WorldPart). AreIdleSettled r0.apart (part_of w) (state_by r1) None r1.worklist r1.watchers) (sym is.changes.world)
+        (subst (λ (x : Queue). AreIdleSettled r0.apart (finished_by r0) (state_by r1) None x r1.watchers) (sym is.changes.worklist)
+        (subst (λ (x : Watchers PathSlot). AreIdleSettled r0.apart (finished_by r0) (state_by r1) None r0.worklist x) (sym is.changes.watchers) after)))
+
+-- names went along globs, and what read them was woken
+pub running_waved : (r0 r1 r2 : Resolver) (slots : List PathSlot) → IsBegun r0 None → ChangesSlots r0 r1 slots → r1.taken ≡ r0.taken → IsKeptIn r1 → AreRecorded r1 → r1.count ≤ MAX_STEPS
+    → r1.globs.pending ≡ [] → r2 ≡ record r1 { worklist = r2.worklist; watchers = r2.watchers; changes = r2.changes }
+    → IsWoken r1.apart slots r1.worklist r1.watchers r2.worklist r2.watchers → r2.changes.items ≡ [] → IsRunning r2 None
+running_waved r0 r1 r2 slots old changes taken kept recorded small rests rest woken fresh = record {
+  begun = begun_after r0 r1 r2 None slots r0.taken.items old old.settled changes (λ j. (taken j).items) kept recorded small rest woken fresh;
+  waved = ap (λ (r : Resolver). r.globs.pending) rest ∙ rests;
+}
+
+-- at first all imports are queued, and none is idle
+pub running_first : (r0 r1 : Resolver) (slots : List PathSlot) (reported : Vec Slot Global) → IsBegun r0 None → ((p : ℕ) → ¬ IsIdle r0.worklist p) → ChangesSlots r0 r1 slots → IsKeptIn r1
+    → AreRecorded r1 → r1.count ≤ MAX_STEPS → r1.globs.pending ≡ [] → reported.items ≡ [] → IsRunning (record r1 { changes = reported }) None
+running_first r0 r1 slots reported old queued changes kept recorded small rests fresh = record {
+  begun = begun_from r0 r1 None slots r1.worklist r1.watchers reported old changes
+      (record { watched = record { each = λ p idle other. absurd (none p idle) }; settled = λ p idle other. absurd (none p idle) }) refl kept recorded small fresh;
+  waved = rests;
+}
+  where
+    none : (p : ℕ) → ¬ IsIdle r1.worklist p
+    none p idle = queued p (subst (λ (x : Queue). IsIdle x p) changes.worklist idle)
+
+-- ---- a step, and steps after it
+
+-- the finished maps stay
+steps_there : (r0 r1 r2 r3 : Resolver) → r1.scopes.world ≡ r0.scopes.world → state_by r2 ≡ state_by r1 → finished_by r2 ≡ finished_by r1
+    → Steps (finished_by r2) (state_by r2) (state_by r3) → Steps (finished_by r0) (state_by r1) (state_by r3)
+steps_there r0 r1 r2 r3 world state finished steps =
+    subst (λ (f : Maps). Steps f (state_by r1) (state_by r3)) (finished ∙ ap part_of world) (subst (λ (s : ImportState). Steps (finished_by r2) s (state_by r3)) state steps)
+
+pub steps_taken : (r0 r1 r2 r3 : Resolver) → Step (finished_by r0) (state_by r0) (state_by r1) → r1.scopes.world ≡ r0.scopes.world → state_by r2 ≡ state_by r1 → finished_by r2 ≡ finished_by r1
+    → Steps (finished_by r2) (state_by r2) (state_by r3) → Steps (finished_by r0) (state_by r0) (state_by r3)
+steps_taken r0 r1 r2 r3 step world state finished steps =
+    step_first (finished_by r0) (state_by r0) (state_by r1) (state_by r3) step (steps_there r0 r1 r2 r3 world state finished steps)
+
+pub count_taken : (r0 r1 r2 r3 : Resolver) → Step (finished_by r0) (state_by r0) (state_by r1) → r1.scopes.world ≡ r0.scopes.world → state_by r2 ≡ state_by r1 → finished_by r2 ≡ finished_by r1
+    → Steps (finished_by r2) (state_by r2) (state_by r3) → r0.count < r3.count
+count_taken r0 r1 r2 r3 step world state finished steps =
+    counts_on (finished_by r0) (state_by r0) (state_by r1) (state_by r3) step (steps_there r0 r1 r2 r3 world state finished steps)
+
+pub spent_taken : (r0 r1 r2 : Resolver) → Step (finished_by r0) (state_by r0) (state_by r1) → r1.scopes.world ≡ r0.scopes.world → state_by r2 ≡ state_by r1 → finished_by r2 ≡ finished_by r1
+    → IsSpent (finished_by r2) (state_by r2) → IsSpent (finished_by r0) (state_by r0)
+spent_taken r0 r1 r2 step world state finished spent =
+    spent_first (finished_by r0) (state_by r0) (state_by r1) step
+    (subst (λ (f : Maps). IsSpent f (state_by r1)) (finished ∙ ap part_of world) (subst (λ (s : ImportState). IsSpent (finished_by r2) s) state spent))

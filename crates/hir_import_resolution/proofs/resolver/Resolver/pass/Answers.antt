@@ -1,0 +1,33 @@
+-- One after another is taken and tried.
+use Rattle.std.proofs.Common.{◌∙◌, ap, refl, rules}
+use Rattle.hir_worklist.specs.Queue.{Queue}
+use Rattle.hir_import_resolution.specs.Rules.{none}
+use Rattle.hir_import_resolution.proofs.Passes.{closed_running, nothing_later, opened_running, spent_on, steps_on, taken_running}
+use Rattle.hir_import_resolution.proofs.resolver.Resolver.pass.Goals as goal
+
+pub tries-init : goal.tries-init
+tries-init c = record {
+  running = opened_running c.args.self.now c.open.new.self c.requires.running c.requires.over c.open.ensures.value;
+  finished = refl;
+  steps = none;
+  moves = λ e. ap (λ (q : Queue). q.later) c.open.ensures.value;
+}
+
+pub try_import-requires : goal.try_import-requires
+try_import-requires c = record { running = taken_running c.tries.self c.take.new.self c.in-Some.i c.tries.invariant.running c.in-Some.ensures.some }
+
+pub tries-preserved : goal.tries-preserved
+tries-preserved c = record {
+  running = c.in_ok-try_import.ensures.running;
+  finished = c.in_ok-try_import.ensures.finished ∙ c.tries.invariant.finished;
+  steps = steps_on c.args.self.now c.tries.self c.try_import.new.self c.tries.invariant.finished c.tries.invariant.steps c.in_ok-try_import.ensures.steps;
+  moves =
+      nothing_later c.args.self.now c.tries.self c.try_import.new.self c.take.new.self c.in-Some.i c.tries.invariant.steps c.in_ok-try_import.ensures.steps c.tries.invariant.moves
+      c.in-Some.ensures.some c.in_ok-try_import.ensures.moves;
+}
+
+pub returns-in_err-try_import-clause-many : goal.returns-in_err-try_import-clause-many
+returns-in_err-try_import-clause-many c many = spent_on c.args.self.now c.tries.self c.tries.invariant.finished c.tries.invariant.steps (c.in_err-try_import.ensures.many (search rules))
+
+pub returns-clause-running : goal.returns-clause-running
+returns-clause-running c = closed_running c.tries.self c.take.new.self c.tries.invariant.running c.in_default.ensures.none

@@ -1,0 +1,10 @@
+-- Names go along globs, and what read them is woken.
+use Rattle.hir_import_resolution.specs.Inner.State.{path_slots}
+use Rattle.hir_import_resolution.proofs.Running.{running_waved}
+use Rattle.hir_import_resolution.proofs.resolver.Resolver.wave.Goals as goal
+
+pub returns-clause-running : goal.returns-clause-running
+returns-clause-running c =
+    running_waved c.args.self.now c.spread.new.self c.wake_changes.new.self (path_slots c.spread.new.self.changes.items) c.requires.begun c.in_ok-spread.ensures.is.changes c.in_ok-spread.ensures.is.taken
+    c.in_ok-spread.ensures.kept (c.in_ok-spread.ensures.recorded c.requires.begun.recorded) c.in_ok-spread.ensures.small c.in_ok-spread.ensures.pending
+    c.in_ok-wake_changes.ensures.rest c.in_ok-wake_changes.ensures.woken c.in_ok-wake_changes.ensures.changes

@@ -1,0 +1,7 @@
+-- Words of private code.
+pub mod ScopeLaws
+pub mod TableLaws
+pub mod OpenLaws
+pub mod State
+pub mod Steps
+pub mod Queue

@@ -1,0 +1,94 @@
+-- At which keys does a target have something, in the order in which a glob brings it?
+use Rattle.std.specs.Prelude.{ℕ, Bool, false, List, [], ◌∷◌, ◌++◌, Option, None, Some, is_some, cond, option_map}
+use Rattle.hir_base.specs.declared.ids.ModuleDefId.{ModuleDefId}
+use Rattle.hir_base.specs.declared.ids.ModuleId.{ModuleId}
+use Rattle.hir_base.specs.declared.ids.TraitId.{TraitId}
+use Rattle.hir_scope.specs.PerNs.{Item}
+use Rattle.hir_scope.specs.Scope.{ScopeValue}
+use Rattle.hir_scope.specs.Scope.Entries.{entries_of, resolutions_in}
+use Rattle.hir_scope.specs.declared.imports.ImportOrExternCrate.{ImportOrExternCrate}
+use Rattle.hir_scope.specs.declared.per_ns.Namespace.{Namespace}
+use Rattle.hir_scope.specs.declared.per_ns.Namespace.TheVariants as namespaces
+use Rattle.hir_scope.specs.declared.per_ns.PerNs.{PerNs}
+use Rattle.hir_def_map.specs.Overlay.{Maps, module_in, overlay, variants_in}
+use Rattle.hir_def_map.specs.State.{ModuleValue, Variants, scope_at}
+use Rattle.hir_glob_imports.specs.declared.edge.Key.{Key}
+use Rattle.hir_glob_imports.specs.declared.edge.Key.TheVariants.{Types, Values, Macros, Unnamed}
+use Rattle.hir_glob_imports.specs.declared.edge.Target.{Target}
+use Rattle.hir_glob_imports.specs.declared.edge.Target.TheVariants as targets
+use Rattle.hir_import_resolution.specs.Directives.{trait_among}
+use Rattle.hir_import_resolution.specs.Names.{ScopesValue, is_foreign, is_open, variant_items}
+
+abbrev pub key_in : Namespace → List ℕ → Key
+key_in namespaces.Types name = Types name
+key_in namespaces.Values name = Values name
+key_in namespaces.Macros name = Macros name
+
+-- the keys of names in a namespace, of those that are open
+abbrev pub name_keys : {D I : Type 0} → Namespace → Bool → List (List ℕ × Item D I) → List Key
+name_keys namespace crossing [] = []
+name_keys namespace crossing (e ∷ es) =
+    cond (is_open crossing e.1.vis) (key_in namespace e.0 ∷ name_keys namespace crossing es) (name_keys namespace crossing es)
+
+-- the key of a trait without a name
+abbrev pub unnamed_key : Option TraitId → List Key
+unnamed_key None = []
+unnamed_key (Some id) = Unnamed id ∷ []
+
+-- the key of the trait that a type is, where that is open
+abbrev pub trait_key : Bool → Option (Item ModuleDefId ImportOrExternCrate) → List Key
+trait_key crossing None = []
+trait_key crossing (Some item) = cond (is_open crossing item.vis) (unnamed_key (trait_among (Some item))) []
+
+abbrev pub resolution_key : Bool → Option (List ℕ) → PerNs → List Key
+resolution_key crossing (Some name) items = []
+resolution_key crossing None items = trait_key crossing items.types
+
+-- the keys of what has no name
+abbrev pub trait_keys : Bool → List (Option (List ℕ) × PerNs) → List Key
+trait_keys crossing [] = []
+trait_keys crossing (e ∷ es) = resolution_key crossing e.0 e.1 ++ trait_keys crossing es
+
+-- the names of a scope, each with what it stands for, and then the traits without a name
+abbrev pub resolutions_of : ScopeValue → List (Option (List ℕ) × PerNs)
+resolutions_of scope = resolutions_in (entries_of scope) scope.unnamed_traits
+
+-- the keys of a scope: types, values and macros by name, and then traits in the order in which they came
+abbrev pub scope_keys : Bool → ScopeValue → List Key
+scope_keys crossing scope =
+    ((name_keys namespaces.Types crossing scope.types ++ name_keys namespaces.Values crossing scope.values) ++ name_keys namespaces.Macros crossing scope.macros)
+    ++ trait_keys crossing (resolutions_of scope)
+
+abbrev pub keys_in : Bool → Option ScopeValue → List Key
+keys_in crossing None = []
+keys_in crossing (Some scope) = scope_keys crossing scope
+
+-- whether something is bound in a namespace
+abbrev pub has_namespace : Namespace → PerNs → Bool
+has_namespace namespaces.Types items = is_some items.types
+has_namespace namespaces.Values items = is_some items.values
+has_namespace namespaces.Macros items = is_some items.macros
+
+-- the keys of variants in a namespace
+abbrev pub variant_keys : Namespace → Variants → List Key
+variant_keys namespace [] = []
+variant_keys namespace (v ∷ vs) =
+    cond (has_namespace namespace (variant_items (Some v.1))) (key_in namespace v.0 ∷ variant_keys namespace vs) (variant_keys namespace vs)
+
+-- the keys of an enum
+abbrev pub enum_keys : Variants → List Key
+enum_keys vs = variant_keys namespaces.Types vs ++ variant_keys namespaces.Values vs
+
+abbrev pub keys_among : Option Variants → List Key
+keys_among None = []
+keys_among (Some vs) = enum_keys vs
+
+-- the scope of a module
+abbrev pub scope_in : Maps → ModuleId → Option ScopeValue
+scope_in maps m = option_map (λ (m : ModuleValue). m.scope) (module_in maps m)
+
+-- the keys of a target
+abbrev pub keys_of : ScopesValue → Target → List Key
+keys_of n (targets.Own at) = keys_in false (scope_at n.map at)
+keys_of n (targets.Module m) = keys_in (is_foreign n.map.id m) (scope_in n.finished m)
+keys_of n (targets.Enum id) = keys_among (variants_in (overlay n.finished n.map) id)

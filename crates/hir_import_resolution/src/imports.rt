@@ -1,0 +1,26 @@
+//! Where imports stand.
+use crate::directive::ImportDirective;
+use crate::taken::Taken;
+use hir_def_map::nameres::DefMap;
+use hir_def_map::nameres::local_def_map::LocalDefMap;
+use hir_glob_imports::GlobImports;
+use hir_scope::glob_imports::PerNsGlobImports;
+
+/// The imports of a map that is built, and what came of them so far.
+#[derive(Drop)]
+pub struct Imports {
+    /// The modules so far, and what each binds.
+    pub map: DefMap,
+    /// The crates that paths may begin with.
+    pub local: LocalDefMap,
+    /// The names that globs brought.
+    pub from_glob_import: PerNsGlobImports,
+    /// The imports that were found, in order.
+    pub imports: Vec<ImportDirective>,
+    /// For each of them what its takings reached.
+    pub taken: Vec<Taken>,
+    /// The globs that were recorded, and what they brought.
+    pub globs: GlobImports,
+    /// How many steps were taken.
+    pub count: u32,
+}

@@ -1,0 +1,17 @@
+//! What imports bring to a map that is built: `use`, `extern crate` and globs, until no more comes of them.
+#![tactic(auto)]
+
+pub mod answers;
+pub mod directive;
+pub mod imports;
+pub mod namespaces;
+pub mod resolve;
+mod resolver;
+pub mod scopes;
+pub mod taken;
+
+pub use directive::{ImportDirective, ImportSource};
+pub use imports::Imports;
+pub use namespaces::Namespaces;
+pub use resolve::{ImportError, resolve_imports};
+pub use taken::Taken;

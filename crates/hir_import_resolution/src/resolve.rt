@@ -1,0 +1,76 @@
+//! Imports until no more comes of them.
+ghost use Rattle.std.specs.Prelude.{◌≡◌, ◌≤◌, ◌<◌, ℕ, true, IfOk, Some, length, slice_get};
+ghost use Rattle.hir_import_resolution.specs.declared.directive.ImportDirective.{ImportDirective};
+ghost use Rattle.hir_def_map.specs.WorldParts.{part_of};
+ghost use Rattle.hir_glob_imports.specs.Waves.{IsKept};
+ghost use Rattle.hir_import_resolution.specs.Names.{view_of};
+ghost use Rattle.hir_import_resolution.specs.Rest.{IsAtRest, IsRecorded, IsSpent};
+ghost use Rattle.hir_import_resolution.specs.Rules.{Steps};
+ghost use Rattle.hir_import_resolution.specs.Inner.State.{IsApart, state_in};
+ghost use Rattle.hir_import_resolution.specs.State.{scopes_of};
+
+use crate::imports::Imports;
+use crate::resolver::Resolver;
+use hir_def_map::world::part::WorldPart;
+use hir_glob_imports::{GlobError, MAX_STEPS};
+use std::alloc::{AllocError, Global};
+
+/// Why imports were given up.
+#[derive(Clone, Copy, Debug, PartialEq, Eq)]
+pub enum ImportError {
+    /// As many steps as are counted, and another was wanted.
+    TooMany,
+    Memory,
+}
+
+impl From<AllocError> for ImportError {
+    ghost use Rattle.std.specs.Prelude.{◌≡◌};
+    ghost use Rattle.hir_import_resolution.specs.declared.resolve.ImportError.TheVariants as Errors;
+
+    ghost from_gives = { λ _ e. e ≡ Errors.Memory };
+
+    fn from(_error: AllocError) -> ImportError {
+        ImportError::Memory
+    }
+}
+
+impl From<GlobError> for ImportError {
+    ghost use Rattle.std.specs.Prelude.{◌≡◌};
+    ghost use Rattle.hir_import_resolution.specs.Inner.State.{refusal_of};
+
+    ghost from_gives = { λ x e. e ≡ refusal_of x };
+
+    fn from(error: GlobError) -> ImportError {
+        match error {
+            GlobError::TooMany => ImportError::TooMany,
+            GlobError::Memory => ImportError::Memory,
+        }
+    }
+}
+
+/// Takes imports, in the order in which they were found, until no more comes of them.
+///
+/// With `apart` the finished maps don't refer to the map that is built. An import is then tried again only when something
+/// has changed that its path read; without it each change may change each answer, and all are tried again. After
+/// rust-analyzer's `DefCollector::resolve_imports`.
+pub fn resolve_imports(
+    alloc: Global,
+    world: WorldPart<'_>,
+    apart: bool,
+    imports: Imports,
+) -> Result<Imports, ImportError>
+    requires small { imports.count ≤ MAX_STEPS }
+    requires apart { apart ≡ true → IsApart (part_of world) imports.map.id imports.local }
+    requires there { (i : ℕ) (r : ImportDirective) → slice_get imports.imports.items i ≡ Some r → r.home < length imports.map.modules }
+    requires kept { IsKept (view_of (scopes_of (part_of world) (state_in imports))) imports.globs }
+    requires recorded { (i : ℕ) → IsRecorded (state_in imports) i }
+    ensures derived { IfOk result (λ r. Steps (part_of world.entry) (state_in imports) (state_in r)) }
+    ensures rests { IfOk result (λ r. IsAtRest (part_of world.entry) (state_in r)) }
+    ensures small { IfOk result (λ r. r.count ≤ MAX_STEPS) }
+    // Steps lead on to as many as are counted, and one more may be taken.
+    ensures many { result ≡ Err ImportError.TooMany → IsSpent (part_of world.entry) (state_in imports) }
+{
+    let mut resolver = Resolver::new(alloc, world, apart, imports)?;
+    resolver.settle()?;
+    Ok(resolver.finish())
+}

@@ -1,0 +1,121 @@
+//! What an import binds.
+ghost use Rattle.std.specs.Prelude.{◌≡◌, ◌<◌, OnOk, Some, is_some, length};
+ghost use Rattle.hir_glob_imports.specs.View.{View};
+ghost use Rattle.hir_glob_imports.specs.Waves.{IsKept, brought_of};
+ghost use Rattle.hir_import_resolution.specs.Changes.{bound_as, bound_in, forgotten, forgotten_in, with_kept};
+ghost use Rattle.hir_import_resolution.specs.Inner.State.{IsKeptIn, finished_by, state_by, with_globs};
+ghost use Rattle.hir_import_resolution.specs.Inner.Steps.{IsBound, MayBind};
+
+use crate::directive::ImportSource;
+use crate::resolver::Resolver;
+use hir_base::ids::TraitId;
+use hir_base::name::Name;
+use hir_glob_imports::{GlobImports, Key, Slot};
+use hir_scope::imports::ImportId;
+use hir_scope::per_ns::PerNs;
+use hir_scope::visibility::Visibility;
+use std::alloc::AllocError;
+
+/// No glob has brought what stands in a slot any more, where something is bound there explicitly.
+fn forget_in(globs: &mut GlobImports, home: u32, key: Key, binds: bool) -> Result<(), AllocError>
+    ensures edges { OnOk result (globs.new.edges ≡ globs.old.edges) }
+    ensures brought { OnOk result (brought_of globs.new ≡ forgotten_in home key binds (brought_of globs.old)) }
+    ensures kept { OnOk result ((v w : View) → IsKept v globs.old → MayBind home key binds v w → IsKept w globs.new) }
+{
+    if binds {
+        globs.changed(&Slot { at: home, key })
+    } else {
+        Ok(())
+    }
+}
+
+/// The same in each namespace in which something is bound.
+fn forget(globs: &mut GlobImports, home: u32, name: &Name, items: PerNs) -> Result<(), AllocError>
+    ensures edges { OnOk result (globs.new.edges ≡ globs.old.edges) }
+    ensures brought { OnOk result (brought_of globs.new ≡ forgotten home name.now items (brought_of globs.old)) }
+    ensures kept { OnOk result ((v w : View) → IsKept v globs.old → IsBound home name.now items v w → IsKept w globs.new) }
+{
+    forget_in(
+        globs,
+        home,
+        Key::Types(name.clone()?),
+        items.types.is_some(),
+    )?;
+    forget_in(
+        globs,
+        home,
+        Key::Values(name.clone()?),
+        items.values.is_some(),
+    )?;
+    forget_in(
+        globs,
+        home,
+        Key::Macros(name.clone()?),
+        items.macros.is_some(),
+    )
+}
+
+impl Resolver<'_> {
+    /// Binds items under a name in a module.
+    fn bind_name(
+        &mut self,
+        home: u32,
+        name: &Name,
+        items: PerNs,
+        source: ImportSource,
+    ) -> Result<(), AllocError>
+        requires there { home < length self.old.scopes.map.modules }
+        ensures ok { OnOk result (state_by self.new ≡ bound_in (state_by self.old) home name.now items (Some source)) }
+        ensures kept { OnOk result (IsKeptIn self.old → IsKeptIn self.new) }
+        ensures rest { OnOk result (self.new ≡ with_globs self.old self.new.scopes self.new.globs) }
+        ensures world { OnOk result (self.new.scopes.world ≡ self.old.scopes.world) }
+    {
+        self.scopes.push(home, name.clone()?, items, source.way())?;
+        forget(&mut self.globs, home, name, items)
+    }
+
+    /// Binds items under the name that an import gives in a module, if it gives one.
+    ///
+    /// After rust-analyzer's `DefCollector::update`.
+    pub(crate) fn bind(
+        &mut self,
+        home: u32,
+        name: &Option<Name>,
+        items: PerNs,
+        source: ImportSource,
+    ) -> Result<(), AllocError>
+        requires there { home < length self.old.scopes.map.modules }
+        ensures ok { OnOk result (state_by self.new ≡ bound_as (state_by self.old) home name.now items (Some source)) }
+        ensures kept { OnOk result (IsKeptIn self.old → IsKeptIn self.new) }
+        ensures rest { OnOk result (self.new ≡ with_globs self.old self.new.scopes self.new.globs) }
+        ensures world { OnOk result (self.new.scopes.world ≡ self.old.scopes.world) }
+    {
+        match name {
+            Some(name) => self.bind_name(home, name, items, source),
+            None => Ok(()),
+        }
+    }
+
+    /// Keeps a trait without a name in a module, if there is one.
+    pub(crate) fn keep(
+        &mut self,
+        home: u32,
+        kept: Option<TraitId>,
+        vis: Visibility,
+        leaf: Option<ImportId>,
+    ) -> Result<(), AllocError>
+        ensures ok { OnOk result (state_by self.new ≡ with_kept (finished_by self.old) (state_by self.old) home kept vis leaf) }
+        ensures kept { OnOk result (IsKeptIn self.old → IsKeptIn self.new) }
+        ensures rest { OnOk result (self.new ≡ with_globs self.old self.new.scopes self.new.globs) }
+        ensures world { OnOk result (self.new.scopes.world ≡ self.old.scopes.world) }
+    {
+        let Some(id) = kept else {
+            return Ok(());
+        };
+        self.scopes.keep_unnamed_trait(home, id, vis, leaf)?;
+        self.globs.changed(&Slot {
+            at: home,
+            key: Key::Unnamed(id),
+        })
+    }
+}

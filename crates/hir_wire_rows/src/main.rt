@@ -1,0 +1,37 @@
+//! Says what the lines of standard input mean to `hir_wire`, and makes replies of theirs that no session gives yet.
+//!
+//! A line that begins with `# ` is a label and is written again. Each other line is a command, with a word in front that
+//! says what is done with it:
+//!
+//! - `read` writes the page of the file that the command sets, under no options, and below it a line for each node at its
+//!   top: its input, and its body, its fields' visibilities, or its macro's text, expander and helpers. Texts stand between backquotes.
+//! - `diagnose` makes a diagnostic of each node of that file, by its kind. The path of an attribute or a derive that names
+//!   no macro is that of the node's attribute; a macro call with an attribute has failed, and its input says why.
+//! - `repeat` refuses that file since the id of its first node repeats.
+//! - `answer` names the root of the block whose status is asked, and a macro in it; `list` lists that block behind a crate's root.
+//! - `refuse` has no command behind it, but the word of a refusal; `blocks` is that of too many of them.
+//!
+//! A command that isn't read is answered by why it isn't.
+#![tactic(auto)]
+
+mod answers;
+mod diagnostics;
+mod lines;
+mod parts;
+
+use std::io;
+use std::process::ExitCode;
+
+fn main(rt: HostRuntime) -> ExitCode {
+    let Ok(text) = io::read_to_string(rt.alloc(), rt.reader()) else {
+        return ExitCode::FAILURE;
+    };
+    let mut out = String::new(rt.alloc());
+    let answered = lines::run(rt.alloc(), text.as_str(), &mut out);
+    let written = rt.print(out.as_str());
+    if answered.is_ok() && written.is_ok() {
+        ExitCode::SUCCESS
+    } else {
+        ExitCode::FAILURE
+    }
+}

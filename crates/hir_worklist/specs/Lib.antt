@@ -1,0 +1,4 @@
+pub mod Queue
+pub mod Moves
+pub mod Watching
+pub mod Settling

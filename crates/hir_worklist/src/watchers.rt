@@ -1,0 +1,89 @@
+//! Who watches what.
+ghost use Rattle.std.specs.Prelude.{◌≡◌, ℕ, false, OnOk, OnErr};
+ghost use Rattle.hir_worklist.specs.Queue.{is_among};
+ghost use Rattle.hir_worklist.specs.Moves.{Wakes, WakesSome};
+ghost use Rattle.hir_worklist.specs.Watching.{is_watching, Forgets, IsSame, Watches};
+
+use crate::worklist::Worklist;
+use std::alloc::{AllocError, Global};
+use std::collections::BTreeMap;
+
+/// By slot, the positions of the things that watch it: those that read it when they were tried last, and that were not
+/// woken since.
+#[derive(Drop)]
+pub struct Watchers<K: Ord> {
+    positions: BTreeMap<K, Vec<usize>>,
+    alloc: Global,
+}
+
+/// Wakes the things at some positions.
+fn wake_each(positions: &[usize], worklist: &mut Worklist) -> Result<(), AllocError>
+    ensures ok { OnOk result (Wakes worklist.old worklist.new (λ p. is_among p positions.now)) }
+    ensures err { OnErr result (WakesSome worklist.old worklist.new (λ p. is_among p positions.now)) }
+{
+    for position in positions {
+        worklist.wake(*position)?;
+    }
+    Ok(())
+}
+
+impl<K: Ord + Drop> Watchers<K> {
+    /// None.
+    pub fn new(alloc: Global) -> Watchers<K>
+        ensures none { (slot : K) (p : ℕ) → is_watching K.cmp result slot p ≡ false }
+    {
+        Watchers {
+            positions: BTreeMap::new(alloc),
+            alloc,
+        }
+    }
+
+    fn watch_first(&mut self, position: usize, slot: K) -> Result<(), AllocError>
+        requires absent { (p : ℕ) → is_watching K.cmp self.old slot p ≡ false }
+        ensures ok { OnOk result (Watches K.cmp self.old self.new slot position) }
+        ensures err { OnErr result (IsSame K.cmp self.old self.new) }
+    {
+        let mut positions = Vec::new(self.alloc);
+        positions.push(position)?;
+        self.positions.insert(slot, positions)?;
+        Ok(())
+    }
+
+    /// Has the thing at a position watch a slot.
+    pub fn watch(&mut self, position: usize, slot: K) -> Result<(), AllocError>
+        ensures ok { OnOk result (Watches K.cmp self.old self.new slot position) }
+        ensures err { OnErr result (IsSame K.cmp self.old self.new) }
+    {
+        match self.positions.get_mut(&slot) {
+            Some(positions) => {
+                positions.push(position)?;
+                Ok(())
+            }
+            None => self.watch_first(position, slot),
+        }
+    }
+
+    fn wake_watchers(&self, slot: &K, worklist: &mut Worklist) -> Result<(), AllocError>
+        ensures ok { OnOk result (Wakes worklist.old worklist.new (is_watching K.cmp self.now slot.now)) }
+        ensures err { OnErr result (WakesSome worklist.old worklist.new (is_watching K.cmp self.now slot.now)) }
+    {
+        match self.positions.get(slot) {
+            Some(positions) => wake_each(positions.as_slice(), worklist),
+            None => Ok(()),
+        }
+    }
+
+    /// Wakes all that watch a slot. They have to watch it anew when they are tried.
+    ///
+    /// Out of memory, some may have been woken, and all watch it still.
+    pub fn wake_all(&mut self, slot: &K, worklist: &mut Worklist) -> Result<(), AllocError>
+        ensures ok { OnOk result (Wakes worklist.old worklist.new (is_watching K.cmp self.old slot.now)) }
+        ensures err { OnErr result (WakesSome worklist.old worklist.new (is_watching K.cmp self.old slot.now)) }
+        ensures forgets { OnOk result (Forgets K.cmp self.old self.new slot.now) }
+        ensures same { OnErr result (IsSame K.cmp self.old self.new) }
+    {
+        self.wake_watchers(slot, worklist)?;
+        self.positions.remove(slot);
+        Ok(())
+    }
+}

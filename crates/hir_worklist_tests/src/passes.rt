@@ -1,0 +1,75 @@
+//! What is taken, and when.
+use hir_worklist::{Watchers, Worklist};
+use std::test::Fail;
+
+/// The first of three things waits for what the second fills, and that for what the third does.
+#[test]
+fn a_chain_is_taken_backwards(rt: HostRuntime) -> Result<(), Fail> {
+    let mut worklist = Worklist::new(rt.alloc());
+    let mut watchers = Watchers::new(rt.alloc());
+    worklist.push()?;
+    worklist.push()?;
+    worklist.push()?;
+    assert_eq!(rt; worklist.len(), 3);
+
+    worklist.open();
+    assert_eq!(rt; worklist.take(), Some(0));
+    watchers.watch(0, "second")?;
+    assert_eq!(rt; worklist.take(), Some(1));
+    watchers.watch(1, "third")?;
+    assert_eq!(rt; worklist.take(), Some(2));
+    watchers.wake_all(&"third", &mut worklist)?;
+    assert_eq!(rt; worklist.take(), None);
+    assert!(rt; !worklist.is_settled());
+
+    worklist.open();
+    assert_eq!(rt; worklist.take(), Some(1));
+    watchers.wake_all(&"third", &mut worklist)?;
+    watchers.wake_all(&"second", &mut worklist)?;
+    assert_eq!(rt; worklist.take(), None);
+
+    worklist.open();
+    assert_eq!(rt; worklist.take(), Some(0));
+    assert_eq!(rt; worklist.take(), None);
+    assert!(rt; worklist.is_settled());
+    Ok(())
+}
+
+/// What is woken ahead is taken in the same pass, what is woken behind in the next.
+#[test]
+fn what_is_ahead_is_taken_at_once(rt: HostRuntime) -> Result<(), Fail> {
+    let mut worklist = Worklist::new(rt.alloc());
+    worklist.push()?;
+    worklist.push()?;
+    worklist.open();
+    assert_eq!(rt; worklist.take(), Some(0));
+    assert_eq!(rt; worklist.take(), Some(1));
+    worklist.wake(0)?;
+    assert_eq!(rt; worklist.take(), None);
+
+    worklist.open();
+    assert_eq!(rt; worklist.take(), Some(0));
+    worklist.wake(1)?;
+    worklist.wake(0)?;
+    assert_eq!(rt; worklist.take(), Some(1));
+    assert_eq!(rt; worklist.take(), None);
+    assert!(rt; !worklist.is_settled());
+    Ok(())
+}
+
+/// What is finished is taken in no pass.
+#[test]
+fn what_is_finished_is_not_taken(rt: HostRuntime) -> Result<(), Fail> {
+    let mut worklist = Worklist::new(rt.alloc());
+    assert!(rt; worklist.is_empty());
+    worklist.push()?;
+    worklist.push()?;
+    assert_eq!(rt; worklist.len(), 2);
+    worklist.finish(0);
+    worklist.wake(0)?;
+    assert!(rt; !worklist.is_unfinished(0));
+    assert!(rt; worklist.is_unfinished(1));
+    worklist.finish(1);
+    assert!(rt; worklist.is_settled());
+    Ok(())
+}
