@@ -175,12 +175,7 @@ impl<'a> DefMaps<'a> {
 
 impl<'a> Query<'a> {
     /// A first segment in the root of the crate or among the crates, and the others.
-    fn slots_from_root(
-        &self,
-        from: ModuleId,
-        first: &'a Name,
-        others: &'a [Name],
-    ) -> PathSlots<'a>
+    fn slots_from_root(&self, from: ModuleId, first: &'a Name, others: &'a [Name]) -> PathSlots<'a>
         ensures value { result ≡ slots_from_root (maps_of self.now.maps) (asking_of self.now) self.now.maps.own.now.id from first.now others.now }
     {
         let maps = self.maps;
