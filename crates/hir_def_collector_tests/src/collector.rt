@@ -662,15 +662,25 @@ const DUMPS: [DumpRow; 4] = [
     ),
 ];
 
-fn dumps(rt: &impl Abort, alloc: Global, row: &DumpRow) -> Result<(), Fail> {
-    let (label, line, expected) = *row;
-    let found = collected_over(alloc, &[("a.rs", line)])?;
-    let text = found.map.dump(alloc, &World::new(alloc))?;
+fn shows(rt: &impl Abort, alloc: Global, map: &DefMap, row: &DumpRow) -> Result<(), Fail> {
+    let (label, _, expected) = *row;
+    let text = map.dump(alloc, &World::new(alloc))?;
     assert_eq!(rt; text.as_str(), expected, "{label}");
     Ok(())
 }
 
-/// Traits that are imported without a name: for those who may see them by any of the globs that bring them.
+fn dumps(rt: &impl Abort, alloc: Global, row: &DumpRow) -> Result<(), Fail> {
+    let (_, line, _) = *row;
+    let mut db = one_crate(alloc, &[("a.rs", line)])?;
+    let found = lower_collected(alloc, &mut db)?;
+    shows(rt, alloc, &found.map, row)?;
+    let world = world_of(alloc, found)?;
+    let again = collected_of(alloc, &mut db, &world, 0)?;
+    shows(rt, alloc, &again.map, row)
+}
+
+/// Traits that are imported without a name: for those who may see them by any of the globs that bring them; and the same
+/// again beside the crate's own finished map.
 #[test]
 fn traits_without_a_name(rt: HostRuntime) -> Result<(), Fail> {
     for row in &DUMPS {
