@@ -60,16 +60,16 @@ there_below (x ∷ xs) zero low = (x, refl)
 there_below (x ∷ xs) (suc k) low = there_below xs k (omega arith)
 
 -- what stands at a key of a module
-abbrev bound_inside : Key → Option ModuleValue → Option Bound
+abbrev pub bound_inside : Key → Option ModuleValue → Option Bound
 bound_inside key o = bound_at (entry_of o) (trait_vis o) key
 
-inside_own : (n : ScopesValue) (at : ℕ) (key : Key) → bound_of n (targets.Own at) key ≡ bound_inside key (module_at n.map at)
+pub inside_own : (n : ScopesValue) (at : ℕ) (key : Key) → bound_of n (targets.Own at) key ≡ bound_inside key (module_at n.map at)
 inside_own n at (Types name) = refl
 inside_own n at (Values name) = refl
 inside_own n at (Macros name) = refl
 inside_own n at (Unnamed id) = refl
 
-inside_scope : (m : ModuleValue) (key : Key) → bound_inside key (Some m) ≡ bound_scope m.scope key
+pub inside_scope : (m : ModuleValue) (key : Key) → bound_inside key (Some m) ≡ bound_scope m.scope key
 inside_scope m (Types name) = refl
 inside_scope m (Values name) = refl
 inside_scope m (Macros name) = refl
