@@ -20,7 +20,7 @@ use Rattle.hir_glob_imports.specs.declared.edge.Key.TheVariants.{Types, Values, 
 use Rattle.hir_import_resolution.specs.KeyLists.{scope_in}
 use Rattle.hir_import_resolution.specs.Names.{bound_by, trait_vis}
 use Rattle.hir_import_resolution.specs.Inner.ScopeLaws.{bound_scope}
-use Rattle.hir_import_resolution.specs.Inner.TableLaws.{bound_inside, inside_scope}
+use Rattle.hir_import_resolution.specs.Inner.ViewLaws.{bound_inside, inside_scope}
 
 module _ (maps : Maps) where
   module-found : (m : ModuleId) (map : Map) → map_in maps m.map ≡ Some map → module_in maps m ≡ module_at map m.index

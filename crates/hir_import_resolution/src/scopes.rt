@@ -9,7 +9,7 @@ ghost use Rattle.hir_import_resolution.specs.Names.{bound_by, bound_of, bound_tr
 ghost use Rattle.hir_import_resolution.specs.Scopes.{value_of, with_value};
 ghost use Rattle.hir_import_resolution.specs.Visibilities.{greater_in, sees_in};
 ghost use Rattle.hir_import_resolution.specs.Inner.ScopeLaws.{bound_scope};
-ghost use Rattle.hir_import_resolution.specs.Inner.TableLaws.{bound_inside};
+ghost use Rattle.hir_import_resolution.specs.Inner.ViewLaws.{bound_inside};
 
 mod keys;
 mod writes;
@@ -363,7 +363,7 @@ impl OpenScopes<'_> {
     }
 
     /// What stands at a key of a target.
-    #[tactic(auto, using(crate::specs::Inner::TableLaws::inside_own))]
+    #[tactic(auto, using(crate::specs::Inner::ViewLaws::inside_own))]
     fn bound_of(&self, of: Target, key: &Key) -> Option<Bound>
         ensures value { result ≡ bound_of (value_of self.now) of key.now }
     {
