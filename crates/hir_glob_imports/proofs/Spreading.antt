@@ -1,5 +1,5 @@
 -- What is pending, once edges are to be looked at.
-use Rattle.std.proofs.Common.{◌≡◌, ◌∙◌, ap, sym, subst, refl, ℕ, zero, suc, ◌<◌, ◌≤◌, ◌-◌, ◌==◌, Bool, true, false, ◌⊎◌, inl, inr, List, [], ◌∷◌, ◌++◌, length, Option, None, Some, Result, Ok, Err, OnOk, slice_get, get_or, slice_index, if◌then◌else◌, arith}
+use Rattle.std.proofs.Common.{◌≡◌, ◌∙◌, ap, sym, subst, refl, ℕ, zero, suc, ◌<◌, ◌≤◌, ◌-◌, ◌==◌, Bool, true, false, ◌⊎◌, inl, inr, List, [], ◌∷◌, ◌++◌, length, Option, None, Some, Result, Ok, Err, OnOk, slice_get, slice_index, if◌then◌else◌, arith}
 use mathlib.Core.Bool.{true≢false}
 use Rattle.std.specs.Prelude.{Contains, IsSome, slice_index_or}
 use Rattle.std.specs.Cmp.{unsigned_Decides}
@@ -70,12 +70,10 @@ each_left old new edge left rest made popped is key (inl waits) =
     go (inr here) = inr (subst (λ (k : Key). Contains new (edge, k)) (only made key here) (pushed_here old new (edge, made) is))
 
 -- where none is left, each is pending
-pub each_taken : (pending : List (ℕ × Key)) (edge : ℕ) (left : List Key) → left ≡ [] → (key : Key) → Contains left key ⊎ Contains pending (edge, key)
+pub each_taken : (pending : List (ℕ × Key)) (edge : ℕ) (left : List Key) → length left ≡ 0 → (key : Key) → Contains left key ⊎ Contains pending (edge, key)
     → Contains pending (edge, key)
 each_taken pending edge left none key (inr done) = done
-each_taken pending edge left none key (inl waits) =
-    let among : Contains [] key = subst (λ (xs : List Key). Contains xs key) none waits in
-    absurd (omega arith)
+each_taken pending edge left none key (inl waits) = absurd (omega (arith, waits.1))
 
 -- an edge that is listed is at some number of the list
 pub listed_each : (pending : List (ℕ × Key)) (edges : List ℕ) (key : Key)
