@@ -95,7 +95,7 @@ module _ (scope : ScopeValue) (name : List ℕ) where
       → bound_by in_ns.Types (item_at scope.types name) ≡ Some (record { def = in_ns.Types def; vis = vis })
   type-found def vis e = go (item_at scope.types name) e
     where
-      go : (o : Option (Item ModuleDefId ImportOrExternCrate)) → option_map (λ (i : Item ModuleDefId ImportOrExternCrate). (i.def, i.vis)) o ≡ Some (def, vis)
+      go : (o : Option (Item ModuleDefId ImportOrExternCrate)) → option_map {U = ModuleDefId × Visibility} (λ (i : Item ModuleDefId ImportOrExternCrate). (i.def, i.vis)) o ≡ Some (def, vis)
           → bound_by in_ns.Types o ≡ Some (record { def = in_ns.Types def; vis = vis })
       go None f = absurd cc
       go (Some i) f = let same : (i.def, i.vis) ≡ (def, vis) = cc in ap (λ (p : ModuleDefId × Visibility). Some (record { def = in_ns.Types p.0; vis = p.1 })) same
@@ -103,7 +103,7 @@ module _ (scope : ScopeValue) (name : List ℕ) where
   pub type-none : type_at scope name ≡ None → bound_by in_ns.Types (item_at scope.types name) ≡ None
   type-none e = go (item_at scope.types name) e
     where
-      go : (o : Option (Item ModuleDefId ImportOrExternCrate)) → option_map (λ (i : Item ModuleDefId ImportOrExternCrate). (i.def, i.vis)) o ≡ None
+      go : (o : Option (Item ModuleDefId ImportOrExternCrate)) → option_map {U = ModuleDefId × Visibility} (λ (i : Item ModuleDefId ImportOrExternCrate). (i.def, i.vis)) o ≡ None
           → bound_by in_ns.Types o ≡ None
       go None f = refl
       go (Some i) f = absurd cc
