@@ -25,3 +25,6 @@ pub mod Counting
 pub mod Running
 pub mod Passes
 pub mod Starting
+-- what is queued before a round
+pub mod Growing
+pub mod GlobsGrowing
