@@ -28,3 +28,4 @@ pub mod Starting
 -- what is queued before a round
 pub mod Growing
 pub mod GlobsGrowing
+pub mod GrowingAround

@@ -1,12 +1,21 @@
 -- What may happen to imports between two times that they rest?
-use Rattle.std.specs.Prelude.{◌≡◌, ℕ, ◌<◌, ◌≤◌, true, List, [], None, Some, length, slice_get}
+use Rattle.std.specs.Prelude.{◌≡◌, ℕ, ◌<◌, ◌≤◌, true, false, List, [], Option, None, Some, length, slice_get}
+use Rattle.hir_base.specs.declared.ids.EnumId.{EnumId}
+use Rattle.hir_base.specs.declared.ids.ExternCrateId.{ExternCrateId}
+use Rattle.hir_base.specs.declared.ids.ModuleId.{ModuleId}
 use Rattle.hir_base.specs.declared.ids.TraitId.{TraitId}
+use Rattle.hir_base.specs.declared.macro_kind.MacroId.{MacroId}
 use Rattle.hir_scope.specs.Globs.{GlobNames}
+use Rattle.hir_scope.specs.declared.imports.ImportOrExternCrate.{ImportOrExternCrate}
+use Rattle.hir_scope.specs.declared.per_ns.PerNs.{PerNs}
 use Rattle.hir_scope.specs.declared.visibility.Visibility.{Visibility}
 use Rattle.hir_scope.specs.declared.visibility.Visibility.TheVariants as visibilities
+use Rattle.hir_def_map.specs.Declaration.{listed}
 use Rattle.hir_def_map.specs.Overlay.{Maps}
 use Rattle.hir_def_map.specs.Scoping.Slots.{is_in}
-use Rattle.hir_def_map.specs.State.{Map, entry_at, module_at}
+use Rattle.hir_def_map.specs.State.{Map, Variants, entry_at, globs_after, module_at, new_module, pushed, variants_at, with_enum, with_macro_use, with_module, with_scope}
+use Rattle.hir_def_map.specs.declared.nameres.declaration.Declaration.{Declaration}
+use Rattle.hir_def_map.specs.declared.nameres.origin.ModuleOrigin.{ModuleOrigin}
 use Rattle.hir_def_map.specs.declared.nameres.path_resolution.slots.Slot.{Slot as PathSlot}
 use Rattle.hir_def_map.specs.declared.world.reference.Reference.TheVariants as named
 use Rattle.hir_def_map_laws.specs.ReadLaw.{BeginsWithCrates, Grows, StandsBeside, has_no_variants}
@@ -21,6 +30,7 @@ use Rattle.hir_worklist.specs.Queue.{count_of, is_unfinished}
 use Rattle.hir_import_resolution.specs.declared.directive.ImportDirective.{ImportDirective}
 use Rattle.hir_import_resolution.specs.declared.import_queue.ImportQueue.{ImportQueue}
 use Rattle.hir_import_resolution.specs.Inner.Queue.{AreIdleSettled}
+use Rattle.hir_import_resolution.specs.Inner.Steps.{IsBound}
 use Rattle.hir_import_resolution.specs.Names.{ScopesValue, bound_of, trait_vis, view_of}
 use Rattle.hir_import_resolution.specs.State.{ImportState}
 
@@ -94,3 +104,22 @@ beside finished map globs = record { finished = finished; map = map; globs = glo
 abbrev pub GrowthKeepsGlobs : Type 0
 GrowthKeepsGlobs = (finished : Maps) (old new : Map) (names new_names : GlobNames) (g : GlobsValue) → StandsBeside finished old → GrowsAround old new
     → ArePlaced (beside finished old names) g.edges → IsKept (view_of (beside finished old names)) g → IsKept (view_of (beside finished new new_names)) g
+
+-- modules that are made, definitions that are listed, enums that get their variants and macros of the `macro_use` prelude let a map grow around its names
+abbrev pub ModulesGrowAround : Type 0
+ModulesGrowAround = (map : Map) (at : ℕ) (name : List ℕ) (origin : ModuleOrigin) (visibility : Visibility) (parent : Option ModuleId)
+    → GrowsAround map (with_module map at name (new_module origin visibility parent))
+
+abbrev pub ListsGrowAround : Type 0
+ListsGrowAround = (map : Map) (at : ℕ) (d : Declaration) → GrowsAround map (with_scope map at (listed d))
+
+abbrev pub EnumsGrowAround : Type 0
+EnumsGrowAround = (map : Map) (id : EnumId) (variants : Variants) → ((before : Variants) → variants_at map id ≡ Some before → before ≡ variants) → GrowsAround map (with_enum map id variants)
+
+abbrev pub MacroUsesGrowAround : Type 0
+MacroUsesGrowAround = (map : Map) (name : List ℕ) (makro : MacroId) (by : Option ExternCrateId) → GrowsAround map (with_macro_use map name makro by)
+
+-- items that are pushed to a name of a module are bound there explicitly, and globs see no other change
+abbrev pub PushesBind : Type 0
+PushesBind = (n : ScopesValue) (home : ℕ) (name : List ℕ) (items : PerNs) (import : Option ImportOrExternCrate) → home < length n.map.modules
+    → IsBound home name items (view_of n) (view_of (record n { map = pushed n.map n.globs home name items import; globs = globs_after n.map n.globs home name items import }))

@@ -1,8 +1,20 @@
-//! What holds between two rounds. The functions do nothing: their contracts are the laws.
-ghost use Rattle.hir_import_resolution.specs.Rounds.{GrowthKeepsGlobs};
+//! What happens to globs between two rounds. The functions do nothing: their contracts are the laws.
+ghost use Rattle.hir_import_resolution.specs.Rounds.{EnumsGrowAround, GrowthKeepsGlobs, ListsGrowAround, MacroUsesGrowAround, ModulesGrowAround, PushesBind};
 
-/// What holds of globs holds while their map grows around them: while modules, enums and macros come, and each name
-/// stands for what it stood for.
+/// What holds of globs holds while their map grows around them: while all that its names stand for stays.
 pub fn growth_keeps_globs()
     ensures kept { GrowthKeepsGlobs }
+{}
+
+/// What building adds without a push lets a map grow around its names.
+pub fn building_grows_around()
+    ensures made { ModulesGrowAround }
+    ensures listed { ListsGrowAround }
+    ensures enums { EnumsGrowAround }
+    ensures macro_uses { MacroUsesGrowAround }
+{}
+
+/// What is pushed to a name of a module is bound there explicitly.
+pub fn pushes_bind()
+    ensures bind { PushesBind }
 {}

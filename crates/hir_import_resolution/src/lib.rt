@@ -18,5 +18,6 @@ pub use import_queue::ImportQueue;
 pub use imports::Imports;
 pub use namespaces::Namespaces;
 pub use resolve::{ImportError, resolve_imports};
+pub use resolver::bind::forget;
 pub use rounds::{Resting, begin_imports, resume_imports};
 pub use taken::Taken;

@@ -8,7 +8,7 @@ ghost use Rattle.std.specs.Prelude.{◌≡◌, []};
 ghost use Rattle.hir_def_map.specs.WorldParts.{part_of};
 ghost use Rattle.hir_import_resolution.specs.Inner.State.{finished_by, queue_by, state_by, state_in};
 
-mod bind;
+pub(crate) mod bind;
 mod settle;
 mod steps;
 pub(crate) mod watch;
