@@ -27,5 +27,6 @@ pub mod Passes
 pub mod Starting
 -- what is queued before a round
 pub mod Growing
+pub mod GrownPlaces
 pub mod GlobsGrowing
 pub mod GrowingAround

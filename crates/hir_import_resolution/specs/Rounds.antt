@@ -1,19 +1,22 @@
 -- What may happen to imports between two times that they rest?
 use Rattle.std.specs.Prelude.{◌≡◌, ℕ, ◌<◌, ◌≤◌, true, false, List, [], Option, None, Some, length, slice_get}
+use Rattle.std.specs.List.{All}
 use Rattle.hir_base.specs.declared.ids.EnumId.{EnumId}
 use Rattle.hir_base.specs.declared.ids.ExternCrateId.{ExternCrateId}
 use Rattle.hir_base.specs.declared.ids.ModuleId.{ModuleId}
 use Rattle.hir_base.specs.declared.ids.TraitId.{TraitId}
 use Rattle.hir_base.specs.declared.macro_kind.MacroId.{MacroId}
 use Rattle.hir_scope.specs.Globs.{GlobNames}
+use Rattle.hir_scope.specs.Scope.{ScopeValue, binding_of}
+use Rattle.hir_scope.specs.Scope.Reads.{unnamed_vis}
 use Rattle.hir_scope.specs.declared.imports.ImportOrExternCrate.{ImportOrExternCrate}
 use Rattle.hir_scope.specs.declared.per_ns.PerNs.{PerNs}
 use Rattle.hir_scope.specs.declared.visibility.Visibility.{Visibility}
 use Rattle.hir_scope.specs.declared.visibility.Visibility.TheVariants as visibilities
 use Rattle.hir_def_map.specs.Declaration.{listed}
-use Rattle.hir_def_map.specs.Overlay.{Maps}
+use Rattle.hir_def_map.specs.Overlay.{Maps, placed_in}
 use Rattle.hir_def_map.specs.Scoping.Slots.{is_in}
-use Rattle.hir_def_map.specs.State.{Map, Variants, entry_at, globs_after, module_at, new_module, pushed, variants_at, with_enum, with_macro_use, with_module, with_scope}
+use Rattle.hir_def_map.specs.State.{IsInOrder, Map, Variants, entry_at, globs_after, module_at, new_module, pushed, variants_at, with_enum, with_macro_use, with_module, with_scope}
 use Rattle.hir_def_map.specs.declared.nameres.declaration.Declaration.{Declaration}
 use Rattle.hir_def_map.specs.declared.nameres.origin.ModuleOrigin.{ModuleOrigin}
 use Rattle.hir_def_map.specs.declared.nameres.path_resolution.slots.Slot.{Slot as PathSlot}
@@ -100,9 +103,18 @@ pub record ArePlaced (n : ScopesValue) (edges : List Edge) : Type 0 where
 abbrev pub beside : Maps → Map → GlobNames → ScopesValue
 beside finished map globs = record { finished = finished; map = map; globs = globs }
 
+-- its modules come after what they are in, and what holds it lies outside
+pub record IsOrdered (finished : Maps) (map : Map) : Type 0 where
+  pub in_order : IsInOrder map
+  pub holders : All (λ (h : ModuleId). is_in map.id h ≡ false) (placed_in finished map).holders
+
+-- as of a map that stands beside finished ones
+abbrev pub MapsBesideAreOrdered : Type 0
+MapsBesideAreOrdered = (finished : Maps) (map : Map) → StandsBeside finished map → IsOrdered finished map
+
 -- what holds of globs holds while the map grows around them
 abbrev pub GrowthKeepsGlobs : Type 0
-GrowthKeepsGlobs = (finished : Maps) (old new : Map) (names new_names : GlobNames) (g : GlobsValue) → StandsBeside finished old → GrowsAround old new
+GrowthKeepsGlobs = (finished : Maps) (old new : Map) (names new_names : GlobNames) (g : GlobsValue) → IsOrdered finished old → GrowsAround old new
     → ArePlaced (beside finished old names) g.edges → IsKept (view_of (beside finished old names)) g → IsKept (view_of (beside finished new new_names)) g
 
 -- modules that are made, definitions that are listed, enums that get their variants and macros of the `macro_use` prelude let a map grow around its names
@@ -118,6 +130,11 @@ EnumsGrowAround = (map : Map) (id : EnumId) (variants : Variants) → ((before :
 
 abbrev pub MacroUsesGrowAround : Type 0
 MacroUsesGrowAround = (map : Map) (name : List ℕ) (makro : MacroId) (by : Option ExternCrateId) → GrowsAround map (with_macro_use map name makro by)
+
+-- so do changes of a scope that leave its bindings and its traits without names, as those of textual macros
+abbrev pub ScopesGrowAround : Type 0
+ScopesGrowAround = (map : Map) (at : ℕ) (change : ScopeValue → ScopeValue) → ((s : ScopeValue) (name : List ℕ) → binding_of (change s) name ≡ binding_of s name)
+    → ((s : ScopeValue) (id : TraitId) → unnamed_vis (change s) id ≡ unnamed_vis s id) → GrowsAround map (with_scope map at change)
 
 -- items that are pushed to a name of a module are bound there explicitly, and globs see no other change
 abbrev pub PushesBind : Type 0

@@ -1,9 +1,10 @@
 //! What happens to globs between two rounds. The functions do nothing: their contracts are the laws.
-ghost use Rattle.hir_import_resolution.specs.Rounds.{EnumsGrowAround, GrowthKeepsGlobs, ListsGrowAround, MacroUsesGrowAround, ModulesGrowAround, PushesBind};
+ghost use Rattle.hir_import_resolution.specs.Rounds.{EnumsGrowAround, GrowthKeepsGlobs, ListsGrowAround, MacroUsesGrowAround, MapsBesideAreOrdered, ModulesGrowAround, PushesBind, ScopesGrowAround};
 
 /// What holds of globs holds while their map grows around them: while all that its names stand for stays.
 pub fn growth_keeps_globs()
     ensures kept { GrowthKeepsGlobs }
+    ensures beside { MapsBesideAreOrdered }
 {}
 
 /// What building adds without a push lets a map grow around its names.
@@ -11,6 +12,7 @@ pub fn building_grows_around()
     ensures made { ModulesGrowAround }
     ensures listed { ListsGrowAround }
     ensures enums { EnumsGrowAround }
+    ensures scopes { ScopesGrowAround }
     ensures macro_uses { MacroUsesGrowAround }
 {}
 
