@@ -14,11 +14,12 @@ use Rattle.hir_import_resolution.specs.declared.directive.ImportDirective.{Impor
 use Rattle.hir_import_resolution.specs.declared.import_queue.ImportQueue.{ImportQueue}
 use Rattle.hir_import_resolution.specs.Inner.Queue.{AreIdleSettled, IsLonger, IsWoken, WakesEach, slot_cmp, more, none}
 use Rattle.hir_import_resolution.specs.Inner.State.{IsApart}
-use Rattle.hir_import_resolution.specs.Rounds.{Grew, IsResumable, IsUpToDate, is_apart}
+use Rattle.hir_import_resolution.specs.Rounds.{Grew, GrowthsFollowOneAnother, IsResumable, IsUpToDate, is_apart}
 use Rattle.hir_import_resolution.specs.State.{ImportState}
 use Rattle.hir_import_resolution.proofs.Settled.{unchanged_grown}
 use Rattle.hir_import_resolution.proofs.Trying.{woken_anew}
 use Rattle.hir_def_map_laws.proofs.InScopes.{crates_outside}
+use Rattle.hir_def_map_laws.proofs.SlotLists.{follow}
 use Rattle.hir_def_map_laws.specs.ReadLaw.{KeepApart}
 use Rattle.hir_base.specs.declared.ids.MapId.{MapId}
 
@@ -111,6 +112,19 @@ as_long_by_places : {A : Type 0} (xs ys : List A) → ((i : ℕ) → i < length 
 as_long_by_places [] ys same = omega arith
 as_long_by_places (x ∷ xs) [] same = let none : None ≡ Some x = same 0 (omega arith) in absurd cc
 as_long_by_places (x ∷ xs) (y ∷ ys) same = let rest : length xs ≤ length ys = as_long_by_places xs ys (λ i l. same (suc i) (omega arith)) in omega arith
+
+pub growths_follow : GrowthsFollowOneAnother
+growths_follow one two three first then a b = record {
+  map = follow one.map two.map three.map one.local two.local three.local first then a.map b.map;
+  imports = λ i low. b.imports i (further i low) ∙ a.imports i low;
+  taken = λ i low. b.taken i (further i low) ∙ a.taken i low;
+}
+  where
+    long : length one.imports ≤ length two.imports
+    long = as_long_by_places one.imports two.imports a.imports
+
+    further : (i : ℕ) → i < length one.imports → i < length two.imports
+    further i low = omega (arith, long)
 
 module _ (finished : Maps) (queue : ImportQueue) (now : ImportState) (slots : List PathSlot) (given : IsResumable finished queue now slots) where
   abbrev before : ImportState

@@ -1,5 +1,5 @@
 -- What may happen to imports between two times that they rest?
-use Rattle.std.specs.Prelude.{◌≡◌, ℕ, ◌<◌, ◌≤◌, true, false, List, [], Option, None, Some, length, slice_get}
+use Rattle.std.specs.Prelude.{◌≡◌, ℕ, ◌<◌, ◌≤◌, true, false, List, [], ◌++◌, Option, None, Some, length, slice_get}
 use Rattle.std.specs.List.{All}
 use Rattle.hir_base.specs.declared.ids.EnumId.{EnumId}
 use Rattle.hir_base.specs.declared.ids.ExternCrateId.{ExternCrateId}
@@ -61,6 +61,10 @@ pub record Grew (old new : ImportState) (slots : List PathSlot) : Type 0 where
   pub map : ChangesAmong old.map old.local new.map new.local slots
   pub imports : (i : ℕ) → i < length old.imports → slice_get new.imports i ≡ slice_get old.imports i
   pub taken : (i : ℕ) → i < length old.imports → slice_get new.taken i ≡ slice_get old.taken i
+
+-- what grows twice grows in the slots of both
+abbrev pub GrowthsFollowOneAnother : Type 0
+GrowthsFollowOneAnother = (one two three : ImportState) (first then : List PathSlot) → Grew one two first → Grew two three then → Grew one three (first ++ then)
 
 -- a queue was up to date, and what changed since differs in these slots alone
 pub record IsResumable (finished : Maps) (queue : ImportQueue) (now : ImportState) (slots : List PathSlot) : Type 0 where

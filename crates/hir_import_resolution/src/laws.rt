@@ -1,5 +1,10 @@
-//! What happens to globs between two rounds. The functions do nothing: their contracts are the laws.
-ghost use Rattle.hir_import_resolution.specs.Rounds.{EnumsGrowAround, GrowthKeepsGlobs, ListsGrowAround, MacroUsesGrowAround, MapsBesideAreOrdered, ModulesGrowAround, PushesBind, ScopesGrowAround};
+//! What happens between two rounds. The functions do nothing: their contracts are the laws.
+ghost use Rattle.hir_import_resolution.specs.Rounds.{EnumsGrowAround, GrowthKeepsGlobs, GrowthsFollowOneAnother, ListsGrowAround, MacroUsesGrowAround, MapsBesideAreOrdered, ModulesGrowAround, PushesBind, ScopesGrowAround};
+
+/// What grows twice grows in the slots of both.
+pub fn growths_follow_one_another()
+    ensures follow { GrowthsFollowOneAnother }
+{}
 
 /// What holds of globs holds while their map grows around them: while all that its names stand for stays.
 pub fn growth_keeps_globs()
