@@ -212,5 +212,4 @@ unfolding frames_of
 beside_ordered finished map stands = record { in_order = stands.in_order; holders = subst (All (λ (h : AnyModule). is_in map.id h ≡ false)) placed (holders_out (grown finished map map stands (Grows-itself map)) (root_of map.id)) }
   where
     placed : holders_in (overlay finished map) (root_of map.id) ≡ (placed_in finished map).holders
-    unfolding frames_of
     placed = frame_holders (overlay finished map map.id) ∙ ap holders_of (ap (λ (b : Bool). cond b (Some (placed_in finished map)) (finished map.id)) (same_id map.id))
