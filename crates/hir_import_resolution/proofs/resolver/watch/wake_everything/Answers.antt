@@ -1,7 +1,6 @@
 -- One more is woken in each turn.
-use Rattle.std.proofs.Common.{◌≡◌, ℕ, ◌==◌, true, false, arith}
+use Rattle.std.proofs.Common.{◌≡◌, ℕ, ◌==◌, true, false, below_more, arith}
 use Rattle.std.proofs.lemmas.Bool.Decides.{nat_tests}
-use borrow.Author.Count.{below_more}
 use Rattle.hir_worklist.proofs.Idle.{idle-woken}
 use Rattle.hir_worklist.specs.Queue.{IsIdle}
 use Rattle.hir_import_resolution.proofs.Waking.{pass_join, pass_woken}
