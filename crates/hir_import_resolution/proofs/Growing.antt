@@ -38,7 +38,7 @@ wakes_one slots s n r after q between watchers left below is wakes forgets then 
 
 -- none is left
 pub wakes_all : (slots : List PathSlot) (n : ℕ) (q : Queue) (watchers : Watchers PathSlot) → length slots ≤ n → WakesEach q watchers q watchers (drop n slots)
-wakes_all slots n q watchers over = subst (λ (xs : List PathSlot). WakesEach q watchers q watchers xs) (sym (drop_all slots n over)) none
+wakes_all slots n q watchers over = subst (λ (xs : List PathSlot). WakesEach q watchers q watchers xs) (sym (drop_all n slots over)) none
 
 -- ---- things that are appended
 
@@ -80,7 +80,7 @@ counts_one r s a = ap (λ (f : List Bool). length f) a.finished ∙ length-appen
 -- nothing is idle where nothing was
 pub none_idle : (q r : Queue) → q ≡ empty_queue → IsLonger q r → (p : ℕ) → ¬ IsIdle r p
 none_idle q r empty longer p idle =
-    let before : p < length [] = below_unfinished [] p (subst (λ (x : Queue). is_unfinished x p ≡ true) empty (longer.idle p idle).unfinished) in absurd (omega arith)
+    let before : p < 0 = below_unfinished [] p (subst (λ (x : Queue). is_unfinished x p ≡ true) empty (longer.idle p idle).unfinished) in absurd (omega arith)
 
 -- so a queue of all imports is up to date
 pub up_to_date_first : (finished : Maps) (queue : ImportQueue) (q : Queue) (s : ImportState) (n : ℕ) → q ≡ empty_queue → IsLonger q queue.worklist → n ≡ length s.imports → (count_of q ≤ n → count_of queue.worklist ≡ n)

@@ -1,5 +1,5 @@
 -- What may happen to imports between two times that they rest?
-use Rattle.std.specs.Prelude.{◌≡◌, ℕ, ◌<◌, ◌≤◌, true, false, List, [], ◌++◌, Option, None, Some, length, slice_get}
+use Rattle.std.specs.Prelude.{◌≡◌, ℕ, ◌<◌, ◌≤◌, Bool, true, false, List, [], ◌++◌, Option, None, Some, length, slice_get}
 use Rattle.std.specs.List.{All}
 use Rattle.hir_base.specs.declared.ids.EnumId.{EnumId}
 use Rattle.hir_base.specs.declared.ids.ExternCrateId.{ExternCrateId}
@@ -97,11 +97,11 @@ HasVariants map (targets.Module m) = Unit {0}
 HasVariants map (targets.Enum id) = has_no_variants map (named.Enum id) ≡ false
 
 -- globs lead out of enums that have their variants, and the visibilities of globs, and of what stands at their ends, name modules that are there
-pub record ArePlaced (n : ScopesValue) (edges : List Edge) : Type 0 where
-  pub edges : (j : ℕ) (e : Edge) → slice_get edges j ≡ Some e → IsPlaced n.map e.vis
-  pub enums : (j : ℕ) (e : Edge) → slice_get edges j ≡ Some e → HasVariants n.map e.source
-  pub sources : (j : ℕ) (e : Edge) (key : Key) (b : Bound) → slice_get edges j ≡ Some e → bound_of n e.source key ≡ Some b → IsPlaced n.map b.vis
-  pub importers : (j : ℕ) (e : Edge) (key : Key) (b : Bound) → slice_get edges j ≡ Some e → bound_of n (targets.Own e.importer) key ≡ Some b → IsPlaced n.map b.vis
+pub record ArePlaced (n : ScopesValue) (globs : List Edge) : Type 0 where
+  pub edges : (j : ℕ) (e : Edge) → slice_get globs j ≡ Some e → IsPlaced n.map e.vis
+  pub enums : (j : ℕ) (e : Edge) → slice_get globs j ≡ Some e → HasVariants n.map e.source
+  pub sources : (j : ℕ) (e : Edge) (key : Key) (b : Bound) → slice_get globs j ≡ Some e → bound_of n e.source key ≡ Some b → IsPlaced n.map b.vis
+  pub importers : (j : ℕ) (e : Edge) (key : Key) (b : Bound) → slice_get globs j ≡ Some e → bound_of n (targets.Own e.importer) key ≡ Some b → IsPlaced n.map b.vis
 
 -- a map beside finished ones, and the names that globs brought
 abbrev pub beside : Maps → Map → GlobNames → ScopesValue
