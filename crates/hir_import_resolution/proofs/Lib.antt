@@ -10,7 +10,6 @@ pub mod Recorded
 pub mod Writes
 pub mod Along
 -- what a push changes
-pub mod Views
 pub mod Binding
 pub mod Bound
 -- what a resolver does

@@ -20,6 +20,7 @@ use Rattle.hir_glob_imports.specs.Keys.{is_slot, same_slot, slot_at}
 use Rattle.hir_glob_imports.specs.View.{ChangesOnly, bound_in}
 use Rattle.hir_glob_imports.specs.declared.edge.Bound.{Bound}
 use Rattle.hir_glob_imports.specs.declared.edge.Key.{Key}
+use Rattle.hir_glob_imports.specs.declared.edge.Key.TheVariants.{Types, Values, Macros, Unnamed}
 use Rattle.hir_glob_imports.specs.declared.edge.Target.{Target}
 use Rattle.hir_glob_imports.specs.declared.edge.Target.TheVariants as targets
 use Rattle.hir_glob_imports.proofs.Settling.{same_itself}
@@ -27,6 +28,23 @@ use Rattle.hir_import_resolution.specs.Directives.{open_items}
 use Rattle.hir_import_resolution.specs.Names.{ScopesValue, bound_at, bound_of, is_foreign, open_vis, trait_vis, variant_items, view_of}
 use Rattle.hir_import_resolution.specs.Visibilities.{greater_in, lesser_in, sees_in}
 use Rattle.hir_import_resolution.specs.Inner.ScopeLaws.{bound_scope}
+
+-- ---- what stands at a key of a module
+
+abbrev pub bound_inside : Key → Option ModuleValue → Option Bound
+bound_inside key o = bound_at (entry_of o) (trait_vis o) key
+
+pub inside_own : (n : ScopesValue) (at : ℕ) (key : Key) → bound_of n (targets.Own at) key ≡ bound_inside key (module_at n.map at)
+inside_own n at (Types name) = refl
+inside_own n at (Values name) = refl
+inside_own n at (Macros name) = refl
+inside_own n at (Unnamed id) = refl
+
+pub inside_scope : (m : ModuleValue) (key : Key) → bound_inside key (Some m) ≡ bound_scope m.scope key
+inside_scope m (Types name) = refl
+inside_scope m (Values name) = refl
+inside_scope m (Macros name) = refl
+inside_scope m (Unnamed id) = refl
 
 -- ---- what lies above modules
 
@@ -97,7 +115,7 @@ module _ (finished : Maps) (one other : Map) (differs : DiffersInScopes one othe
 
   -- what stands at a key of a target is the same where it's the same in the modules of the map
   pub bound_stays : (globs globs' : GlobNames) (of : Target) (key : Key)
-      → ((at : ℕ) → of ≡ targets.Own at → bound_at (entry_of (module_at other at)) (trait_vis (module_at other at)) key ≡ bound_at (entry_of (module_at one at)) (trait_vis (module_at one at)) key)
+      → ((at : ℕ) → of ≡ targets.Own at → bound_inside key (module_at other at) ≡ bound_inside key (module_at one at))
       → bound_of (record { finished = finished; map = other; globs = globs' }) of key ≡ bound_of (record { finished = finished; map = one; globs = globs }) of key
   bound_stays globs globs' (targets.Own at) key same = same at refl
   bound_stays globs globs' (targets.Module m) key same = λ i.
@@ -108,10 +126,6 @@ module _ (finished : Maps) (one other : Map) (differs : DiffersInScopes one othe
 
 -- two changes of one scope
 module _ (n : ScopesValue) (home : ℕ) (f g : ScopeValue → ScopeValue) where
-  -- what stands at a key of a module
-  abbrev pub bound_module : Option ModuleValue → Key → Option Bound
-  bound_module o key = bound_at (entry_of o) (trait_vis o) key
-
   abbrev pub once : GlobNames → (ScopeValue → ScopeValue) → ScopesValue
   once globs change = record { finished = n.finished; map = with_scope n.map home change; globs = globs }
 
@@ -123,7 +137,7 @@ module _ (n : ScopesValue) (home : ℕ) (f g : ScopeValue → ScopeValue) where
   differ = record { id = refl; holder = refl; crate_data = refl; prelude = refl; parents = parents-changed g ∙ sym (parents-changed f); enums = λ id. refl }
 
   module_same : (key : Key) (xs : List ModuleValue) (at k : ℕ) → (k ≡ at → (s : ScopeValue) → bound_scope (g s) key ≡ bound_scope (f s) key)
-      → bound_module (slice_get (changed_at xs at (with_module_scope g)) k) key ≡ bound_module (slice_get (changed_at xs at (with_module_scope f)) k) key
+      → bound_inside key (slice_get (changed_at xs at (with_module_scope g)) k) ≡ bound_inside key (slice_get (changed_at xs at (with_module_scope f)) k)
   module_same key [] at k same = refl
   module_same key (m ∷ xs) zero zero same = same refl m.scope
   module_same key (m ∷ xs) zero (suc k) same = refl
@@ -147,7 +161,7 @@ module _ (n : ScopesValue) (home : ℕ) (f g : ScopeValue → ScopeValue) where
           true≢false (sym (same_itself (slot_at home key)) ∙ ap (λ (k : Key). same_slot (slot_at home key) (slot_at home k)) (sym e) ∙ away)
 
       here : (of : Target) (other : Key) → is_slot (slot_at home key) of other ≡ false → (at : ℕ) → of ≡ targets.Own at
-          → bound_module (module_at (with_scope n.map home g) at) other ≡ bound_module (module_at (with_scope n.map home f) at) other
+          → bound_inside other (module_at (with_scope n.map home g) at) ≡ bound_inside other (module_at (with_scope n.map home f) at)
       here of other away at is = module_same other n.map.modules home at (λ e s. same s other (apart other
           (ap (λ (k : ℕ). same_slot (slot_at home key) (slot_at k other)) (sym e) ∙ ap (λ (t : Target). is_slot (slot_at home key) t other) (sym is) ∙ away)))
 
@@ -188,7 +202,7 @@ module _ (n : ScopesValue) (home : ℕ) (change : ScopeValue → ScopeValue) (gl
 
   -- what stands at a key of the module that is changed
   pub changed_here : (m : ModuleValue) → module_at n.map home ≡ Some m → (key : Key) → bound_in (view_of changed_once) (slot_at home key) ≡ bound_scope (change m.scope) key
-  changed_here m there key = ap (λ (o : Option ModuleValue). bound_at (entry_of o) (trait_vis o) key) (found n.map.modules home there)
+  changed_here m there key = ap (bound_inside key) (found n.map.modules home there)
     where
       found : (xs : List ModuleValue) (at : ℕ) → slice_get xs at ≡ Some m → slice_get (changed_at xs at (with_module_scope change)) at ≡ Some (with_module_scope change m)
       found [] at e = absurd cc
