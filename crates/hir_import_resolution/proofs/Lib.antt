@@ -24,3 +24,8 @@ pub mod Counting
 pub mod Running
 pub mod Passes
 pub mod Starting
+-- what is queued before a round
+pub mod Growing
+pub mod GrownPlaces
+pub mod GlobsGrowing
+pub mod GrowingAround
