@@ -1,0 +1,8 @@
+//! Macros in textual scope, which rust-analyzer calls legacy macros.
+#![tactic(auto)]
+
+pub mod laws;
+mod node;
+pub mod textual_scope;
+
+pub use textual_scope::{TextualMacro, TextualMacros, TextualScope};
