@@ -3,6 +3,8 @@
 
 pub mod laws;
 mod node;
+#[cfg(test)]
+mod tests;
 pub mod textual_scope;
 
 pub use textual_scope::{TextualMacro, TextualMacros, TextualScope};

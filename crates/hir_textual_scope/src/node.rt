@@ -277,3 +277,16 @@ pub(crate) fn get(tree: &Link, index: usize) -> Option<&TextualMacro>
         get(&node.right, index - before - 1)
     }
 }
+
+/// Whether no path down a tree has more nodes than this.
+#[cfg(test)]
+pub(crate) fn is_within(depth: u32, tree: &Link) -> bool {
+    let Some(node) = tree else {
+        return true;
+    };
+    let node: &Node = &**node;
+    if depth == 0 {
+        return false;
+    }
+    is_within(depth - 1, &node.left) && is_within(depth - 1, &node.right)
+}

@@ -124,6 +124,12 @@ impl TextualScope {
             next: 0,
         }
     }
+
+    /// Whether no path down the tree has more nodes than this.
+    #[cfg(test)]
+    pub(crate) fn is_within(&self, depth: u32) -> bool {
+        node::is_within(depth, &self.root)
+    }
 }
 
 /// The macros that are left of a walk; see `TextualScope::iter`.
