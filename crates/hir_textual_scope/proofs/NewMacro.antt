@@ -1,12 +1,12 @@
 -- Which macros a name has once one more is defined.
-use Rattle.std.proofs.Common.{◌≡◌, ◌≢◌, ℕ, Bool, true, false, cond, List, [], ◌∷◌, ◌++◌, None, Some, refl, sym, ap, ◌∙◌}
+use Rattle.std.proofs.Common.{◌≡◌, ◌≢◌, ℕ, Bool, true, false, cond, List, [], ◌∷◌, ◌++◌, None, refl, sym, ap, ◌∙◌}
 use Rattle.std.specs.Prelude.{nat_eq}
-use Rattle.std.specs.List.{All, last_or}
+use Rattle.std.specs.List.{last_or}
 use Rattle.std.specs.Cmp.Lexicographic.{pointwise, bytes_decides}
 use Rattle.std.proofs.lemmas.List.Elements.{All-cons, All-weaker}
 use Rattle.hir_base.specs.declared.macro_kind.MacroId.{MacroId}
 use Rattle.hir_textual_scope.specs.declared.textual_scope.TextualMacro.{TextualMacro}
-use Rattle.hir_textual_scope.specs.Macros.{has_name, is_before, last_of, macros_of, with_macro, IsInOrder}
+use Rattle.hir_textual_scope.specs.Macros.{has_name, is_before, macros_of, with_macro, IsInOrder}
 use Rattle.hir_textual_scope.specs.Laws.{NewMacroComesLast, NewMacroIsMeant, OtherNamesKeepTheirs}
 use Rattle.hir_textual_scope.proofs.NameOrder.{same_name, less_from_before, less_not_before}
 use Rattle.hir_textual_scope.proofs.NamedMacros.{macros_of-none, last_or-append}

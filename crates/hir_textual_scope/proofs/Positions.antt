@@ -1,7 +1,8 @@
 -- Which macro around one stands at a position.
-use Rattle.std.proofs.Common.{◌≡◌, ℕ, zero, suc, ◌+◌, ◌<◌, List, [], ◌∷◌, ◌++◌, length, drop, Option, Some, None, Bor, refl, arith}
+use Rattle.std.proofs.Common.{◌≡◌, ℕ, Bool, ◌&&◌, zero, suc, ◌+◌, ◌<◌, List, [], ◌∷◌, ◌++◌, length, drop, true, false, Option, Some, None, Bor, refl, sym, ap, ◌∙◌, add-one, drop_of_length-le, arith}
 use Rattle.std.specs.List.{slice_get}
-use Rattle.std.specs.Option.{option_copied}
+use Rattle.std.specs.Option.{option_copied, option_eq}
+use Rattle.std.specs.Cmp.Lexicographic.{pointwise}
 use Rattle.std.specs.Iterator.{YieldsFirstRef}
 use Rattle.hir_textual_scope.specs.declared.textual_scope.TextualMacro.{TextualMacro}
 
@@ -30,3 +31,29 @@ yields_at [] n r h e = absurd (omega arith)
 yields_at (m ∷ ms) zero None h e = cc
 yields_at (m ∷ ms) zero (Some x) h e = cc
 yields_at (m ∷ ms) (suc n) r h e = yields_at ms n r (omega arith) e
+
+-- two lists from a position on: the macros there, and those behind
+pub pointwise-drop : (same : TextualMacro → TextualMacro → Bool) (ms ns : List TextualMacro) (i : ℕ) → length ms ≡ length ns → i < length ms
+    → pointwise same (drop i ms) (drop i ns) ≡ (option_eq same (slice_get ms i) (slice_get ns i) && pointwise same (drop (suc i) ms) (drop (suc i) ns))
+pointwise-drop same [] ns i e h = absurd (omega arith)
+pointwise-drop same (m ∷ ms) [] i e h = absurd (omega arith)
+pointwise-drop same (m ∷ ms) (n ∷ ns) zero e h = refl
+pointwise-drop same (m ∷ ms) (n ∷ ns) (suc i) e h = pointwise-drop same ms ns i (omega arith) (omega arith)
+
+module _ (same : TextualMacro → TextualMacro → Bool) (ms ns : List TextualMacro) (long : length ms ≡ length ns) where
+  -- where the macros at a position are the same, those behind it decide
+  pub behind_decides : (i : ℕ) → i < length ms → option_eq same (slice_get ms i) (slice_get ns i) ≡ true
+      → pointwise same (drop i ms) (drop i ns) ≡ pointwise same ms ns → pointwise same (drop (i + 1) ms) (drop (i + 1) ns) ≡ pointwise same ms ns
+  behind_decides i h here all = rw add-one (sym (pointwise-drop same ms ns i long h ∙ ap (λ b. b && pointwise same (drop (suc i) ms) (drop (suc i) ns)) here) ∙ all)
+
+  -- where they are not, the lists differ
+  pub differs_here : (i : ℕ) → i < length ms → option_eq same (slice_get ms i) (slice_get ns i) ≡ false
+      → pointwise same (drop i ms) (drop i ns) ≡ pointwise same ms ns → pointwise same ms ns ≡ false
+  differs_here i h here all = sym all ∙ pointwise-drop same ms ns i long h ∙ ap (λ b. b && pointwise same (drop (suc i) ms) (drop (suc i) ns)) here
+
+  -- nothing is left to differ
+  pub none_differs : (i : ℕ) → i ≡ length ms → pointwise same (drop i ms) (drop i ns) ≡ pointwise same ms ns → pointwise same ms ns ≡ true
+  none_differs i h all =
+      let here : drop i ms ≡ [] = drop_of_length-le ms {i = i} (omega arith) in
+      let beside : drop i ns ≡ [] = drop_of_length-le ns {i = i} (omega arith) in
+      sym all ∙ (λ j. pointwise same (here j) (beside j))

@@ -1,4 +1,4 @@
-//! Macros in textual scope, which rust-analyzer calls legacy macros.
+//! Macros in textual scope, which rust-analyzer calls legacy macros: `TextualScope`, whose clones share what they have in common.
 #![tactic(auto)]
 
 pub mod laws;

@@ -1,6 +1,9 @@
-//! Balanced trees of macros that share their subtrees.
+//! Balanced trees of macros that share their subtrees. What changes a tree copies the nodes above the change.
+//!
+//! Neither side of a node weighs more than three times the other, where a tree weighs one more than its macros.
 ghost use Rattle.std.specs.Prelude.{◌≡◌, ◌+◌, ◌∷◌, ◌++◌, length, slice_get, IfOk, IfSome, OnOk};
-ghost use Rattle.std.specs.Option.{option_copied};
+ghost use Rattle.std.specs.Option.{option_copied, option_eq};
+ghost use Rattle.std.specs.Cmp.Lexicographic.{pointwise};
 ghost use Rattle.hir_textual_scope.specs.Node.{macros_under};
 ghost use Rattle.hir_textual_scope.specs.Macros.{last_of, macros_of, with_macro, IsInOrder};
 
@@ -109,12 +112,12 @@ fn parted(
     fork(alloc, Some(front), middle.entry.clone()?, Some(back))
 }
 
-/// Whether a tree is too large beside another. Each counts with one more than its macros.
+/// Whether a tree weighs more than three times another.
 fn outweighs(tree: &Link, other: &Link) -> bool {
     len(tree).saturating_add(1) > len(other).saturating_add(1).saturating_mul(3)
 }
 
-/// Whether the inner side of a tree that outweighs its neighbour is so large that it has to be parted.
+/// Whether the inner side of a tree that outweighs its neighbour weighs so much that it has to be parted.
 fn leans_inward(inner: &Link, outer: &Link) -> bool {
     len(inner).saturating_add(1) >= len(outer).saturating_add(1).saturating_mul(2)
 }
@@ -276,6 +279,36 @@ pub(crate) fn get(tree: &Link, index: usize) -> Option<&TextualMacro>
     } else {
         get(&node.right, index - before - 1)
     }
+}
+
+/// Whether two trees have the same macro at a position, under the same name.
+fn same_at(tree: &Link, other: &Link, index: usize) -> bool
+    ensures value { result ≡ option_eq ⟦<TextualMacro as PartialEq>⟧.eq
+        (slice_get (macros_under tree.now) index) (slice_get (macros_under other.now) index) }
+{
+    match get(tree, index) {
+        Some(entry) => match get(other, index) {
+            Some(beside) => *entry == *beside,
+            None => false,
+        },
+        None => get(other, index).is_none(),
+    }
+}
+
+/// Whether two trees have the same macros under the same names, in the same order.
+pub(crate) fn same(tree: &Link, other: &Link) -> bool
+    ensures value { result ≡ pointwise ⟦<TextualMacro as PartialEq>⟧.eq (macros_under tree.now) (macros_under other.now) }
+{
+    let count = len(tree);
+    if count != len(other) {
+        return false;
+    }
+    for i in 0..count {
+        if !same_at(tree, other, i) {
+            return false;
+        }
+    }
+    true
 }
 
 /// Whether no path down a tree has more nodes than this.

@@ -9,7 +9,7 @@ use std::alloc::{AllocError, Global};
 use std::marker::Model;
 
 /// A macro in textual scope, with the name that it was defined by.
-#[derive(Drop)]
+#[derive(Debug, PartialEq, Eq, Drop)]
 pub struct TextualMacro {
     pub name: Name,
     pub makro: MacroId,
@@ -130,6 +130,27 @@ impl TextualScope {
     pub(crate) fn is_within(&self, depth: u32) -> bool {
         node::is_within(depth, &self.root)
     }
+}
+
+impl PartialEq for TextualScope {
+    ghost use Rattle.std.specs.Cmp.{partial_equiv_from_equiv};
+    ghost use Rattle.std.specs.Cmp.Lexicographic.{pointwise, lists_equiv};
+    ghost use Rattle.hir_textual_scope.specs.contracts.textual_scope.TextualMacroEq.TheImpl.Laws.{laws-law as macro_laws};
+
+    ghost eq = { pointwise ⟦<TextualMacro as PartialEq>⟧.eq };
+
+    ghost laws = { partial_equiv_from_equiv (lists_equiv macro_laws) };
+
+    fn eq(&self, other: &TextualScope) -> bool {
+        node::same(&self.root, &other.root)
+    }
+}
+
+impl Eq for TextualScope {
+    ghost use Rattle.std.specs.Cmp.Lexicographic.{lists_equiv};
+    ghost use Rattle.hir_textual_scope.specs.contracts.textual_scope.TextualMacroEq.TheImpl.Laws.{laws-law as macro_laws};
+
+    ghost laws = { lists_equiv macro_laws };
 }
 
 /// The macros that are left of a walk; see `TextualScope::iter`.

@@ -1,7 +1,7 @@
 use Rattle.std.proofs.Common.{◌≡◌, true, false, List, ◌∷◌, ◌++◌, length-append, arith, ap, subst, length, IfOk}
 use Rattle.hir_textual_scope.specs.declared.textual_scope.TextualMacro.{TextualMacro}
 use Rattle.hir_textual_scope.specs.Node.{macros_under}
-use Rattle.hir_textual_scope.specs.Macros.{is_before, with_macro, IsInOrder}
+use Rattle.hir_textual_scope.specs.Macros.{is_before, IsInOrder}
 use Rattle.hir_textual_scope.proofs.NameOrder.{IsInOrder-left, IsInOrder-right}
 use Rattle.hir_textual_scope.proofs.MoreMacros.{taken_on_left, taken_on_right}
 use Rattle.hir_textual_scope.proofs.node.+with_macro.Goals as goal
