@@ -1,0 +1,316 @@
+-- What a glob brought came along an edge, and is what that edge's source shows.
+use Rattle.std.proofs.Common.{◌≡◌, ◌≢◌, ◌∙◌, ℕ, ◌==◌, ◌||◌, not, List, [], ◌∷◌, Bool, true, false, Option, None, Some, map as list_map, slice_get, refl, sym, ap, subst}
+use Rattle.std.specs.Cmp.{first_so, second_so, unsigned_Decides}
+use Rattle.hir_base.specs.declared.ids.MapId.{MapId}
+use Rattle.hir_base.specs.declared.ids.ModuleDefId.{ModuleDefId}
+use Rattle.hir_base.specs.declared.ids.TraitId.{TraitId}
+use Rattle.hir_base.specs.declared.macro_kind.MacroId.{MacroId}
+use Rattle.hir_scope.specs.Entries.{item_at}
+use Rattle.hir_scope.specs.Globs.{GlobNames, Place}
+use Rattle.hir_scope.specs.ImportRecords.{is_glob}
+use Rattle.hir_scope.specs.PerNs.{Item}
+use Rattle.hir_scope.specs.Scope.{ScopeValue}
+use Rattle.hir_scope.specs.contracts.item_in_ns.ItemInNsEq.TheImpl.Laws.{laws-law as item_laws}
+use Rattle.hir_scope.specs.declared.imports.GlobId.{GlobId}
+use Rattle.hir_scope.specs.declared.imports.ImportOrExternCrate.{ImportOrExternCrate}
+use Rattle.hir_scope.specs.declared.imports.ImportOrGlob.{ImportOrGlob}
+use Rattle.hir_scope.specs.declared.item_in_ns.ItemInNs.{ItemInNs}
+use Rattle.hir_scope.specs.declared.item_in_ns.ItemInNs.TheVariants as in_ns
+use Rattle.hir_scope.specs.declared.per_ns.PerNs.{PerNs}
+use Rattle.hir_scope.specs.declared.visibility.Visibility.{Visibility}
+use Rattle.hir_tables.specs.Tables.{TablesValue}
+use Rattle.hir_def_map.specs.Declaration.{listed}
+use Rattle.hir_def_map.specs.Overlay.{Maps}
+use Rattle.hir_def_map.specs.State.{Map, ModuleValue, changed_at, entry_at, entry_of, module_at, new_id, new_module, with_child, with_module_scope}
+use Rattle.hir_glob_imports.specs.Keys.{is_unnamed, slot_at}
+use Rattle.hir_glob_imports.specs.Moves.{brought_vis, is_as_seen, may_raise, same_bound, same_def, same_vis, seen_by, shown}
+use Rattle.hir_glob_imports.specs.Rules.{BroughtBy, CanCopy, CanFollow, Rule as GlobRule, May as MayAlong, acts as glob_acts, as_seen, copies_along, follows_along, noted, raises_along}
+use Rattle.hir_glob_imports.specs.View.{View, bound_in}
+use Rattle.hir_glob_imports.specs.Waves.{Stands}
+use Rattle.hir_glob_imports.specs.declared.edge.Bound.{Bound}
+use Rattle.hir_glob_imports.specs.declared.edge.Brought.{Brought}
+use Rattle.hir_glob_imports.specs.declared.edge.Edge.{Edge}
+use Rattle.hir_glob_imports.specs.declared.edge.Key.{Key}
+use Rattle.hir_glob_imports.specs.declared.edge.Key.TheVariants.{Types, Values, Macros, Unnamed}
+use Rattle.hir_import_resolution.specs.Changes.{Change as ImportChange, along, keeps_trait, kept_vis, pushes, pushing, records, takes}
+use Rattle.hir_import_resolution.specs.Inner.ScopeLaws.{vacant_of}
+use Rattle.hir_import_resolution.specs.Names.{ScopesValue, bound_by, bound_of, copied, copied_where, entries_of, followed, followed_where, redefined, revised, scope_table, trait_vis, view_of, with_trait}
+use Rattle.hir_import_resolution.specs.Rules.{Rule as ImportRule, May as MayImport, acts as import_acts, goes_along, takes_glob, takes_import}
+use Rattle.hir_import_resolution.specs.State.{glob_state, scopes_of}
+use Rattle.hir_import_resolution.specs.declared.directive.ImportSource.{ImportSource}
+use Rattle.hir_import_resolution.specs.declared.directive.ImportSource.TheVariants as sources
+use Rattle.hir_def_collector.specs.Changes.{Change, lists, makes, gives_variants, begins_paths, reaches, changes_imports, tells, goes_on, act, perform}
+use Rattle.hir_def_collector.specs.Derivation.{CollectedValue, Ends}
+use Rattle.hir_def_collector.specs.ItemIds.{module_id}
+use Rattle.hir_def_collector.specs.Keys.{Environment}
+use Rattle.hir_def_collector.specs.Start.{Beginning, read_by}
+use Rattle.hir_def_collector.specs.State.{State, import_state}
+use Rattle.hir_def_collector.specs.Steps.{Rule, drops_item, passes_over, declares_item, declares_enum, lists_constant, lists_impl, opens_module, opens_file, drops_file, misses_file, enters_block, reaches_imports, reaches_crate, resolves_imports, May, Step, Steps, acts, asking, more, none}
+use Rattle.hir_def_collector.specs.Workspace.{Workspace}
+use Rattle.hir_def_collector.proofs.Changes.{AllFine, perform_keeps}
+use Rattle.hir_def_collector_laws.specs.Globs.{AlsoShows, GlobsBringWhatIsShown, IsAsShown, IsBrought, glob_at, view_in}
+use Rattle.hir_def_collector_laws.proofs.Exact.{exact_bound, exact_visibility}
+use Rattle.hir_def_collector_laws.proofs.Noted.{AreNoted, HasNote, HasSameGlobs, IsNotedScope, KeepsEdges, keeps_recorded, noted_again, noted_explicit, noted_longer, noted_macro, noted_recorded, noted_rescoped, noted_traits, noted_type, noted_value, same_listed, same_redefined, same_revised}
+
+-- each name that a glob brought has its note where a run stands
+pub record IsNotedState (s : State) : Type 0 where
+  pub modules : AreNoted s.core.map.id s.globs.names s.globs.brought s.globs.edges s.core.map.modules
+
+-- ---- changes
+
+-- no glob pushes, and globs that were recorded stay; what goes along globs is spoken of below
+abbrev IsFineImport : State → ImportChange → Type 0
+IsFineImport s (pushes home name items source) = is_glob (pushing source) ≡ false
+IsFineImport s (keeps_trait finished home id vis by) = Unit {0}
+IsFineImport s (takes i t) = Unit {0}
+IsFineImport s (records edges) = KeepsEdges s.globs.edges edges
+IsFineImport s (along finished a) = ⊥
+
+abbrev IsFine : State → Change → Type 0
+IsFine s (lists home d) = Unit {0}
+IsFine s (makes home name origin visibility) = Unit {0}
+IsFine s (gives_variants id variants) = Unit {0}
+IsFine s (begins_paths r) = Unit {0}
+IsFine s (reaches found) = Unit {0}
+IsFine s (changes_imports c) = IsFineImport s c
+IsFine s (tells d) = Unit {0}
+IsFine s (goes_on vs) = Unit {0}
+
+noted-imports : (s : State) (c : ImportChange) → IsNotedState s → IsFineImport s c → IsNotedState (act s (changes_imports c))
+noted-imports s (pushes home None items source) f fine = record { modules = f.modules }
+noted-imports s (pushes home (Some name) items source) f fine = record {
+  modules = noted_explicit s.core.map.id s.globs.names s.globs.brought s.globs.edges home name items (pushing source) fine s.core.map.modules f.modules;
+}
+noted-imports s (keeps_trait finished home None vis by) f fine = record { modules = f.modules }
+noted-imports s (keeps_trait finished home (Some id) vis by) f fine =
+    let change : ScopeValue → ScopeValue = with_trait id (kept_vis finished s.core.map vis (trait_vis (module_at s.core.map home) id)) by in
+    record {
+      modules = noted_traits s.core.map.id s.globs.names s.globs.brought s.globs.edges (changed_at s.core.map.modules home (with_module_scope change)) home id None
+          (noted_rescoped s.core.map.modules home (with_module_scope change) (λ m. record { types = λ name. refl; values = λ name. refl; macros = λ name. refl }) f.modules);
+    }
+noted-imports s (takes i t) f fine = record { modules = f.modules }
+noted-imports s (records edges) f fine = record { modules = noted_recorded s.core.map.id s.globs.names s.globs.brought s.globs.edges edges s.core.map.modules fine f.modules }
+noted-imports s (along finished a) f fine = absurd fine
+
+noted-act : (s : State) (c : Change) → IsNotedState s → IsFine s c → IsNotedState (act s c)
+noted-act s (lists home d) f fine = record { modules = noted_rescoped s.core.map.modules home (with_module_scope (listed d)) (λ m. same_listed d m.scope) f.modules }
+noted-act s (makes home name origin visibility) f fine = record {
+  modules = noted_longer (changed_at s.core.map.modules home (with_child name (new_id s.core.map))) (new_module origin visibility (Some (module_id s.core.map home))) refl
+      (noted_rescoped s.core.map.modules home (with_child name (new_id s.core.map)) (λ m. record { types = λ n. refl; values = λ n. refl; macros = λ n. refl }) f.modules);
+}
+noted-act s (gives_variants id variants) f fine = record { modules = f.modules }
+noted-act s (begins_paths r) f fine = record { modules = f.modules }
+noted-act s (reaches found) f fine = record { modules = f.modules }
+noted-act s (changes_imports c) f fine = noted-imports s c f fine
+noted-act s (tells d) f fine = record { modules = f.modules }
+noted-act s (goes_on vs) f fine = record { modules = f.modules }
+
+-- ---- along globs
+
+module _ (finished : Maps) (m : Map) (globs : GlobNames) (brought : BroughtBy) (edges : List Edge) (f : AreNoted m.id globs brought edges m.modules) where
+  abbrev here : ScopesValue
+  here = record { finished = finished; map = m; globs = globs }
+
+  -- a scope of them changed, and another edge noted
+  abbrev AreNotedAfter : ScopesValue → BroughtBy → Type 0
+  AreNotedAfter n brought' = AreNoted n.map.id n.globs brought' edges n.map.modules
+
+  rescoped : (at : ℕ) (change : ScopeValue → ScopeValue) → ((v : ModuleValue) → HasSameGlobs v.scope (change v.scope)) → AreNoted m.id globs brought edges (changed_at m.modules at (with_module_scope change))
+  rescoped at change same = noted_rescoped m.modules at (with_module_scope change) same f
+
+  with_trait_noted : (at : ℕ) (id : TraitId) (vis : Visibility) → AreNoted m.id globs brought edges (changed_at m.modules at (with_module_scope (with_trait id vis None)))
+  with_trait_noted at id vis = rescoped at (with_trait id vis None) (λ v. record { types = λ n. refl; values = λ n. refl; macros = λ n. refl })
+
+  -- ---- a slot of a module
+
+  module _ (at : ℕ) where
+    vacant_type : (name : List ℕ) → bound_in (view_of here) (slot_at at (Types name)) ≡ None → (old : ModuleValue) → slice_get m.modules at ≡ Some old → item_at old.scope.types name ≡ None
+    vacant_type name vacant old there = vacant_of in_ns.Types (item_at old.scope.types name) (ap (λ (o : Option ModuleValue). bound_by in_ns.Types (entry_of o name).types) (sym there) ∙ vacant)
+
+    vacant_value : (name : List ℕ) → bound_in (view_of here) (slot_at at (Values name)) ≡ None → (old : ModuleValue) → slice_get m.modules at ≡ Some old → item_at old.scope.values name ≡ None
+    vacant_value name vacant old there = vacant_of in_ns.Values (item_at old.scope.values name) (ap (λ (o : Option ModuleValue). bound_by in_ns.Values (entry_of o name).values) (sym there) ∙ vacant)
+
+    vacant_macro : (name : List ℕ) → bound_in (view_of here) (slot_at at (Macros name)) ≡ None → (old : ModuleValue) → slice_get m.modules at ≡ Some old → item_at old.scope.macros name ≡ None
+    vacant_macro name vacant old there = vacant_of in_ns.Macros (item_at old.scope.macros name) (ap (λ (o : Option ModuleValue). bound_by in_ns.Macros (entry_of o name).macros) (sym there) ∙ vacant)
+
+    module _ (j : ℕ) (e : Edge) (b : Bound) (vis : Visibility) where
+      -- what the source has is shown
+      not_shown : (o : Option Bound) → seen_by ((view_of here).sees e.importer) o ≡ Some b → o ≡ None → ⊥
+      not_shown None h is = let no : None ≡ Some b = h in cc
+      not_shown (Some c) h is = cc
+
+      copied_noted : (key : Key) → CanCopy (view_of here) edges j e (slot_at at key) b
+          → AreNotedAfter (copied here (slot_at at key) e.source vis e.id) (noted brought (slot_at at key) (as_seen j e b))
+      copied_noted (Types name) may = go (entries_of here e.source name).types refl
+        where
+          go : (o : Option (Item ModuleDefId ImportOrExternCrate)) → (entries_of here e.source name).types ≡ o
+              → AreNotedAfter (copied_where here (slot_at at (Types name)) vis e.id (bound_by in_ns.Types o)) (noted brought (slot_at at (Types name)) (as_seen j e b))
+          go None is = absurd (not_shown (bound_of here e.source (Types name)) may.shows.shown (ap (bound_by in_ns.Types) is))
+          go (Some i) is = noted_type m.id globs brought edges e (as_seen j e b) may.shows.recorded at may.shows.at name i.def vis m.modules (vacant_type name may.vacant) f
+      copied_noted (Values name) may = go (entries_of here e.source name).values refl
+        where
+          go : (o : Option (Item ModuleDefId ImportOrGlob)) → (entries_of here e.source name).values ≡ o
+              → AreNotedAfter (copied_where here (slot_at at (Values name)) vis e.id (bound_by in_ns.Values o)) (noted brought (slot_at at (Values name)) (as_seen j e b))
+          go None is = absurd (not_shown (bound_of here e.source (Values name)) may.shows.shown (ap (bound_by in_ns.Values) is))
+          go (Some i) is = noted_value m.id globs brought edges e (as_seen j e b) may.shows.recorded at may.shows.at name i.def vis m.modules (vacant_value name may.vacant) f
+      copied_noted (Macros name) may = go (entries_of here e.source name).macros refl
+        where
+          go : (o : Option (Item MacroId ImportOrExternCrate)) → (entries_of here e.source name).macros ≡ o
+              → AreNotedAfter (copied_where here (slot_at at (Macros name)) vis e.id (bound_by in_ns.Macros o)) (noted brought (slot_at at (Macros name)) (as_seen j e b))
+          go None is = absurd (not_shown (bound_of here e.source (Macros name)) may.shows.shown (ap (bound_by in_ns.Macros) is))
+          go (Some i) is = noted_macro m.id globs brought edges e (as_seen j e b) may.shows.recorded at may.shows.at name i.def vis m.modules (vacant_macro name may.vacant) f
+      copied_noted (Unnamed id) may = go (bound_of here e.source (Unnamed id))
+        where
+          go : (o : Option Bound) → AreNotedAfter (copied_where here (slot_at at (Unnamed id)) vis e.id o) brought
+          go None = f
+          go (Some c) = with_trait_noted at id vis
+
+      followed_scopes : (key : Key) (o : Option Bound) → AreNotedAfter (followed_where here (slot_at at key) vis o) brought
+      followed_scopes key None = f
+      followed_scopes (Types name) (Some c) = rescoped at (redefined name c.def vis) (λ v. same_redefined name c.def vis v.scope)
+      followed_scopes (Values name) (Some c) = rescoped at (redefined name c.def vis) (λ v. same_redefined name c.def vis v.scope)
+      followed_scopes (Macros name) (Some c) = rescoped at (redefined name c.def vis) (λ v. same_redefined name c.def vis v.scope)
+      followed_scopes (Unnamed id) (Some c) = with_trait_noted at id vis
+
+      followed_noted : (key : Key) → CanFollow (view_of here) edges brought j e (slot_at at key) b
+          → AreNotedAfter (followed here (slot_at at key) e.source vis) (noted brought (slot_at at key) (as_seen j e b))
+      followed_noted key may =
+          let after : ScopesValue = followed here (slot_at at key) e.source vis in
+          noted_again after.map.id after.globs brought edges after.map.modules (slot_at at key) may.last (as_seen j e b) may.brought_last
+          ((unsigned_Decides may.last.edge j).0 may.by_it) (followed_scopes key (bound_of here e.source key))
+
+-- each step along a glob keeps it so
+along_noted : (finished : Maps) (s : State) (rule : GlobRule) → MayAlong scope_table (glob_state finished (import_state s)) rule → IsNotedState s
+    → IsNotedState (perform s (list_map changes_imports (list_map (along finished) (glob_acts (view_of (scopes_of finished (import_state s))) rule))))
+along_noted finished s (copies_along j e slot b) may f = record {
+  modules = copied_noted finished s.core.map s.globs.names s.globs.brought s.globs.edges f.modules slot.at j e b
+      (brought_vis (view_of (scopes_of finished (import_state s))) e b) slot.key may;
+}
+along_noted finished s (follows_along j e slot b) may f = record {
+  modules = followed_noted finished s.core.map s.globs.names s.globs.brought s.globs.edges f.modules slot.at j e b
+      (brought_vis (view_of (scopes_of finished (import_state s))) e b) slot.key may;
+}
+along_noted finished s (raises_along j e slot vis) may f = record {
+  modules = rescoped finished s.core.map s.globs.names s.globs.brought s.globs.edges f.modules slot.at (revised slot.key vis) (λ v. same_revised slot.key vis v.scope);
+}
+
+-- ---- rules
+
+explicit_source : (source : ImportSource) → is_glob (pushing (Some source)) ≡ false
+explicit_source (sources.Use id kind) = refl
+explicit_source (sources.ExternCrate id krate) = refl
+
+module _ (finished : Maps) (s : State) (f : IsNotedState s) where
+  by_changes : (r : Rule) → AllFine IsFine (asking s r) (acts finished s r) → IsNotedState (perform (asking s r) (acts finished s r))
+  by_changes r fine = perform_keeps IsNotedState IsFine noted-act (acts finished s r) (asking s r) (record { modules = f.modules }) fine
+
+  import_noted : (rule : ImportRule) → MayImport finished (import_state s) rule → IsNotedState (perform (asking s (resolves_imports rule)) (acts finished s (resolves_imports rule)))
+  import_noted (takes_import i r t) may = by_changes (resolves_imports (takes_import i r t)) (explicit_source r.source, (tt, (tt, tt)))
+  import_noted (takes_glob i r t by target edges) may = by_changes (resolves_imports (takes_glob i r t by target edges)) (tt, (keeps_recorded s.globs.edges edges _ may.recorded, tt))
+  import_noted (goes_along rule) may = along_noted finished (asking s (resolves_imports (goes_along rule))) rule may (record { modules = f.modules })
+
+  rule_noted : (r : Rule) → May finished s r → IsNotedState (perform (asking s r) (acts finished s r))
+  rule_noted (drops_item v report rest) may = by_changes (drops_item v report rest) (tt, (tt, tt))
+  rule_noted (passes_over site head l rest) may = by_changes (passes_over site head l rest) (tt, tt)
+  rule_noted (declares_item v d rest) may = by_changes (declares_item v d rest) (tt, (tt, (refl, tt)))
+  rule_noted (declares_enum site head name found rest) may = by_changes (declares_enum site head name found rest) (tt, (tt, (tt, (refl, tt))))
+  rule_noted (lists_constant site head rest) may = by_changes (lists_constant site head rest) (tt, (tt, tt))
+  rule_noted (lists_impl site head of_trait rest) may = by_changes (lists_impl site head of_trait rest) (tt, (tt, tt))
+  rule_noted (opens_module site head name items rest) may = by_changes (opens_module site head name items rest) (tt, (tt, (tt, (refl, tt))))
+  rule_noted (opens_file site head name search file rest) may = by_changes (opens_file site head name search file rest) (tt, (tt, (tt, (refl, tt))))
+  rule_noted (drops_file site head name search report rest) may = by_changes (drops_file site head name search report rest) (tt, (tt, tt))
+  rule_noted (misses_file site head name search report rest) may = by_changes (misses_file site head name search report rest) (tt, (tt, (tt, (refl, (tt, tt)))))
+  rule_noted (enters_block site head items rest) may = by_changes (enters_block site head items rest) (tt, (tt, tt))
+  rule_noted (reaches_imports site head tree rest) may = by_changes (reaches_imports site head tree rest) (tt, (tt, (tt, tt)))
+  rule_noted (reaches_crate site head name alias rest) may = by_changes (reaches_crate site head name alias rest) (tt, (tt, (tt, (tt, tt))))
+  rule_noted (resolves_imports rule) may = import_noted rule may
+
+noted-Steps : {env : Environment} {finished : Maps} {begun last : State} → IsNotedState begun → Steps env finished begun last → IsNotedState last
+noted-Steps f none = f
+noted-Steps {finished = finished} f (more old new before step) =
+    let done : IsNotedState (perform (asking old step.rule) (acts finished old step.rule)) = rule_noted finished old (noted-Steps f before) step.rule step.may in
+    subst IsNotedState (sym step.is) (record { modules = done.modules })
+
+-- ---- in the end
+
+brought_by_note : (s : State) (own : MapId) (places : List Place) (number : ℕ) (key : Key) (name : List ℕ) (id : GlobId) → HasNote own places s.globs.brought s.globs.edges number key name id → IsBrought s number key id
+brought_by_note s own places number key name id note = record {
+  place = note.last.edge;
+  edge = note.edge;
+  recorded = note.recorded;
+  is_glob = note.is_glob;
+  into = note.into;
+  last = note.last;
+  brought = note.noted;
+  along = refl;
+}
+
+brought_in : (s : State) (own : MapId) (globs : GlobNames) (number : ℕ) (o : Option ModuleValue) → ((v : ModuleValue) → o ≡ Some v → IsNotedScope own globs s.globs.brought s.globs.edges number v.scope)
+    → (key : Key) (id : GlobId) → glob_at (entry_of o) key ≡ Some id → IsBrought s number key id
+brought_in s own globs number None f (Types name) id e = absurd (let no : ⊥ = cc in no)
+brought_in s own globs number None f (Values name) id e = absurd (let no : ⊥ = cc in no)
+brought_in s own globs number None f (Macros name) id e = absurd (let no : ⊥ = cc in no)
+brought_in s own globs number None f (Unnamed tr) id e = absurd (let no : ⊥ = cc in no)
+brought_in s own globs number (Some v) f (Types name) id e = brought_by_note s own globs.types number (Types name) name id ((f v refl).types name id e)
+brought_in s own globs number (Some v) f (Values name) id e = brought_by_note s own globs.values number (Values name) name id ((f v refl).values name id e)
+brought_in s own globs number (Some v) f (Macros name) id e = brought_by_note s own globs.macros number (Macros name) name id ((f v refl).macros name id e)
+brought_in s own globs number (Some v) f (Unnamed tr) id e = absurd (let no : ⊥ = cc in no)
+
+named : (entries : List ℕ → PerNs) (key : Key) (id : GlobId) → glob_at entries key ≡ Some id → is_unnamed key ≡ false
+named entries (Types name) id e = refl
+named entries (Values name) id e = refl
+named entries (Macros name) id e = refl
+named entries (Unnamed tr) id e = absurd (let no : ⊥ = cc in no)
+
+-- another edge may raise what one brought
+other_may : (last : Brought) (place : ℕ) (key : Key) → is_unnamed key ≡ false → last.edge ≢ place → may_raise place key (Some last) ≡ true
+other_may last place key name apart = go (last.edge == place) refl
+  where
+    go : (t : Bool) → (last.edge == place) ≡ t → may_raise place key (Some last) ≡ true
+    go true e = absurd (apart ((unsigned_Decides last.edge place).0 e))
+    go false e = λ i. name i || not (e i)
+
+module _ (tables : TablesValue) (w : Workspace) (finished : Maps) (from : Beginning) (answer : CollectedValue) (e : Ends tables w finished from answer) where
+  noted_last : IsNotedState e.last
+  noted_last = noted-Steps (record { modules = noted_longer [] _ refl (record { each = λ number m h. absurd (let no : ⊥ = cc in no) }) }) e.derived
+
+  module _ (number : ℕ) (key : Key) (id : GlobId) (is : glob_at (entry_at answer.map number) key ≡ Some id) where
+    abbrev v : View
+    v = view_in (read_by w finished from.start) e.last
+
+    in_last : glob_at (entry_at e.last.core.map number) key ≡ Some id
+    in_last = subst (λ (m : Map). glob_at (entry_at m number) key ≡ Some id) e.map_is is
+
+    by : IsBrought e.last number key id
+    by = brought_in e.last e.last.core.map.id e.last.globs.names number (module_at e.last.core.map number) (λ m at. noted_last.modules.each number m at) key id in_last
+
+    name : is_unnamed key ≡ false
+    name = named (entry_at e.last.core.map number) key id in_last
+
+    stood : Stands v (slot_at number key) by.last
+    stood = e.stands (slot_at number key) by.last by.brought
+
+    as_now : (b : Bound) → shown v by.edge key ≡ Some b → (by.last.seen ≡ b) × (by.last.edge_vis ≡ by.edge.vis)
+    as_now b shows =
+        let here : e.last.globs.brought (slot_at by.edge.importer key) ≡ Some by.last = ap (λ (k : ℕ). e.last.globs.brought (slot_at k key)) by.into ∙ by.brought in
+        let seen : is_as_seen by.edge b by.last ≡ true =
+        (e.closed.followed by.place by.edge key by.recorded).followed name b by.last shows here ((unsigned_Decides by.last.edge by.place).1 by.along) in
+        let same_seen : Bool = same_bound by.last.seen b in
+        let same_edge : Bool = same_vis by.last.edge_vis by.edge.vis in
+        (exact_bound by.last.seen b (first_so same_seen same_edge seen), exact_visibility by.last.edge_vis by.edge.vis (second_so same_seen same_edge seen))
+
+    as_wide : (other : Edge) (b : Bound) → AlsoShows v e.last number key by.place stood.bound other b → (wide : Visibility)
+        → v.greater stood.bound.vis (brought_vis v other b) ≡ Some wide → wide ≡ stood.bound.vis
+    as_wide other b also wide greater =
+        let here : bound_in v (slot_at other.importer key) ≡ Some stood.bound = ap (λ (k : ℕ). bound_in v (slot_at k key)) also.into ∙ stood.there in
+        let brought : e.last.globs.brought (slot_at other.importer key) ≡ Some by.last = ap (λ (k : ℕ). e.last.globs.brought (slot_at k key)) also.into ∙ by.brought in
+        let may : may_raise also.place key (e.last.globs.brought (slot_at other.importer key)) ≡ true =
+        ap (may_raise also.place key) brought ∙ other_may by.last also.place key name (λ f. also.apart (sym by.along ∙ f)) in
+        let same : same_def stood.bound.def b.def ≡ true = subst (λ (d : ItemInNs). same_def stood.bound.def d ≡ true) also.same (item_laws.refl stood.bound.def) in
+        exact_visibility wide stood.bound.vis ((e.closed.raised also.place other key also.recorded).raised b stood.bound also.shows here may same wide greater)
+
+    as_shown : IsAsShown v e.last number key id
+    as_shown = record { by = by; bound = stood.bound; stands = stood.there; def = stood.same; now = as_now; widest = as_wide }
+
+pub globs_bring_what_is_shown : GlobsBringWhatIsShown
+globs_bring_what_is_shown tables w finished from answer e number key id is = as_shown tables w finished from answer e number key id is
