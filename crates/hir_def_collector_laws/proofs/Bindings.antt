@@ -67,7 +67,7 @@ use Rattle.hir_def_collector.specs.Workspace.{Workspace}
 use Rattle.hir_def_collector.proofs.Asks.{still_asked-Step}
 use Rattle.hir_def_collector.proofs.Changes.{AllFine, perform_keeps}
 use Rattle.hir_def_collector.proofs.ImportEdits.{Edit, copy_at, copy_where, edit, edit_of, edited, follow_at, follow_where, imports_after, keeps_unnamed, map_after, pushes_to, redefines, revises}
-use Rattle.hir_def_collector_laws.specs.Imports.{AreBrought, BindingsAreWritten, Brings, BringsValue, HasImport, IsKept, IsUnnamed, UnnamedTraitsAreWritten}
+use Rattle.hir_def_collector_laws.specs.Imports.{AreBrought, BindingsAreWritten, Brings, BringsValue, HasImport, IsTraitBrought, IsUnderscoreImport, UnnamedTraitsAreWritten}
 use Rattle.hir_def_collector_laws.proofs.Entries.{AllValues, all_among, all_found, all_last, all_set, all_with_entry}
 use Rattle.hir_def_collector_laws.proofs.Imports.{answer_asked, answer_here, first_written, import_written}
 use Rattle.hir_def_collector_laws.proofs.Lists.{standing}
@@ -120,7 +120,7 @@ module _ (rs : List ImportDirective) where
   pub record OneKeeps (home : ℕ) (id : ImportId) : Type 0 where
     pub directive : ImportDirective
     pub among : Contains rs directive
-    pub is : IsUnnamed directive id
+    pub is : IsUnderscoreImport directive id
     pub written_in : directive.home ≡ home
 
   abbrev pub IsFineWay : ℕ → Option ImportOrExternCrate → Type 0
@@ -436,9 +436,9 @@ module _ (rs : List ImportDirective) where
       go : (source : ImportSource) → r.source ≡ source → IsFineKept r.home (leaf_of source)
       go (sources.Use id kind) is = record { directive = r; among = h; is = record { way = ap way_of is; alias = kept.0 }; written_in = refl }
       go (sources.ExternCrate id krate) is =
-          let none : trait_among (kept_by finished local m r).types ≡ None =
+          let nothing_kept : trait_among (kept_by finished local m r).types ≡ None =
           ap (λ (source : ImportSource). trait_among (kept_of (kind_of source) (answer_by_source source (path_answer finished local m r))).types) is ∙ no_trait krate in
-          absurd (let no : None ≡ Some tr = sym none ∙ kept.1 in cc)
+          absurd (let no : None ≡ Some tr = sym nothing_kept ∙ kept.1 in cc)
 
   module _ (finished : Maps) (s : State) (found : (r : ImportDirective) → Contains s.core.reached r → Contains rs r)
       (globs : (j : ℕ) (e : Edge) → slice_get s.globs.edges j ≡ Some e → IsFineWay e.importer (Some (ways.Glob e.id)) × OneIsGlob e.importer) where
@@ -524,7 +524,7 @@ module _ (tables : TablesValue) (w : Workspace) (finished : Maps) (from : Beginn
         macros = λ i way at is. has_import number way (all_found (IsFineMacro found_imports number) (is_at (slice_cmp nat_cmp name)) m.scope.macros i fine.macros at way is);
       }
 
-  trait_kept : (number : ℕ) (item : Item (Unit {0}) ImportId) → IsFineTrait found_imports number item → IsKept tables w from answer number item
+  trait_kept : (number : ℕ) (item : Item (Unit {0}) ImportId) → IsFineTrait found_imports number item → IsTraitBrought tables w from answer number item
   trait_kept number item fine = record {
     by_import = λ id is.
         let one : OneKeeps found_imports number id = subst (IsFineKept found_imports number) is fine in

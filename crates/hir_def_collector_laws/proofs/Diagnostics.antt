@@ -1,14 +1,13 @@
 -- Each diagnostic of a run speaks of an item that was visited, or of an import that was found.
-use Rattle.std.proofs.Common.{◌≡◌, ◌∙◌, ◌<◌, ◌≤◌, ℕ, zero, suc, List, [], ◌∷◌, ◌++◌, length, Bool, true, false, cond, Option, None, Some, map as list_map, inl, inr, refl, sym, ap, subst, arith, Contains}
+use Rattle.std.proofs.Common.{◌≡◌, ◌∙◌, ◌<◌, ◌≤◌, ℕ, zero, suc, List, [], ◌∷◌, ◌++◌, length, Bool, true, false, cond, Option, None, Some, inl, inr, refl, sym, ap, subst, arith, Contains}
 use Rattle.std.proofs.lemmas.List.Elements.{Contains-append_cases}
 use Rattle.hir_base.specs.declared.ast_id.AstId.{AstId}
 use Rattle.hir_base.specs.declared.ast_id.AstKind.TheVariants as nodes
 use Rattle.hir_base.specs.declared.ids.Crate.{Crate}
 use Rattle.hir_base.specs.declared.ids.MapId.{MapId}
 use Rattle.hir_base.specs.declared.ids.ModuleId.{ModuleId}
-use Rattle.hir_item_tree.specs.KeptForest.{KeptItem, extern_crate, import, leaf, outline_module}
+use Rattle.hir_item_tree.specs.KeptForest.{extern_crate, import, leaf, outline_module}
 use Rattle.hir_item_tree.specs.Kinds.{item_head, item_kind}
-use Rattle.hir_item_tree.specs.declared.tree_id.TreeId.{TreeId}
 use Rattle.hir_tables.specs.Tables.{TablesValue}
 use Rattle.hir_def_map.specs.Diagnostics.{diagnostic_view, node_of as node_told}
 use Rattle.hir_def_map.specs.Overlay.{Maps}
@@ -27,7 +26,7 @@ use Rattle.hir_def_collector.specs.Keys.{environment}
 use Rattle.hir_def_collector.specs.Reports.{begins_with, crates_among, leftover_diagnostics, report_by, reports_of, unresolved_among}
 use Rattle.hir_def_collector.specs.Start.{Beginning, begin_of, krate_of, read_by}
 use Rattle.hir_def_collector.specs.State.{State, Visit, import_state}
-use Rattle.hir_def_collector.specs.Steps.{Rule, drops_item, passes_over, declares_item, declares_enum, lists_constant, lists_impl, opens_module, opens_file, drops_file, misses_file, enters_block, reaches_imports, reaches_crate, resolves_imports, May, Step, Steps, acts, asking, more, none, visit}
+use Rattle.hir_def_collector.specs.Steps.{Rule, drops_item, passes_over, declares_item, declares_enum, lists_constant, lists_impl, opens_module, opens_file, drops_file, misses_file, enters_block, reaches_imports, reaches_crate, resolves_imports, May, Steps, acts, asking, more, none, visit}
 use Rattle.hir_def_collector.specs.Workspace.{Workspace}
 use Rattle.hir_def_collector.proofs.Asks.{only, still_asked-Step}
 use Rattle.hir_def_collector.proofs.Changes.{AllFine, all_fine, perform_keeps}
@@ -36,8 +35,7 @@ use Rattle.hir_def_collector.proofs.Holds.{in_range-start}
 use Rattle.hir_def_collector.proofs.ImportEdits.{Edit, edit_of, edited, map_after}
 use Rattle.hir_def_collector.proofs.InRange.{ImportsBelow, IsInRange, in_range-Steps, next_home}
 use Rattle.hir_def_collector_laws.specs.Diagnostics.{DiagnosticsAreOfItems, IsOfItem, IsToldOfItem}
-use Rattle.hir_def_collector_laws.specs.Imports.{IsExternCrate, IsImport, IsLeaf, IsOfSource, extern_crate_key, use_key}
-use Rattle.hir_def_collector_laws.specs.Modules.{key_of}
+use Rattle.hir_def_collector_laws.specs.Imports.{IsImport, IsOfSource}
 use Rattle.hir_def_collector_laws.specs.Written.{IsWritten}
 use Rattle.hir_def_collector_laws.proofs.Imports.{answer_asked, answer_here, first_written, import_written}
 use Rattle.hir_def_collector_laws.proofs.Lists.{later}

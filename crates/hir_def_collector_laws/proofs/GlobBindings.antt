@@ -35,7 +35,7 @@ use Rattle.hir_glob_imports.specs.declared.edge.Key.TheVariants.{Types, Values, 
 use Rattle.hir_import_resolution.specs.Changes.{Change as ImportChange, along, keeps_trait, kept_vis, pushes, pushing, records, takes}
 use Rattle.hir_import_resolution.specs.Inner.ScopeLaws.{vacant_of}
 use Rattle.hir_import_resolution.specs.Names.{ScopesValue, bound_by, bound_of, copied, copied_where, entries_of, followed, followed_where, redefined, revised, scope_table, trait_vis, view_of, with_trait}
-use Rattle.hir_import_resolution.specs.Rules.{Rule as ImportRule, May as MayImport, acts as import_acts, goes_along, takes_glob, takes_import}
+use Rattle.hir_import_resolution.specs.Rules.{Rule as ImportRule, May as MayImport, goes_along, takes_glob, takes_import}
 use Rattle.hir_import_resolution.specs.State.{glob_state, scopes_of}
 use Rattle.hir_import_resolution.specs.declared.directive.ImportSource.{ImportSource}
 use Rattle.hir_import_resolution.specs.declared.directive.ImportSource.TheVariants as sources
@@ -45,7 +45,7 @@ use Rattle.hir_def_collector.specs.ItemIds.{module_id}
 use Rattle.hir_def_collector.specs.Keys.{Environment}
 use Rattle.hir_def_collector.specs.Start.{Beginning, read_by}
 use Rattle.hir_def_collector.specs.State.{State, import_state}
-use Rattle.hir_def_collector.specs.Steps.{Rule, drops_item, passes_over, declares_item, declares_enum, lists_constant, lists_impl, opens_module, opens_file, drops_file, misses_file, enters_block, reaches_imports, reaches_crate, resolves_imports, May, Step, Steps, acts, asking, more, none}
+use Rattle.hir_def_collector.specs.Steps.{Rule, drops_item, passes_over, declares_item, declares_enum, lists_constant, lists_impl, opens_module, opens_file, drops_file, misses_file, enters_block, reaches_imports, reaches_crate, resolves_imports, May, Steps, acts, asking, more, none}
 use Rattle.hir_def_collector.specs.Workspace.{Workspace}
 use Rattle.hir_def_collector.proofs.Changes.{AllFine, perform_keeps}
 use Rattle.hir_def_collector_laws.specs.Globs.{AlsoShows, GlobsBringWhatIsShown, IsAsShown, IsBrought, glob_at, view_in}
@@ -281,36 +281,36 @@ module _ (tables : TablesValue) (w : Workspace) (finished : Maps) (from : Beginn
     in_last : glob_at (entry_at e.last.core.map number) key ≡ Some id
     in_last = subst (λ (m : Map). glob_at (entry_at m number) key ≡ Some id) e.map_is is
 
-    by : IsBrought e.last number key id
-    by = brought_in e.last e.last.core.map.id e.last.globs.names number (module_at e.last.core.map number) (λ m at. noted_last.modules.each number m at) key id in_last
+    came : IsBrought e.last number key id
+    came = brought_in e.last e.last.core.map.id e.last.globs.names number (module_at e.last.core.map number) (λ m at. noted_last.modules.each number m at) key id in_last
 
-    name : is_unnamed key ≡ false
-    name = named (entry_at e.last.core.map number) key id in_last
+    has_name : is_unnamed key ≡ false
+    has_name = named (entry_at e.last.core.map number) key id in_last
 
-    stood : Stands v (slot_at number key) by.last
-    stood = e.stands (slot_at number key) by.last by.brought
+    stood : Stands v (slot_at number key) came.last
+    stood = e.stands (slot_at number key) came.last came.brought
 
-    as_now : (b : Bound) → shown v by.edge key ≡ Some b → (by.last.seen ≡ b) × (by.last.edge_vis ≡ by.edge.vis)
+    as_now : (b : Bound) → shown v came.edge key ≡ Some b → (came.last.seen ≡ b) × (came.last.edge_vis ≡ came.edge.vis)
     as_now b shows =
-        let here : e.last.globs.brought (slot_at by.edge.importer key) ≡ Some by.last = ap (λ (k : ℕ). e.last.globs.brought (slot_at k key)) by.into ∙ by.brought in
-        let seen : is_as_seen by.edge b by.last ≡ true =
-        (e.closed.followed by.place by.edge key by.recorded).followed name b by.last shows here ((unsigned_Decides by.last.edge by.place).1 by.along) in
-        let same_seen : Bool = same_bound by.last.seen b in
-        let same_edge : Bool = same_vis by.last.edge_vis by.edge.vis in
-        (exact_bound by.last.seen b (first_so same_seen same_edge seen), exact_visibility by.last.edge_vis by.edge.vis (second_so same_seen same_edge seen))
+        let here : e.last.globs.brought (slot_at came.edge.importer key) ≡ Some came.last = ap (λ (k : ℕ). e.last.globs.brought (slot_at k key)) came.into ∙ came.brought in
+        let seen : is_as_seen came.edge b came.last ≡ true =
+        (e.closed.followed came.place came.edge key came.recorded).followed has_name b came.last shows here ((unsigned_Decides came.last.edge came.place).1 came.along) in
+        let same_seen : Bool = same_bound came.last.seen b in
+        let same_edge : Bool = same_vis came.last.edge_vis came.edge.vis in
+        (exact_bound came.last.seen b (first_so same_seen same_edge seen), exact_visibility came.last.edge_vis came.edge.vis (second_so same_seen same_edge seen))
 
-    as_wide : (other : Edge) (b : Bound) → AlsoShows v e.last number key by.place stood.bound other b → (wide : Visibility)
+    as_wide : (other : Edge) (b : Bound) → AlsoShows v e.last number key came.place stood.bound other b → (wide : Visibility)
         → v.greater stood.bound.vis (brought_vis v other b) ≡ Some wide → wide ≡ stood.bound.vis
     as_wide other b also wide greater =
         let here : bound_in v (slot_at other.importer key) ≡ Some stood.bound = ap (λ (k : ℕ). bound_in v (slot_at k key)) also.into ∙ stood.there in
-        let brought : e.last.globs.brought (slot_at other.importer key) ≡ Some by.last = ap (λ (k : ℕ). e.last.globs.brought (slot_at k key)) also.into ∙ by.brought in
+        let brought : e.last.globs.brought (slot_at other.importer key) ≡ Some came.last = ap (λ (k : ℕ). e.last.globs.brought (slot_at k key)) also.into ∙ came.brought in
         let may : may_raise also.place key (e.last.globs.brought (slot_at other.importer key)) ≡ true =
-        ap (may_raise also.place key) brought ∙ other_may by.last also.place key name (λ f. also.apart (sym by.along ∙ f)) in
+        ap (may_raise also.place key) brought ∙ other_may came.last also.place key has_name (λ f. also.apart (sym came.along ∙ f)) in
         let same : same_def stood.bound.def b.def ≡ true = subst (λ (d : ItemInNs). same_def stood.bound.def d ≡ true) also.same (item_laws.refl stood.bound.def) in
         exact_visibility wide stood.bound.vis ((e.closed.raised also.place other key also.recorded).raised b stood.bound also.shows here may same wide greater)
 
     as_shown : IsAsShown v e.last number key id
-    as_shown = record { by = by; bound = stood.bound; stands = stood.there; def = stood.same; now = as_now; widest = as_wide }
+    as_shown = record { by = came; bound = stood.bound; stands = stood.there; def = stood.same; now = as_now; widest = as_wide }
 
 pub globs_bring_what_is_shown : GlobsBringWhatIsShown
 globs_bring_what_is_shown tables w finished from answer e number key id is = as_shown tables w finished from answer e number key id is

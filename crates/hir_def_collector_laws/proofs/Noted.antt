@@ -1,8 +1,8 @@
 -- Where a glob brought what a name stands for, it is noted along which edge.
-use Rattle.std.proofs.Common.{◌≡◌, ◌≢◌, ◌∙◌, ℕ, zero, suc, Bool, true, false, cond, List, [], ◌∷◌, ◌++◌, Option, None, Some, is_some, option_and_then, slice_get, slice_set, if◌then◌else◌, refl, sym, ap, subst, arith, true≢false}
+use Rattle.std.proofs.Common.{◌≡◌, ◌≢◌, ◌∙◌, ℕ, zero, suc, Bool, true, false, cond, List, [], ◌∷◌, ◌++◌, Option, None, Some, is_some, option_and_then, slice_get, slice_set, if◌then◌else◌, refl, sym, ap, subst, true≢false}
 use Rattle.std.specs.BTreeMap.{is_at}
 use Rattle.std.specs.Cmp.Lexicographic.{slice_cmp}
-use Rattle.std.specs.Map.{lookup, set_value}
+use Rattle.std.specs.Map.{set_value}
 use Rattle.std.specs.Ordering.{nat_cmp}
 use Rattle.hir_base.specs.contracts.ids.ModuleDefIdPartialEq.TheImpl as module_def
 use Rattle.hir_base.specs.contracts.macro_kind.MacroIdPartialEq.TheImpl as makro
@@ -35,7 +35,7 @@ use Rattle.hir_scope.proofs.AfterPush.{item_at-with_entry, item_at-with_entry_ot
 use Rattle.hir_scope.proofs.Pushes.{pushed-macros, pushed-types, pushed-values}
 use Rattle.hir_scope_table.specs.Table.{rewritten}
 use Rattle.hir_def_map.specs.Declaration.{listed}
-use Rattle.hir_def_map.specs.State.{ModuleValue, changed_at, globs_in, numbered, place_at, pushed_module, with_module_scope}
+use Rattle.hir_def_map.specs.State.{ModuleValue, changed_at, globs_in, place_at, pushed_module}
 use Rattle.hir_def_map.specs.declared.nameres.declaration.Declaration.{Declaration as Listing}
 use Rattle.hir_def_map.specs.declared.nameres.declaration.Declaration.TheVariants as listings
 use Rattle.hir_glob_imports.specs.Keys.{is_unnamed, same_slot, slot_at}
@@ -50,7 +50,7 @@ use Rattle.hir_glob_imports.specs.declared.edge.Slot.{Slot}
 use Rattle.hir_glob_imports.proofs.Exact.{exact_slot}
 use Rattle.hir_glob_imports.proofs.Settling.{same_itself}
 use Rattle.hir_import_resolution.specs.Changes.{forgotten, forgotten_in}
-use Rattle.hir_import_resolution.specs.Names.{redefined, revised, with_trait}
+use Rattle.hir_import_resolution.specs.Names.{redefined, revised}
 use Rattle.hir_def_collector_laws.specs.Globs.{glob_by, glob_of_value}
 use Rattle.hir_def_collector_laws.proofs.ModuleLists.{IsChanged, IsOfLonger, changed-at, changed_one, newest, of_longer, older, other_one}
 use Rattle.hir_def_collector_laws.proofs.Places.{now_with, still_with, still_without}
@@ -163,16 +163,16 @@ pub record Stays (own : MapId) (places places' : List Place) (brought brought' :
 
 note_stays : {own : MapId} {places places' : List Place} {brought brought' : BroughtBy} {edges edges' : List Edge} {number : ℕ} {key : Key} {name : List ℕ} {id : GlobId}
     → Stays own places places' brought brought' edges edges' number key name → HasNote own places brought edges number key name id → HasNote own places' brought' edges' number key name id
-note_stays {edges' = edges'} stays note =
-    let still : IsStillAt edges' note.last.edge note.edge = stays.edges note.last.edge note.edge note.recorded in
+note_stays {edges' = edges'} kept note =
+    let still : IsStillAt edges' note.last.edge note.edge = kept.edges note.last.edge note.edge note.recorded in
     record {
       edge = still.edge;
       last = note.last;
-      noted = stays.noted ∙ note.noted;
+      noted = kept.noted ∙ note.noted;
       recorded = still.recorded;
       is_glob = still.id ∙ note.is_glob;
       into = still.into ∙ note.into;
-      placed = stays.placed note.placed;
+      placed = kept.placed note.placed;
     }
 
 -- an edge that brought what stands in a slot brings it again
@@ -211,11 +211,6 @@ module _ {D I : Type 0} (glob : I → Option GlobId) (at : List ℕ → Key) whe
   abbrev pub AreNotedIn : MapId → List Place → BroughtBy → List Edge → ℕ → List (List ℕ × Item D I) → Type 0
   AreNotedIn own places brought edges number items =
       (name : List ℕ) (id : GlobId) → glob_by glob (item_at items name) ≡ Some id → HasNote own places brought edges number (at name) name id
-
-  all_stay : (own : MapId) (places places' : List Place) (brought brought' : BroughtBy) (edges edges' : List Edge) (number : ℕ) (items : List (List ℕ × Item D I))
-      → ((name : List ℕ) → Stays own places places' brought brought' edges edges' number (at name) name)
-      → AreNotedIn own places brought edges number items → AreNotedIn own places' brought' edges' number items
-  all_stay own places places' brought brought' edges edges' number items each f name id e = note_stays (each name) (f name id e)
 
   written_other : (items : List (List ℕ × Item D I)) (name other : List ℕ) (c : Option (Candidate D I)) → other ≢ name → item_at (written_items name c items) other ≡ item_at items other
   written_other items name other None ne = refl
@@ -262,12 +257,12 @@ module _ {D I : Type 0} (glob : I → Option GlobId) (at : List ℕ → Key) whe
           go false s =
               let ne : n ≢ name = other_name n s in
               let item : item_at (items_after c) n ≡ item_at items n = written_other items name n (taken same_def same_import items places here c) ne in
-              let stays : Stays own places (places_after c) brought brought' edges edges home (at n) n = record {
+              let kept : Stays own places (places_after c) brought brought' edges edges home (at n) n = record {
                 noted = others n s;
                 placed = still_placed (taken same_def same_import items places here c) (place_at own home n) (λ g. ne (ap (λ (q : Place). q.1) g));
                 edges = keeps_all edges;
               } in
-              note_stays stays (f n id (sym (ap (glob_by glob) item) ∙ e))
+              note_stays kept (f n id (sym (ap (glob_by glob) item) ∙ e))
 
     -- ---- by no glob
 
@@ -298,15 +293,15 @@ module _ {D I : Type 0} (glob : I → Option GlobId) (at : List ℕ → Key) whe
         → brought' (slot_at home (at name)) ≡ forgotten_in home (at name) binds brought (slot_at home (at name)) → AreNotedIn own places brought edges home items
         → (id : GlobId) → glob_by glob (item_at (items_after c) name) ≡ Some id → HasNote own (places_after c) brought' edges home (at name) name id
     explicit_name None binds brought' explicit binds_not is f id e =
-        let stays : Stays own places places brought brought' edges edges home (at name) name = record {
+        let kept : Stays own places places brought brought' edges edges home (at name) name = record {
           noted = is ∙ ap (λ (b : Bool). forgotten_in home (at name) b brought (slot_at home (at name))) (binds_not refl);
           placed = λ h. h;
           edges = keeps_all edges;
         } in
-        note_stays stays (f name id e)
+        note_stays kept (f name id e)
     explicit_name (Some c) binds brought' explicit binds_not is f id e =
-        let none : glob_by glob (item_at (items_after (Some c)) name) ≡ None = explicit_item c explicit f in
-        absurd (let no : None ≡ Some id = sym none ∙ e in cc)
+        let no_glob : glob_by glob (item_at (items_after (Some c)) name) ≡ None = explicit_item c explicit f in
+        absurd (let no : None ≡ Some id = sym no_glob ∙ e in cc)
 
     -- what is bound explicitly is no glob's any more
     pub explicit_here : (c : Option (Candidate D I)) (binds : Bool) (brought' : BroughtBy) → IsExplicit c → (c ≡ None → binds ≡ false)

@@ -133,18 +133,18 @@ BindingsAreWritten = (tables : TablesValue) (w : Workspace) (finished : Maps) (f
     → (number : ℕ) (name : List ℕ) → AreBrought tables w from answer number (entry_at answer.map number name)
 
 -- an import is a `use .. as _`
-pub record IsUnnamed (r : ImportDirective) (id : ImportId) : Type 0 where
+pub record IsUnderscoreImport (r : ImportDirective) (id : ImportId) : Type 0 where
   pub way : way_of r.source ≡ ways.Import id
   pub alias : r.alias ≡ Some Underscore
 
 -- a trait that a module has without a name is one that a `use .. as _` which is written in the module keeps, or a glob which is
 -- written there brought it
-pub record IsKept (tables : TablesValue) (w : Workspace) (from : Beginning) (answer : CollectedValue) (number : ℕ) (item : Item (Unit {0}) ImportId) : Type 0 where
-  pub by_import : (id : ImportId) → item.import ≡ Some id → HasImport tables w from answer (λ r. IsUnnamed r id × (r.home ≡ number))
+pub record IsTraitBrought (tables : TablesValue) (w : Workspace) (from : Beginning) (answer : CollectedValue) (number : ℕ) (item : Item (Unit {0}) ImportId) : Type 0 where
+  pub by_import : (id : ImportId) → item.import ≡ Some id → HasImport tables w from answer (λ r. IsUnderscoreImport r id × (r.home ≡ number))
   pub by_glob : item.import ≡ None → HasImport tables w from answer (λ r. IsSome (glob_of r.source) × (r.home ≡ number))
 
 -- so is each such trait of a run's map
 abbrev pub UnnamedTraitsAreWritten : Type 0
 UnnamedTraitsAreWritten = (tables : TablesValue) (w : Workspace) (finished : Maps) (from : Beginning) (answer : CollectedValue) → Ends tables w finished from answer
     → (number : ℕ) (m : ModuleValue) → module_at answer.map number ≡ Some m → (id : TraitId) (item : Item (Unit {0}) ImportId) → Contains m.scope.unnamed_traits (id, item)
-    → IsKept tables w from answer number item
+    → IsTraitBrought tables w from answer number item
