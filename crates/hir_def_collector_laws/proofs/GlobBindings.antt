@@ -1,5 +1,5 @@
 -- What a glob brought came along an edge, and is what that edge's source shows.
-use Rattle.std.proofs.Common.{◌≡◌, ◌≢◌, ◌∙◌, ℕ, ◌==◌, ◌||◌, not, List, [], ◌∷◌, Bool, true, false, Option, None, Some, map as list_map, slice_get, refl, sym, ap, subst}
+use Rattle.std.proofs.Common.{◌≡◌, ◌≢◌, ◌∙◌, ℕ, ◌==◌, ◌||◌, not, List, [], ◌∷◌, Bool, true, false, Option, None, Some, map as list_map, slice_get, unwrap_or, refl, sym, ap, subst, true≢false}
 use Rattle.std.specs.Cmp.{first_so, second_so, unsigned_Decides}
 use Rattle.hir_base.specs.declared.ids.MapId.{MapId}
 use Rattle.hir_base.specs.declared.ids.ModuleDefId.{ModuleDefId}
@@ -8,6 +8,7 @@ use Rattle.hir_base.specs.declared.macro_kind.MacroId.{MacroId}
 use Rattle.hir_scope.specs.Entries.{item_at}
 use Rattle.hir_scope.specs.Globs.{GlobNames, Place}
 use Rattle.hir_scope.specs.ImportRecords.{is_glob}
+use Rattle.hir_scope.specs.Imports.{glob_of}
 use Rattle.hir_scope.specs.PerNs.{Item}
 use Rattle.hir_scope.specs.Scope.{ScopeValue}
 use Rattle.hir_scope.specs.contracts.item_in_ns.ItemInNsEq.TheImpl.Laws.{laws-law as item_laws}
@@ -18,13 +19,14 @@ use Rattle.hir_scope.specs.declared.item_in_ns.ItemInNs.{ItemInNs}
 use Rattle.hir_scope.specs.declared.item_in_ns.ItemInNs.TheVariants as in_ns
 use Rattle.hir_scope.specs.declared.per_ns.PerNs.{PerNs}
 use Rattle.hir_scope.specs.declared.visibility.Visibility.{Visibility}
+use Rattle.hir_scope.specs.declared.visibility.Visibility.TheVariants.{Public}
 use Rattle.hir_tables.specs.Tables.{TablesValue}
 use Rattle.hir_def_map.specs.Declaration.{listed}
 use Rattle.hir_def_map.specs.Overlay.{Maps}
 use Rattle.hir_def_map.specs.State.{Map, ModuleValue, changed_at, entry_at, entry_of, module_at, new_id, new_module, with_child, with_module_scope}
 use Rattle.hir_glob_imports.specs.Keys.{is_unnamed, slot_at}
 use Rattle.hir_glob_imports.specs.Moves.{brought_vis, is_as_seen, may_raise, same_bound, same_def, same_vis, seen_by, shown}
-use Rattle.hir_glob_imports.specs.Rules.{BroughtBy, CanCopy, CanFollow, Rule as GlobRule, May as MayAlong, acts as glob_acts, as_seen, copies_along, follows_along, noted, raises_along}
+use Rattle.hir_glob_imports.specs.Rules.{BroughtBy, CanCopy, CanFollow, CanRaise, Rule as GlobRule, May as MayAlong, acts as glob_acts, as_seen, copies_along, follows_along, noted, raises_along}
 use Rattle.hir_glob_imports.specs.View.{View, bound_in}
 use Rattle.hir_glob_imports.specs.Waves.{Stands}
 use Rattle.hir_glob_imports.specs.declared.edge.Bound.{Bound}
@@ -34,9 +36,10 @@ use Rattle.hir_glob_imports.specs.declared.edge.Key.{Key}
 use Rattle.hir_glob_imports.specs.declared.edge.Key.TheVariants.{Types, Values, Macros, Unnamed}
 use Rattle.hir_import_resolution.specs.Changes.{Change as ImportChange, along, keeps_trait, kept_vis, pushes, pushing, records, takes}
 use Rattle.hir_import_resolution.specs.Inner.ScopeLaws.{vacant_of}
-use Rattle.hir_import_resolution.specs.Names.{ScopesValue, bound_by, bound_of, copied, copied_where, entries_of, followed, followed_where, redefined, revised, scope_table, trait_vis, view_of, with_trait}
+use Rattle.hir_import_resolution.specs.Names.{ScopesValue, bound_at, bound_by, bound_of, copied, copied_where, entries_of, followed, followed_where, raised, scope_table, trait_vis, view_of, with_trait}
 use Rattle.hir_import_resolution.specs.Rules.{Rule as ImportRule, May as MayImport, goes_along, takes_glob, takes_import}
 use Rattle.hir_import_resolution.specs.State.{glob_state, scopes_of}
+use Rattle.hir_import_resolution.specs.Visibilities.{greater_in, lesser_in}
 use Rattle.hir_import_resolution.specs.declared.directive.ImportSource.{ImportSource}
 use Rattle.hir_import_resolution.specs.declared.directive.ImportSource.TheVariants as sources
 use Rattle.hir_def_collector.specs.Changes.{Change, lists, makes, gives_variants, begins_paths, reaches, changes_imports, tells, goes_on, act, perform}
@@ -48,9 +51,9 @@ use Rattle.hir_def_collector.specs.State.{State, import_state}
 use Rattle.hir_def_collector.specs.Steps.{Rule, drops_item, passes_over, declares_item, declares_enum, lists_constant, lists_impl, opens_module, opens_file, drops_file, misses_file, enters_block, reaches_imports, reaches_crate, resolves_imports, May, Steps, acts, asking, more, none}
 use Rattle.hir_def_collector.specs.Workspace.{Workspace}
 use Rattle.hir_def_collector.proofs.Changes.{AllFine, perform_keeps}
-use Rattle.hir_def_collector_laws.specs.Globs.{AlsoShows, GlobsBringWhatIsShown, IsAsShown, IsBrought, glob_at, view_in}
+use Rattle.hir_def_collector_laws.specs.Globs.{AlsoShows, GlobsBringWhatIsShown, IsAsShown, IsBrought, WasSeen, glob_at, glob_by, glob_of_value, view_in}
 use Rattle.hir_def_collector_laws.proofs.Exact.{exact_bound, exact_visibility}
-use Rattle.hir_def_collector_laws.proofs.Noted.{AreNoted, HasNote, HasSameGlobs, IsNotedScope, KeepsEdges, keeps_recorded, noted_again, noted_explicit, noted_longer, noted_macro, noted_recorded, noted_rescoped, noted_traits, noted_type, noted_value, same_listed, same_redefined, same_revised}
+use Rattle.hir_def_collector_laws.proofs.Noted.{AreNoted, GivesAll, HasNote, IsNotedScope, KeepsEdges, keeps_recorded, noted_explicit, noted_followed_macro, noted_followed_type, noted_followed_value, noted_longer, noted_macro, noted_raised_macro, noted_raised_type, noted_raised_value, noted_recorded, noted_rescoped, noted_traits, noted_type, noted_value, same_listed}
 
 -- each name that a glob brought has its note where a run stands
 pub record IsNotedState (s : State) : Type 0 where
@@ -86,7 +89,7 @@ noted-imports s (keeps_trait finished home (Some id) vis by) f fine =
     let change : ScopeValue → ScopeValue = with_trait id (kept_vis finished s.core.map vis (trait_vis (module_at s.core.map home) id)) by in
     record {
       modules = noted_traits s.core.map.id s.globs.names s.globs.brought s.globs.edges (changed_at s.core.map.modules home (with_module_scope change)) home id None
-          (noted_rescoped s.core.map.modules home (with_module_scope change) (λ m. record { types = λ name. refl; values = λ name. refl; macros = λ name. refl }) f.modules);
+          (noted_rescoped s.core.map.modules home (with_module_scope change) (λ m. record { types = refl; values = refl; macros = refl }) f.modules);
     }
 noted-imports s (takes i t) f fine = record { modules = f.modules }
 noted-imports s (records edges) f fine = record { modules = noted_recorded s.core.map.id s.globs.names s.globs.brought s.globs.edges edges s.core.map.modules fine f.modules }
@@ -96,7 +99,7 @@ noted-act : (s : State) (c : Change) → IsNotedState s → IsFine s c → IsNot
 noted-act s (lists home d) f fine = record { modules = noted_rescoped s.core.map.modules home (with_module_scope (listed d)) (λ m. same_listed d m.scope) f.modules }
 noted-act s (makes home name origin visibility) f fine = record {
   modules = noted_longer (changed_at s.core.map.modules home (with_child name (new_id s.core.map))) (new_module origin visibility (Some (module_id s.core.map home))) refl
-      (noted_rescoped s.core.map.modules home (with_child name (new_id s.core.map)) (λ m. record { types = λ n. refl; values = λ n. refl; macros = λ n. refl }) f.modules);
+      (noted_rescoped s.core.map.modules home (with_child name (new_id s.core.map)) (λ m. record { types = refl; values = refl; macros = refl }) f.modules);
 }
 noted-act s (gives_variants id variants) f fine = record { modules = f.modules }
 noted-act s (begins_paths r) f fine = record { modules = f.modules }
@@ -107,6 +110,15 @@ noted-act s (goes_on vs) f fine = record { modules = f.modules }
 
 -- ---- along globs
 
+-- what is public on both sides is brought as public, and what is public isn't raised
+lesser_public : (finished : Maps) (m : Map) → unwrap_or (lesser_in finished m Public Public) Public ≡ Public
+unfolding lesser_in
+lesser_public finished m = refl
+
+greater_public : (finished : Maps) (m : Map) (other : Visibility) → greater_in finished m Public other ≡ Some Public
+unfolding greater_in
+greater_public finished m other = refl
+
 module _ (finished : Maps) (m : Map) (globs : GlobNames) (brought : BroughtBy) (edges : List Edge) (f : AreNoted m.id globs brought edges m.modules) where
   abbrev here : ScopesValue
   here = record { finished = finished; map = m; globs = globs }
@@ -115,11 +127,9 @@ module _ (finished : Maps) (m : Map) (globs : GlobNames) (brought : BroughtBy) (
   abbrev AreNotedAfter : ScopesValue → BroughtBy → Type 0
   AreNotedAfter n brought' = AreNoted n.map.id n.globs brought' edges n.map.modules
 
-  rescoped : (at : ℕ) (change : ScopeValue → ScopeValue) → ((v : ModuleValue) → HasSameGlobs v.scope (change v.scope)) → AreNoted m.id globs brought edges (changed_at m.modules at (with_module_scope change))
-  rescoped at change same = noted_rescoped m.modules at (with_module_scope change) same f
-
+  -- a trait without a name is no glob's to note
   with_trait_noted : (at : ℕ) (id : TraitId) (vis : Visibility) → AreNoted m.id globs brought edges (changed_at m.modules at (with_module_scope (with_trait id vis None)))
-  with_trait_noted at id vis = rescoped at (with_trait id vis None) (λ v. record { types = λ n. refl; values = λ n. refl; macros = λ n. refl })
+  with_trait_noted at id vis = noted_rescoped m.modules at (with_module_scope (with_trait id vis None)) (λ v. record { types = refl; values = refl; macros = refl }) f
 
   -- ---- a slot of a module
 
@@ -133,65 +143,109 @@ module _ (finished : Maps) (m : Map) (globs : GlobNames) (brought : BroughtBy) (
     vacant_macro : (name : List ℕ) → bound_in (view_of here) (slot_at at (Macros name)) ≡ None → (old : ModuleValue) → slice_get m.modules at ≡ Some old → item_at old.scope.macros name ≡ None
     vacant_macro name vacant old there = vacant_of in_ns.Macros (item_at old.scope.macros name) (ap (λ (o : Option ModuleValue). bound_by in_ns.Macros (entry_of o name).macros) (sym there) ∙ vacant)
 
-    module _ (j : ℕ) (e : Edge) (b : Bound) (vis : Visibility) where
+    module _ (j : ℕ) (e : Edge) (b : Bound) where
+      -- it is brought under the lesser visibility
+      abbrev given_vis : Visibility
+      given_vis = brought_vis (view_of here) e b
+
+      all_given : GivesAll (as_seen j e b) given_vis
+      all_given seen edge =
+          let both : given_vis ≡ unwrap_or (lesser_in finished m Public Public) Public = λ i. unwrap_or (lesser_in finished m (edge i) (seen i)) (edge i) in
+          both ∙ lesser_public finished m
+
       -- what the source has is shown
       not_shown : (o : Option Bound) → seen_by ((view_of here).sees e.importer) o ≡ Some b → o ≡ None → ⊥
       not_shown None h is = let no : None ≡ Some b = h in cc
       not_shown (Some c) h is = cc
 
       copied_noted : (key : Key) → CanCopy (view_of here) edges j e (slot_at at key) b
-          → AreNotedAfter (copied here (slot_at at key) e.source vis e.id) (noted brought (slot_at at key) (as_seen j e b))
+          → AreNotedAfter (copied here (slot_at at key) e.source given_vis e.id) (noted brought (slot_at at key) (as_seen j e b))
       copied_noted (Types name) may = go (entries_of here e.source name).types refl
         where
           go : (o : Option (Item ModuleDefId ImportOrExternCrate)) → (entries_of here e.source name).types ≡ o
-              → AreNotedAfter (copied_where here (slot_at at (Types name)) vis e.id (bound_by in_ns.Types o)) (noted brought (slot_at at (Types name)) (as_seen j e b))
+              → AreNotedAfter (copied_where here (slot_at at (Types name)) given_vis e.id (bound_by in_ns.Types o)) (noted brought (slot_at at (Types name)) (as_seen j e b))
           go None is = absurd (not_shown (bound_of here e.source (Types name)) may.shows.shown (ap (bound_by in_ns.Types) is))
-          go (Some i) is = noted_type m.id globs brought edges e (as_seen j e b) may.shows.recorded at may.shows.at name i.def vis m.modules (vacant_type name may.vacant) f
+          go (Some i) is = noted_type m.id globs brought edges e (as_seen j e b) may.shows.recorded at may.shows.at name given_vis all_given i.def m.modules (vacant_type name may.vacant) f
       copied_noted (Values name) may = go (entries_of here e.source name).values refl
         where
           go : (o : Option (Item ModuleDefId ImportOrGlob)) → (entries_of here e.source name).values ≡ o
-              → AreNotedAfter (copied_where here (slot_at at (Values name)) vis e.id (bound_by in_ns.Values o)) (noted brought (slot_at at (Values name)) (as_seen j e b))
+              → AreNotedAfter (copied_where here (slot_at at (Values name)) given_vis e.id (bound_by in_ns.Values o)) (noted brought (slot_at at (Values name)) (as_seen j e b))
           go None is = absurd (not_shown (bound_of here e.source (Values name)) may.shows.shown (ap (bound_by in_ns.Values) is))
-          go (Some i) is = noted_value m.id globs brought edges e (as_seen j e b) may.shows.recorded at may.shows.at name i.def vis m.modules (vacant_value name may.vacant) f
+          go (Some i) is = noted_value m.id globs brought edges e (as_seen j e b) may.shows.recorded at may.shows.at name given_vis all_given i.def m.modules (vacant_value name may.vacant) f
       copied_noted (Macros name) may = go (entries_of here e.source name).macros refl
         where
           go : (o : Option (Item MacroId ImportOrExternCrate)) → (entries_of here e.source name).macros ≡ o
-              → AreNotedAfter (copied_where here (slot_at at (Macros name)) vis e.id (bound_by in_ns.Macros o)) (noted brought (slot_at at (Macros name)) (as_seen j e b))
+              → AreNotedAfter (copied_where here (slot_at at (Macros name)) given_vis e.id (bound_by in_ns.Macros o)) (noted brought (slot_at at (Macros name)) (as_seen j e b))
           go None is = absurd (not_shown (bound_of here e.source (Macros name)) may.shows.shown (ap (bound_by in_ns.Macros) is))
-          go (Some i) is = noted_macro m.id globs brought edges e (as_seen j e b) may.shows.recorded at may.shows.at name i.def vis m.modules (vacant_macro name may.vacant) f
+          go (Some i) is = noted_macro m.id globs brought edges e (as_seen j e b) may.shows.recorded at may.shows.at name given_vis all_given i.def m.modules (vacant_macro name may.vacant) f
       copied_noted (Unnamed id) may = go (bound_of here e.source (Unnamed id))
         where
-          go : (o : Option Bound) → AreNotedAfter (copied_where here (slot_at at (Unnamed id)) vis e.id o) brought
+          go : (o : Option Bound) → AreNotedAfter (copied_where here (slot_at at (Unnamed id)) given_vis e.id o) brought
           go None = f
-          go (Some c) = with_trait_noted at id vis
-
-      followed_scopes : (key : Key) (o : Option Bound) → AreNotedAfter (followed_where here (slot_at at key) vis o) brought
-      followed_scopes key None = f
-      followed_scopes (Types name) (Some c) = rescoped at (redefined name c.def vis) (λ v. same_redefined name c.def vis v.scope)
-      followed_scopes (Values name) (Some c) = rescoped at (redefined name c.def vis) (λ v. same_redefined name c.def vis v.scope)
-      followed_scopes (Macros name) (Some c) = rescoped at (redefined name c.def vis) (λ v. same_redefined name c.def vis v.scope)
-      followed_scopes (Unnamed id) (Some c) = with_trait_noted at id vis
+          go (Some c) = with_trait_noted at id given_vis
 
       followed_noted : (key : Key) → CanFollow (view_of here) edges brought j e (slot_at at key) b
-          → AreNotedAfter (followed here (slot_at at key) e.source vis) (noted brought (slot_at at key) (as_seen j e b))
-      followed_noted key may =
-          let after : ScopesValue = followed here (slot_at at key) e.source vis in
-          noted_again after.map.id after.globs brought edges after.map.modules (slot_at at key) may.last (as_seen j e b) may.brought_last
-          ((unsigned_Decides may.last.edge j).0 may.by_it) (followed_scopes key (bound_of here e.source key))
+          → AreNotedAfter (followed here (slot_at at key) e.source given_vis) (noted brought (slot_at at key) (as_seen j e b))
+      followed_noted (Types name) may = go (entries_of here e.source name).types refl
+        where
+          go : (o : Option (Item ModuleDefId ImportOrExternCrate)) → (entries_of here e.source name).types ≡ o
+              → AreNotedAfter (followed_where here (slot_at at (Types name)) given_vis (bound_by in_ns.Types o)) (noted brought (slot_at at (Types name)) (as_seen j e b))
+          go None is = absurd (not_shown (bound_of here e.source (Types name)) may.shows.shown (ap (bound_by in_ns.Types) is))
+          go (Some i) is =
+              noted_followed_type m.id globs brought edges at name may.last (as_seen j e b) ((unsigned_Decides may.last.edge j).0 may.by_it) given_vis all_given m.modules f i.def may.brought_last
+      followed_noted (Values name) may = go (entries_of here e.source name).values refl
+        where
+          go : (o : Option (Item ModuleDefId ImportOrGlob)) → (entries_of here e.source name).values ≡ o
+              → AreNotedAfter (followed_where here (slot_at at (Values name)) given_vis (bound_by in_ns.Values o)) (noted brought (slot_at at (Values name)) (as_seen j e b))
+          go None is = absurd (not_shown (bound_of here e.source (Values name)) may.shows.shown (ap (bound_by in_ns.Values) is))
+          go (Some i) is =
+              noted_followed_value m.id globs brought edges at name may.last (as_seen j e b) ((unsigned_Decides may.last.edge j).0 may.by_it) given_vis all_given m.modules f i.def may.brought_last
+      followed_noted (Macros name) may = go (entries_of here e.source name).macros refl
+        where
+          go : (o : Option (Item MacroId ImportOrExternCrate)) → (entries_of here e.source name).macros ≡ o
+              → AreNotedAfter (followed_where here (slot_at at (Macros name)) given_vis (bound_by in_ns.Macros o)) (noted brought (slot_at at (Macros name)) (as_seen j e b))
+          go None is = absurd (not_shown (bound_of here e.source (Macros name)) may.shows.shown (ap (bound_by in_ns.Macros) is))
+          go (Some i) is =
+              noted_followed_macro m.id globs brought edges at name may.last (as_seen j e b) ((unsigned_Decides may.last.edge j).0 may.by_it) given_vis all_given m.modules f i.def may.brought_last
+      followed_noted (Unnamed id) may = absurd (true≢false may.named)
+
+    -- what all may see no edge hides
+    module _ (j : ℕ) (e : Edge) (vis : Visibility) where
+      wider : (key : Key) (may : CanRaise (view_of here) edges brought j e (slot_at at key) vis) → (b : Bound) → Some b ≡ bound_in (view_of here) (slot_at at key) → b.vis ≡ Public → vis ≡ Public
+      wider key may b stands all =
+          let same : Some b ≡ Some may.c = stands ∙ may.stands in
+          let is_c : b ≡ may.c = cc in
+          let now : may.c.vis ≡ Public = sym (ap (λ (x : Bound). x.vis) is_c) ∙ all in
+          let known : Some Public ≡ Some vis =
+          sym (ap (λ (x : Visibility). greater_in finished m x (brought_vis (view_of here) e may.b)) now ∙ greater_public finished m (brought_vis (view_of here) e may.b)) ∙ may.greater in
+          cc
+
+      raised_noted : (key : Key) → CanRaise (view_of here) edges brought j e (slot_at at key) vis → AreNotedAfter (raised here (slot_at at key) vis) brought
+      raised_noted (Types name) may =
+          noted_raised_type m.id globs brought edges at name vis m.modules f
+          (λ old there i h all. wider (Types name) may (record { def = in_ns.Types i.def; vis = i.vis })
+          (sym (ap (bound_by in_ns.Types) h) ∙ ap (λ (o : Option ModuleValue). bound_by in_ns.Types (entry_of o name).types) (sym there)) all)
+      raised_noted (Values name) may =
+          noted_raised_value m.id globs brought edges at name vis m.modules f
+          (λ old there i h all. wider (Values name) may (record { def = in_ns.Values i.def; vis = i.vis })
+          (sym (ap (bound_by in_ns.Values) h) ∙ ap (λ (o : Option ModuleValue). bound_by in_ns.Values (entry_of o name).values) (sym there)) all)
+      raised_noted (Macros name) may =
+          noted_raised_macro m.id globs brought edges at name vis m.modules f
+          (λ old there i h all. wider (Macros name) may (record { def = in_ns.Macros i.def; vis = i.vis })
+          (sym (ap (bound_by in_ns.Macros) h) ∙ ap (λ (o : Option ModuleValue). bound_by in_ns.Macros (entry_of o name).macros) (sym there)) all)
+      raised_noted (Unnamed id) may = with_trait_noted at id vis
 
 -- each step along a glob keeps it so
 along_noted : (finished : Maps) (s : State) (rule : GlobRule) → MayAlong scope_table (glob_state finished (import_state s)) rule → IsNotedState s
     → IsNotedState (perform s (list_map changes_imports (list_map (along finished) (glob_acts (view_of (scopes_of finished (import_state s))) rule))))
 along_noted finished s (copies_along j e slot b) may f = record {
-  modules = copied_noted finished s.core.map s.globs.names s.globs.brought s.globs.edges f.modules slot.at j e b
-      (brought_vis (view_of (scopes_of finished (import_state s))) e b) slot.key may;
+  modules = copied_noted finished s.core.map s.globs.names s.globs.brought s.globs.edges f.modules slot.at j e b slot.key may;
 }
 along_noted finished s (follows_along j e slot b) may f = record {
-  modules = followed_noted finished s.core.map s.globs.names s.globs.brought s.globs.edges f.modules slot.at j e b
-      (brought_vis (view_of (scopes_of finished (import_state s))) e b) slot.key may;
+  modules = followed_noted finished s.core.map s.globs.names s.globs.brought s.globs.edges f.modules slot.at j e b slot.key may;
 }
 along_noted finished s (raises_along j e slot vis) may f = record {
-  modules = rescoped finished s.core.map s.globs.names s.globs.brought s.globs.edges f.modules slot.at (revised slot.key vis) (λ v. same_revised slot.key vis v.scope);
+  modules = raised_noted finished s.core.map s.globs.names s.globs.brought s.globs.edges f.modules slot.at j e vis slot.key may;
 }
 
 -- ---- rules
@@ -233,28 +287,60 @@ noted-Steps {finished = finished} f (more old new before step) =
 
 -- ---- in the end
 
-brought_by_note : (s : State) (own : MapId) (places : List Place) (number : ℕ) (key : Key) (name : List ℕ) (id : GlobId) → HasNote own places s.globs.brought s.globs.edges number key name id → IsBrought s number key id
-brought_by_note s own places number key name id note = record {
-  place = note.last.edge;
-  edge = note.edge;
-  recorded = note.recorded;
-  is_glob = note.is_glob;
-  into = note.into;
-  last = note.last;
-  brought = note.noted;
-  along = refl;
+-- a glob brought what stands at a key, and gives it to all whom it may
+pub record CameAlong (s : State) (number : ℕ) (key : Key) (id : GlobId) (stands : Option Bound) : Type 0 where
+  pub by : IsBrought s number key id
+  pub given : (bound : Bound) → stands ≡ Some bound → GivesAll by.last bound.vis
+
+came_by_note : (s : State) (own : MapId) (places : List Place) (number : ℕ) (key : Key) (name : List ℕ) (id : GlobId) (vis : Visibility) (def : ItemInNs)
+    → HasNote own places s.globs.brought s.globs.edges number key name id vis → CameAlong s number key id (Some (record { def = def; vis = vis }))
+came_by_note s own places number key name id vis def note = record {
+  by = record {
+    place = note.last.edge;
+    edge = note.edge;
+    recorded = note.recorded;
+    is_glob = note.is_glob;
+    into = note.into;
+    last = note.last;
+    brought = note.noted;
+    along = refl;
+  };
+  given = λ bound e.
+      let same : record { def = def; vis = vis } ≡ bound = cc in
+      subst (λ (b : Bound). GivesAll note.last b.vis) same note.given;
 }
 
+-- in each namespace
+module _ (s : State) (own : MapId) (globs : GlobNames) (number : ℕ) (id : GlobId) (v : ScopeValue) (f : IsNotedScope own globs s.globs.brought s.globs.edges number v) where
+  came_type : (name : List ℕ) (o : Option (Item ModuleDefId ImportOrExternCrate)) → item_at v.types name ≡ o → glob_by glob_of o ≡ Some id → CameAlong s number (Types name) id (bound_by in_ns.Types o)
+  came_type name None at e = absurd (let no : ⊥ = cc in no)
+  came_type name (Some i) at e = came_by_note s own globs.types number (Types name) name id i.vis (in_ns.Types i.def) (f.types name i id at e)
+
+  came_value : (name : List ℕ) (o : Option (Item ModuleDefId ImportOrGlob)) → item_at v.values name ≡ o → glob_by glob_of_value o ≡ Some id → CameAlong s number (Values name) id (bound_by in_ns.Values o)
+  came_value name None at e = absurd (let no : ⊥ = cc in no)
+  came_value name (Some i) at e = came_by_note s own globs.values number (Values name) name id i.vis (in_ns.Values i.def) (f.values name i id at e)
+
+  came_macro : (name : List ℕ) (o : Option (Item MacroId ImportOrExternCrate)) → item_at v.macros name ≡ o → glob_by glob_of o ≡ Some id → CameAlong s number (Macros name) id (bound_by in_ns.Macros o)
+  came_macro name None at e = absurd (let no : ⊥ = cc in no)
+  came_macro name (Some i) at e = came_by_note s own globs.macros number (Macros name) name id i.vis (in_ns.Macros i.def) (f.macros name i id at e)
+
 brought_in : (s : State) (own : MapId) (globs : GlobNames) (number : ℕ) (o : Option ModuleValue) → ((v : ModuleValue) → o ≡ Some v → IsNotedScope own globs s.globs.brought s.globs.edges number v.scope)
-    → (key : Key) (id : GlobId) → glob_at (entry_of o) key ≡ Some id → IsBrought s number key id
+    → (key : Key) (id : GlobId) → glob_at (entry_of o) key ≡ Some id → CameAlong s number key id (bound_at (entry_of o) (trait_vis o) key)
 brought_in s own globs number None f (Types name) id e = absurd (let no : ⊥ = cc in no)
 brought_in s own globs number None f (Values name) id e = absurd (let no : ⊥ = cc in no)
 brought_in s own globs number None f (Macros name) id e = absurd (let no : ⊥ = cc in no)
 brought_in s own globs number None f (Unnamed tr) id e = absurd (let no : ⊥ = cc in no)
-brought_in s own globs number (Some v) f (Types name) id e = brought_by_note s own globs.types number (Types name) name id ((f v refl).types name id e)
-brought_in s own globs number (Some v) f (Values name) id e = brought_by_note s own globs.values number (Values name) name id ((f v refl).values name id e)
-brought_in s own globs number (Some v) f (Macros name) id e = brought_by_note s own globs.macros number (Macros name) name id ((f v refl).macros name id e)
+brought_in s own globs number (Some v) f (Types name) id e = came_type s own globs number id v.scope (f v refl) name (item_at v.scope.types name) refl e
+brought_in s own globs number (Some v) f (Values name) id e = came_value s own globs number id v.scope (f v refl) name (item_at v.scope.values name) refl e
+brought_in s own globs number (Some v) f (Macros name) id e = came_macro s own globs number id v.scope (f v refl) name (item_at v.scope.macros name) refl e
 brought_in s own globs number (Some v) f (Unnamed tr) id e = absurd (let no : ⊥ = cc in no)
+
+-- what globs see at a key of a module is what stands there
+stands_inside : (n : ScopesValue) (at : ℕ) (key : Key) → bound_in (view_of n) (slot_at at key) ≡ bound_at (entry_of (module_at n.map at)) (trait_vis (module_at n.map at)) key
+stands_inside n at (Types name) = refl
+stands_inside n at (Values name) = refl
+stands_inside n at (Macros name) = refl
+stands_inside n at (Unnamed tr) = refl
 
 named : (entries : List ℕ → PerNs) (key : Key) (id : GlobId) → glob_at entries key ≡ Some id → is_unnamed key ≡ false
 named entries (Types name) id e = refl
@@ -281,8 +367,11 @@ module _ (tables : TablesValue) (w : Workspace) (finished : Maps) (from : Beginn
     in_last : glob_at (entry_at e.last.core.map number) key ≡ Some id
     in_last = subst (λ (m : Map). glob_at (entry_at m number) key ≡ Some id) e.map_is is
 
-    came : IsBrought e.last number key id
-    came = brought_in e.last e.last.core.map.id e.last.globs.names number (module_at e.last.core.map number) (λ m at. noted_last.modules.each number m at) key id in_last
+    along_edge : CameAlong e.last number key id (bound_at (entry_of (module_at e.last.core.map number)) (trait_vis (module_at e.last.core.map number)) key)
+    along_edge = brought_in e.last e.last.core.map.id e.last.globs.names number (module_at e.last.core.map number) (λ m at. noted_last.modules.each number m at) key id in_last
+
+    abbrev came : IsBrought e.last number key id
+    came = along_edge.by
 
     has_name : is_unnamed key ≡ false
     has_name = named (entry_at e.last.core.map number) key id in_last
@@ -290,14 +379,19 @@ module _ (tables : TablesValue) (w : Workspace) (finished : Maps) (from : Beginn
     stood : Stands v (slot_at number key) came.last
     stood = e.stands (slot_at number key) came.last came.brought
 
-    as_now : (b : Bound) → shown v came.edge key ≡ Some b → (came.last.seen ≡ b) × (came.last.edge_vis ≡ came.edge.vis)
+    as_now : (b : Bound) → shown v came.edge key ≡ Some b → WasSeen came.last came.edge b
     as_now b shows =
         let here : e.last.globs.brought (slot_at came.edge.importer key) ≡ Some came.last = ap (λ (k : ℕ). e.last.globs.brought (slot_at k key)) came.into ∙ came.brought in
         let seen : is_as_seen came.edge b came.last ≡ true =
         (e.closed.followed came.place came.edge key came.recorded).followed has_name b came.last shows here ((unsigned_Decides came.last.edge came.place).1 came.along) in
         let same_seen : Bool = same_bound came.last.seen b in
         let same_edge : Bool = same_vis came.last.edge_vis came.edge.vis in
-        (exact_bound came.last.seen b (first_so same_seen same_edge seen), exact_visibility came.last.edge_vis came.edge.vis (second_so same_seen same_edge seen))
+        record { seen = exact_bound came.last.seen b (first_so same_seen same_edge seen); under = exact_visibility came.last.edge_vis came.edge.vis (second_so same_seen same_edge seen) }
+
+    as_public : (b : Bound) → shown v came.edge key ≡ Some b → b.vis ≡ Public → came.edge.vis ≡ Public → stood.bound.vis ≡ Public
+    as_public b shows source edge =
+        let was : WasSeen came.last came.edge b = as_now b shows in
+        along_edge.given stood.bound (sym (stands_inside (scopes_of (read_by w finished from.start) (import_state e.last)) number key) ∙ stood.there) (ap (λ (x : Bound). x.vis) was.seen ∙ source) (was.under ∙ edge)
 
     as_wide : (other : Edge) (b : Bound) → AlsoShows v e.last number key came.place stood.bound other b → (wide : Visibility)
         → v.greater stood.bound.vis (brought_vis v other b) ≡ Some wide → wide ≡ stood.bound.vis
@@ -310,7 +404,7 @@ module _ (tables : TablesValue) (w : Workspace) (finished : Maps) (from : Beginn
         exact_visibility wide stood.bound.vis ((e.closed.raised also.place other key also.recorded).raised b stood.bound also.shows here may same wide greater)
 
     as_shown : IsAsShown v e.last number key id
-    as_shown = record { by = came; bound = stood.bound; stands = stood.there; def = stood.same; now = as_now; widest = as_wide }
+    as_shown = record { by = came; bound = stood.bound; stands = stood.there; def = stood.same; now = as_now; public = as_public; widest = as_wide }
 
 pub globs_bring_what_is_shown : GlobsBringWhatIsShown
 globs_bring_what_is_shown tables w finished from answer e number key id is = as_shown tables w finished from answer e number key id is

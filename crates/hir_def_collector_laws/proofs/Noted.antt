@@ -1,6 +1,6 @@
 -- Where a glob brought what a name stands for, it is noted along which edge.
 use Rattle.std.proofs.Common.{◌≡◌, ◌≢◌, ◌∙◌, ℕ, zero, suc, Bool, true, false, cond, List, [], ◌∷◌, ◌++◌, Option, None, Some, is_some, option_and_then, slice_get, slice_set, if◌then◌else◌, refl, sym, ap, subst, true≢false}
-use Rattle.std.specs.BTreeMap.{is_at}
+use Rattle.std.specs.BTreeMap.{insert_entry, is_at}
 use Rattle.std.specs.Cmp.Lexicographic.{slice_cmp}
 use Rattle.std.specs.Map.{set_value}
 use Rattle.std.specs.Ordering.{nat_cmp}
@@ -14,7 +14,7 @@ use Rattle.hir_base.specs.declared.macro_kind.MacroId.{MacroId}
 use Rattle.hir_scope.specs.contracts.imports.ImportOrExternCratePartialEq.TheImpl as item_import
 use Rattle.hir_scope.specs.contracts.imports.ImportOrGlobPartialEq.TheImpl as glob_import
 use Rattle.hir_scope.specs.Bindings.{Candidate, Push, macro_candidate, taken, takes as takes_slot, type_candidate, value_candidate, with_item_definition, with_item_visibility, written_items, written_places}
-use Rattle.hir_scope.specs.Entries.{item_at}
+use Rattle.hir_scope.specs.Entries.{item_at, with_entry}
 use Rattle.hir_scope.specs.Globs.{GlobNames, Place, has_place, with_place, without_place}
 use Rattle.hir_scope.specs.ImportRecords.{is_glob}
 use Rattle.hir_scope.specs.Imports.{glob_of}
@@ -27,19 +27,18 @@ use Rattle.hir_scope.specs.declared.imports.ImportOrExternCrate.{ImportOrExternC
 use Rattle.hir_scope.specs.declared.imports.ImportOrExternCrate.TheVariants as ways
 use Rattle.hir_scope.specs.declared.imports.ImportOrGlob.{ImportOrGlob}
 use Rattle.hir_scope.specs.declared.imports.ImportOrGlob.TheVariants as value_ways
-use Rattle.hir_scope.specs.declared.item_in_ns.ItemInNs.{ItemInNs}
-use Rattle.hir_scope.specs.declared.item_in_ns.ItemInNs.TheVariants as in_ns
 use Rattle.hir_scope.specs.declared.per_ns.PerNs.{PerNs}
 use Rattle.hir_scope.specs.declared.visibility.Visibility.{Visibility}
+use Rattle.hir_scope.specs.declared.visibility.Visibility.TheVariants.{Public}
 use Rattle.hir_scope.proofs.AfterPush.{item_at-with_entry, item_at-with_entry_other}
 use Rattle.hir_scope.proofs.Pushes.{pushed-macros, pushed-types, pushed-values}
 use Rattle.hir_scope_table.specs.Table.{rewritten}
 use Rattle.hir_def_map.specs.Declaration.{listed}
-use Rattle.hir_def_map.specs.State.{ModuleValue, changed_at, globs_in, place_at, pushed_module}
+use Rattle.hir_def_map.specs.State.{ModuleValue, changed_at, globs_in, place_at, pushed_module, with_module_scope}
 use Rattle.hir_def_map.specs.declared.nameres.declaration.Declaration.{Declaration as Listing}
 use Rattle.hir_def_map.specs.declared.nameres.declaration.Declaration.TheVariants as listings
-use Rattle.hir_glob_imports.specs.Keys.{is_unnamed, same_slot, slot_at}
-use Rattle.hir_glob_imports.specs.Rules.{BroughtBy, noted, with_brought}
+use Rattle.hir_glob_imports.specs.Keys.{same_slot, slot_at}
+use Rattle.hir_glob_imports.specs.Rules.{BroughtBy, with_brought}
 use Rattle.hir_glob_imports.specs.View.{View}
 use Rattle.hir_glob_imports.specs.Waves.{Records, adds, edge_with_vis, stays, widens}
 use Rattle.hir_glob_imports.specs.declared.edge.Brought.{Brought}
@@ -50,7 +49,7 @@ use Rattle.hir_glob_imports.specs.declared.edge.Slot.{Slot}
 use Rattle.hir_glob_imports.proofs.Exact.{exact_slot}
 use Rattle.hir_glob_imports.proofs.Settling.{same_itself}
 use Rattle.hir_import_resolution.specs.Changes.{forgotten, forgotten_in}
-use Rattle.hir_import_resolution.specs.Names.{redefined, revised}
+use Rattle.hir_import_resolution.specs.Names.{with_macro, with_macro_vis, with_type, with_type_vis, with_value, with_value_vis}
 use Rattle.hir_def_collector_laws.specs.Globs.{glob_by, glob_of_value}
 use Rattle.hir_def_collector_laws.proofs.ModuleLists.{IsChanged, IsOfLonger, changed-at, changed_one, newest, of_longer, older, other_one}
 use Rattle.hir_def_collector_laws.proofs.Places.{now_with, still_with, still_without}
@@ -145,8 +144,12 @@ module _ (home : ℕ) (name : List ℕ) (items : PerNs) (brought : BroughtBy) (n
 
 -- ---- a note
 
--- a recorded edge of the glob into the module brought what stands in a slot, and its place is one of those that globs brought
-pub record HasNote (own : MapId) (places : List Place) (brought : BroughtBy) (edges : List Edge) (number : ℕ) (key : Key) (name : List ℕ) (id : GlobId) : Type 0 where
+-- where all may see what an edge saw and the edge itself, all may see this
+abbrev pub GivesAll : Brought → Visibility → Type 0
+GivesAll last vis = last.seen.vis ≡ Public → last.edge_vis ≡ Public → vis ≡ Public
+
+-- a recorded edge of the glob into the module brought what stands in a slot, with this visibility, and its place is one of those that globs brought
+pub record HasNote (own : MapId) (places : List Place) (brought : BroughtBy) (edges : List Edge) (number : ℕ) (key : Key) (name : List ℕ) (id : GlobId) (vis : Visibility) : Type 0 where
   pub edge : Edge
   pub last : Brought
   pub noted : brought (slot_at number key) ≡ Some last
@@ -154,6 +157,7 @@ pub record HasNote (own : MapId) (places : List Place) (brought : BroughtBy) (ed
   pub is_glob : edge.id ≡ id
   pub into : edge.importer ≡ number
   pub placed : has_place places (place_at own number name) ≡ true
+  pub given : GivesAll last vis
 
 -- a note stays where what it says does
 pub record Stays (own : MapId) (places places' : List Place) (brought brought' : BroughtBy) (edges edges' : List Edge) (number : ℕ) (key : Key) (name : List ℕ) : Type 0 where
@@ -161,8 +165,8 @@ pub record Stays (own : MapId) (places places' : List Place) (brought brought' :
   pub placed : has_place places (place_at own number name) ≡ true → has_place places' (place_at own number name) ≡ true
   pub edges : KeepsEdges edges edges'
 
-note_stays : {own : MapId} {places places' : List Place} {brought brought' : BroughtBy} {edges edges' : List Edge} {number : ℕ} {key : Key} {name : List ℕ} {id : GlobId}
-    → Stays own places places' brought brought' edges edges' number key name → HasNote own places brought edges number key name id → HasNote own places' brought' edges' number key name id
+note_stays : {own : MapId} {places places' : List Place} {brought brought' : BroughtBy} {edges edges' : List Edge} {number : ℕ} {key : Key} {name : List ℕ} {id : GlobId} {vis : Visibility}
+    → Stays own places places' brought brought' edges edges' number key name → HasNote own places brought edges number key name id vis → HasNote own places' brought' edges' number key name id vis
 note_stays {edges' = edges'} kept note =
     let still : IsStillAt edges' note.last.edge note.edge = kept.edges note.last.edge note.edge note.recorded in
     record {
@@ -173,55 +177,108 @@ note_stays {edges' = edges'} kept note =
       is_glob = still.id ∙ note.is_glob;
       into = still.into ∙ note.into;
       placed = kept.placed note.placed;
+      given = note.given;
     }
 
 -- an edge that brought what stands in a slot brings it again
-renoted : (own : MapId) (places : List Place) (brought : BroughtBy) (edges : List Edge) (slot : Slot) (last now : Brought) → brought slot ≡ Some last → last.edge ≡ now.edge
-    → (number : ℕ) (key : Key) (name : List ℕ) (id : GlobId) → HasNote own places brought edges number key name id → HasNote own places (with_brought brought slot (Some now)) edges number key name id
-renoted own places brought edges slot last now was same number key name id note = go (same_slot slot (slot_at number key)) refl
-  where
-    go : (t : Bool) → same_slot slot (slot_at number key) ≡ t → HasNote own places (with_brought brought slot (Some now)) edges number key name id
-    go true e =
-        let here : slot ≡ slot_at number key = exact_slot slot (slot_at number key) e in
-        let known : Some last ≡ Some note.last = sym was ∙ ap brought here ∙ note.noted in
-        let is_last : last ≡ note.last = cc in
-        record {
-          edge = note.edge;
-          last = now;
-          noted = ap (λ (b : Bool). if b then Some now else brought (slot_at number key)) e;
-          recorded = ap (slice_get edges) (sym same ∙ ap (λ (b : Brought). b.edge) is_last) ∙ note.recorded;
-          is_glob = note.is_glob;
-          into = note.into;
-          placed = note.placed;
-        }
-    go false e = record {
+noted_anew : (own : MapId) (places : List Place) (brought : BroughtBy) (edges : List Edge) (number : ℕ) (key : Key) (name : List ℕ) (id : GlobId) (old new : Visibility) (last now : Brought)
+    → brought (slot_at number key) ≡ Some last → last.edge ≡ now.edge → GivesAll now new
+    → HasNote own places brought edges number key name id old → HasNote own places (with_brought brought (slot_at number key) (Some now)) edges number key name id new
+noted_anew own places brought edges number key name id old new last now was same given note =
+    let known : Some last ≡ Some note.last = sym was ∙ note.noted in
+    let is_last : last ≡ note.last = cc in
+    record {
       edge = note.edge;
-      last = note.last;
-      noted = ap (λ (b : Bool). if b then Some now else brought (slot_at number key)) e ∙ note.noted;
-      recorded = note.recorded;
+      last = now;
+      noted = ap (λ (b : Bool). if b then Some now else brought (slot_at number key)) (same_itself (slot_at number key));
+      recorded = ap (slice_get edges) (sym same ∙ ap (λ (b : Brought). b.edge) is_last) ∙ note.recorded;
       is_glob = note.is_glob;
       into = note.into;
       placed = note.placed;
+      given = given;
     }
 
+-- another edge raises who may see it
+note_raised : {own : MapId} {places : List Place} {brought : BroughtBy} {edges : List Edge} {number : ℕ} {key : Key} {name : List ℕ} {id : GlobId} {old : Visibility} (new : Visibility)
+    → (old ≡ Public → new ≡ Public) → HasNote own places brought edges number key name id old → HasNote own places brought edges number key name id new
+note_raised new wider note = record {
+  edge = note.edge;
+  last = note.last;
+  noted = note.noted;
+  recorded = note.recorded;
+  is_glob = note.is_glob;
+  into = note.into;
+  placed = note.placed;
+  given = λ seen edge. wider (note.given seen edge);
+}
+
 -- ---- the names of one namespace
+
+-- an item of a list by names, written anew
+module _ {D I : Type 0} (new : Item D I → Item D I) (items : List (List ℕ × Item D I)) (name : List ℕ) where
+  set_is_entry : (i : Item D I) → item_at items name ≡ Some i → rewritten new items name (Some i) ≡ with_entry (slice_cmp nat_cmp) items name (new i)
+  set_is_entry i e =
+      sym (ap (λ (b : Bool). cond b (set_value (is_at (slice_cmp nat_cmp name)) items (new i)) (insert_entry (slice_cmp nat_cmp) items name (new i))) (ap is_some e))
+
+  anew_here : (i : Item D I) → item_at items name ≡ Some i → item_at (rewritten new items name (item_at items name)) name ≡ Some (new i)
+  anew_here i e =
+      ap (λ (o : Option (Item D I)). item_at (rewritten new items name o) name) e
+      ∙ ap (λ (es : List (List ℕ × Item D I)). item_at es name) (set_is_entry i e)
+      ∙ item_at-with_entry items name (new i)
+
+  anew_other : (other : List ℕ) → other ≢ name → item_at (rewritten new items name (item_at items name)) other ≡ item_at items other
+  anew_other other ne = go (item_at items name) refl
+    where
+      go : (o : Option (Item D I)) → item_at items name ≡ o → item_at (rewritten new items name o) other ≡ item_at items other
+      go None e = refl
+      go (Some i) e = ap (λ (es : List (List ℕ × Item D I)). item_at es other) (set_is_entry i e) ∙ item_at-with_entry_other items name (new i) other ne
 
 module _ {D I : Type 0} (glob : I → Option GlobId) (at : List ℕ → Key) where
   -- each name that a glob brought has its note
   abbrev pub AreNotedIn : MapId → List Place → BroughtBy → List Edge → ℕ → List (List ℕ × Item D I) → Type 0
   AreNotedIn own places brought edges number items =
-      (name : List ℕ) (id : GlobId) → glob_by glob (item_at items name) ≡ Some id → HasNote own places brought edges number (at name) name id
+      (name : List ℕ) (item : Item D I) (id : GlobId) → item_at items name ≡ Some item → option_and_then glob item.import ≡ Some id
+      → HasNote own places brought edges number (at name) name id item.vis
 
   written_other : (items : List (List ℕ × Item D I)) (name other : List ℕ) (c : Option (Candidate D I)) → other ≢ name → item_at (written_items name c items) other ≡ item_at items other
   written_other items name other None ne = refl
   written_other items name other (Some c) ne = item_at-with_entry_other items name c.push.item other ne
 
-  -- ---- a push of one name
+  -- ---- a change of one name
 
   module _ (same_def : D → D → Bool) (same_import : I → I → Bool) (one_name : (a b : List ℕ) → at a ≡ at b → a ≡ b) (own : MapId) (home : ℕ) (name : List ℕ)
       (places : List Place) (brought : BroughtBy) (edges : List Edge) (items : List (List ℕ × Item D I)) where
     abbrev here : Place
     here = place_at own home name
+
+    -- a name of the module is another one, if its slot is
+    other_name : (n : List ℕ) → same_slot (slot_at home (at name)) (slot_at home (at n)) ≡ false → n ≢ name
+    other_name n away e =
+        true≢false (sym (same_itself (slot_at home (at name))) ∙ ap (λ (x : List ℕ). same_slot (slot_at home (at name)) (slot_at home (at x))) (sym e) ∙ away)
+
+    -- where other names are as they were, it is enough to know what comes of the name itself
+    module _ (places' : List Place) (brought' : BroughtBy) (after : List (List ℕ × Item D I))
+        (other_places : (q : Place) → q ≢ here → has_place places q ≡ true → has_place places' q ≡ true)
+        (other_slots : (n : List ℕ) → same_slot (slot_at home (at name)) (slot_at home (at n)) ≡ false → brought' (slot_at home (at n)) ≡ brought (slot_at home (at n)))
+        (other_items : (n : List ℕ) → n ≢ name → item_at after n ≡ item_at items n) where
+      by_name : ((item : Item D I) (id : GlobId) → item_at after name ≡ Some item → option_and_then glob item.import ≡ Some id → HasNote own places' brought' edges home (at name) name id item.vis)
+          → AreNotedIn own places brought edges home items → AreNotedIn own places' brought' edges home after
+      by_name at_name f n item id e g = go (same_slot (slot_at home (at name)) (slot_at home (at n))) refl
+        where
+          go : (t : Bool) → same_slot (slot_at home (at name)) (slot_at home (at n)) ≡ t → HasNote own places' brought' edges home (at n) n id item.vis
+          go true s =
+              let same : name ≡ n = one_name name n (ap (λ (x : Slot). x.key) (exact_slot (slot_at home (at name)) (slot_at home (at n)) s)) in
+              subst (λ (x : List ℕ). HasNote own places' brought' edges home (at x) x id item.vis) same (at_name item id (ap (item_at after) same ∙ e) g)
+          go false s =
+              let ne : n ≢ name = other_name n s in
+              let kept : Stays own places places' brought brought' edges edges home (at n) n = record {
+                noted = other_slots n s;
+                placed = other_places (place_at own home n) (λ h. ne (ap (λ (q : Place). q.1) h));
+                edges = keeps_all edges;
+              } in
+              note_stays kept (f n item id (sym (other_items n ne) ∙ e) g)
+
+    -- ---- a push
 
     abbrev pub items_after : Option (Candidate D I) → List (List ℕ × Item D I)
     items_after c = written_items name (taken same_def same_import items places here c) items
@@ -237,78 +294,58 @@ module _ {D I : Type 0} (glob : I → Option GlobId) (at : List ℕ → Key) whe
         go true = still_with here q places h
         go false = still_without here q ne places h
 
-    -- a name of the module is another one, if its slot is
-    other_name : (n : List ℕ) → same_slot (slot_at home (at name)) (slot_at home (at n)) ≡ false → n ≢ name
-    other_name n away e =
-        true≢false (sym (same_itself (slot_at home (at name))) ∙ ap (λ (x : List ℕ). same_slot (slot_at home (at name)) (slot_at home (at x))) (sym e) ∙ away)
-
-    -- where it is settled what comes of the name itself, it is for the module
-    module _ (c : Option (Candidate D I)) (brought' : BroughtBy)
-        (others : (n : List ℕ) → same_slot (slot_at home (at name)) (slot_at home (at n)) ≡ false → brought' (slot_at home (at n)) ≡ brought (slot_at home (at n))) where
-      by_name : ((id : GlobId) → glob_by glob (item_at (items_after c) name) ≡ Some id → HasNote own (places_after c) brought' edges home (at name) name id)
-          → AreNotedIn own places brought edges home items → AreNotedIn own (places_after c) brought' edges home (items_after c)
-      by_name at_name f n id e = go (same_slot (slot_at home (at name)) (slot_at home (at n))) refl
-        where
-          go : (t : Bool) → same_slot (slot_at home (at name)) (slot_at home (at n)) ≡ t → HasNote own (places_after c) brought' edges home (at n) n id
-          go true s =
-              let same : name ≡ n = one_name name n (ap (λ (x : Slot). x.key) (exact_slot (slot_at home (at name)) (slot_at home (at n)) s)) in
-              subst (λ (x : List ℕ). HasNote own (places_after c) brought' edges home (at x) x id) same
-              (at_name id (ap (λ (x : List ℕ). glob_by glob (item_at (items_after c) x)) same ∙ e))
-          go false s =
-              let ne : n ≢ name = other_name n s in
-              let item : item_at (items_after c) n ≡ item_at items n = written_other items name n (taken same_def same_import items places here c) ne in
-              let kept : Stays own places (places_after c) brought brought' edges edges home (at n) n = record {
-                noted = others n s;
-                placed = still_placed (taken same_def same_import items places here c) (place_at own home n) (λ g. ne (ap (λ (q : Place). q.1) g));
-                edges = keeps_all edges;
-              } in
-              note_stays kept (f n id (sym (ap (glob_by glob) item) ∙ e))
+    other_written : (c : Option (Candidate D I)) (n : List ℕ) → n ≢ name → item_at (items_after c) n ≡ item_at items n
+    other_written c n ne = written_other items name n (taken same_def same_import items places here c) ne
 
     -- ---- by no glob
 
     abbrev pub IsExplicit : Option (Candidate D I) → Type 0
     IsExplicit None = Unit {0}
-    IsExplicit (Some c) = (c.push.is_glob ≡ false) × (glob_by glob (Some c.push.item) ≡ None)
+    IsExplicit (Some c) = (c.push.is_glob ≡ false) × (option_and_then glob c.push.item.import ≡ None)
 
     -- it takes the place of what a glob brought
-    taken_anyway : (push : Push D I) (o : Option (Item D I)) (globbed : Bool) (id : GlobId) → push.is_glob ≡ false → glob_by glob o ≡ Some id → globbed ≡ true
-        → takes_slot same_def same_import globbed o push ≡ true
-    taken_anyway push None globbed id e is g = refl
-    taken_anyway push (Some b) false id e is g = absurd (true≢false (sym g))
-    taken_anyway push (Some b) true id e is g = rw e refl
+    taken_anyway : (push : Push D I) (b : Item D I) (globbed : Bool) → push.is_glob ≡ false → globbed ≡ true → takes_slot same_def same_import globbed (Some b) push ≡ true
+    taken_anyway push b false e g = absurd (true≢false (sym g))
+    taken_anyway push b true e g = rw e refl
 
     explicit_item : (c : Candidate D I) → IsExplicit (Some c) → AreNotedIn own places brought edges home items → glob_by glob (item_at (items_after (Some c)) name) ≡ None
     explicit_item c explicit f = go (takes_slot same_def same_import (has_place places here) (item_at items name) c.push) refl
       where
-        left : (o : Option GlobId) → glob_by glob (item_at items name) ≡ o → takes_slot same_def same_import (has_place places here) (item_at items name) c.push ≡ false → o ≡ None
+        left : (o : Option (Item D I)) → item_at items name ≡ o → takes_slot same_def same_import (has_place places here) o c.push ≡ false → glob_by glob o ≡ None
         left None e t = refl
-        left (Some id) e t = absurd (true≢false (sym (taken_anyway c.push (item_at items name) (has_place places here) id explicit.0 e (f name id e).placed) ∙ t))
+        left (Some b) e t = on (option_and_then glob b.import) refl
+          where
+            on : (g : Option GlobId) → option_and_then glob b.import ≡ g → g ≡ None
+            on None h = refl
+            on (Some id) h = absurd (true≢false (sym (taken_anyway c.push b (has_place places here) explicit.0 (f name b id e h).placed) ∙ t))
 
         go : (b : Bool) → takes_slot same_def same_import (has_place places here) (item_at items name) c.push ≡ b
             → glob_by glob (item_at (written_items name (cond b (Some c) None) items) name) ≡ None
         go true t = ap (glob_by glob) (item_at-with_entry items name c.push.item) ∙ explicit.1
-        go false t = left (glob_by glob (item_at items name)) refl t
+        go false t = left (item_at items name) refl t
 
     explicit_name : (c : Option (Candidate D I)) (binds : Bool) (brought' : BroughtBy) → IsExplicit c → (c ≡ None → binds ≡ false)
         → brought' (slot_at home (at name)) ≡ forgotten_in home (at name) binds brought (slot_at home (at name)) → AreNotedIn own places brought edges home items
-        → (id : GlobId) → glob_by glob (item_at (items_after c) name) ≡ Some id → HasNote own (places_after c) brought' edges home (at name) name id
-    explicit_name None binds brought' explicit binds_not is f id e =
+        → (item : Item D I) (id : GlobId) → item_at (items_after c) name ≡ Some item → option_and_then glob item.import ≡ Some id
+        → HasNote own (places_after c) brought' edges home (at name) name id item.vis
+    explicit_name None binds brought' explicit binds_not is f item id e g =
         let kept : Stays own places places brought brought' edges edges home (at name) name = record {
           noted = is ∙ ap (λ (b : Bool). forgotten_in home (at name) b brought (slot_at home (at name))) (binds_not refl);
           placed = λ h. h;
           edges = keeps_all edges;
         } in
-        note_stays kept (f name id e)
-    explicit_name (Some c) binds brought' explicit binds_not is f id e =
+        note_stays kept (f name item id e g)
+    explicit_name (Some c) binds brought' explicit binds_not is f item id e g =
         let no_glob : glob_by glob (item_at (items_after (Some c)) name) ≡ None = explicit_item c explicit f in
-        absurd (let no : None ≡ Some id = sym no_glob ∙ e in cc)
+        absurd (let no : None ≡ Some id = sym no_glob ∙ ap (glob_by glob) e ∙ g in cc)
 
     -- what is bound explicitly is no glob's any more
     pub explicit_here : (c : Option (Candidate D I)) (binds : Bool) (brought' : BroughtBy) → IsExplicit c → (c ≡ None → binds ≡ false)
         → ((n : List ℕ) → brought' (slot_at home (at n)) ≡ forgotten_in home (at name) binds brought (slot_at home (at n)))
         → AreNotedIn own places brought edges home items → AreNotedIn own (places_after c) brought' edges home (items_after c)
     explicit_here c binds brought' explicit binds_not forgets f =
-        by_name c brought' (λ n s. forgets n ∙ unforgotten home (at name) binds brought (slot_at home (at n)) s)
+        by_name (places_after c) brought' (items_after c) (still_placed (taken same_def same_import items places here c))
+        (λ n s. forgets n ∙ unforgotten home (at name) binds brought (slot_at home (at n)) s) (other_written c)
         (explicit_name c binds brought' explicit binds_not (forgets name) f) f
 
     -- ---- by a glob
@@ -316,14 +353,20 @@ module _ {D I : Type 0} (glob : I → Option GlobId) (at : List ℕ → Key) whe
     abbrev pub brought_now : Brought → BroughtBy
     brought_now now = with_brought brought (slot_at home (at name)) (Some now)
 
-    copied_name : (c : Candidate D I) (e : Edge) (now : Brought) → c.push.is_glob ≡ true → glob_by glob (Some c.push.item) ≡ Some e.id → item_at items name ≡ None
-        → slice_get edges now.edge ≡ Some e → e.importer ≡ home
-        → (id : GlobId) → glob_by glob (item_at (items_after (Some c)) name) ≡ Some id → HasNote own (places_after (Some c)) (brought_now now) edges home (at name) name id
-    copied_name c e now globbed brings vacant recorded into id is =
+    other_brought : (now : Brought) (n : List ℕ) → same_slot (slot_at home (at name)) (slot_at home (at n)) ≡ false → brought_now now (slot_at home (at n)) ≡ brought (slot_at home (at n))
+    other_brought now n s = ap (λ (b : Bool). if b then Some now else brought (slot_at home (at n))) s
+
+    copied_name : (c : Candidate D I) (e : Edge) (now : Brought) → c.push.is_glob ≡ true → option_and_then glob c.push.item.import ≡ Some e.id → GivesAll now c.push.item.vis
+        → item_at items name ≡ None → slice_get edges now.edge ≡ Some e → e.importer ≡ home
+        → (item : Item D I) (id : GlobId) → item_at (items_after (Some c)) name ≡ Some item → option_and_then glob item.import ≡ Some id
+        → HasNote own (places_after (Some c)) (brought_now now) edges home (at name) name id item.vis
+    copied_name c e now globbed brings given vacant recorded into item id is by =
         let takes_it : taken same_def same_import items places here (Some c) ≡ Some c = ap (λ (o : Option (Item D I)). cond (takes_slot same_def same_import (has_place places here) o c.push) (Some c) None) vacant in
-        let item : item_at (items_after (Some c)) name ≡ Some c.push.item =
+        let stands : item_at (items_after (Some c)) name ≡ Some c.push.item =
         ap (λ (o : Option (Candidate D I)). item_at (written_items name o items) name) takes_it ∙ item_at-with_entry items name c.push.item in
-        let ids : Some e.id ≡ Some id = sym brings ∙ sym (ap (glob_by glob) item) ∙ is in
+        let known : Some c.push.item ≡ Some item = sym stands ∙ is in
+        let same : c.push.item ≡ item = cc in
+        let ids : Some e.id ≡ Some id = sym brings ∙ ap (λ (x : Item D I). option_and_then glob x.import) same ∙ by in
         record {
           edge = e;
           last = now;
@@ -335,73 +378,58 @@ module _ {D I : Type 0} (glob : I → Option GlobId) (at : List ℕ → Key) whe
               ap (λ (o : Option (Candidate D I)). has_place (written_places here o places) here) takes_it
               ∙ ap (λ (b : Bool). has_place (cond b (with_place places here) (without_place places here)) here) globbed
               ∙ now_with here places;
+          given = subst (λ (x : Item D I). GivesAll now x.vis) same given;
         }
 
     -- what a glob brings to a vacant slot is noted
-    pub copied_here : (c : Candidate D I) (e : Edge) (now : Brought) → c.push.is_glob ≡ true → glob_by glob (Some c.push.item) ≡ Some e.id → item_at items name ≡ None
-        → slice_get edges now.edge ≡ Some e → e.importer ≡ home
+    pub copied_here : (c : Candidate D I) (e : Edge) (now : Brought) → c.push.is_glob ≡ true → option_and_then glob c.push.item.import ≡ Some e.id → GivesAll now c.push.item.vis
+        → item_at items name ≡ None → slice_get edges now.edge ≡ Some e → e.importer ≡ home
         → AreNotedIn own places brought edges home items → AreNotedIn own (places_after (Some c)) (brought_now now) edges home (items_after (Some c))
-    copied_here c e now globbed brings vacant recorded into f =
-        by_name (Some c) (brought_now now) (λ n s. ap (λ (b : Bool). if b then Some now else brought (slot_at home (at n))) s)
-        (copied_name c e now globbed brings vacant recorded into) f
+    copied_here c e now globbed brings given vacant recorded into f =
+        by_name (places_after (Some c)) (brought_now now) (items_after (Some c)) (still_placed (taken same_def same_import items places here (Some c))) (other_brought now) (other_written (Some c))
+        (copied_name c e now globbed brings given vacant recorded into) f
 
--- ---- items that are written anew
+    -- ---- an item is written anew
 
-module _ {D I : Type 0} (glob : I → Option GlobId) (new : Item D I → Item D I) (keeps : (i : Item D I) → (new i).import ≡ i.import) where
-  set_keeps : (items : List (List ℕ × Item D I)) (name other : List ℕ) (i : Item D I) → item_at items name ≡ Some i
-      → glob_by glob (item_at (set_value (is_at (slice_cmp nat_cmp name)) items (new i)) other) ≡ glob_by glob (item_at items other)
-  set_keeps [] name other i e = refl
-  set_keeps (x ∷ xs) name other i e = go (is_at (slice_cmp nat_cmp name) x.0) e (set_keeps xs name other i)
-    where
-      first : x.1 ≡ i → (b : Bool) → glob_by glob (cond b (Some (new i)) (item_at xs other)) ≡ glob_by glob (cond b (Some x.1) (item_at xs other))
-      first same true = ap (option_and_then glob) (keeps i ∙ sym (ap (λ (y : Item D I). y.import) same))
-      first same false = refl
+    module _ (new : Item D I → Item D I) (keeps : (i : Item D I) → (new i).import ≡ i.import) (brought' : BroughtBy)
+        (other_slots : (n : List ℕ) → same_slot (slot_at home (at name)) (slot_at home (at n)) ≡ false → brought' (slot_at home (at n)) ≡ brought (slot_at home (at n)))
+        (renoted : (i : Item D I) (id : GlobId) → item_at items name ≡ Some i → HasNote own places brought edges home (at name) name id i.vis
+        → HasNote own places brought' edges home (at name) name id (new i).vis) where
+      abbrev after_rewriting : List (List ℕ × Item D I)
+      after_rewriting = rewritten new items name (item_at items name)
 
-      behind : (b : Bool) → glob_by glob (item_at (set_value (is_at (slice_cmp nat_cmp name)) xs (new i)) other) ≡ glob_by glob (item_at xs other)
-          → glob_by glob (cond b (Some x.1) (item_at (set_value (is_at (slice_cmp nat_cmp name)) xs (new i)) other)) ≡ glob_by glob (cond b (Some x.1) (item_at xs other))
-      behind true h = refl
-      behind false h = h
+      rewritten_name : AreNotedIn own places brought edges home items → (item : Item D I) (id : GlobId) → item_at after_rewriting name ≡ Some item → option_and_then glob item.import ≡ Some id
+          → HasNote own places brought' edges home (at name) name id item.vis
+      rewritten_name f item id e g = go (item_at items name) refl
+        where
+          go : (o : Option (Item D I)) → item_at items name ≡ o → HasNote own places brought' edges home (at name) name id item.vis
+          go None h =
+              let same : item_at after_rewriting name ≡ None = ap (λ (o : Option (Item D I)). item_at (rewritten new items name o) name) h ∙ h in
+              absurd (let no : None ≡ Some item = sym same ∙ e in cc)
+          go (Some i) h =
+              let known : Some (new i) ≡ Some item = sym (anew_here new items name i h) ∙ e in
+              let same : new i ≡ item = cc in
+              let by : option_and_then glob i.import ≡ Some id = ap (option_and_then glob) (sym (keeps i) ∙ ap (λ (x : Item D I). x.import) same) ∙ g in
+              subst (λ (x : Item D I). HasNote own places brought' edges home (at name) name id x.vis) same (renoted i id h (f name i id h by))
 
-      go : (b : Bool) → cond b (Some x.1) (item_at xs name) ≡ Some i
-          → (item_at xs name ≡ Some i → glob_by glob (item_at (set_value (is_at (slice_cmp nat_cmp name)) xs (new i)) other) ≡ glob_by glob (item_at xs other))
-          → glob_by glob (item_at (cond b ((x.0, new i) ∷ xs) (x ∷ set_value (is_at (slice_cmp nat_cmp name)) xs (new i))) other)
-          ≡ glob_by glob (cond (is_at (slice_cmp nat_cmp other) x.0) (Some x.1) (item_at xs other))
-      go true h below = first (let same : x.1 ≡ i = cc in same) (is_at (slice_cmp nat_cmp other) x.0)
-      go false h below = behind (is_at (slice_cmp nat_cmp other) x.0) (below h)
-
-  pub rewritten_keeps : (items : List (List ℕ × Item D I)) (name other : List ℕ) → glob_by glob (item_at (rewritten new items name (item_at items name)) other) ≡ glob_by glob (item_at items other)
-  rewritten_keeps items name other = go (item_at items name) refl
-    where
-      go : (o : Option (Item D I)) → item_at items name ≡ o → glob_by glob (item_at (rewritten new items name o) other) ≡ glob_by glob (item_at items other)
-      go None e = refl
-      go (Some i) e = set_keeps items name other i e
+      pub rewritten_here : AreNotedIn own places brought edges home items → AreNotedIn own places brought' edges home after_rewriting
+      rewritten_here f = by_name places brought' after_rewriting (λ q ne h. h) other_slots (anew_other new items name) (rewritten_name f) f
 
 -- ---- a scope
 
--- the same globs brought what names stand for
-pub record HasSameGlobs (old new : ScopeValue) : Type 0 where
-  pub types : (name : List ℕ) → glob_by glob_of (item_at new.types name) ≡ glob_by glob_of (item_at old.types name)
-  pub values : (name : List ℕ) → glob_by glob_of_value (item_at new.values name) ≡ glob_by glob_of_value (item_at old.values name)
-  pub macros : (name : List ℕ) → glob_by glob_of (item_at new.macros name) ≡ glob_by glob_of (item_at old.macros name)
+-- names stand for what they did
+pub record HasSameNames (old new : ScopeValue) : Type 0 where
+  pub types : new.types ≡ old.types
+  pub values : new.values ≡ old.values
+  pub macros : new.macros ≡ old.macros
 
-pub same_listed : (d : Listing) (s : ScopeValue) → HasSameGlobs s (listed d s)
-same_listed (listings.Def def) s = record { types = λ name. refl; values = λ name. refl; macros = λ name. refl }
-same_listed (listings.Use use_) s = record { types = λ name. refl; values = λ name. refl; macros = λ name. refl }
-same_listed (listings.ExternCrate extern_crate) s = record { types = λ name. refl; values = λ name. refl; macros = λ name. refl }
-same_listed (listings.Impl imp is_trait_impl) s = record { types = λ name. refl; values = λ name. refl; macros = λ name. refl }
-same_listed (listings.ExternBlock extern_block) s = record { types = λ name. refl; values = λ name. refl; macros = λ name. refl }
-same_listed (listings.UnnamedConst konst) s = record { types = λ name. refl; values = λ name. refl; macros = λ name. refl }
-
-pub same_redefined : (name : List ℕ) (def : ItemInNs) (vis : Visibility) (s : ScopeValue) → HasSameGlobs s (redefined name def vis s)
-same_redefined name (in_ns.Types def) vis s = record { types = rewritten_keeps glob_of (with_item_definition def vis) (λ i. refl) s.types name; values = λ n. refl; macros = λ n. refl }
-same_redefined name (in_ns.Values def) vis s = record { types = λ n. refl; values = rewritten_keeps glob_of_value (with_item_definition def vis) (λ i. refl) s.values name; macros = λ n. refl }
-same_redefined name (in_ns.Macros def) vis s = record { types = λ n. refl; values = λ n. refl; macros = rewritten_keeps glob_of (with_item_definition def vis) (λ i. refl) s.macros name }
-
-pub same_revised : (key : Key) (vis : Visibility) (s : ScopeValue) → HasSameGlobs s (revised key vis s)
-same_revised (Types name) vis s = record { types = rewritten_keeps glob_of (with_item_visibility vis) (λ i. refl) s.types name; values = λ n. refl; macros = λ n. refl }
-same_revised (Values name) vis s = record { types = λ n. refl; values = rewritten_keeps glob_of_value (with_item_visibility vis) (λ i. refl) s.values name; macros = λ n. refl }
-same_revised (Macros name) vis s = record { types = λ n. refl; values = λ n. refl; macros = rewritten_keeps glob_of (with_item_visibility vis) (λ i. refl) s.macros name }
-same_revised (Unnamed id) vis s = record { types = λ n. refl; values = λ n. refl; macros = λ n. refl }
+pub same_listed : (d : Listing) (s : ScopeValue) → HasSameNames s (listed d s)
+same_listed (listings.Def def) s = record { types = refl; values = refl; macros = refl }
+same_listed (listings.Use use_) s = record { types = refl; values = refl; macros = refl }
+same_listed (listings.ExternCrate extern_crate) s = record { types = refl; values = refl; macros = refl }
+same_listed (listings.Impl imp is_trait_impl) s = record { types = refl; values = refl; macros = refl }
+same_listed (listings.ExternBlock extern_block) s = record { types = refl; values = refl; macros = refl }
+same_listed (listings.UnnamedConst konst) s = record { types = refl; values = refl; macros = refl }
 
 -- each name of a scope that a glob brought has its note
 pub record IsNotedScope (own : MapId) (globs : GlobNames) (brought : BroughtBy) (edges : List Edge) (number : ℕ) (s : ScopeValue) : Type 0 where
@@ -410,11 +438,11 @@ pub record IsNotedScope (own : MapId) (globs : GlobNames) (brought : BroughtBy) 
   pub macros : AreNotedIn glob_of Macros own globs.macros brought edges number s.macros
 
 noted_same : {own : MapId} {globs : GlobNames} {brought : BroughtBy} {edges : List Edge} {number : ℕ} {old new : ScopeValue}
-    → HasSameGlobs old new → IsNotedScope own globs brought edges number old → IsNotedScope own globs brought edges number new
-noted_same same f = record {
-  types = λ name id e. f.types name id (sym (same.types name) ∙ e);
-  values = λ name id e. f.values name id (sym (same.values name) ∙ e);
-  macros = λ name id e. f.macros name id (sym (same.macros name) ∙ e);
+    → HasSameNames old new → IsNotedScope own globs brought edges number old → IsNotedScope own globs brought edges number new
+noted_same {own = own} {globs = globs} {brought = brought} {edges = edges} {number = number} same f = record {
+  types = subst (λ (xs : List (List ℕ × Item ModuleDefId ImportOrExternCrate)). AreNotedIn glob_of Types own globs.types brought edges number xs) (sym same.types) f.types;
+  values = subst (λ (xs : List (List ℕ × Item ModuleDefId ImportOrGlob)). AreNotedIn glob_of_value Values own globs.values brought edges number xs) (sym same.values) f.values;
+  macros = subst (λ (xs : List (List ℕ × Item MacroId ImportOrExternCrate)). AreNotedIn glob_of Macros own globs.macros brought edges number xs) (sym same.macros) f.macros;
 }
 
 -- ---- modules
@@ -422,22 +450,38 @@ noted_same same f = record {
 pub record AreNoted (own : MapId) (globs : GlobNames) (brought : BroughtBy) (edges : List Edge) (ms : List ModuleValue) : Type 0 where
   pub each : (number : ℕ) (m : ModuleValue) → slice_get ms number ≡ Some m → IsNotedScope own globs brought edges number m.scope
 
--- a scope changes, and what brought its names stays
+-- one scope changes, and of other modules nothing else is noted
+module _ (own : MapId) (globs : GlobNames) (brought brought' : BroughtBy) (edges : List Edge) (ms : List ModuleValue) (at : ℕ) (change : ModuleValue → ModuleValue)
+    (at_home : (old : ModuleValue) → slice_get ms at ≡ Some old → IsNotedScope own globs brought edges at old.scope → IsNotedScope own globs brought' edges at (change old).scope)
+    (elsewhere : (number : ℕ) → number ≢ at → (key : Key) → brought' (slot_at number key) ≡ brought (slot_at number key)) where
+  pub noted_changed : AreNoted own globs brought edges ms → AreNoted own globs brought' edges (changed_at ms at change)
+  noted_changed f = record { each = λ number m e. go number m (changed-at ms at change number m e) }
+    where
+      go : (number : ℕ) (m : ModuleValue) → IsChanged ms at change number m → IsNotedScope own globs brought' edges number m.scope
+      go number m (changed_one old here there is) =
+          let found : slice_get ms at ≡ Some old = subst (λ (k : ℕ). slice_get ms k ≡ Some old) here there in
+          subst (λ (k : ℕ). IsNotedScope own globs brought' edges k m.scope) (sym here)
+          (subst (λ (v : ModuleValue). IsNotedScope own globs brought' edges at v.scope) (sym is) (at_home old found (f.each at old found)))
+      go number m (other_one ne there) =
+          let s : IsNotedScope own globs brought edges number m.scope = f.each number m there in
+          record {
+            types = λ n i id e g. note_stays (record { noted = elsewhere number ne (Types n); placed = λ h. h; edges = keeps_all edges }) (s.types n i id e g);
+            values = λ n i id e g. note_stays (record { noted = elsewhere number ne (Values n); placed = λ h. h; edges = keeps_all edges }) (s.values n i id e g);
+            macros = λ n i id e g. note_stays (record { noted = elsewhere number ne (Macros n); placed = λ h. h; edges = keeps_all edges }) (s.macros n i id e g);
+          }
+
+-- names stand for what they did
 pub noted_rescoped : {own : MapId} {globs : GlobNames} {brought : BroughtBy} {edges : List Edge} (ms : List ModuleValue) (at : ℕ) (change : ModuleValue → ModuleValue)
-    → ((m : ModuleValue) → HasSameGlobs m.scope (change m).scope) → AreNoted own globs brought edges ms → AreNoted own globs brought edges (changed_at ms at change)
-noted_rescoped {own = own} {globs = globs} {brought = brought} {edges = edges} ms at change same f = record { each = λ number m e. go number m (changed-at ms at change number m e) }
-  where
-    go : (number : ℕ) (m : ModuleValue) → IsChanged ms at change number m → IsNotedScope own globs brought edges number m.scope
-    go number m (changed_one old here there is) =
-        subst (λ (x : ModuleValue). IsNotedScope own globs brought edges number x.scope) (sym is) (noted_same (same old) (f.each number old there))
-    go number m (other_one ne there) = f.each number m there
+    → ((m : ModuleValue) → HasSameNames m.scope (change m).scope) → AreNoted own globs brought edges ms → AreNoted own globs brought edges (changed_at ms at change)
+noted_rescoped {own = own} {globs = globs} {brought = brought} {edges = edges} ms at change same f =
+    noted_changed own globs brought brought edges ms at change (λ old there g. noted_same (same old) g) (λ number ne key. refl) f
 
 -- nothing is brought where nothing is bound
 noted_empty : (own : MapId) (globs : GlobNames) (brought : BroughtBy) (edges : List Edge) (number : ℕ) → IsNotedScope own globs brought edges number empty_scope
 noted_empty own globs brought edges number = record {
-  types = λ name id e. absurd (let no : ⊥ = cc in no);
-  values = λ name id e. absurd (let no : ⊥ = cc in no);
-  macros = λ name id e. absurd (let no : ⊥ = cc in no);
+  types = λ name item id e g. absurd (let no : ⊥ = cc in no);
+  values = λ name item id e g. absurd (let no : ⊥ = cc in no);
+  macros = λ name item id e g. absurd (let no : ⊥ = cc in no);
 }
 
 -- one more module binds nothing
@@ -450,26 +494,6 @@ noted_longer {own = own} {globs = globs} {brought = brought} {edges = edges} ms 
     go number m (newest h) =
         subst (λ (s : ScopeValue). IsNotedScope own globs brought edges number s) (sym (ap (λ (v : ModuleValue). v.scope) h ∙ empty)) (noted_empty own globs brought edges number)
 
--- what an edge brought before it may bring again
-pub noted_again : (own : MapId) (globs : GlobNames) (brought : BroughtBy) (edges : List Edge) (ms : List ModuleValue) (slot : Slot) (last now : Brought) → brought slot ≡ Some last → last.edge ≡ now.edge
-    → AreNoted own globs brought edges ms → AreNoted own globs (noted brought slot now) edges ms
-noted_again own globs brought edges ms slot last now was same f = go (is_unnamed slot.key)
-  where
-    named : AreNoted own globs (with_brought brought slot (Some now)) edges ms
-    named = record {
-      each = λ number m e.
-          let s : IsNotedScope own globs brought edges number m.scope = f.each number m e in
-          record {
-            types = λ name id g. renoted own globs.types brought edges slot last now was same number (Types name) name id (s.types name id g);
-            values = λ name id g. renoted own globs.values brought edges slot last now was same number (Values name) name id (s.values name id g);
-            macros = λ name id g. renoted own globs.macros brought edges slot last now was same number (Macros name) name id (s.macros name id g);
-          };
-    }
-
-    go : (b : Bool) → AreNoted own globs (if b then brought else with_brought brought slot (Some now)) edges ms
-    go true = f
-    go false = named
-
 -- globs are recorded
 pub noted_recorded : (own : MapId) (globs : GlobNames) (brought : BroughtBy) (old new : List Edge) (ms : List ModuleValue) → KeepsEdges old new
     → AreNoted own globs brought old ms → AreNoted own globs brought new ms
@@ -477,9 +501,9 @@ noted_recorded own globs brought old new ms keeps f = record {
   each = λ number m e.
       let s : IsNotedScope own globs brought old number m.scope = f.each number m e in
       record {
-        types = λ name id g. note_stays (record { noted = refl; placed = λ h. h; edges = keeps }) (s.types name id g);
-        values = λ name id g. note_stays (record { noted = refl; placed = λ h. h; edges = keeps }) (s.values name id g);
-        macros = λ name id g. note_stays (record { noted = refl; placed = λ h. h; edges = keeps }) (s.macros name id g);
+        types = λ name i id e g. note_stays (record { noted = refl; placed = λ h. h; edges = keeps }) (s.types name i id e g);
+        values = λ name i id e g. note_stays (record { noted = refl; placed = λ h. h; edges = keeps }) (s.values name i id e g);
+        macros = λ name i id e g. note_stays (record { noted = refl; placed = λ h. h; edges = keeps }) (s.macros name i id e g);
       };
 }
 
@@ -490,9 +514,9 @@ noted_traits own globs brought edges ms home trait by f = record {
   each = λ number m e.
       let s : IsNotedScope own globs brought edges number m.scope = f.each number m e in
       record {
-        types = λ name id g. note_stays (record { noted = apart number (Types name) (λ h. let no : ⊥ = cc in no); placed = λ h. h; edges = keeps_all edges }) (s.types name id g);
-        values = λ name id g. note_stays (record { noted = apart number (Values name) (λ h. let no : ⊥ = cc in no); placed = λ h. h; edges = keeps_all edges }) (s.values name id g);
-        macros = λ name id g. note_stays (record { noted = apart number (Macros name) (λ h. let no : ⊥ = cc in no); placed = λ h. h; edges = keeps_all edges }) (s.macros name id g);
+        types = λ name i id e g. note_stays (record { noted = apart number (Types name) (λ h. let no : ⊥ = cc in no); placed = λ h. h; edges = keeps_all edges }) (s.types name i id e g);
+        values = λ name i id e g. note_stays (record { noted = apart number (Values name) (λ h. let no : ⊥ = cc in no); placed = λ h. h; edges = keeps_all edges }) (s.values name i id e g);
+        macros = λ name i id e g. note_stays (record { noted = apart number (Macros name) (λ h. let no : ⊥ = cc in no); placed = λ h. h; edges = keeps_all edges }) (s.macros name i id e g);
       };
 }
   where
@@ -605,9 +629,9 @@ module _ (own : MapId) (globs : GlobNames) (brought : BroughtBy) (edges : List E
   pushed_there : (o : Option ModuleValue) (brought' : BroughtBy) (number : ℕ) → number ≢ home → ((key : Key) → brought' (slot_at number key) ≡ brought (slot_at number key))
       → (s : ScopeValue) → IsNotedScope own globs brought edges number s → IsNotedScope own (globs_in o globs at_name items by) brought' edges number s
   pushed_there o brought' number ne same s f = record {
-    types = λ n id g. note_stays (record { noted = same (Types n); placed = still_types (place_at own number n) (other_place number n ne) o; edges = keeps_all edges }) (f.types n id g);
-    values = λ n id g. note_stays (record { noted = same (Values n); placed = still_values (place_at own number n) (other_place number n ne) o; edges = keeps_all edges }) (f.values n id g);
-    macros = λ n id g. note_stays (record { noted = same (Macros n); placed = still_macros (place_at own number n) (other_place number n ne) o; edges = keeps_all edges }) (f.macros n id g);
+    types = λ n i id e g. note_stays (record { noted = same (Types n); placed = still_types (place_at own number n) (other_place number n ne) o; edges = keeps_all edges }) (f.types n i id e g);
+    values = λ n i id e g. note_stays (record { noted = same (Values n); placed = still_values (place_at own number n) (other_place number n ne) o; edges = keeps_all edges }) (f.values n i id e g);
+    macros = λ n i id e g. note_stays (record { noted = same (Macros n); placed = still_macros (place_at own number n) (other_place number n ne) o; edges = keeps_all edges }) (f.macros n i id e g);
   }
 
   forgotten_there : (number : ℕ) → number ≢ home → (key : Key) → brought_after (slot_at number key) ≡ brought (slot_at number key)
@@ -642,70 +666,184 @@ module _ (own : MapId) (globs : GlobNames) (brought : BroughtBy) (edges : List E
       → AreNoted own (globs_in (slice_get ms home) globs at_name items by) brought_after edges (changed_at ms home (pushed_module globs at_name items by))
   noted_explicit explicit ms f = noted_pushed ms brought_after (λ old at g. pushed_here explicit old.scope g) forgotten_there f
 
--- ---- a glob pushes
+-- ---- an edge brings what stands in a slot
 
-module _ (own : MapId) (globs : GlobNames) (brought : BroughtBy) (edges : List Edge) (e : Edge) (now : Brought) (recorded : slice_get edges now.edge ≡ Some e)
-    (home : ℕ) (into : e.importer ≡ home) (name : List ℕ) where
-  abbrev globs_name : Place
-  globs_name = place_at own home name
-
-  abbrev brought_at : Key → BroughtBy
+module _ (brought : BroughtBy) (now : Brought) (home : ℕ) where
+  abbrev pub brought_at : Key → BroughtBy
   brought_at key = with_brought brought (slot_at home key) (Some now)
 
-  -- what another key of the module has stays
+  -- another key of the module, and another module
   beside : (one other : Key) → one ≢ other → brought_at one (slot_at home other) ≡ brought (slot_at home other)
   beside one other ne = ap (λ (b : Bool). if b then Some now else brought (slot_at home other)) (keys_apart home home one other ne)
 
   elsewhere : (one : Key) (number : ℕ) → number ≢ home → (key : Key) → brought_at one (slot_at number key) ≡ brought (slot_at number key)
   elsewhere one number ne key = ap (λ (b : Bool). if b then Some now else brought (slot_at number key)) (modules_apart home number one key ne)
 
-  copied_type : (def : ModuleDefId) (vis : Visibility) (s : ScopeValue) → item_at s.types name ≡ None → IsNotedScope own globs brought edges home s
-      → IsNotedScope own (pushed_globs s globs_name (types_only def vis None) (Some (ways.Glob e.id)) globs) (brought_at (Types name)) edges home
+  -- another name of the module
+  another : (at : List ℕ → Key) (name n : List ℕ) → same_slot (slot_at home (at name)) (slot_at home (at n)) ≡ false → brought_at (at name) (slot_at home (at n)) ≡ brought (slot_at home (at n))
+  another at name n s = ap (λ (b : Bool). if b then Some now else brought (slot_at home (at n))) s
+
+  -- names of other namespaces of the module keep their notes
+  module _ (own : MapId) (globs : GlobNames) (edges : List Edge) (s : ScopeValue) (f : IsNotedScope own globs brought edges home s) (one : Key) where
+    types_beside : ((n : List ℕ) → one ≢ Types n) → AreNotedIn glob_of Types own globs.types (brought_at one) edges home s.types
+    types_beside ne n i id e g = note_stays (record { noted = beside one (Types n) (ne n); placed = λ h. h; edges = keeps_all edges }) (f.types n i id e g)
+
+    values_beside : ((n : List ℕ) → one ≢ Values n) → AreNotedIn glob_of_value Values own globs.values (brought_at one) edges home s.values
+    values_beside ne n i id e g = note_stays (record { noted = beside one (Values n) (ne n); placed = λ h. h; edges = keeps_all edges }) (f.values n i id e g)
+
+    macros_beside : ((n : List ℕ) → one ≢ Macros n) → AreNotedIn glob_of Macros own globs.macros (brought_at one) edges home s.macros
+    macros_beside ne n i id e g = note_stays (record { noted = beside one (Macros n) (ne n); placed = λ h. h; edges = keeps_all edges }) (f.macros n i id e g)
+
+-- ---- a glob pushes
+
+module _ (own : MapId) (globs : GlobNames) (brought : BroughtBy) (edges : List Edge) (e : Edge) (now : Brought) (recorded : slice_get edges now.edge ≡ Some e)
+    (home : ℕ) (into : e.importer ≡ home) (name : List ℕ) (vis : Visibility) (given : GivesAll now vis) where
+  abbrev globs_name : Place
+  globs_name = place_at own home name
+
+  copied_type : (def : ModuleDefId) (s : ScopeValue) → item_at s.types name ≡ None → IsNotedScope own globs brought edges home s
+      → IsNotedScope own (pushed_globs s globs_name (types_only def vis None) (Some (ways.Glob e.id)) globs) (brought_at brought now home (Types name)) edges home
       (pushed_scope globs globs_name (types_only def vis None) (Some (ways.Glob e.id)) s)
-  copied_type def vis s vacant f = record {
+  copied_type def s vacant f = record {
     types = copied_here glob_of Types module_def.ghosts.eq item_import.ghosts.eq one_type own home name globs.types brought edges s.types
-        (record { push = record { item = record { def = def; vis = vis; import = Some (ways.Glob e.id) }; is_glob = true }; source = reached.Def def }) e now refl refl vacant recorded into f.types;
-    values = λ n id g. note_stays (record { noted = beside (Types name) (Values n) (λ h. let no : ⊥ = cc in no); placed = λ h. h; edges = keeps_all edges }) (f.values n id g);
-    macros = λ n id g. note_stays (record { noted = beside (Types name) (Macros n) (λ h. let no : ⊥ = cc in no); placed = λ h. h; edges = keeps_all edges }) (f.macros n id g);
+        (record { push = record { item = record { def = def; vis = vis; import = Some (ways.Glob e.id) }; is_glob = true }; source = reached.Def def }) e now refl refl given vacant recorded into f.types;
+    values = values_beside brought now home own globs edges s f (Types name) (λ n h. let no : ⊥ = cc in no);
+    macros = macros_beside brought now home own globs edges s f (Types name) (λ n h. let no : ⊥ = cc in no);
   }
 
-  copied_value : (def : ModuleDefId) (vis : Visibility) (s : ScopeValue) → item_at s.values name ≡ None → IsNotedScope own globs brought edges home s
-      → IsNotedScope own (pushed_globs s globs_name (values_only def vis None) (Some (ways.Glob e.id)) globs) (brought_at (Values name)) edges home
+  copied_value : (def : ModuleDefId) (s : ScopeValue) → item_at s.values name ≡ None → IsNotedScope own globs brought edges home s
+      → IsNotedScope own (pushed_globs s globs_name (values_only def vis None) (Some (ways.Glob e.id)) globs) (brought_at brought now home (Values name)) edges home
       (pushed_scope globs globs_name (values_only def vis None) (Some (ways.Glob e.id)) s)
-  copied_value def vis s vacant f = record {
-    types = λ n id g. note_stays (record { noted = beside (Values name) (Types n) (λ h. let no : ⊥ = cc in no); placed = λ h. h; edges = keeps_all edges }) (f.types n id g);
+  copied_value def s vacant f = record {
+    types = types_beside brought now home own globs edges s f (Values name) (λ n h. let no : ⊥ = cc in no);
     values = copied_here glob_of_value Values module_def.ghosts.eq glob_import.ghosts.eq one_value own home name globs.values brought edges s.values
-        (record { push = record { item = record { def = def; vis = vis; import = Some (value_ways.Glob e.id) }; is_glob = true }; source = reached.Def def }) e now refl refl vacant recorded into f.values;
-    macros = λ n id g. note_stays (record { noted = beside (Values name) (Macros n) (λ h. let no : ⊥ = cc in no); placed = λ h. h; edges = keeps_all edges }) (f.macros n id g);
+        (record { push = record { item = record { def = def; vis = vis; import = Some (value_ways.Glob e.id) }; is_glob = true }; source = reached.Def def }) e now refl refl given vacant recorded into f.values;
+    macros = macros_beside brought now home own globs edges s f (Values name) (λ n h. let no : ⊥ = cc in no);
   }
 
-  copied_macro : (def : MacroId) (vis : Visibility) (s : ScopeValue) → item_at s.macros name ≡ None → IsNotedScope own globs brought edges home s
-      → IsNotedScope own (pushed_globs s globs_name (macros_only def vis None) (Some (ways.Glob e.id)) globs) (brought_at (Macros name)) edges home
+  copied_macro : (def : MacroId) (s : ScopeValue) → item_at s.macros name ≡ None → IsNotedScope own globs brought edges home s
+      → IsNotedScope own (pushed_globs s globs_name (macros_only def vis None) (Some (ways.Glob e.id)) globs) (brought_at brought now home (Macros name)) edges home
       (pushed_scope globs globs_name (macros_only def vis None) (Some (ways.Glob e.id)) s)
-  copied_macro def vis s vacant f = record {
-    types = λ n id g. note_stays (record { noted = beside (Macros name) (Types n) (λ h. let no : ⊥ = cc in no); placed = λ h. h; edges = keeps_all edges }) (f.types n id g);
-    values = λ n id g. note_stays (record { noted = beside (Macros name) (Values n) (λ h. let no : ⊥ = cc in no); placed = λ h. h; edges = keeps_all edges }) (f.values n id g);
+  copied_macro def s vacant f = record {
+    types = types_beside brought now home own globs edges s f (Macros name) (λ n h. let no : ⊥ = cc in no);
+    values = values_beside brought now home own globs edges s f (Macros name) (λ n h. let no : ⊥ = cc in no);
     macros = copied_here glob_of Macros makro.ghosts.eq item_import.ghosts.eq one_macro own home name globs.macros brought edges s.macros
-        (record { push = record { item = record { def = def; vis = vis; import = Some (ways.Glob e.id) }; is_glob = true }; source = reached.Def (definitions.MacroId def) }) e now refl refl vacant recorded into f.macros;
+        (record { push = record { item = record { def = def; vis = vis; import = Some (ways.Glob e.id) }; is_glob = true }; source = reached.Def (definitions.MacroId def) }) e now refl refl given vacant recorded into f.macros;
   }
 
-  pub noted_type : (def : ModuleDefId) (vis : Visibility) (ms : List ModuleValue) → ((old : ModuleValue) → slice_get ms home ≡ Some old → item_at old.scope.types name ≡ None) → AreNoted own globs brought edges ms
-      → AreNoted own (globs_in (slice_get ms home) globs globs_name (types_only def vis None) (Some (ways.Glob e.id))) (brought_at (Types name)) edges
+  pub noted_type : (def : ModuleDefId) (ms : List ModuleValue) → ((old : ModuleValue) → slice_get ms home ≡ Some old → item_at old.scope.types name ≡ None) → AreNoted own globs brought edges ms
+      → AreNoted own (globs_in (slice_get ms home) globs globs_name (types_only def vis None) (Some (ways.Glob e.id))) (brought_at brought now home (Types name)) edges
       (changed_at ms home (pushed_module globs globs_name (types_only def vis None) (Some (ways.Glob e.id))))
-  noted_type def vis ms vacant f =
-      noted_pushed own globs brought edges home name (types_only def vis None) (Some (ways.Glob e.id)) ms (brought_at (Types name))
-      (λ old at g. copied_type def vis old.scope (vacant old at) g) (elsewhere (Types name)) f
+  noted_type def ms vacant f =
+      noted_pushed own globs brought edges home name (types_only def vis None) (Some (ways.Glob e.id)) ms (brought_at brought now home (Types name))
+      (λ old at g. copied_type def old.scope (vacant old at) g) (elsewhere brought now home (Types name)) f
 
-  pub noted_value : (def : ModuleDefId) (vis : Visibility) (ms : List ModuleValue) → ((old : ModuleValue) → slice_get ms home ≡ Some old → item_at old.scope.values name ≡ None) → AreNoted own globs brought edges ms
-      → AreNoted own (globs_in (slice_get ms home) globs globs_name (values_only def vis None) (Some (ways.Glob e.id))) (brought_at (Values name)) edges
+  pub noted_value : (def : ModuleDefId) (ms : List ModuleValue) → ((old : ModuleValue) → slice_get ms home ≡ Some old → item_at old.scope.values name ≡ None) → AreNoted own globs brought edges ms
+      → AreNoted own (globs_in (slice_get ms home) globs globs_name (values_only def vis None) (Some (ways.Glob e.id))) (brought_at brought now home (Values name)) edges
       (changed_at ms home (pushed_module globs globs_name (values_only def vis None) (Some (ways.Glob e.id))))
-  noted_value def vis ms vacant f =
-      noted_pushed own globs brought edges home name (values_only def vis None) (Some (ways.Glob e.id)) ms (brought_at (Values name))
-      (λ old at g. copied_value def vis old.scope (vacant old at) g) (elsewhere (Values name)) f
+  noted_value def ms vacant f =
+      noted_pushed own globs brought edges home name (values_only def vis None) (Some (ways.Glob e.id)) ms (brought_at brought now home (Values name))
+      (λ old at g. copied_value def old.scope (vacant old at) g) (elsewhere brought now home (Values name)) f
 
-  pub noted_macro : (def : MacroId) (vis : Visibility) (ms : List ModuleValue) → ((old : ModuleValue) → slice_get ms home ≡ Some old → item_at old.scope.macros name ≡ None) → AreNoted own globs brought edges ms
-      → AreNoted own (globs_in (slice_get ms home) globs globs_name (macros_only def vis None) (Some (ways.Glob e.id))) (brought_at (Macros name)) edges
+  pub noted_macro : (def : MacroId) (ms : List ModuleValue) → ((old : ModuleValue) → slice_get ms home ≡ Some old → item_at old.scope.macros name ≡ None) → AreNoted own globs brought edges ms
+      → AreNoted own (globs_in (slice_get ms home) globs globs_name (macros_only def vis None) (Some (ways.Glob e.id))) (brought_at brought now home (Macros name)) edges
       (changed_at ms home (pushed_module globs globs_name (macros_only def vis None) (Some (ways.Glob e.id))))
-  noted_macro def vis ms vacant f =
-      noted_pushed own globs brought edges home name (macros_only def vis None) (Some (ways.Glob e.id)) ms (brought_at (Macros name))
-      (λ old at g. copied_macro def vis old.scope (vacant old at) g) (elsewhere (Macros name)) f
+  noted_macro def ms vacant f =
+      noted_pushed own globs brought edges home name (macros_only def vis None) (Some (ways.Glob e.id)) ms (brought_at brought now home (Macros name))
+      (λ old at g. copied_macro def old.scope (vacant old at) g) (elsewhere brought now home (Macros name)) f
+
+-- ---- a name takes another definition
+
+module _ (own : MapId) (globs : GlobNames) (brought : BroughtBy) (edges : List Edge) (home : ℕ) (name : List ℕ) (last now : Brought) (same : last.edge ≡ now.edge)
+    (vis : Visibility) (given : GivesAll now vis) (ms : List ModuleValue) (f : AreNoted own globs brought edges ms) where
+  followed_type : (def : ModuleDefId) → brought (slot_at home (Types name)) ≡ Some last → (s : ScopeValue) → IsNotedScope own globs brought edges home s
+      → IsNotedScope own globs (brought_at brought now home (Types name)) edges home (with_type name def vis s)
+  followed_type def was s g = record {
+    types = rewritten_here glob_of Types module_def.ghosts.eq item_import.ghosts.eq one_type own home name globs.types brought edges s.types (with_item_definition def vis) (λ i. refl)
+        (brought_at brought now home (Types name)) (another brought now home Types name)
+        (λ i id h note. noted_anew own globs.types brought edges home (Types name) name id i.vis vis last now was same given note) g.types;
+    values = values_beside brought now home own globs edges s g (Types name) (λ n h. let no : ⊥ = cc in no);
+    macros = macros_beside brought now home own globs edges s g (Types name) (λ n h. let no : ⊥ = cc in no);
+  }
+
+  followed_value : (def : ModuleDefId) → brought (slot_at home (Values name)) ≡ Some last → (s : ScopeValue) → IsNotedScope own globs brought edges home s
+      → IsNotedScope own globs (brought_at brought now home (Values name)) edges home (with_value name def vis s)
+  followed_value def was s g = record {
+    types = types_beside brought now home own globs edges s g (Values name) (λ n h. let no : ⊥ = cc in no);
+    values = rewritten_here glob_of_value Values module_def.ghosts.eq glob_import.ghosts.eq one_value own home name globs.values brought edges s.values (with_item_definition def vis) (λ i. refl)
+        (brought_at brought now home (Values name)) (another brought now home Values name)
+        (λ i id h note. noted_anew own globs.values brought edges home (Values name) name id i.vis vis last now was same given note) g.values;
+    macros = macros_beside brought now home own globs edges s g (Values name) (λ n h. let no : ⊥ = cc in no);
+  }
+
+  followed_macro : (def : MacroId) → brought (slot_at home (Macros name)) ≡ Some last → (s : ScopeValue) → IsNotedScope own globs brought edges home s
+      → IsNotedScope own globs (brought_at brought now home (Macros name)) edges home (with_macro name def vis s)
+  followed_macro def was s g = record {
+    types = types_beside brought now home own globs edges s g (Macros name) (λ n h. let no : ⊥ = cc in no);
+    values = values_beside brought now home own globs edges s g (Macros name) (λ n h. let no : ⊥ = cc in no);
+    macros = rewritten_here glob_of Macros makro.ghosts.eq item_import.ghosts.eq one_macro own home name globs.macros brought edges s.macros (with_item_definition def vis) (λ i. refl)
+        (brought_at brought now home (Macros name)) (another brought now home Macros name)
+        (λ i id h note. noted_anew own globs.macros brought edges home (Macros name) name id i.vis vis last now was same given note) g.macros;
+  }
+
+  pub noted_followed_type : (def : ModuleDefId) → brought (slot_at home (Types name)) ≡ Some last
+      → AreNoted own globs (brought_at brought now home (Types name)) edges (changed_at ms home (with_module_scope (with_type name def vis)))
+  noted_followed_type def was =
+      noted_changed own globs brought (brought_at brought now home (Types name)) edges ms home (with_module_scope (with_type name def vis))
+      (λ old there g. followed_type def was old.scope g) (elsewhere brought now home (Types name)) f
+
+  pub noted_followed_value : (def : ModuleDefId) → brought (slot_at home (Values name)) ≡ Some last
+      → AreNoted own globs (brought_at brought now home (Values name)) edges (changed_at ms home (with_module_scope (with_value name def vis)))
+  noted_followed_value def was =
+      noted_changed own globs brought (brought_at brought now home (Values name)) edges ms home (with_module_scope (with_value name def vis))
+      (λ old there g. followed_value def was old.scope g) (elsewhere brought now home (Values name)) f
+
+  pub noted_followed_macro : (def : MacroId) → brought (slot_at home (Macros name)) ≡ Some last
+      → AreNoted own globs (brought_at brought now home (Macros name)) edges (changed_at ms home (with_module_scope (with_macro name def vis)))
+  noted_followed_macro def was =
+      noted_changed own globs brought (brought_at brought now home (Macros name)) edges ms home (with_module_scope (with_macro name def vis))
+      (λ old there g. followed_macro def was old.scope g) (elsewhere brought now home (Macros name)) f
+
+-- ---- or another visibility
+
+module _ (own : MapId) (globs : GlobNames) (brought : BroughtBy) (edges : List Edge) (home : ℕ) (name : List ℕ) (vis : Visibility) where
+  -- all may still see what all might
+  abbrev pub IsWider : {D I : Type 0} → List (List ℕ × Item D I) → Type 0
+  IsWider {D} {I} items = (i : Item D I) → item_at items name ≡ Some i → i.vis ≡ Public → vis ≡ Public
+
+  raised_type : (s : ScopeValue) → IsWider s.types → IsNotedScope own globs brought edges home s → IsNotedScope own globs brought edges home (with_type_vis name vis s)
+  raised_type s wider g = record {
+    types = rewritten_here glob_of Types module_def.ghosts.eq item_import.ghosts.eq one_type own home name globs.types brought edges s.types (with_item_visibility vis) (λ i. refl)
+        brought (λ n t. refl) (λ i id h note. note_raised vis (wider i h) note) g.types;
+    values = g.values;
+    macros = g.macros;
+  }
+
+  raised_value : (s : ScopeValue) → IsWider s.values → IsNotedScope own globs brought edges home s → IsNotedScope own globs brought edges home (with_value_vis name vis s)
+  raised_value s wider g = record {
+    types = g.types;
+    values = rewritten_here glob_of_value Values module_def.ghosts.eq glob_import.ghosts.eq one_value own home name globs.values brought edges s.values (with_item_visibility vis) (λ i. refl)
+        brought (λ n t. refl) (λ i id h note. note_raised vis (wider i h) note) g.values;
+    macros = g.macros;
+  }
+
+  raised_macro : (s : ScopeValue) → IsWider s.macros → IsNotedScope own globs brought edges home s → IsNotedScope own globs brought edges home (with_macro_vis name vis s)
+  raised_macro s wider g = record {
+    types = g.types;
+    values = g.values;
+    macros = rewritten_here glob_of Macros makro.ghosts.eq item_import.ghosts.eq one_macro own home name globs.macros brought edges s.macros (with_item_visibility vis) (λ i. refl)
+        brought (λ n t. refl) (λ i id h note. note_raised vis (wider i h) note) g.macros;
+  }
+
+  module _ (ms : List ModuleValue) (f : AreNoted own globs brought edges ms) where
+    pub noted_raised_type : ((old : ModuleValue) → slice_get ms home ≡ Some old → IsWider old.scope.types) → AreNoted own globs brought edges (changed_at ms home (with_module_scope (with_type_vis name vis)))
+    noted_raised_type wider =
+        noted_changed own globs brought brought edges ms home (with_module_scope (with_type_vis name vis)) (λ old there g. raised_type old.scope (wider old there) g) (λ number ne key. refl) f
+
+    pub noted_raised_value : ((old : ModuleValue) → slice_get ms home ≡ Some old → IsWider old.scope.values) → AreNoted own globs brought edges (changed_at ms home (with_module_scope (with_value_vis name vis)))
+    noted_raised_value wider =
+        noted_changed own globs brought brought edges ms home (with_module_scope (with_value_vis name vis)) (λ old there g. raised_value old.scope (wider old there) g) (λ number ne key. refl) f
+
+    pub noted_raised_macro : ((old : ModuleValue) → slice_get ms home ≡ Some old → IsWider old.scope.macros) → AreNoted own globs brought edges (changed_at ms home (with_module_scope (with_macro_vis name vis)))
+    noted_raised_macro wider =
+        noted_changed own globs brought brought edges ms home (with_module_scope (with_macro_vis name vis)) (λ old there g. raised_macro old.scope (wider old there) g) (λ number ne key. refl) f

@@ -6,6 +6,7 @@ use Rattle.hir_scope.specs.declared.imports.GlobId.{GlobId}
 use Rattle.hir_scope.specs.declared.imports.ImportOrGlob.{ImportOrGlob}
 use Rattle.hir_scope.specs.declared.per_ns.PerNs.{PerNs}
 use Rattle.hir_scope.specs.declared.visibility.Visibility.{Visibility}
+use Rattle.hir_scope.specs.declared.visibility.Visibility.TheVariants.{Public}
 use Rattle.hir_def_map.specs.Overlay.{Maps}
 use Rattle.hir_def_map.specs.State.{entry_at}
 use Rattle.hir_glob_imports.specs.Keys.{slot_at}
@@ -59,6 +60,11 @@ pub record IsBrought (s : State) (number : ℕ) (key : Key) (id : GlobId) : Type
 abbrev pub view_in : Maps → State → View
 view_in finished s = view_of (scopes_of finished (import_state s))
 
+-- an edge saw this, and had the visibility that it has
+pub record WasSeen (last : Brought) (edge : Edge) (b : Bound) : Type 0 where
+  pub seen : last.seen ≡ b
+  pub under : last.edge_vis ≡ edge.vis
+
 -- another edge into the module shows the same definition
 pub record AlsoShows (v : View) (s : State) (number : ℕ) (key : Key) (along : ℕ) (bound : Bound) (other : Edge) (b : Bound) : Type 0 where
   pub place : ℕ
@@ -75,8 +81,10 @@ pub record IsAsShown (v : View) (s : State) (number : ℕ) (key : Key) (id : Glo
   pub bound : Bound
   pub stands : bound_in v (slot_at number key) ≡ Some bound
   pub def : bound.def ≡ by.last.seen.def
-  -- if the source shows the module anything now, that is what the edge saw, and the edge had the visibility that it has now
-  pub now : (b : Bound) → shown v by.edge key ≡ Some b → (by.last.seen ≡ b) × (by.last.edge_vis ≡ by.edge.vis)
+  -- if the source shows the module anything now, the edge saw just this, and then had the visibility that it has now
+  pub now : (b : Bound) → shown v by.edge key ≡ Some b → WasSeen by.last by.edge b
+  -- where all may see that and all may see the edge's glob, all may see this
+  pub public : (b : Bound) → shown v by.edge key ≡ Some b → b.vis ≡ Public → by.edge.vis ≡ Public → bound.vis ≡ Public
   -- no other edge that shows the same definition would give it a greater visibility
   pub widest : (other : Edge) (b : Bound) → AlsoShows v s number key by.place bound other b
       → (wide : Visibility) → v.greater bound.vis (brought_vis v other b) ≡ Some wide → wide ≡ bound.vis
