@@ -1,7 +1,8 @@
 -- What a glob brought came along an edge, and is what that edge's source shows.
-use Rattle.std.proofs.Common.{◌≡◌, ◌≢◌, ◌∙◌, ℕ, ◌==◌, ◌||◌, not, List, [], ◌∷◌, Bool, true, false, Option, None, Some, map as list_map, slice_get, unwrap_or, refl, sym, ap, subst, true≢false}
+use Rattle.std.proofs.Common.{◌≡◌, ◌≢◌, ◌∙◌, ℕ, ◌==◌, ◌||◌, not, List, [], ◌∷◌, Bool, true, false, cond, Option, None, Some, map as list_map, slice_get, unwrap_or, refl, sym, ap, subst, true≢false}
 use Rattle.std.specs.Cmp.{first_so, second_so, unsigned_Decides}
 use Rattle.hir_base.specs.declared.ids.MapId.{MapId}
+use Rattle.hir_base.specs.declared.ids.Crate.{Crate}
 use Rattle.hir_base.specs.declared.ids.ModuleDefId.{ModuleDefId}
 use Rattle.hir_base.specs.declared.ids.TraitId.{TraitId}
 use Rattle.hir_base.specs.declared.macro_kind.MacroId.{MacroId}
@@ -9,6 +10,7 @@ use Rattle.hir_scope.specs.Entries.{item_at}
 use Rattle.hir_scope.specs.Globs.{GlobNames, Place}
 use Rattle.hir_scope.specs.ImportRecords.{is_glob}
 use Rattle.hir_scope.specs.Imports.{glob_of}
+use Rattle.hir_scope.specs.ModuleTree.{same_crate}
 use Rattle.hir_scope.specs.PerNs.{Item}
 use Rattle.hir_scope.specs.Scope.{ScopeValue}
 use Rattle.hir_scope.specs.contracts.item_in_ns.ItemInNsEq.TheImpl.Laws.{laws-law as item_laws}
@@ -19,7 +21,7 @@ use Rattle.hir_scope.specs.declared.item_in_ns.ItemInNs.{ItemInNs}
 use Rattle.hir_scope.specs.declared.item_in_ns.ItemInNs.TheVariants as in_ns
 use Rattle.hir_scope.specs.declared.per_ns.PerNs.{PerNs}
 use Rattle.hir_scope.specs.declared.visibility.Visibility.{Visibility}
-use Rattle.hir_scope.specs.declared.visibility.Visibility.TheVariants.{Public}
+use Rattle.hir_scope.specs.declared.visibility.Visibility.TheVariants.{Module, PubCrate, Public}
 use Rattle.hir_tables.specs.Tables.{TablesValue}
 use Rattle.hir_def_map.specs.Declaration.{listed}
 use Rattle.hir_def_map.specs.Overlay.{Maps}
@@ -51,9 +53,9 @@ use Rattle.hir_def_collector.specs.State.{State, import_state}
 use Rattle.hir_def_collector.specs.Steps.{Rule, drops_item, passes_over, declares_item, declares_enum, lists_constant, lists_impl, opens_module, opens_file, drops_file, misses_file, enters_block, reaches_imports, reaches_crate, resolves_imports, May, Steps, acts, asking, more, none}
 use Rattle.hir_def_collector.specs.Workspace.{Workspace}
 use Rattle.hir_def_collector.proofs.Changes.{AllFine, perform_keeps}
-use Rattle.hir_def_collector_laws.specs.Globs.{AlsoShows, GlobsBringWhatIsShown, IsAsShown, IsBrought, WasSeen, glob_at, glob_by, glob_of_value, view_in}
+use Rattle.hir_def_collector_laws.specs.Globs.{AlsoShows, GlobsBringWhatIsShown, IsAsShown, IsBrought, WasSeen, glob_at, glob_by, glob_of_value, is_open_in, view_in}
 use Rattle.hir_def_collector_laws.proofs.Exact.{exact_bound, exact_visibility}
-use Rattle.hir_def_collector_laws.proofs.Noted.{AreNoted, GivesAll, HasNote, IsNotedScope, KeepsEdges, keeps_recorded, noted_explicit, noted_followed_macro, noted_followed_type, noted_followed_value, noted_longer, noted_macro, noted_raised_macro, noted_raised_type, noted_raised_value, noted_recorded, noted_rescoped, noted_traits, noted_type, noted_value, same_listed}
+use Rattle.hir_def_collector_laws.proofs.Noted.{AreNoted, GivesAll, HasNote, IsAsOpen, IsNotedScope, KeepsEdges, keeps_recorded, noted_explicit, noted_followed_macro, noted_followed_type, noted_followed_value, noted_longer, noted_macro, noted_raised_macro, noted_raised_type, noted_raised_value, noted_recorded, noted_rescoped, noted_traits, noted_type, noted_value, same_listed}
 
 -- each name that a glob brought has its note where a run stands
 pub record IsNotedState (s : State) : Type 0 where
@@ -110,14 +112,36 @@ noted-act s (goes_on vs) f fine = record { modules = f.modules }
 
 -- ---- along globs
 
--- what is public on both sides is brought as public, and what is public isn't raised
-lesser_public : (finished : Maps) (m : Map) → unwrap_or (lesser_in finished m Public Public) Public ≡ Public
+-- the lesser of two visibilities is open where both are
+lesser_open : (finished : Maps) (m : Map) (within : Option Crate) (a b : Visibility) → is_open_in within a ≡ true → is_open_in within b ≡ true → is_open_in within (unwrap_or (lesser_in finished m a b) a) ≡ true
 unfolding lesser_in
-lesser_public finished m = refl
+lesser_open finished m within Public b e f = f
+lesser_open finished m None (PubCrate c) b e f = absurd (true≢false (sym e))
+lesser_open finished m (Some krate) (PubCrate c) Public e f = e
+lesser_open finished m (Some krate) (PubCrate c) (PubCrate d) e f = go (same_crate c d)
+  where
+    go : (t : Bool) → is_open_in (Some krate) (unwrap_or (cond t (Some (PubCrate c)) None) (PubCrate c)) ≡ true
+    go true = e
+    go false = e
+lesser_open finished m (Some krate) (PubCrate c) (Module n explicitness) e f = absurd (true≢false (sym f))
+lesser_open finished m within (Module n explicitness) b e f = absurd (true≢false (sym e))
 
-greater_public : (finished : Maps) (m : Map) (other : Visibility) → greater_in finished m Public other ≡ Some Public
+-- the greater is as open as each
+open_crate : (krate c : Crate) (t : Bool) (wide : Visibility) → cond t (Some (PubCrate c)) None ≡ Some wide → is_open_in (Some krate) (PubCrate c) ≡ true → is_open_in (Some krate) wide ≡ true
+open_crate krate c true wide e f = let same : PubCrate c ≡ wide = cc in subst (λ (x : Visibility). is_open_in (Some krate) x ≡ true) same f
+open_crate krate c false wide e f = absurd (let no : ⊥ = cc in no)
+
+open_public : (within : Option Crate) (wide : Visibility) → Some Public ≡ Some wide → is_open_in within wide ≡ true
+open_public within wide e = let same : Public ≡ wide = cc in subst (λ (x : Visibility). is_open_in within x ≡ true) same refl
+
+greater_open : (finished : Maps) (m : Map) (a b wide : Visibility) → greater_in finished m a b ≡ Some wide → IsAsOpen a wide
 unfolding greater_in
-greater_public finished m other = refl
+greater_open finished m Public b wide e within f = open_public within wide e
+greater_open finished m (PubCrate c) b wide e None f = absurd (true≢false (sym f))
+greater_open finished m (PubCrate c) Public wide e (Some krate) f = open_public (Some krate) wide e
+greater_open finished m (PubCrate c) (PubCrate d) wide e (Some krate) f = open_crate krate c (same_crate c d) wide e f
+greater_open finished m (PubCrate c) (Module n explicitness) wide e (Some krate) f = open_crate krate c (same_crate n.map.krate c) wide e f
+greater_open finished m (Module n explicitness) b wide e within f = absurd (true≢false (sym f))
 
 module _ (finished : Maps) (m : Map) (globs : GlobNames) (brought : BroughtBy) (edges : List Edge) (f : AreNoted m.id globs brought edges m.modules) where
   abbrev here : ScopesValue
@@ -149,9 +173,7 @@ module _ (finished : Maps) (m : Map) (globs : GlobNames) (brought : BroughtBy) (
       given_vis = brought_vis (view_of here) e b
 
       all_given : GivesAll (as_seen j e b) given_vis
-      all_given seen edge =
-          let both : given_vis ≡ unwrap_or (lesser_in finished m Public Public) Public = λ i. unwrap_or (lesser_in finished m (edge i) (seen i)) (edge i) in
-          both ∙ lesser_public finished m
+      all_given within seen edge = lesser_open finished m within e.vis b.vis edge seen
 
       -- what the source has is shown
       not_shown : (o : Option Bound) → seen_by ((view_of here).sees e.importer) o ≡ Some b → o ≡ None → ⊥
@@ -209,30 +231,27 @@ module _ (finished : Maps) (m : Map) (globs : GlobNames) (brought : BroughtBy) (
               noted_followed_macro m.id globs brought edges at name may.last (as_seen j e b) ((unsigned_Decides may.last.edge j).0 may.by_it) given_vis all_given m.modules f i.def may.brought_last
       followed_noted (Unnamed id) may = absurd (true≢false may.named)
 
-    -- what all may see no edge hides
+    -- an edge that raises hides nothing
     module _ (j : ℕ) (e : Edge) (vis : Visibility) where
-      wider : (key : Key) (may : CanRaise (view_of here) edges brought j e (slot_at at key) vis) → (b : Bound) → Some b ≡ bound_in (view_of here) (slot_at at key) → b.vis ≡ Public → vis ≡ Public
-      wider key may b stands all =
+      wider : (key : Key) (may : CanRaise (view_of here) edges brought j e (slot_at at key) vis) → (b : Bound) → Some b ≡ bound_in (view_of here) (slot_at at key) → IsAsOpen b.vis vis
+      wider key may b stands =
           let same : Some b ≡ Some may.c = stands ∙ may.stands in
           let is_c : b ≡ may.c = cc in
-          let now : may.c.vis ≡ Public = sym (ap (λ (x : Bound). x.vis) is_c) ∙ all in
-          let known : Some Public ≡ Some vis =
-          sym (ap (λ (x : Visibility). greater_in finished m x (brought_vis (view_of here) e may.b)) now ∙ greater_public finished m (brought_vis (view_of here) e may.b)) ∙ may.greater in
-          cc
+          greater_open finished m b.vis (brought_vis (view_of here) e may.b) vis (ap (λ (x : Bound). greater_in finished m x.vis (brought_vis (view_of here) e may.b)) is_c ∙ may.greater)
 
       raised_noted : (key : Key) → CanRaise (view_of here) edges brought j e (slot_at at key) vis → AreNotedAfter (raised here (slot_at at key) vis) brought
       raised_noted (Types name) may =
           noted_raised_type m.id globs brought edges at name vis m.modules f
-          (λ old there i h all. wider (Types name) may (record { def = in_ns.Types i.def; vis = i.vis })
-          (sym (ap (bound_by in_ns.Types) h) ∙ ap (λ (o : Option ModuleValue). bound_by in_ns.Types (entry_of o name).types) (sym there)) all)
+          (λ old there i h. wider (Types name) may (record { def = in_ns.Types i.def; vis = i.vis })
+          (sym (ap (bound_by in_ns.Types) h) ∙ ap (λ (o : Option ModuleValue). bound_by in_ns.Types (entry_of o name).types) (sym there)))
       raised_noted (Values name) may =
           noted_raised_value m.id globs brought edges at name vis m.modules f
-          (λ old there i h all. wider (Values name) may (record { def = in_ns.Values i.def; vis = i.vis })
-          (sym (ap (bound_by in_ns.Values) h) ∙ ap (λ (o : Option ModuleValue). bound_by in_ns.Values (entry_of o name).values) (sym there)) all)
+          (λ old there i h. wider (Values name) may (record { def = in_ns.Values i.def; vis = i.vis })
+          (sym (ap (bound_by in_ns.Values) h) ∙ ap (λ (o : Option ModuleValue). bound_by in_ns.Values (entry_of o name).values) (sym there)))
       raised_noted (Macros name) may =
           noted_raised_macro m.id globs brought edges at name vis m.modules f
-          (λ old there i h all. wider (Macros name) may (record { def = in_ns.Macros i.def; vis = i.vis })
-          (sym (ap (bound_by in_ns.Macros) h) ∙ ap (λ (o : Option ModuleValue). bound_by in_ns.Macros (entry_of o name).macros) (sym there)) all)
+          (λ old there i h. wider (Macros name) may (record { def = in_ns.Macros i.def; vis = i.vis })
+          (sym (ap (bound_by in_ns.Macros) h) ∙ ap (λ (o : Option ModuleValue). bound_by in_ns.Macros (entry_of o name).macros) (sym there)))
       raised_noted (Unnamed id) may = with_trait_noted at id vis
 
 -- each step along a glob keeps it so
@@ -388,10 +407,13 @@ module _ (tables : TablesValue) (w : Workspace) (finished : Maps) (from : Beginn
         let same_edge : Bool = same_vis came.last.edge_vis came.edge.vis in
         record { seen = exact_bound came.last.seen b (first_so same_seen same_edge seen); under = exact_visibility came.last.edge_vis came.edge.vis (second_so same_seen same_edge seen) }
 
-    as_public : (b : Bound) → shown v came.edge key ≡ Some b → b.vis ≡ Public → came.edge.vis ≡ Public → stood.bound.vis ≡ Public
-    as_public b shows source edge =
+    as_open : (b : Bound) → shown v came.edge key ≡ Some b → (within : Option Crate) → is_open_in within b.vis ≡ true → is_open_in within came.edge.vis ≡ true
+        → is_open_in within stood.bound.vis ≡ true
+    as_open b shows within source edge =
         let was : WasSeen came.last came.edge b = as_now b shows in
-        along_edge.given stood.bound (sym (stands_inside (scopes_of (read_by w finished from.start) (import_state e.last)) number key) ∙ stood.there) (ap (λ (x : Bound). x.vis) was.seen ∙ source) (was.under ∙ edge)
+        let stands : bound_at (entry_of (module_at e.last.core.map number)) (trait_vis (module_at e.last.core.map number)) key ≡ Some stood.bound =
+        sym (stands_inside (scopes_of (read_by w finished from.start) (import_state e.last)) number key) ∙ stood.there in
+        along_edge.given stood.bound stands within (ap (λ (x : Bound). is_open_in within x.vis) was.seen ∙ source) (ap (is_open_in within) was.under ∙ edge)
 
     as_wide : (other : Edge) (b : Bound) → AlsoShows v e.last number key came.place stood.bound other b → (wide : Visibility)
         → v.greater stood.bound.vis (brought_vis v other b) ≡ Some wide → wide ≡ stood.bound.vis
@@ -404,7 +426,7 @@ module _ (tables : TablesValue) (w : Workspace) (finished : Maps) (from : Beginn
         exact_visibility wide stood.bound.vis ((e.closed.raised also.place other key also.recorded).raised b stood.bound also.shows here may same wide greater)
 
     as_shown : IsAsShown v e.last number key id
-    as_shown = record { by = came; bound = stood.bound; stands = stood.there; def = stood.same; now = as_now; public = as_public; widest = as_wide }
+    as_shown = record { by = came; bound = stood.bound; stands = stood.there; def = stood.same; now = as_now; kept_open = as_open; widest = as_wide }
 
 pub globs_bring_what_is_shown : GlobsBringWhatIsShown
 globs_bring_what_is_shown tables w finished from answer e number key id is = as_shown tables w finished from answer e number key id is

@@ -6,6 +6,7 @@ use Rattle.std.specs.Map.{set_value}
 use Rattle.std.specs.Ordering.{nat_cmp}
 use Rattle.hir_base.specs.contracts.ids.ModuleDefIdPartialEq.TheImpl as module_def
 use Rattle.hir_base.specs.contracts.macro_kind.MacroIdPartialEq.TheImpl as makro
+use Rattle.hir_base.specs.declared.ids.Crate.{Crate}
 use Rattle.hir_base.specs.declared.ids.MapId.{MapId}
 use Rattle.hir_base.specs.declared.ids.ModuleDefId.{ModuleDefId}
 use Rattle.hir_base.specs.declared.ids.ModuleDefId.TheVariants as definitions
@@ -29,7 +30,6 @@ use Rattle.hir_scope.specs.declared.imports.ImportOrGlob.{ImportOrGlob}
 use Rattle.hir_scope.specs.declared.imports.ImportOrGlob.TheVariants as value_ways
 use Rattle.hir_scope.specs.declared.per_ns.PerNs.{PerNs}
 use Rattle.hir_scope.specs.declared.visibility.Visibility.{Visibility}
-use Rattle.hir_scope.specs.declared.visibility.Visibility.TheVariants.{Public}
 use Rattle.hir_scope.proofs.AfterPush.{item_at-with_entry, item_at-with_entry_other}
 use Rattle.hir_scope.proofs.Pushes.{pushed-macros, pushed-types, pushed-values}
 use Rattle.hir_scope_table.specs.Table.{rewritten}
@@ -50,7 +50,7 @@ use Rattle.hir_glob_imports.proofs.Exact.{exact_slot}
 use Rattle.hir_glob_imports.proofs.Settling.{same_itself}
 use Rattle.hir_import_resolution.specs.Changes.{forgotten, forgotten_in}
 use Rattle.hir_import_resolution.specs.Names.{with_macro, with_macro_vis, with_type, with_type_vis, with_value, with_value_vis}
-use Rattle.hir_def_collector_laws.specs.Globs.{glob_by, glob_of_value}
+use Rattle.hir_def_collector_laws.specs.Globs.{glob_by, glob_of_value, is_open_in}
 use Rattle.hir_def_collector_laws.proofs.ModuleLists.{IsChanged, IsOfLonger, changed-at, changed_one, newest, of_longer, older, other_one}
 use Rattle.hir_def_collector_laws.proofs.Places.{now_with, still_with, still_without}
 
@@ -144,9 +144,13 @@ module _ (home : ℕ) (name : List ℕ) (items : PerNs) (brought : BroughtBy) (n
 
 -- ---- a note
 
--- where all may see what an edge saw and the edge itself, all may see this
+-- where all may see what an edge saw, or all of a crate, and the edge let them, they may see this
 abbrev pub GivesAll : Brought → Visibility → Type 0
-GivesAll last vis = last.seen.vis ≡ Public → last.edge_vis ≡ Public → vis ≡ Public
+GivesAll last vis = (within : Option Crate) → is_open_in within last.seen.vis ≡ true → is_open_in within last.edge_vis ≡ true → is_open_in within vis ≡ true
+
+-- all who may see the one may see the other
+abbrev pub IsAsOpen : Visibility → Visibility → Type 0
+IsAsOpen old new = (within : Option Crate) → is_open_in within old ≡ true → is_open_in within new ≡ true
 
 -- a recorded edge of the glob into the module brought what stands in a slot, with this visibility, and its place is one of those that globs brought
 pub record HasNote (own : MapId) (places : List Place) (brought : BroughtBy) (edges : List Edge) (number : ℕ) (key : Key) (name : List ℕ) (id : GlobId) (vis : Visibility) : Type 0 where
@@ -200,7 +204,7 @@ noted_anew own places brought edges number key name id old new last now was same
 
 -- another edge raises who may see it
 note_raised : {own : MapId} {places : List Place} {brought : BroughtBy} {edges : List Edge} {number : ℕ} {key : Key} {name : List ℕ} {id : GlobId} {old : Visibility} (new : Visibility)
-    → (old ≡ Public → new ≡ Public) → HasNote own places brought edges number key name id old → HasNote own places brought edges number key name id new
+    → IsAsOpen old new → HasNote own places brought edges number key name id old → HasNote own places brought edges number key name id new
 note_raised new wider note = record {
   edge = note.edge;
   last = note.last;
@@ -209,7 +213,7 @@ note_raised new wider note = record {
   is_glob = note.is_glob;
   into = note.into;
   placed = note.placed;
-  given = λ seen edge. wider (note.given seen edge);
+  given = λ within seen edge. wider within (note.given within seen edge);
 }
 
 -- ---- the names of one namespace
@@ -807,9 +811,9 @@ module _ (own : MapId) (globs : GlobNames) (brought : BroughtBy) (edges : List E
 -- ---- or another visibility
 
 module _ (own : MapId) (globs : GlobNames) (brought : BroughtBy) (edges : List Edge) (home : ℕ) (name : List ℕ) (vis : Visibility) where
-  -- all may still see what all might
+  -- all who might see may still see
   abbrev pub IsWider : {D I : Type 0} → List (List ℕ × Item D I) → Type 0
-  IsWider {D} {I} items = (i : Item D I) → item_at items name ≡ Some i → i.vis ≡ Public → vis ≡ Public
+  IsWider {D} {I} items = (i : Item D I) → item_at items name ≡ Some i → IsAsOpen i.vis vis
 
   raised_type : (s : ScopeValue) → IsWider s.types → IsNotedScope own globs brought edges home s → IsNotedScope own globs brought edges home (with_type_vis name vis s)
   raised_type s wider g = record {

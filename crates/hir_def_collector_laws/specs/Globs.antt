@@ -1,12 +1,14 @@
 -- Which glob brought a name, and what does its source show now?
-use Rattle.std.specs.Prelude.{◌≡◌, ◌≢◌, ℕ, List, Option, None, Some, option_and_then, slice_get}
+use Rattle.std.specs.Prelude.{◌≡◌, ◌≢◌, ℕ, Bool, true, false, List, Option, None, Some, option_and_then, slice_get}
+use Rattle.hir_base.specs.declared.ids.Crate.{Crate}
 use Rattle.hir_scope.specs.Imports.{as_item_import, glob_of}
+use Rattle.hir_scope.specs.ModuleTree.{same_crate}
 use Rattle.hir_scope.specs.PerNs.{Item}
 use Rattle.hir_scope.specs.declared.imports.GlobId.{GlobId}
 use Rattle.hir_scope.specs.declared.imports.ImportOrGlob.{ImportOrGlob}
 use Rattle.hir_scope.specs.declared.per_ns.PerNs.{PerNs}
 use Rattle.hir_scope.specs.declared.visibility.Visibility.{Visibility}
-use Rattle.hir_scope.specs.declared.visibility.Visibility.TheVariants.{Public}
+use Rattle.hir_scope.specs.declared.visibility.Visibility.TheVariants.{Module, PubCrate, Public}
 use Rattle.hir_def_map.specs.Overlay.{Maps}
 use Rattle.hir_def_map.specs.State.{entry_at}
 use Rattle.hir_glob_imports.specs.Keys.{slot_at}
@@ -60,6 +62,13 @@ pub record IsBrought (s : State) (number : ℕ) (key : Key) (id : GlobId) : Type
 abbrev pub view_in : Maps → State → View
 view_in finished s = view_of (scopes_of finished (import_state s))
 
+-- whether all may see, or all of a crate
+abbrev pub is_open_in : Option Crate → Visibility → Bool
+is_open_in within Public = true
+is_open_in None (PubCrate c) = false
+is_open_in (Some krate) (PubCrate c) = same_crate c krate
+is_open_in within (Module m explicitness) = false
+
 -- an edge saw this, and had the visibility that it has
 pub record WasSeen (last : Brought) (edge : Edge) (b : Bound) : Type 0 where
   pub seen : last.seen ≡ b
@@ -83,8 +92,8 @@ pub record IsAsShown (v : View) (s : State) (number : ℕ) (key : Key) (id : Glo
   pub def : bound.def ≡ by.last.seen.def
   -- if the source shows the module anything now, the edge saw just this, and then had the visibility that it has now
   pub now : (b : Bound) → shown v by.edge key ≡ Some b → WasSeen by.last by.edge b
-  -- where all may see that and all may see the edge's glob, all may see this
-  pub public : (b : Bound) → shown v by.edge key ≡ Some b → b.vis ≡ Public → by.edge.vis ≡ Public → bound.vis ≡ Public
+  -- where all may see that, or all of a crate, and the edge lets them, they may see this
+  pub kept_open : (b : Bound) → shown v by.edge key ≡ Some b → (within : Option Crate) → is_open_in within b.vis ≡ true → is_open_in within by.edge.vis ≡ true → is_open_in within bound.vis ≡ true
   -- no other edge that shows the same definition would give it a greater visibility
   pub widest : (other : Edge) (b : Bound) → AlsoShows v s number key by.place bound other b
       → (wide : Visibility) → v.greater bound.vis (brought_vis v other b) ≡ Some wide → wide ≡ bound.vis
