@@ -146,7 +146,7 @@ module _ (tables : TablesValue) (w : Workspace) (from : Beginning) (answer : Col
       let before_told : AreTold old = told-Steps here written in_range f earlier fits_earlier before in
       let begun : AreTold (asking old step.rule) = record { each = before_told.each } in
       let done = perform_keeps AreTold IsFine told-act (acts finished old step.rule) (asking old step.rule) begun
-          (fine_rule finished old (written-Steps tables w from answer here before earlier written) (in_range-Steps before in_range) fits_earlier step.rule step.may) in
+      (fine_rule finished old (written-Steps tables w from answer here before earlier written) (in_range-Steps before in_range) fits_earlier step.rule step.may) in
       subst AreTold (sym step.is) (record { each = done.each })
 
   -- ---- what is left over

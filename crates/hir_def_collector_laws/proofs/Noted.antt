@@ -167,12 +167,12 @@ pub record HasNote (own : MapId) (places : List Place) (brought : BroughtBy) (ed
 pub record Stays (own : MapId) (places places' : List Place) (brought brought' : BroughtBy) (edges edges' : List Edge) (number : ℕ) (key : Key) (name : List ℕ) : Type 0 where
   pub noted : brought' (slot_at number key) ≡ brought (slot_at number key)
   pub placed : has_place places (place_at own number name) ≡ true → has_place places' (place_at own number name) ≡ true
-  pub edges : KeepsEdges edges edges'
+  pub recorded : KeepsEdges edges edges'
 
 note_stays : {own : MapId} {places places' : List Place} {brought brought' : BroughtBy} {edges edges' : List Edge} {number : ℕ} {key : Key} {name : List ℕ} {id : GlobId} {vis : Visibility}
     → Stays own places places' brought brought' edges edges' number key name → HasNote own places brought edges number key name id vis → HasNote own places' brought' edges' number key name id vis
 note_stays {edges' = edges'} kept note =
-    let still : IsStillAt edges' note.last.edge note.edge = kept.edges note.last.edge note.edge note.recorded in
+    let still : IsStillAt edges' note.last.edge note.edge = kept.recorded note.last.edge note.edge note.recorded in
     record {
       edge = still.edge;
       last = note.last;
@@ -278,7 +278,7 @@ module _ {D I : Type 0} (glob : I → Option GlobId) (at : List ℕ → Key) whe
               let kept : Stays own places places' brought brought' edges edges home (at n) n = record {
                 noted = other_slots n s;
                 placed = other_places (place_at own home n) (λ h. ne (ap (λ (q : Place). q.1) h));
-                edges = keeps_all edges;
+                recorded = keeps_all edges;
               } in
               note_stays kept (f n item id (sym (other_items n ne) ∙ e) g)
 
@@ -336,7 +336,7 @@ module _ {D I : Type 0} (glob : I → Option GlobId) (at : List ℕ → Key) whe
         let kept : Stays own places places brought brought' edges edges home (at name) name = record {
           noted = is ∙ ap (λ (b : Bool). forgotten_in home (at name) b brought (slot_at home (at name))) (binds_not refl);
           placed = λ h. h;
-          edges = keeps_all edges;
+          recorded = keeps_all edges;
         } in
         note_stays kept (f name item id e g)
     explicit_name (Some c) binds brought' explicit binds_not is f item id e g =
@@ -469,9 +469,9 @@ module _ (own : MapId) (globs : GlobNames) (brought brought' : BroughtBy) (edges
       go number m (other_one ne there) =
           let s : IsNotedScope own globs brought edges number m.scope = f.each number m there in
           record {
-            types = λ n i id e g. note_stays (record { noted = elsewhere number ne (Types n); placed = λ h. h; edges = keeps_all edges }) (s.types n i id e g);
-            values = λ n i id e g. note_stays (record { noted = elsewhere number ne (Values n); placed = λ h. h; edges = keeps_all edges }) (s.values n i id e g);
-            macros = λ n i id e g. note_stays (record { noted = elsewhere number ne (Macros n); placed = λ h. h; edges = keeps_all edges }) (s.macros n i id e g);
+            types = λ n i id e g. note_stays (record { noted = elsewhere number ne (Types n); placed = λ h. h; recorded = keeps_all edges }) (s.types n i id e g);
+            values = λ n i id e g. note_stays (record { noted = elsewhere number ne (Values n); placed = λ h. h; recorded = keeps_all edges }) (s.values n i id e g);
+            macros = λ n i id e g. note_stays (record { noted = elsewhere number ne (Macros n); placed = λ h. h; recorded = keeps_all edges }) (s.macros n i id e g);
           }
 
 -- names stand for what they did
@@ -505,9 +505,9 @@ noted_recorded own globs brought old new ms keeps f = record {
   each = λ number m e.
       let s : IsNotedScope own globs brought old number m.scope = f.each number m e in
       record {
-        types = λ name i id e g. note_stays (record { noted = refl; placed = λ h. h; edges = keeps }) (s.types name i id e g);
-        values = λ name i id e g. note_stays (record { noted = refl; placed = λ h. h; edges = keeps }) (s.values name i id e g);
-        macros = λ name i id e g. note_stays (record { noted = refl; placed = λ h. h; edges = keeps }) (s.macros name i id e g);
+        types = λ name i id e g. note_stays (record { noted = refl; placed = λ h. h; recorded = keeps }) (s.types name i id e g);
+        values = λ name i id e g. note_stays (record { noted = refl; placed = λ h. h; recorded = keeps }) (s.values name i id e g);
+        macros = λ name i id e g. note_stays (record { noted = refl; placed = λ h. h; recorded = keeps }) (s.macros name i id e g);
       };
 }
 
@@ -518,9 +518,9 @@ noted_traits own globs brought edges ms home trait by f = record {
   each = λ number m e.
       let s : IsNotedScope own globs brought edges number m.scope = f.each number m e in
       record {
-        types = λ name i id e g. note_stays (record { noted = apart number (Types name) (λ h. let no : ⊥ = cc in no); placed = λ h. h; edges = keeps_all edges }) (s.types name i id e g);
-        values = λ name i id e g. note_stays (record { noted = apart number (Values name) (λ h. let no : ⊥ = cc in no); placed = λ h. h; edges = keeps_all edges }) (s.values name i id e g);
-        macros = λ name i id e g. note_stays (record { noted = apart number (Macros name) (λ h. let no : ⊥ = cc in no); placed = λ h. h; edges = keeps_all edges }) (s.macros name i id e g);
+        types = λ name i id e g. note_stays (record { noted = apart number (Types name) (λ h. let no : ⊥ = cc in no); placed = λ h. h; recorded = keeps_all edges }) (s.types name i id e g);
+        values = λ name i id e g. note_stays (record { noted = apart number (Values name) (λ h. let no : ⊥ = cc in no); placed = λ h. h; recorded = keeps_all edges }) (s.values name i id e g);
+        macros = λ name i id e g. note_stays (record { noted = apart number (Macros name) (λ h. let no : ⊥ = cc in no); placed = λ h. h; recorded = keeps_all edges }) (s.macros name i id e g);
       };
 }
   where
@@ -633,9 +633,9 @@ module _ (own : MapId) (globs : GlobNames) (brought : BroughtBy) (edges : List E
   pushed_there : (o : Option ModuleValue) (brought' : BroughtBy) (number : ℕ) → number ≢ home → ((key : Key) → brought' (slot_at number key) ≡ brought (slot_at number key))
       → (s : ScopeValue) → IsNotedScope own globs brought edges number s → IsNotedScope own (globs_in o globs at_name items by) brought' edges number s
   pushed_there o brought' number ne same s f = record {
-    types = λ n i id e g. note_stays (record { noted = same (Types n); placed = still_types (place_at own number n) (other_place number n ne) o; edges = keeps_all edges }) (f.types n i id e g);
-    values = λ n i id e g. note_stays (record { noted = same (Values n); placed = still_values (place_at own number n) (other_place number n ne) o; edges = keeps_all edges }) (f.values n i id e g);
-    macros = λ n i id e g. note_stays (record { noted = same (Macros n); placed = still_macros (place_at own number n) (other_place number n ne) o; edges = keeps_all edges }) (f.macros n i id e g);
+    types = λ n i id e g. note_stays (record { noted = same (Types n); placed = still_types (place_at own number n) (other_place number n ne) o; recorded = keeps_all edges }) (f.types n i id e g);
+    values = λ n i id e g. note_stays (record { noted = same (Values n); placed = still_values (place_at own number n) (other_place number n ne) o; recorded = keeps_all edges }) (f.values n i id e g);
+    macros = λ n i id e g. note_stays (record { noted = same (Macros n); placed = still_macros (place_at own number n) (other_place number n ne) o; recorded = keeps_all edges }) (f.macros n i id e g);
   }
 
   forgotten_there : (number : ℕ) → number ≢ home → (key : Key) → brought_after (slot_at number key) ≡ brought (slot_at number key)
@@ -690,13 +690,13 @@ module _ (brought : BroughtBy) (now : Brought) (home : ℕ) where
   -- names of other namespaces of the module keep their notes
   module _ (own : MapId) (globs : GlobNames) (edges : List Edge) (s : ScopeValue) (f : IsNotedScope own globs brought edges home s) (one : Key) where
     types_beside : ((n : List ℕ) → one ≢ Types n) → AreNotedIn glob_of Types own globs.types (brought_at one) edges home s.types
-    types_beside ne n i id e g = note_stays (record { noted = beside one (Types n) (ne n); placed = λ h. h; edges = keeps_all edges }) (f.types n i id e g)
+    types_beside ne n i id e g = note_stays (record { noted = beside one (Types n) (ne n); placed = λ h. h; recorded = keeps_all edges }) (f.types n i id e g)
 
     values_beside : ((n : List ℕ) → one ≢ Values n) → AreNotedIn glob_of_value Values own globs.values (brought_at one) edges home s.values
-    values_beside ne n i id e g = note_stays (record { noted = beside one (Values n) (ne n); placed = λ h. h; edges = keeps_all edges }) (f.values n i id e g)
+    values_beside ne n i id e g = note_stays (record { noted = beside one (Values n) (ne n); placed = λ h. h; recorded = keeps_all edges }) (f.values n i id e g)
 
     macros_beside : ((n : List ℕ) → one ≢ Macros n) → AreNotedIn glob_of Macros own globs.macros (brought_at one) edges home s.macros
-    macros_beside ne n i id e g = note_stays (record { noted = beside one (Macros n) (ne n); placed = λ h. h; edges = keeps_all edges }) (f.macros n i id e g)
+    macros_beside ne n i id e g = note_stays (record { noted = beside one (Macros n) (ne n); placed = λ h. h; recorded = keeps_all edges }) (f.macros n i id e g)
 
 -- ---- a glob pushes
 
