@@ -46,8 +46,6 @@ use Rattle.hir_base.specs.declared.macro_kind.MacroId.TheVariants as macros
 use Rattle.hir_base.specs.declared.macro_kind.MacroLoc.{MacroLoc}
 use Rattle.hir_base.specs.declared.macro_kind.ProcMacroLoc.{ProcMacroLoc}
 use Rattle.hir_item_tree.specs.contracts.raw_visibility.VisibilityExplicitness.{the_type as ways_of_writing}
-use Rattle.hir_scope.specs.contracts.item_in_ns.ItemInNsPartialEq.TheImpl as item_in_ns
-use Rattle.hir_scope.specs.contracts.visibility.VisibilityPartialEq.TheImpl as visibility
 use Rattle.hir_scope.specs.declared.item_in_ns.ItemInNs.{ItemInNs}
 use Rattle.hir_scope.specs.declared.item_in_ns.ItemInNs.TheVariants as in_ns
 use Rattle.hir_scope.specs.declared.visibility.Visibility.{Visibility}

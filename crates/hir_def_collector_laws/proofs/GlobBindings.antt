@@ -1,5 +1,5 @@
 -- What a glob brought came along an edge, and is what that edge's source shows.
-use Rattle.std.proofs.Common.{◌≡◌, ◌≢◌, ◌∙◌, ℕ, ◌==◌, ◌||◌, not, List, [], ◌∷◌, Bool, true, false, cond, Option, None, Some, map as list_map, slice_get, unwrap_or, refl, sym, ap, subst, true≢false}
+use Rattle.std.proofs.Common.{◌≡◌, ◌≢◌, ◌∙◌, ℕ, ◌==◌, ◌||◌, not, List, [], Bool, true, false, cond, Option, None, Some, map as list_map, slice_get, unwrap_or, refl, sym, ap, subst, true≢false}
 use Rattle.std.specs.Cmp.{first_so, second_so, unsigned_Decides}
 use Rattle.hir_base.specs.declared.ids.MapId.{MapId}
 use Rattle.hir_base.specs.declared.ids.Crate.{Crate}
