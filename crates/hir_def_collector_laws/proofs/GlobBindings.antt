@@ -55,7 +55,8 @@ use Rattle.hir_def_collector.specs.Workspace.{Workspace}
 use Rattle.hir_def_collector.proofs.Changes.{AllFine, perform_keeps}
 use Rattle.hir_def_collector_laws.specs.Globs.{AlsoShows, GlobsBringWhatIsShown, IsAsShown, IsBrought, WasSeen, glob_at, glob_by, glob_of_value, is_open_in, view_in}
 use Rattle.hir_def_collector_laws.proofs.Exact.{exact_bound, exact_visibility}
-use Rattle.hir_def_collector_laws.proofs.Noted.{AreNoted, GivesAll, HasNote, IsAsOpen, IsNotedScope, KeepsEdges, keeps_recorded, noted_explicit, noted_followed_macro, noted_followed_type, noted_followed_value, noted_longer, noted_macro, noted_raised_macro, noted_raised_type, noted_raised_value, noted_recorded, noted_rescoped, noted_traits, noted_type, noted_value, same_listed}
+use Rattle.hir_def_collector_laws.proofs.Noted.{GivesAll, HasNote, IsAsOpen, KeepsEdges, keeps_recorded}
+use Rattle.hir_def_collector_laws.proofs.NotedScopes.{AreNoted, IsNotedScope, noted_explicit, noted_followed_macro, noted_followed_type, noted_followed_value, noted_longer, noted_macro, noted_raised_macro, noted_raised_type, noted_raised_value, noted_recorded, noted_rescoped, noted_traits, noted_type, noted_value, same_listed}
 
 -- each name that a glob brought has its note where a run stands
 pub record IsNotedState (s : State) : Type 0 where

@@ -10,6 +10,7 @@ pub mod Bindings
 pub mod Places
 pub mod Exact
 pub mod Noted
+pub mod NotedScopes
 pub mod GlobBindings
 -- ---- definitions
 pub mod Listings
