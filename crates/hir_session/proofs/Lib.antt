@@ -20,11 +20,14 @@ pub mod FileLemmas
 pub mod Changing
 pub mod Current
 pub mod LeftOut
+pub mod Reported
+pub mod Told
 pub mod Growing
 pub mod Differ
 pub mod Stand
 pub mod Replies
 pub mod Histories
+pub mod Telling
 pub mod Headline
 pub mod EditLaws
 pub mod CutLemmas

@@ -25,6 +25,7 @@ pub mod LeavesOut
 pub mod AnswersStand
 pub mod TreeText
 pub mod Diagnostics
+pub mod DiagnosticsStand
 pub mod Machine
 pub mod Histories
 pub mod MachineCodes
