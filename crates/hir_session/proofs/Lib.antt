@@ -3,6 +3,7 @@ pub mod LowerLaws
 pub mod Depending
 pub mod Transitive
 pub mod Ids
+pub mod Noting
 pub mod KeptLemmas
 pub mod Names
 pub mod Worlds

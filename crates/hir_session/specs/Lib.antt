@@ -2,6 +2,7 @@ pub mod Crates
 pub mod Files
 pub mod Inputs
 pub mod SourceTrees
+pub mod Askers
 pub mod Kept
 pub mod KeptCodes
 pub mod SessionState

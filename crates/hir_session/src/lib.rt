@@ -2,6 +2,7 @@
 #![tactic(auto)]
 
 mod answers;
+mod askers;
 mod beginning;
 pub mod crate_info;
 mod crates;
@@ -17,6 +18,7 @@ pub mod laws;
 mod not_yet;
 mod open_line;
 mod output;
+mod runs;
 mod server;
 pub mod server_state;
 pub mod session;
