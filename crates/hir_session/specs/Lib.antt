@@ -15,6 +15,7 @@ pub mod Marks
 pub mod EditedFiles
 pub mod Invalidated
 pub mod Due
+pub mod Nesting
 pub mod NotYet
 pub mod Refusals
 pub mod Beginning

@@ -15,6 +15,7 @@ mod inputs;
 mod invalidate;
 mod kept;
 pub mod laws;
+mod nesting;
 mod not_yet;
 mod open_line;
 mod output;
