@@ -147,11 +147,7 @@ impl Kept {
     pub fn get(&self, id: MapId) -> Option<KeptResolution<'_>>
         ensures value { option_map resolution_of result ≡ kept_in self.now id }
     {
-        joined(
-            self.world.map(id),
-            self.world.local(id),
-            self.runs.get(id),
-        )
+        joined(self.world.map(id), self.world.local(id), self.runs.get(id))
     }
 
     /// The places whose runs may have asked for a file. Each of which something is kept that asked for it is among them.
