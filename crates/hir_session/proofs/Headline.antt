@@ -212,7 +212,7 @@ module _ (runs : RunsBindFromSources) (paths : PathsAnswerFromSources) (leads : 
   told_at n krate list old (line ∷ lines) [] new done good asks told = absurd done
   told_at zero krate list old (line ∷ lines) (answer ∷ answers) new done good asks told =
       let read : reading_of line ≡ Ok (diagnostics krate) = ap reading_of (first_of asks.is) ∙ asks.read in
-      let here = told_within (nat_le (length line) LINE_LIMIT) line read (subst (λ (r : Reply). AnswersInput old line r done.0) (first_of told) done.1) in
+      let here = told_within done.0 (nat_le (length line) LINE_LIMIT) line read (subst (λ (r : Reply). AnswersInput old line r done.0) (first_of told) done.1) in
       record { session = here.at; is = here.before; stands = tell runs here.at krate list (good here.at here.before) here.is }
   told_at (suc n) krate list old (line ∷ lines) (answer ∷ answers) new done good asks told =
       let rest = told_at n krate list done.0 lines answers new done.2 (good_next line answer good done.1) (record { line = asks.line; is = asks.is; read = asks.read }) told in

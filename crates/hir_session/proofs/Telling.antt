@@ -58,8 +58,8 @@ told_by_line asks (finds_no_memory_for_line told same) = absurd (let wrong : ⊥
 told_by_line asks (reads_no_command why read told same) = absurd (let wrong : ⊥ = cc in wrong)
 told_by_line asks (carries_out c read done) = told_by_command (cc) done
 
-pub told_within : {old new : MachineState} {krate : Crate} {list : List Diagnostic} (fits : Bool) (line : List ℕ) → reading_of line ≡ Ok (diagnostics krate)
+pub told_within : {old : MachineState} {krate : Crate} {list : List Diagnostic} (new : MachineState) (fits : Bool) (line : List ℕ) → reading_of line ≡ Ok (diagnostics krate)
     → AnswersWithin fits old line (reply.Diagnostics list) new → IsTold old krate list
-told_within true line asks (inl done) = told_by_line asks done
-told_within true line asks (inr lost) = let told = lost.0 in absurd (let wrong : ⊥ = cc in wrong)
-told_within false line asks skipped = let told = skipped.0 in absurd (let wrong : ⊥ = cc in wrong)
+told_within new true line asks (inl done) = told_by_line asks done
+told_within new true line asks (inr lost) = let told = lost.0 in absurd (let wrong : ⊥ = cc in wrong)
+told_within new false line asks skipped = let told = skipped.0 in absurd (let wrong : ⊥ = cc in wrong)

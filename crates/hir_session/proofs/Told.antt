@@ -1,6 +1,6 @@
 -- Each diagnostic of a current crate is told: it is in a module of the crate's map, and about something that is written in a file of the table.
 use Rattle.std.specs.Prelude.{◌≡◌, ℕ, ◌<◌, Bool, true, false, not, is_none, is_some, Contains, List, [], ◌∷◌, length, map, nat_lt, Option, None, Some, option_map, Result, Ok}
-use Rattle.core.specs.List.{cons_option}
+use Rattle.std.specs.List.{cons_option}
 use Rattle.std.proofs.Common.{ap, refl, subst, sym, ◌∙◌}
 use mathlib.Core.Bool.{true≢false}
 use Rattle.hir_base.specs.declared.ast_id.BlockId.{BlockId}
