@@ -18,7 +18,7 @@ use Rattle.hir_def_collector.specs.Keys.{Environment, Look, environment, of_tree
 use Rattle.hir_def_collector.specs.ModuleFiles.{AreTried, IsNumberOf, LookedAt, ModuleFile, Tried, file_key, file_reading, file_readings, file_tree, is_there, named_by, taken_by}
 use Rattle.hir_def_collector.specs.State.{Core}
 use Rattle.hir_def_collector.specs.Steps.{Sees, keys_read, with_keys}
-use Rattle.hir_def_collector.specs.declared.collector.module_files.LookedFile.{LookedFile}
+use Rattle.hir_def_collector.specs.declared.collector.mod_resolution.LookedFile.{LookedFile}
 use Rattle.hir_def_collector.specs.Moves.{Finds, IsHeld, LooksAt, OnceGrown, looked_view}
 use Rattle.hir_def_collector.proofs.ModuleFiles.{number_kept}
 use Rattle.hir_def_collector.proofs.Outline.{held_grown, held_source}

@@ -32,8 +32,8 @@ use Rattle.hir_def_collector.specs.Reports.{IsUnconfigured, IsUnresolvedModule}
 use Rattle.hir_def_collector.specs.State.{Core, State, Visit, joined, visits}
 use Rattle.hir_def_collector.specs.Steps.{LooksFor, Step, none, drops_file, inside_file, keys_read, misses_file, module_declaration, opens_file, opens_module, path_of, search_readings, visit, visits_inside, with_keys}
 use Rattle.hir_def_collector.specs.Derivation.{IsFull, IsSpent, counted_out, numbered_out}
-use Rattle.hir_def_collector.specs.declared.collector.walk.Inside.{Inside}
-use Rattle.hir_def_collector.specs.declared.collector.walk.Inside.TheVariants.{Nothing, Held, File}
+use Rattle.hir_def_collector.specs.declared.collector.mod_collector.Inside.{Inside}
+use Rattle.hir_def_collector.specs.declared.collector.mod_collector.Inside.TheVariants.{Nothing, Held, File}
 use Rattle.hir_def_collector.specs.Moves.{DropsFile, Finds, GoesInside, Handles, IsHeld, MayTake, OnceGrown, OpensFile, TakesFile, Tells, WalksTooFar, may_drop, may_open, opened, visits_of}
 use Rattle.hir_def_collector.proofs.Made.{Goes, goes, made, missed_after, opened_after}
 use Rattle.hir_def_collector.proofs.Grows.{longer_by_module}

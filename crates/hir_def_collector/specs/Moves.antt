@@ -12,10 +12,10 @@ use Rattle.hir_item_tree.specs.Rows.{items_at, numbers_of}
 use Rattle.hir_mod_dir.specs.declared.candidate.Candidate.{Candidate}
 use Rattle.hir_def_map.specs.Macros.{with_diagnostic}
 use Rattle.hir_def_map.specs.declared.nameres.diagnostics.DefDiagnostic.{DefDiagnostic}
-use Rattle.hir_def_collector.specs.declared.collector.module_files.FoundFile.{FoundFile}
-use Rattle.hir_def_collector.specs.declared.collector.module_files.LookedFile.{LookedFile}
-use Rattle.hir_def_collector.specs.declared.collector.walk.Inside.{Inside}
-use Rattle.hir_def_collector.specs.declared.collector.walk.Inside.TheVariants.{Nothing, Held, File}
+use Rattle.hir_def_collector.specs.declared.collector.mod_resolution.FoundFile.{FoundFile}
+use Rattle.hir_def_collector.specs.declared.collector.mod_resolution.LookedFile.{LookedFile}
+use Rattle.hir_def_collector.specs.declared.collector.mod_collector.Inside.{Inside}
+use Rattle.hir_def_collector.specs.declared.collector.mod_collector.Inside.TheVariants.{Nothing, Held, File}
 use Rattle.hir_scope.specs.declared.visibility.Visibility.{Visibility}
 use Rattle.hir_def_map.specs.Overlay.{Maps}
 use Rattle.hir_def_map.specs.State.{new_module, with_module}

@@ -28,24 +28,25 @@ ghost use Rattle.hir_def_collector.specs.Derivation.{Ends, IsOverlong, IsSpent, 
 ghost use Rattle.hir_def_collector.specs.Moves.{IsHeld};
 
 pub mod collected;
-mod crate_top;
+mod crate_attrs;
 pub mod declaration;
 mod declare;
+mod def_collector;
+mod diagnostics;
 mod enums;
+mod imports;
 mod known_name;
 mod leftovers;
-pub mod module_files;
+pub mod mod_collector;
+pub mod mod_resolution;
 mod preludes;
-mod reach;
-mod reports;
-mod run;
 pub mod site;
 mod sources;
-pub mod walk;
 
 use crate::source_database::{Config, Dependency, SourceDatabase};
 use collected::Collected;
-use crate_top::top_data;
+use crate_attrs::top_data;
+use def_collector::DefCollector;
 use hir_base::ast_id::EditionedFileId;
 use hir_base::cfg_options::CfgOptions;
 use hir_base::edition::Edition;
@@ -57,6 +58,7 @@ use hir_def_map::nameres::local_def_map::LocalDefMap;
 use hir_def_map::nameres::origin::ModuleOrigin;
 use hir_def_map::world::World;
 use hir_def_map::world::part::WorldPart;
+use hir_glob_imports::MAX_STEPS;
 use hir_import_resolution::{ImportError, resolve_imports};
 use hir_item_tree::item_tree::ItemTree;
 use hir_item_tree::source_tree::SourceTree;
@@ -64,13 +66,12 @@ use hir_item_tree::tree_id::{TreeId, TreeKey};
 use hir_mod_dir::ModDir;
 use hir_tables::Tables;
 use leftovers::finish;
+use mod_collector::walk_all;
 use preludes::extern_prelude;
-use run::Run;
 use site::Site;
 use sources::source_at;
 use std::alloc::{AllocError, Global};
 use std::rc::Rc;
-use walk::walk_all;
 
 /// Where a run begins.
 #[derive(Clone, Copy, Debug, PartialEq, Eq, Hash)]
@@ -106,8 +107,9 @@ impl Start {
         }
     }
 }
-/// How many steps a run may take, and how many modules it may make.
-pub const STEP_LIMIT: u32 = 0x7fff_ffff;
+
+/// How many steps a run may take, those along globs among them, and how many modules it may make.
+pub const STEP_LIMIT: u32 = MAX_STEPS;
 
 /// Why a run was given up.
 #[derive(Clone, Copy, Debug, PartialEq, Eq)]
@@ -256,7 +258,7 @@ fn fresh(
     transitive: &Rc<CrateSet>,
     start: Start,
     id: TreeId,
-) -> Result<Run, AllocError>
+) -> Result<DefCollector, AllocError>
     ensures value { IfOk result (λ run. run
         ≡ core_of (part_of world.entry) tree.now (option_map (λ c. config_view c.now) config.entry) transitive.now.value start id) }
 {
@@ -270,7 +272,7 @@ fn fresh(
     let local = extern_prelude(alloc, &data, dependencies)?;
     let copies = cloned(alloc, dependencies)?;
     let options = options_of(alloc, config)?;
-    Run::start(alloc, world, data, local, copies, options, start, id)
+    DefCollector::start(alloc, world, data, local, copies, options, start, id)
 }
 
 /// The root module with what all modules find, and with all items handled to which its tree leads.
@@ -282,7 +284,7 @@ fn begin<D: SourceDatabase>(
     transitive: &Rc<CrateSet>,
     start: Start,
     id: TreeId,
-) -> Result<Run, CollectError>
+) -> Result<DefCollector, CollectError>
     ensures kept { KeepsTables locations.old locations.new }
     ensures same { D.workspace db.new ≡ D.workspace db.old }
     ensures ok { IfOk result (λ run. Steps (environment locations.new (D.workspace db.old)) (part_of world.entry)
@@ -310,7 +312,7 @@ fn is_enabled_at_top(tree: &ItemTree) -> bool
 
 /// Handles the items of a source that are written in the root module; one that is disabled at its top declares nothing.
 fn walk_root<D: SourceDatabase>(
-    run: &mut Run,
+    run: &mut DefCollector,
     db: &mut D,
     world: WorldPart<'_>,
     locations: &mut Tables,

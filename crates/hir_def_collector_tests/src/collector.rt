@@ -595,3 +595,96 @@ fn files_of_modules(rt: HostRuntime) -> Result<(), Fail> {
     }
     Ok(())
 }
+
+/// `mod a { pub trait T {} } use a::T as _;`
+const UNNAMED: &str = r#"{"do":"set file","file":"a.rs","unit":{"nodes":[
+{"kind":"Module","id":[1,0],"name":"a","nodes":[
+    {"kind":"Trait","id":[2,0],"name":"T","items":[],"vis":"pub"}]},
+{"kind":"Use","id":[3,0],"tree":{"single":"a::T","as":"_"}}]}}"#;
+
+/// `mod a { pub trait T {} } mod b { pub use crate::a::T as _; } mod m { use crate::b::*; } use m::*;`
+const UNNAMED_PRIVATELY: &str = r#"{"do":"set file","file":"a.rs","unit":{"nodes":[
+{"kind":"Module","id":[1,0],"name":"a","nodes":[
+    {"kind":"Trait","id":[2,0],"name":"T","items":[],"vis":"pub"}]},
+{"kind":"Module","id":[3,0],"name":"b","nodes":[
+    {"kind":"Use","id":[4,0],"vis":"pub","tree":{"single":"crate::a::T","as":"_"}}]},
+{"kind":"Module","id":[5,0],"name":"m","nodes":[
+    {"kind":"Use","id":[6,0],"tree":{"glob":"crate::b"}}]},
+{"kind":"Use","id":[7,0],"tree":{"glob":"m"}}]}}"#;
+
+/// The same with `pub use crate::c::*;` in `m`, and `mod c { pub use crate::a::T as _; }`.
+const UNNAMED_RAISED: &str = r#"{"do":"set file","file":"a.rs","unit":{"nodes":[
+{"kind":"Module","id":[1,0],"name":"a","nodes":[
+    {"kind":"Trait","id":[2,0],"name":"T","items":[],"vis":"pub"}]},
+{"kind":"Module","id":[3,0],"name":"b","nodes":[
+    {"kind":"Use","id":[4,0],"vis":"pub","tree":{"single":"crate::a::T","as":"_"}}]},
+{"kind":"Module","id":[5,0],"name":"c","nodes":[
+    {"kind":"Use","id":[6,0],"vis":"pub","tree":{"single":"crate::a::T","as":"_"}}]},
+{"kind":"Module","id":[7,0],"name":"m","nodes":[
+    {"kind":"Use","id":[8,0],"tree":{"glob":"crate::b"}},
+    {"kind":"Use","id":[9,0],"vis":"pub","tree":{"glob":"crate::c"}}]},
+{"kind":"Use","id":[10,0],"tree":{"glob":"m"}}]}}"#;
+
+/// The same with two globs of one module, `use crate::b::*; pub use crate::b::*;` in `m`.
+const UNNAMED_WIDENED: &str = r#"{"do":"set file","file":"a.rs","unit":{"nodes":[
+{"kind":"Module","id":[1,0],"name":"a","nodes":[
+    {"kind":"Trait","id":[2,0],"name":"T","items":[],"vis":"pub"}]},
+{"kind":"Module","id":[3,0],"name":"b","nodes":[
+    {"kind":"Use","id":[4,0],"vis":"pub","tree":{"single":"crate::a::T","as":"_"}}]},
+{"kind":"Module","id":[5,0],"name":"m","nodes":[
+    {"kind":"Use","id":[6,0],"tree":{"glob":"crate::b"}},
+    {"kind":"Use","id":[7,0],"vis":"pub","tree":{"glob":"crate::b"}}]},
+{"kind":"Use","id":[8,0],"tree":{"glob":"m"}}]}}"#;
+
+/// A file, and what its modules bind.
+type DumpRow = (&'static str, &'static str, &'static str);
+
+const DUMPS: [DumpRow; 4] = [
+    (
+        "by an import",
+        UNNAMED,
+        "crate\n- _ : type (import)\n- a : type\n\ncrate::a\n- T : type\n",
+    ),
+    (
+        "along a private glob",
+        UNNAMED_PRIVATELY,
+        "crate\n- a : type\n- b : type\n- m : type\n\ncrate::a\n- T : type\n\ncrate::b\n- _ : type (import)\n\ncrate::m\n- _ : type\n",
+    ),
+    (
+        "along a private glob and a public one",
+        UNNAMED_RAISED,
+        "crate\n- _ : type\n- a : type\n- b : type\n- c : type\n- m : type\n\ncrate::a\n- T : type\n\ncrate::b\n- _ : type (import)\n\ncrate::c\n- _ : type (import)\n\ncrate::m\n- _ : type\n",
+    ),
+    (
+        "along two globs of one module",
+        UNNAMED_WIDENED,
+        "crate\n- _ : type\n- a : type\n- b : type\n- m : type\n\ncrate::a\n- T : type\n\ncrate::b\n- _ : type (import)\n\ncrate::m\n- _ : type\n",
+    ),
+];
+
+fn shows(rt: &impl Abort, alloc: Global, map: &DefMap, row: &DumpRow) -> Result<(), Fail> {
+    let (label, _, expected) = *row;
+    let text = map.dump(alloc, &World::new(alloc))?;
+    assert_eq!(rt; text.as_str(), expected, "{label}");
+    Ok(())
+}
+
+fn dumps(rt: &impl Abort, alloc: Global, row: &DumpRow) -> Result<(), Fail> {
+    let (_, line, _) = *row;
+    let mut db = one_crate(alloc, &[("a.rs", line)])?;
+    let found = lower_collected(alloc, &mut db)?;
+    shows(rt, alloc, &found.map, row)?;
+    let world = world_of(alloc, found)?;
+    let again = collected_of(alloc, &mut db, &world, 0)?;
+    shows(rt, alloc, &again.map, row)
+}
+
+/// Traits that are imported without a name: for those who may see them by any of the globs that bring them; and the same
+/// again beside the crate's own finished map.
+#[test]
+fn traits_without_a_name(rt: HostRuntime) -> Result<(), Fail> {
+    for row in &DUMPS {
+        dumps(&rt, rt.alloc(), row)?;
+    }
+    Ok(())
+}

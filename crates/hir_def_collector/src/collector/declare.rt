@@ -13,7 +13,7 @@ ghost use Rattle.hir_def_collector.specs.Steps.{visit, with_declaration};
 ghost use Rattle.hir_def_collector.specs.Moves.{Handles};
 
 use crate::collector::declaration::Declaration;
-use crate::collector::run::Run;
+use crate::collector::def_collector::DefCollector;
 use crate::collector::site::{ItemHead, Site};
 use crate::collector::{CollectError, STEP_LIMIT};
 use hir_base::ids::{
@@ -30,7 +30,11 @@ use hir_scope::per_ns::{Item, PerNs};
 use hir_scope::visibility::Visibility;
 
 /// Lists a definition in its module, and binds its name there.
-pub fn declare(run: &mut Run, home: u32, declaration: Declaration) -> Result<(), CollectError>
+pub fn declare(
+    run: &mut DefCollector,
+    home: u32,
+    declaration: Declaration,
+) -> Result<(), CollectError>
     ensures ok { OnOk result (run.new ≡ counted (with_map run.old (with_declaration run.old.map home declaration))) }
     ensures many { result ≡ Err CollectError.TooMany → STEP_LIMIT ≤ run.old.count }
 {
@@ -43,7 +47,7 @@ pub fn declare(run: &mut Run, home: u32, declaration: Declaration) -> Result<(),
 
 /// Declares what an item's name stands for as a type.
 fn declare_type(
-    run: &mut Run,
+    run: &mut DefCollector,
     world: WorldPart<'_>,
     site: &Site,
     head: ItemHead<'_>,
@@ -66,7 +70,7 @@ fn declare_type(
 
 /// Declares what an item's name stands for as a value.
 fn declare_value(
-    run: &mut Run,
+    run: &mut DefCollector,
     world: WorldPart<'_>,
     site: &Site,
     head: ItemHead<'_>,
@@ -89,7 +93,7 @@ fn declare_value(
 
 /// Declares a function.
 pub fn declare_function(
-    run: &mut Run,
+    run: &mut DefCollector,
     world: WorldPart<'_>,
     site: &Site,
     head: ItemHead<'_>,
@@ -113,7 +117,7 @@ pub fn declare_function(
 
 /// Declares a constant that has a name.
 pub fn declare_const(
-    run: &mut Run,
+    run: &mut DefCollector,
     world: WorldPart<'_>,
     site: &Site,
     head: ItemHead<'_>,
@@ -137,7 +141,7 @@ pub fn declare_const(
 
 /// Declares a static.
 pub fn declare_static(
-    run: &mut Run,
+    run: &mut DefCollector,
     world: WorldPart<'_>,
     site: &Site,
     head: ItemHead<'_>,
@@ -161,7 +165,7 @@ pub fn declare_static(
 
 /// Declares a type alias.
 pub fn declare_type_alias(
-    run: &mut Run,
+    run: &mut DefCollector,
     world: WorldPart<'_>,
     site: &Site,
     head: ItemHead<'_>,
@@ -185,7 +189,7 @@ pub fn declare_type_alias(
 
 /// Declares a trait.
 pub fn declare_trait(
-    run: &mut Run,
+    run: &mut DefCollector,
     world: WorldPart<'_>,
     site: &Site,
     head: ItemHead<'_>,
@@ -209,7 +213,7 @@ pub fn declare_trait(
 
 /// Declares a union.
 pub fn declare_union(
-    run: &mut Run,
+    run: &mut DefCollector,
     world: WorldPart<'_>,
     site: &Site,
     head: ItemHead<'_>,
@@ -233,7 +237,7 @@ pub fn declare_union(
 
 /// The meet of visibilities, if none of them are unrelated.
 fn meet(
-    run: &Run,
+    run: &DefCollector,
     world: WorldPart<'_>,
     at: ModuleId,
     own: Visibility,
@@ -251,7 +255,7 @@ fn meet(
 
 /// The visibility of a struct's constructor, if its shape has one.
 fn constructor(
-    run: &Run,
+    run: &DefCollector,
     world: WorldPart<'_>,
     at: ModuleId,
     own: Visibility,
@@ -297,7 +301,7 @@ fn struct_items(def: ModuleDefId, own: Visibility, constructor: Option<Visibilit
 
 /// Declares a struct: a type, and by its shape a value.
 pub fn declare_struct(
-    run: &mut Run,
+    run: &mut DefCollector,
     world: WorldPart<'_>,
     site: &Site,
     head: ItemHead<'_>,

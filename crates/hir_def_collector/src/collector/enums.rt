@@ -11,7 +11,7 @@ ghost use Rattle.hir_def_collector.specs.Moves.{Handles};
 
 use crate::collector::declaration::Declaration;
 use crate::collector::declare::declare;
-use crate::collector::run::Run;
+use crate::collector::def_collector::DefCollector;
 use crate::collector::site::{ItemHead, Site};
 use crate::collector::{CollectError, STEP_LIMIT};
 use hir_base::ids::{AdtId, EnumId, EnumVariantId, ItemLoc, ModuleDefId};
@@ -65,7 +65,7 @@ fn variants_of(
 ///
 /// After rust-analyzer's `EnumVariants`.
 pub fn declare_enum(
-    run: &mut Run,
+    run: &mut DefCollector,
     world: WorldPart<'_>,
     source: &SourceTree,
     site: &Site,

@@ -5,7 +5,7 @@ ghost use Rattle.hir_def_collector.specs.Reports.{leftover_diagnostics, with_dia
 ghost use Rattle.hir_def_collector.specs.Derivation.{collected_view, is_left_over, leftover_among};
 
 use crate::collector::collected::{Asked, Collected};
-use crate::collector::reports::{report_unresolved, unresolved_crates};
+use crate::collector::diagnostics::{report_unresolved, unresolved_crates};
 use crate::source_database::Key;
 use hir_crate_graph::crate_set::CrateSet;
 use hir_import_resolution::{ImportDirective, Imports, Taken};

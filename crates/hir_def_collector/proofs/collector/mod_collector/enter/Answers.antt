@@ -1,0 +1,28 @@
+use Rattle.std.proofs.Common.{◌≡◌, length, subst, refl, arith}
+use Rattle.hir_def_map.specs.State.{with_extern_block}
+use Rattle.hir_def_collector.specs.ItemIds.{extern_block_id}
+use Rattle.hir_def_collector.specs.State.{counted, with_map}
+use Rattle.hir_def_collector.specs.TreeReads.{head_of}
+use Rattle.hir_def_collector.specs.Steps.{enters_block}
+use Rattle.hir_def_collector.proofs.Made.{made}
+use Rattle.hir_def_collector.proofs.Grows.{longer_by_block}
+use Rattle.hir_def_collector.proofs.collector.mod_collector.enter.Goals as goal
+
+pub returns-clause-ok : goal.returns-clause-ok
+returns-clause-ok c = λ env finished items. record {
+  step = λ rest.
+      made (enters_block c.args.site.now (head_of c.args.head) _ rest) (record { next = refl; enabled = c.requires.enabled }) tt tt
+      (rw (c.in_ok-tick.ensures.ok, c.in_ok-list_extern_block.ensures.ok, c.module_id.ensures.value, c.in_ok-dir.ensures.value) refl);
+}
+
+pub returns-clause-within : goal.returns-clause-within
+returns-clause-within c = λ tables w.
+    let listed : c.tick.new.self ≡ counted (with_map c.args.run.now (with_extern_block c.args.run.now.map c.args.site.now.home (extern_block_id c.args.run.now.map c.args.site.now c.args.head.id))) =
+    rw (c.in_ok-tick.ensures.ok, c.in_ok-list_extern_block.ensures.ok, c.module_id.ensures.value) refl in (
+      record {
+        there = longer_by_block c.args.run.now c.tick.new.self c.args.site.now.home (extern_block_id c.args.run.now.map c.args.site.now c.args.head.id) listed c.requires.in_range;
+        tree = refl;
+        deep = rw c.in_ok-dir.ensures.value (omega arith);
+      },
+      refl,
+    )

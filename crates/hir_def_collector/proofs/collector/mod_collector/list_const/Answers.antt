@@ -1,0 +1,12 @@
+use Rattle.std.proofs.Common.{refl}
+use Rattle.hir_def_collector.specs.TreeReads.{head_of}
+use Rattle.hir_def_collector.specs.Steps.{lists_constant}
+use Rattle.hir_def_collector.proofs.Made.{made}
+use Rattle.hir_def_collector.proofs.collector.mod_collector.list_const.Goals as goal
+
+pub returns-clause-ok : goal.returns-clause-ok
+returns-clause-ok c = λ env finished. record {
+  step = λ rest.
+      made (lists_constant c.args.site.now (head_of c.args.head) rest) (record { next = refl; enabled = c.requires.enabled }) tt tt
+      (rw (c.in_ok-tick.ensures.ok, c.in_ok-list_unnamed_const.ensures.ok, c.container.ensures.value) refl);
+}

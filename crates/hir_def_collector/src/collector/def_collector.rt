@@ -1,0 +1,389 @@
+//! Where a run stands, and what each change leaves.
+ghost use Rattle.std.specs.Prelude.{◌≡◌, ◌<◌, ◌≤◌, length, OnOk, IfOk};
+ghost use Rattle.std.specs.Prelude.{◌∷◌, [], Some};
+ghost use Rattle.hir_def_map.specs.State.{with_enum, with_module, new_id, new_module, with_declared, with_use, with_impl, with_extern_block, with_extern_crate, with_unnamed_const};
+ghost use Rattle.hir_def_map.specs.WorldParts.{part_of};
+ghost use Rattle.hir_def_map.specs.Macros.{with_diagnostic};
+ghost use Rattle.hir_import_resolution.specs.Inner.State.{state_in};
+ghost use Rattle.hir_import_resolution.specs.Visibilities.{visibility_in};
+ghost use Rattle.hir_def_collector.specs.State.{at_rest, import_state, with_local, with_asked, with_map, with_imports, counted};
+ghost use Rattle.hir_def_collector.specs.ItemIds.{container_of, module_id};
+ghost use Rattle.hir_def_collector.specs.Items.{bound_in, own_visibility};
+ghost use Rattle.hir_def_collector.specs.TreeReads.{head_of};
+ghost use Rattle.hir_def_collector.specs.Imports.{crate_named, dependency_named, extern_after};
+ghost use Rattle.hir_def_collector.specs.Start.{core_by};
+ghost use Rattle.hir_def_collector.specs.ModuleFiles.{file_key};
+ghost use Rattle.hir_def_collector.specs.Moves.{AreUntaken};
+
+use crate::collector::preludes::prelude;
+use crate::collector::site::{ItemHead, Site};
+use crate::collector::{CollectError, STEP_LIMIT, Start};
+use crate::source_database::{Dependency, Key};
+use hir_base::ast_id::{EditionedFileId, FileId, HirFileId};
+use hir_base::cfg_options::CfgOptions;
+use hir_base::ids::{
+    ConstId, Crate, EnumId, ExternBlockId, ExternCrateId, ImplId, ItemContainerId, MapId,
+    ModuleDefId, ModuleId, UseId,
+};
+use hir_base::name::Name;
+use hir_def_map::nameres::DefMap;
+use hir_def_map::nameres::crate_data::DefMapCrateData;
+use hir_def_map::nameres::diagnostics::DefDiagnostic;
+use hir_def_map::nameres::enum_variants::EnumVariants;
+use hir_def_map::nameres::local_def_map::LocalDefMap;
+use hir_def_map::nameres::module_data::ModuleData;
+use hir_def_map::nameres::origin::ModuleOrigin;
+use hir_def_map::world::part::WorldPart;
+use hir_glob_imports::GlobImports;
+use hir_import_resolution::answers::visibility;
+use hir_import_resolution::{ImportDirective, ImportSource, Imports, Taken};
+use hir_item_tree::raw_visibility::RawVisibility;
+use hir_item_tree::shape::ExternCrateName;
+use hir_item_tree::tree_id::{TreeId, TreeKey};
+use hir_scope::glob_imports::PerNsGlobImports;
+use hir_scope::per_ns::PerNs;
+use hir_scope::visibility::Visibility;
+use std::alloc::{AllocError, Global};
+use std::marker::Model;
+
+/// Where a run stands, what it has still to visit aside.
+#[derive(Drop)]
+pub struct DefCollector {
+    map: DefMap,
+    local: LocalDefMap,
+    dependencies: Vec<Dependency>,
+    options: CfgOptions,
+    from_glob_import: PerNsGlobImports,
+    reached: Vec<ImportDirective>,
+    taken: Vec<Taken>,
+    asked: Vec<Key>,
+    count: u32,
+}
+
+impl Model for DefCollector {
+    ghost use Rattle.std.specs.Prelude.{◌≡◌, ◌≤◌};
+    ghost use Rattle.hir_def_map.specs.State.{no_globs};
+    ghost use Rattle.hir_def_collector.specs.Codes.{coded_core};
+    ghost use Rattle.hir_def_collector.specs.Moves.{AreUntaken};
+    ghost use Rattle.hir_def_collector.specs.State.{Core};
+    ghost use Rattle.hir_def_collector.specs.declared.collector.TheConstants.{STEP_LIMIT};
+
+    ghost Value = { Core };
+
+    ghost coded = { coded_core };
+
+    ghost view = { λ r. record { map = r.map; local = r.local; dependencies = r.dependencies.items; options = r.options; reached = r.reached.items; taken = r.taken.items; asked = r.asked.items; count = r.count } };
+
+    // Before imports are resolved no glob is recorded, and no import taken.
+    ghost invariant = { λ r. (r.count ≤ STEP_LIMIT) × (r.from_glob_import ≡ no_globs) × AreUntaken r.taken.items };
+}
+
+/// The first crate of a name.
+fn dependency_named(dependencies: &[Dependency], name: &Name) -> Option<Crate>
+    ensures value { result ≡ dependency_named dependencies.now name.now }
+{
+    for dependency in dependencies {
+        if dependency.name == *name {
+            return Some(dependency.krate);
+        }
+    }
+    None
+}
+
+impl DefCollector {
+    /// The root module alone, beside what all modules find, its tree asked for.
+    pub fn start(
+        alloc: Global,
+        world: WorldPart<'_>,
+        crate_data: DefMapCrateData,
+        local: LocalDefMap,
+        dependencies: Vec<Dependency>,
+        options: CfgOptions,
+        start: Start,
+        tree: TreeId,
+    ) -> Result<DefCollector, AllocError>
+        ensures value { IfOk result (λ run. run ≡ core_by (part_of world.entry) crate_data local dependencies.items options start tree) }
+    {
+        let krate = start.krate();
+        let root = ModuleData::new(alloc, start.origin(), Visibility::Public, None);
+        let mut map = DefMap::empty(alloc, krate, crate_data, root, None)?;
+        let found = prelude(alloc, world, &map, &local)?;
+        map.set_prelude(found);
+        let mut asked = Vec::new(alloc);
+        asked.push(Key::Tree(TreeKey { krate, id: tree }))?;
+        Ok(DefCollector {
+            map,
+            local,
+            dependencies,
+            options,
+            from_glob_import: PerNsGlobImports::new(alloc),
+            reached: Vec::new(alloc),
+            taken: Vec::new(alloc),
+            asked,
+            count: 0,
+        })
+    }
+
+    /// The modules so far.
+    pub fn map(&self) -> &DefMap
+        ensures value { result.now ≡ self.now.map }
+    {
+        &self.map
+    }
+
+    /// The module of a number.
+    pub fn module_id(&self, home: u32) -> ModuleId
+        ensures value { result ≡ module_id self.now.map home }
+    {
+        ModuleId {
+            map: self.map.id(),
+            index: home,
+        }
+    }
+
+    /// What holds the items of a site.
+    pub fn container(&self, site: &Site) -> ItemContainerId
+        ensures value { result ≡ container_of self.now.map site.now }
+    {
+        match site.extern_block {
+            Some(block) => ItemContainerId::ExternBlockId(block),
+            None => ItemContainerId::ModuleId(self.module_id(site.home)),
+        }
+    }
+
+    /// What a visibility means that is written in a module; one whose path leads to no module counts as public.
+    pub fn visibility_in(
+        &self,
+        world: WorldPart<'_>,
+        at: ModuleId,
+        raw: &RawVisibility,
+    ) -> Visibility
+        ensures value { result ≡ visibility_in (part_of world.entry) self.now.local self.now.map at raw.now }
+    {
+        visibility(&self.map, &self.local, world, at, raw)
+    }
+
+    /// The visibility of an item at a site.
+    pub fn visibility(&self, world: WorldPart<'_>, site: &Site, head: ItemHead<'_>) -> Visibility
+        ensures value { result ≡ own_visibility (part_of world.entry) self.now.local self.now.map site.now (head_of head.entry) }
+    {
+        self.visibility_in(world, self.module_id(site.home), head.visibility)
+    }
+
+    /// Where the run takes its memory.
+    pub fn allocator(&self) -> Global {
+        *self.reached.allocator()
+    }
+
+    /// How many steps were taken.
+    pub fn count(&self) -> u32
+        ensures value { result ≡ self.now.count }
+        ensures small { result ≤ STEP_LIMIT }
+    {
+        self.count
+    }
+
+    /// Counts a step.
+    pub fn tick(&mut self) -> Result<(), CollectError>
+        ensures ok { OnOk result (self.new ≡ counted self.old) }
+        ensures many { result ≡ Err CollectError.TooMany → STEP_LIMIT ≤ self.old.count }
+    {
+        if self.count >= STEP_LIMIT {
+            return Err(CollectError::TooMany);
+        }
+        self.count += 1;
+        Ok(())
+    }
+
+    /// Binds what a declaration brings under a name in a module.
+    ///
+    /// After rust-analyzer's `DefCollector::update`.
+    pub fn bind(&mut self, home: u32, name: Name, items: PerNs) -> Result<(), AllocError>
+        ensures ok { OnOk result (self.new ≡ with_map self.old (bound_in self.old.map home name items)) }
+    {
+        self.map
+            .push(&mut self.from_glob_import, home, name, items, None)?;
+        Ok(())
+    }
+
+    /// Makes a module.
+    pub fn open(
+        &mut self,
+        home: u32,
+        name: Name,
+        origin: ModuleOrigin,
+        visibility: Visibility,
+    ) -> Result<ModuleId, CollectError>
+        requires in_range { home < length self.old.map.modules }
+        ensures made { IfOk result (λ id. id ≡ new_id self.old.map) }
+        ensures ok { OnOk result (self.new ≡ with_map self.old (with_module self.old.map home name (new_module origin visibility (Some (module_id self.old.map home))))) }
+        ensures many { result ≡ Err CollectError.TooMany → STEP_LIMIT ≤ length self.old.map.modules }
+    {
+        let parent = self.module_id(home);
+        let module = ModuleData::new(self.allocator(), origin, visibility, Some(parent));
+        let id = self.map.add_module(home, name, module)?;
+        Ok(id)
+    }
+
+    /// Lists a definition in a module.
+    pub fn declare(&mut self, home: u32, def: ModuleDefId) -> Result<(), AllocError>
+        ensures ok { OnOk result (self.new ≡ with_map self.old (with_declared self.old.map home def)) }
+    {
+        self.map.declare(home, def)?;
+        Ok(())
+    }
+
+    /// Keeps the variants of an enum, which were asked for.
+    pub fn add_enum(&mut self, id: EnumId, variants: EnumVariants) -> Result<(), AllocError>
+        ensures ok { OnOk result (self.new ≡ with_asked (with_map self.old (with_enum self.old.map id variants)) (Key.Variants id)) }
+    {
+        self.asked.push(Key::Variants(id))?;
+        self.map.add_enum(id, variants)?;
+        Ok(())
+    }
+
+    /// The tree of a file in the crate's edition, under the crate.
+    pub fn file_key(&self, id: FileId) -> TreeKey
+        ensures value { result ≡ file_key self.now.map.id.krate self.now.map.crate_data.edition id }
+    {
+        TreeKey {
+            krate: self.map.id().krate,
+            id: TreeId {
+                file: HirFileId::File(EditionedFileId {
+                    file_id: id,
+                    edition: self.map.edition(),
+                }),
+                block: None,
+            },
+        }
+    }
+
+    /// Notes a key that was asked for.
+    pub fn ask(&mut self, key: Key) -> Result<(), AllocError>
+        ensures ok { OnOk result (self.new ≡ with_asked self.old key) }
+    {
+        self.asked.push(key)?;
+        Ok(())
+    }
+
+    /// Adds a diagnostic.
+    pub fn tell(&mut self, report: DefDiagnostic) -> Result<(), AllocError>
+        ensures ok { OnOk result (self.new ≡ with_map self.old (with_diagnostic self.old.map report)) }
+    {
+        self.map.add_diagnostic(report)?;
+        Ok(())
+    }
+
+    /// The options of the crate that are set.
+    pub fn options(&self) -> &CfgOptions
+        ensures value { result.now ≡ self.now.options }
+    {
+        &self.options
+    }
+
+    /// Lists a `use` item in a module.
+    pub fn list_use(&mut self, home: u32, use_: UseId) -> Result<(), AllocError>
+        ensures ok { OnOk result (self.new ≡ with_map self.old (with_use self.old.map home use_)) }
+    {
+        self.map.define_use(home, use_)?;
+        Ok(())
+    }
+
+    /// Lists an `extern crate` in a module.
+    pub fn list_extern_crate(&mut self, home: u32, id: ExternCrateId) -> Result<(), AllocError>
+        ensures ok { OnOk result (self.new ≡ with_map self.old (with_extern_crate self.old.map home id)) }
+    {
+        self.map.define_extern_crate_decl(home, id)?;
+        Ok(())
+    }
+
+    /// Lists an impl in a module.
+    pub fn list_impl(&mut self, home: u32, id: ImplId, of_trait: bool) -> Result<(), AllocError>
+        ensures ok { OnOk result (self.new ≡ with_map self.old (with_impl self.old.map home id of_trait)) }
+    {
+        self.map.define_impl(home, id, of_trait)?;
+        Ok(())
+    }
+
+    /// Lists an extern block in a module.
+    pub fn list_extern_block(&mut self, home: u32, id: ExternBlockId) -> Result<(), AllocError>
+        ensures ok { OnOk result (self.new ≡ with_map self.old (with_extern_block self.old.map home id)) }
+    {
+        self.map.define_extern_block(home, id)?;
+        Ok(())
+    }
+
+    /// Lists a constant without a name in a module.
+    pub fn list_unnamed_const(&mut self, home: u32, id: ConstId) -> Result<(), AllocError>
+        ensures ok { OnOk result (self.new ≡ with_map self.old (with_unnamed_const self.old.map home id)) }
+    {
+        self.map.define_unnamed_const(home, id)?;
+        Ok(())
+    }
+
+    /// The crate that an `extern crate` names: its own, or the first dependency of the name.
+    pub fn crate_named(&self, name: &ExternCrateName) -> Option<Crate>
+        ensures value { result ≡ crate_named self.now.map.id.krate self.now.dependencies name.now }
+    {
+        match name {
+            ExternCrateName::SelfCrate => Some(self.map.id().krate),
+            ExternCrateName::Name(name) => dependency_named(&self.dependencies, name),
+        }
+    }
+
+    /// Lets paths begin with the name of an `extern crate` of the crate's root module.
+    pub fn add_extern(&mut self, import: &ImportDirective) -> Result<(), AllocError>
+        ensures ok { OnOk result (self.new ≡ with_local self.old (extern_after self.old.map self.old.local import.now)) }
+    {
+        if import.home != 0 || self.map.id().block.is_some() {
+            return Ok(());
+        }
+        let ImportSource::ExternCrate {
+            id,
+            krate: Some(krate),
+        } = import.source
+        else {
+            return Ok(());
+        };
+        let Some(name) = import.name()? else {
+            return Ok(());
+        };
+        let root = ModuleId {
+            map: MapId { krate, block: None },
+            index: 0,
+        };
+        self.local.add_extern(name, root, Some(id))?;
+        Ok(())
+    }
+
+    /// Notes an import that was come upon.
+    pub fn reach(&mut self, import: ImportDirective) -> Result<(), AllocError>
+        ensures ok { OnOk result (self.new ≡ with_imports self.old (import ∷ [])) }
+    {
+        let taken = Taken::nothing(self.allocator());
+        self.reached.push(import)?;
+        self.taken.push(taken)?;
+        Ok(())
+    }
+
+    /// The imports that were come upon, none of them taken, and the keys that were asked for.
+    pub fn into_imports(self) -> (Imports, Vec<Key>)
+        ensures imports { state_in result.0 ≡ import_state (at_rest self) }
+        ensures no_globs { result.0.globs.edges ≡ [] × result.0.globs.brought ≡ [] × result.0.globs.pending ≡ [] }
+        ensures untaken { AreUntaken result.0.taken.items }
+        ensures asked { result.1.items ≡ self.asked }
+        ensures small { result.0.count ≤ STEP_LIMIT }
+    {
+        let globs = GlobImports::new(self.allocator());
+        let imports = Imports {
+            map: self.map,
+            local: self.local,
+            from_glob_import: self.from_glob_import,
+            imports: self.reached,
+            taken: self.taken,
+            globs,
+            count: self.count,
+        };
+        (imports, self.asked)
+    }
+}

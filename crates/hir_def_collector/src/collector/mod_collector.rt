@@ -1,0 +1,587 @@
+//! The walk over the items of a tree.
+ghost use Rattle.std.specs.Prelude.{◌≡◌, ◌<◌, ◌≤◌, true, ◌∷◌, [], List, length, map, OnOk, IfOk, IsSome};
+ghost use Rattle.std.specs.List.{All};
+ghost use Rattle.hir_base.specs.Cfg.{cfg_view};
+ghost use Rattle.hir_item_tree.specs.Collected.{is_enabled};
+ghost use Rattle.hir_item_tree.specs.KeptForest.{KeptItem, all_items, leaf, holder, constant, implementation, extern_block, inline_module, outline_module};
+ghost use Rattle.hir_item_tree.specs.Kinds.{kind_content, kind_of};
+ghost use Rattle.hir_item_tree.specs.Rows.{held_numbers, item_of, items_at, numbers_of};
+ghost use Rattle.hir_tables.specs.Tables.{KeepsTables, TablesValue, source_of};
+ghost use Rattle.hir_def_map.specs.Overlay.{Maps};
+ghost use Rattle.hir_def_map.specs.declared.nameres.diagnostics.DefDiagnostic.{DefDiagnostic};
+ghost use Rattle.hir_def_map.specs.WorldParts.{part_of};
+ghost use Rattle.hir_def_collector.specs.Workspace.{Workspace};
+ghost use Rattle.hir_def_collector.specs.Keys.{Environment, source_in};
+ghost use Rattle.hir_def_collector.specs.ItemIds.{module_id, node_of};
+ghost use Rattle.hir_def_collector.specs.Items.{file_origin, inline_origin};
+ghost use Rattle.hir_def_collector.specs.Reports.{IsUnconfigured, IsUnresolvedModule};
+ghost use Rattle.hir_def_collector.specs.Steps.{inside_file, visit};
+ghost use Rattle.hir_def_collector.specs.TreeReads.{head_of, visits_at};
+ghost use Rattle.hir_def_collector.specs.Derivation.{IsFull};
+ghost use Rattle.hir_def_collector.specs.Moves.{Drops, GoesInside, Handles, IsHeld, MayTake, OnceGrown, TakesFile, Tells, Walks, WalksTooFar, found_view, is_single, opened, visits_of};
+
+use crate::collector::declaration::Declaration;
+use crate::collector::declare::{
+    declare, declare_const, declare_function, declare_static, declare_struct, declare_trait,
+    declare_type_alias, declare_union,
+};
+use crate::collector::def_collector::DefCollector;
+use crate::collector::diagnostics::{unconfigured, unresolved_module};
+use crate::collector::enums::declare_enum;
+use crate::collector::imports::{reach_extern_crate, reach_use};
+use crate::collector::mod_resolution::{FoundFile, file_of, find_file, path_attr};
+use crate::collector::site::{ItemHead, Site, head_at};
+use crate::collector::{CollectError, STEP_LIMIT};
+use crate::source_database::SourceDatabase;
+use hir_base::ast_id::{AstId, AstKind, EditionedFileId, HirFileId, SyntaxId};
+use hir_base::cfg::CfgExpr;
+use hir_base::ids::{ConstId, ExternBlockId, ImplId, ItemLoc, ModuleDefId};
+use hir_base::name::Name;
+use hir_def_map::nameres::origin::ModuleOrigin;
+use hir_def_map::world::part::WorldPart;
+use hir_item_tree::kinds::{ModItemKind, ModKind};
+use hir_item_tree::rows::ModItemId;
+use hir_item_tree::source_tree::SourceTree;
+use hir_item_tree::tree_id::TreeId;
+use hir_mod_dir::Candidate;
+use hir_scope::per_ns::PerNs;
+use hir_tables::Tables;
+use std::rc::Rc;
+
+/// Items that are visited next, and where they are written.
+#[derive(Drop)]
+pub enum Inside<'a> {
+    Nothing,
+    /// Those that an item holds.
+    Held { site: Site, ids: &'a [ModItemId] },
+    /// Those of a module's file.
+    File { site: Site, source: Rc<SourceTree> },
+}
+
+/// Lists a constant that has no name.
+fn list_const(run: &mut DefCollector, site: &Site, head: ItemHead<'_>) -> Result<(), CollectError>
+    requires enabled { is_enabled (head_of head).attributes ≡ true }
+    ensures ok { OnOk result ((env : Environment) (finished : Maps) → Handles env finished run.old run.new (visit site.now (leaf (head_of head.entry) (constant None))) []) }
+    ensures many { result ≡ Err CollectError.TooMany → STEP_LIMIT ≤ run.old.count }
+{
+    let id = ConstId {
+        loc: ItemLoc {
+            container: run.container(site),
+            file_id: site.tree.file,
+            block: site.tree.block,
+            id: head.id,
+        },
+    };
+    run.list_unnamed_const(site.home, id)?;
+    run.tick()?;
+    Ok(())
+}
+
+/// Handles a constant.
+fn visit_const(
+    run: &mut DefCollector,
+    world: WorldPart<'_>,
+    site: &Site,
+    head: ItemHead<'_>,
+    name: &Option<Name>,
+) -> Result<(), CollectError>
+    requires enabled { is_enabled (head_of head).attributes ≡ true }
+    ensures ok { OnOk result ((env : Environment) → Handles env (part_of world.entry) run.old run.new (visit site.now (leaf (head_of head.entry) (constant name.now))) []) }
+    ensures many { result ≡ Err CollectError.TooMany → STEP_LIMIT ≤ run.old.count }
+{
+    match name {
+        Some(name) => declare_const(run, world, site, head, name)?,
+        None => list_const(run, site, head)?,
+    }
+    Ok(())
+}
+
+/// Lists an impl.
+fn list_impl(
+    run: &mut DefCollector,
+    site: &Site,
+    head: ItemHead<'_>,
+    of_trait: bool,
+) -> Result<(), CollectError>
+    requires enabled { is_enabled (head_of head).attributes ≡ true }
+    ensures ok { OnOk result ((env : Environment) (finished : Maps) → Handles env finished run.old run.new (visit site.now (leaf (head_of head.entry) (implementation of_trait))) []) }
+    ensures many { result ≡ Err CollectError.TooMany → STEP_LIMIT ≤ run.old.count }
+{
+    let id = ImplId {
+        loc: ItemLoc {
+            container: run.module_id(site.home),
+            file_id: site.tree.file,
+            block: site.tree.block,
+            id: head.id,
+        },
+    };
+    run.list_impl(site.home, id, of_trait)?;
+    run.tick()?;
+    Ok(())
+}
+
+/// The node of a `mod` item.
+fn mod_node(tree: TreeId, id: SyntaxId) -> AstId
+    ensures value { result ≡ node_of tree AstKind.Module id }
+{
+    AstId {
+        file_id: tree.file,
+        block: tree.block,
+        kind: AstKind::Module,
+        id,
+    }
+}
+
+/// Makes a module, lists it and binds it; its number.
+fn open(
+    run: &mut DefCollector,
+    world: WorldPart<'_>,
+    site: &Site,
+    head: ItemHead<'_>,
+    name: &Name,
+    origin: ModuleOrigin,
+) -> Result<u32, CollectError>
+    requires in_range { site.now.home < length run.old.map.modules }
+    ensures made { IfOk result (λ home. home ≡ length run.old.map.modules) }
+    ensures ok { OnOk result (run.new ≡ opened (part_of world.entry) run.old site.now (head_of head.entry) name.now origin) }
+    ensures many { result ≡ Err CollectError.TooMany → IsFull run.old.count run.old.map }
+{
+    let vis = run.visibility(world, site, head);
+    let made = run.open(site.home, name.clone()?, origin, vis)?;
+    let def = ModuleDefId::ModuleId(made);
+    let declaration = Declaration {
+        name: name.clone()?,
+        def,
+        items: PerNs::types(def, vis, None),
+    };
+    declare(run, site.home, declaration)?;
+    Ok(made.index)
+}
+
+/// Handles a module that is written where it is declared; its items are visited next, unless it is too deep.
+fn visit_inline<'a>(
+    run: &mut DefCollector,
+    world: WorldPart<'_>,
+    site: &Site,
+    head: ItemHead<'_>,
+    name: &Name,
+    ids: &'a [ModItemId],
+) -> Result<Inside<'a>, CollectError>
+    requires in_range { site.now.home < length run.old.map.modules }
+    requires enabled { is_enabled (head_of head).attributes ≡ true }
+    ensures ok { IfOk result (λ inside. (env : Environment) (items : List KeptItem) → Handles env (part_of world.entry) run.old run.new
+        (visit site.now (holder (head_of head.entry) (inline_module name.now) (items_at items (numbers_of ids.entry.now)))) (visits_of items inside)) }
+    ensures within { IfOk result (λ inside. (tables : TablesValue) (w : Workspace) →
+        GoesInside tables w run.old.map.id.krate (length run.new.map.modules) site.now (numbers_of ids.entry.now) inside) }
+    ensures many { result ≡ Err CollectError.TooMany → IsFull run.old.count run.old.map }
+{
+    let path = path_attr(head.attrs.attrs.as_slice());
+    let dir = site
+        .dir
+        .descend_into_definition(run.allocator(), name, path)?;
+    let node = mod_node(site.tree, head.id);
+    let origin = ModuleOrigin::Inline {
+        definition_tree_id: site.tree,
+        definition: node,
+    };
+    let home = open(run, world, site, head, name, origin)?;
+    let Some(dir) = dir else {
+        return Ok(Inside::Nothing);
+    };
+    Ok(Inside::Held {
+        site: Site {
+            home,
+            tree: site.tree,
+            extern_block: None,
+            dir,
+            level: site.level,
+        },
+        ids,
+    })
+}
+
+/// Makes a module whose items are in a file of its own; where they are written.
+fn open_file(
+    run: &mut DefCollector,
+    world: WorldPart<'_>,
+    site: &Site,
+    head: ItemHead<'_>,
+    name: &Name,
+    file: &FoundFile,
+) -> Result<Site, CollectError>
+    requires in_range { site.now.home < length run.old.map.modules }
+    ensures inside { IfOk result (λ inside. inside ≡ inside_file run.old.map (found_view file.now)) }
+    ensures ok { OnOk result (run.new ≡ opened (part_of world.entry) run.old site.now (head_of head.entry) name.now
+        (file_origin site.now.tree head.entry.id run.old.map.crate_data.edition (found_view file.now))) }
+    ensures many { result ≡ Err CollectError.TooMany → IsFull run.old.count run.old.map }
+{
+    let definition = EditionedFileId {
+        file_id: file.id,
+        edition: run.map().edition(),
+    };
+    let dir = file.dir.clone()?;
+    let origin = ModuleOrigin::File {
+        is_mod_rs: file.is_mod_rs,
+        declaration: mod_node(site.tree, head.id),
+        declaration_tree_id: site.tree,
+        definition,
+    };
+    let home = open(run, world, site, head, name, origin)?;
+    Ok(Site {
+        home,
+        tree: TreeId {
+            file: HirFileId::File(definition),
+            block: None,
+        },
+        extern_block: None,
+        dir,
+        level: 0,
+    })
+}
+
+/// Drops a `mod` item whose file is disabled at its top.
+fn drop_file(
+    run: &mut DefCollector,
+    site: &Site,
+    head: ItemHead<'_>,
+    cfg: &CfgExpr,
+) -> Result<(), CollectError>
+    ensures ok { OnOk result (Drops (IsUnconfigured (module_id run.old.map site.now.home) (node_of site.now.tree AstKind.Module head.entry.id) (cfg_view cfg.now) run.old.options) run.old run.new) }
+    ensures many { result ≡ Err CollectError.TooMany → STEP_LIMIT ≤ run.old.count }
+{
+    let at = run.module_id(site.home);
+    let node = mod_node(site.tree, head.id);
+    let told = unconfigured(run.allocator(), at, node, cfg, run.options())?;
+    run.tell(told)?;
+    run.tick()?;
+    Ok(())
+}
+
+/// Makes a module whose file isn't found: it has no items.
+fn miss_file(
+    run: &mut DefCollector,
+    world: WorldPart<'_>,
+    site: &Site,
+    head: ItemHead<'_>,
+    name: &Name,
+    candidates: &[Candidate],
+) -> Result<(), CollectError>
+    requires in_range { site.now.home < length run.old.map.modules }
+    ensures ok { OnOk result (Tells (IsUnresolvedModule (module_id run.old.map site.now.home) (node_of site.now.tree AstKind.Module head.entry.id) (map (λ c. c.text) candidates.now))
+        (opened (part_of world.entry) run.old site.now (head_of head.entry) name.now (inline_origin site.now.tree head.entry.id)) run.new) }
+    ensures many { result ≡ Err CollectError.TooMany → IsFull run.old.count run.old.map
+        × ((d : DefDiagnostic) × IsUnresolvedModule (module_id run.old.map site.now.home) (node_of site.now.tree AstKind.Module head.entry.id) (map (λ c. c.text) candidates.now) d) }
+{
+    let node = mod_node(site.tree, head.id);
+    let at = run.module_id(site.home);
+    let told = unresolved_module(run.allocator(), at, node, candidates)?;
+    let origin = ModuleOrigin::Inline {
+        definition_tree_id: site.tree,
+        definition: node,
+    };
+    open(run, world, site, head, name, origin)?;
+    run.tell(told)?;
+    Ok(())
+}
+
+/// Handles a module whose items are in a file of its own, which was found; its items are visited next, unless the file
+/// is disabled at its top.
+fn take_file<'a>(
+    run: &mut DefCollector,
+    world: WorldPart<'_>,
+    site: &Site,
+    head: ItemHead<'_>,
+    name: &Name,
+    file: FoundFile,
+) -> Result<Inside<'a>, CollectError>
+    requires in_range { site.now.home < length run.old.map.modules }
+    ensures ok { IfOk result (λ inside. TakesFile (part_of world.entry) site.now (head_of head.entry) name.now (found_view file) file.source.value run.old run.new inside) }
+    ensures many { result ≡ Err CollectError.TooMany → IsFull run.old.count run.old.map × MayTake site.now (head_of head.entry) (found_view file) run.old }
+{
+    if let Some(cfg) = &file.source.tree().top_level_attrs().disabled {
+        drop_file(run, site, head, cfg)?;
+        return Ok(Inside::Nothing);
+    }
+    let site = open_file(run, world, site, head, name, &file)?;
+    Ok(Inside::File {
+        site,
+        source: file.source,
+    })
+}
+
+/// Handles a module whose items are in a file of its own.
+fn visit_outline<'a, D: SourceDatabase>(
+    run: &mut DefCollector,
+    db: &mut D,
+    world: WorldPart<'_>,
+    locations: &mut Tables,
+    site: &Site,
+    head: ItemHead<'_>,
+    name: &Name,
+) -> Result<Inside<'a>, CollectError>
+    requires in_range { site.now.home < length run.old.map.modules }
+    requires enabled { is_enabled (head_of head).attributes ≡ true }
+    requires meant { IsSome (source_of locations.old site.now.tree) }
+    ensures kept { KeepsTables locations.old locations.new }
+    ensures same { D.workspace db.new ≡ D.workspace db.old }
+    ensures ok { IfOk result (λ inside. OnceGrown locations.new (D.workspace db.old) (λ env. (items : List KeptItem) → Handles env (part_of world.entry) run.old run.new
+        (visit site.now (leaf (head_of head.entry) (outline_module name.now))) (visits_of items inside))) }
+    ensures within { IfOk result (λ inside. GoesInside locations.new (D.workspace db.old) run.old.map.id.krate (length run.new.map.modules) site.now [] inside) }
+    ensures many { result ≡ Err CollectError.TooMany → OnceGrown locations.new (D.workspace db.old)
+        (λ env. WalksTooFar env (part_of world.entry) run.old (visit site.now (leaf (head_of head.entry) (outline_module name.now)) ∷ [])) }
+{
+    let path = path_attr(head.attrs.attrs.as_slice());
+    let candidates = site.dir.candidates(run.allocator(), name, path)?;
+    let declaring = file_of(locations, site.tree)?;
+    let found = find_file(
+        run,
+        db,
+        locations,
+        declaring.as_ref(),
+        candidates.as_slice(),
+    )?;
+    let Some(file) = found else {
+        miss_file(run, world, site, head, name, candidates.as_slice())?;
+        return Ok(Inside::Nothing);
+    };
+    let inside = take_file(run, world, site, head, name, file)?;
+    Ok(inside)
+}
+
+/// Lists an extern block; its items are visited next.
+fn enter<'a>(
+    run: &mut DefCollector,
+    site: &Site,
+    head: ItemHead<'_>,
+    ids: &'a [ModItemId],
+) -> Result<Inside<'a>, CollectError>
+    requires in_range { site.now.home < length run.old.map.modules }
+    requires enabled { is_enabled (head_of head).attributes ≡ true }
+    ensures ok { IfOk result (λ inside. (env : Environment) (finished : Maps) (items : List KeptItem) → Handles env finished run.old run.new
+        (visit site.now (holder (head_of head.entry) extern_block (items_at items (numbers_of ids.entry.now)))) (visits_of items inside)) }
+    ensures within { IfOk result (λ inside. (tables : TablesValue) (w : Workspace) →
+        GoesInside tables w run.old.map.id.krate (length run.new.map.modules) site.now (numbers_of ids.entry.now) inside) }
+    ensures many { result ≡ Err CollectError.TooMany → STEP_LIMIT ≤ run.old.count }
+{
+    let id = ExternBlockId {
+        loc: ItemLoc {
+            container: run.module_id(site.home),
+            file_id: site.tree.file,
+            block: site.tree.block,
+            id: head.id,
+        },
+    };
+    let dir = site.dir.clone()?;
+    run.list_extern_block(site.home, id)?;
+    run.tick()?;
+    Ok(Inside::Held {
+        site: Site {
+            home: site.home,
+            tree: site.tree,
+            extern_block: Some(id),
+            dir,
+            level: site.level,
+        },
+        ids,
+    })
+}
+
+/// Handles an item that isn't disabled and holds no others, modules aside.
+fn visit_leaf(
+    run: &mut DefCollector,
+    world: WorldPart<'_>,
+    source: &SourceTree,
+    site: &Site,
+    head: ItemHead<'_>,
+    item: ModItemKind<'_>,
+) -> Result<(), CollectError>
+    requires enabled { is_enabled (head_of head).attributes ≡ true }
+    requires single { is_single item ≡ true }
+    ensures ok { OnOk result ((env : Environment)
+        → source_in env.tables env.workspace (record { krate = run.old.map.id.krate; id = site.now.tree }) ≡ source.now → (items : List KeptItem)
+        → Handles env (part_of world.entry) run.old run.new (visit site.now (item_of items (head_of head.entry) (kind_content item.entry))) []) }
+    ensures many { result ≡ Err CollectError.TooMany → STEP_LIMIT ≤ run.old.count }
+{
+    match item {
+        ModItemKind::Use(item) => reach_use(run, site, head, item.use_tree),
+        ModItemKind::Function(item) => declare_function(run, world, site, head, item.name),
+        ModItemKind::Struct(item) => declare_struct(run, world, site, head, item),
+        ModItemKind::Union(item) => declare_union(run, world, site, head, item.name),
+        ModItemKind::Enum(item) => declare_enum(run, world, source, site, head, item.name),
+        ModItemKind::Const(item) => visit_const(run, world, site, head, item.name),
+        ModItemKind::Static(item) => declare_static(run, world, site, head, item.name),
+        ModItemKind::Trait(item) => declare_trait(run, world, site, head, item.name),
+        ModItemKind::Impl(item) => list_impl(run, site, head, item.of_trait),
+        ModItemKind::TypeAlias(item) => declare_type_alias(run, world, site, head, item.name),
+        ModItemKind::ExternCrate(item) => {
+            reach_extern_crate(run, site, head, item.name, item.alias)
+        }
+        ModItemKind::MacroCall(_) | ModItemKind::MacroRules(_) | ModItemKind::Macro2(_) => {
+            run.tick()?;
+            Ok(())
+        }
+        ModItemKind::Mod(_) | ModItemKind::ExternBlock(_) => Ok(()),
+    }
+}
+
+/// The kind of the node of an item.
+fn kind_of(item: ModItemKind<'_>) -> AstKind
+    ensures value { result ≡ kind_of item.entry }
+{
+    match item {
+        ModItemKind::Use(_) => AstKind::Use,
+        ModItemKind::ExternCrate(_) => AstKind::ExternCrate,
+        ModItemKind::ExternBlock(_) => AstKind::ExternBlock,
+        ModItemKind::Function(_) => AstKind::Fn,
+        ModItemKind::Struct(_) => AstKind::Struct,
+        ModItemKind::Union(_) => AstKind::Union,
+        ModItemKind::Enum(_) => AstKind::Enum,
+        ModItemKind::Const(_) => AstKind::Const,
+        ModItemKind::Static(_) => AstKind::Static,
+        ModItemKind::Trait(_) => AstKind::Trait,
+        ModItemKind::Impl(_) => AstKind::Impl,
+        ModItemKind::TypeAlias(_) => AstKind::TypeAlias,
+        ModItemKind::Mod(_) => AstKind::Module,
+        ModItemKind::MacroCall(_) => AstKind::MacroCall,
+        ModItemKind::MacroRules(_) => AstKind::MacroRules,
+        ModItemKind::Macro2(_) => AstKind::MacroDef,
+    }
+}
+
+/// Handles an item that isn't disabled; which items are visited next: those that it holds, or those of its file.
+fn visit_item<'a, D: SourceDatabase>(
+    run: &mut DefCollector,
+    db: &mut D,
+    world: WorldPart<'_>,
+    locations: &mut Tables,
+    source: &SourceTree,
+    site: &Site,
+    head: ItemHead<'_>,
+    item: ModItemKind<'a>,
+) -> Result<Inside<'a>, CollectError>
+    requires in_range { site.now.home < length run.old.map.modules }
+    requires enabled { is_enabled (head_of head).attributes ≡ true }
+    requires held { IsHeld locations.old (D.workspace db.old) run.old.map.id.krate site.now.tree source.now }
+    ensures kept { KeepsTables locations.old locations.new }
+    ensures same { D.workspace db.new ≡ D.workspace db.old }
+    ensures ok { IfOk result (λ inside. OnceGrown locations.new (D.workspace db.old) (λ env. (items : List KeptItem) → Handles env (part_of world.entry) run.old run.new
+        (visit site.now (item_of items (head_of head.entry) (kind_content item.entry))) (visits_of items inside))) }
+    ensures within { IfOk result (λ inside. GoesInside locations.new (D.workspace db.old) run.old.map.id.krate (length run.new.map.modules) site.now
+        (held_numbers (kind_content item.entry)) inside) }
+    ensures many { result ≡ Err CollectError.TooMany → OnceGrown locations.new (D.workspace db.old) (λ env. (items : List KeptItem) →
+        WalksTooFar env (part_of world.entry) run.old (visit site.now (item_of items (head_of head.entry) (kind_content item.entry)) ∷ [])) }
+{
+    match item {
+        ModItemKind::Mod(item) => match item.kind {
+            ModKind::Inline { items } => visit_inline(run, world, site, head, item.name, items),
+            ModKind::Outline => visit_outline(run, db, world, locations, site, head, item.name),
+        },
+        ModItemKind::ExternBlock(item) => enter(run, site, head, item.children),
+        other => {
+            visit_leaf(run, world, source, site, head, other)?;
+            Ok(Inside::Nothing)
+        }
+    }
+}
+
+/// Drops an item that a condition leaves out, with all in it.
+fn drop_item(
+    run: &mut DefCollector,
+    site: &Site,
+    id: SyntaxId,
+    item: ModItemKind<'_>,
+    cfg: &CfgExpr,
+) -> Result<(), CollectError>
+    ensures ok { OnOk result (Drops (IsUnconfigured (module_id run.old.map site.now.home) (node_of site.now.tree (kind_of item.entry) id) (cfg_view cfg.now) run.old.options) run.old run.new) }
+    ensures many { result ≡ Err CollectError.TooMany → STEP_LIMIT ≤ run.old.count }
+{
+    let node = AstId {
+        file_id: site.tree.file,
+        block: site.tree.block,
+        kind: kind_of(item),
+        id,
+    };
+    let at = run.module_id(site.home);
+    let told = unconfigured(run.allocator(), at, node, cfg, run.options())?;
+    run.tell(told)?;
+    run.tick()?;
+    Ok(())
+}
+
+/// A number; it is one of 64 bits.
+fn counted(number: usize) -> usize
+    ensures value { result ≡ number }
+    ensures below { number < 18446744073709551616 }
+{
+    number
+}
+
+/// Handles an item, and all that is in it.
+#[cycle(walk)]
+fn walk_item<D: SourceDatabase>(
+    run: &mut DefCollector,
+    db: &mut D,
+    world: WorldPart<'_>,
+    locations: &mut Tables,
+    source: &SourceTree,
+    site: &Site,
+    id: ModItemId,
+) -> Result<(), CollectError>
+    requires in_range { site.now.home < length run.old.map.modules }
+    requires held { IsHeld locations.old (D.workspace db.old) run.old.map.id.krate site.now.tree source.now }
+    requires there { id.0 < length (all_items source.now.tree.items) }
+    ensures kept { KeepsTables locations.old locations.new }
+    ensures same { D.workspace db.new ≡ D.workspace db.old }
+    ensures ok { OnOk result (OnceGrown locations.new (D.workspace db.old)
+        (λ env. Walks env (part_of world.entry) run.old run.new (visits_at source.now.tree site.now (id.0 ∷ [])))) }
+    ensures many { result ≡ Err CollectError.TooMany → OnceGrown locations.new (D.workspace db.old)
+        (λ env. WalksTooFar env (part_of world.entry) run.old (visits_at source.now.tree site.now (id.0 ∷ []))) }
+{
+    let head = head_at(source.tree(), id);
+    let item = source.tree().index(id);
+    if let Some(cfg) = &head.attrs.disabled {
+        drop_item(run, site, head.id, item, cfg)?;
+        return Ok(());
+    }
+    let inside = visit_item(run, db, world, locations, source, site, head, item)?;
+    match inside {
+        Inside::Nothing => Ok(()),
+        Inside::Held { site, ids } => {
+            walk_all(run, db, world, locations, source, &site, ids)?;
+            Ok(())
+        }
+        Inside::File { site, source } => {
+            let ids = source.tree().top_level_items();
+            walk_all(run, db, world, locations, &source, &site, ids)?;
+            Ok(())
+        }
+    }
+}
+
+/// Handles items of a tree that are written at a site, one after another, each with all that is in it.
+#[cycle(walk)]
+pub fn walk_all<D: SourceDatabase>(
+    run: &mut DefCollector,
+    db: &mut D,
+    world: WorldPart<'_>,
+    locations: &mut Tables,
+    source: &SourceTree,
+    site: &Site,
+    ids: &[ModItemId],
+) -> Result<(), CollectError>
+    requires in_range { site.now.home < length run.old.map.modules }
+    requires held { IsHeld locations.old (D.workspace db.old) run.old.map.id.krate site.now.tree source.now }
+    requires there { All (λ n. n < length (all_items source.now.tree.items)) (numbers_of ids.now) }
+    ensures kept { KeepsTables locations.old locations.new }
+    ensures same { D.workspace db.new ≡ D.workspace db.old }
+    ensures ok { OnOk result (OnceGrown locations.new (D.workspace db.old)
+        (λ env. Walks env (part_of world.entry) run.old run.new (visits_at source.now.tree site.now (numbers_of ids.now)))) }
+    ensures many { result ≡ Err CollectError.TooMany → OnceGrown locations.new (D.workspace db.old)
+        (λ env. WalksTooFar env (part_of world.entry) run.old (visits_at source.now.tree site.now (numbers_of ids.now))) }
+{
+    for id in ids {
+        let id = ModItemId(counted(id.0));
+        walk_item(run, db, world, locations, source, site, id)?;
+    }
+    Ok(())
+}
