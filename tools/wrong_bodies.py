@@ -1,16 +1,23 @@
 #!/usr/bin/env python3
 """Tries the wrong bodies that stand beside the gate: each has to be refused by its crate's prover.
 
-usage: tools/wrong_bodies.py [--list | --sample N [--seed S]] [CRATE | CRATE/NAME] ..
+usage: tools/wrong_bodies.py [--list | --sample N [--seed S]] [--each] [CRATE | CRATE/NAME] ..
 
 A crate's wrong bodies are the entries of crates/CRATE/wrong-bodies.txt: a name, a file, and the line that is there
 with the one in its place. With no name, those of all crates; with --sample, N of them, drawn by the seed, which is
 printed. --list tries none and says which can't be applied to the present sources.
 
-Bodies of different functions are tried together, in one check of a copy of the crate over what earlier checks kept, and
-each is refused where the prover refuses a goal of the function that it changes. What isn't seen so is tried again
-without those that were, and at last alone, as `rt must-fail` does. Prints a line a body, and ends with 1 where one
-isn't refused.
+A changed body is held to its own contract, and no other proof reads it. So a check proves the functions that the bodies
+change as they stand (`rattle check --only`), over what `rt check` kept of the crate, and then each body's functions are
+checked alone, on a copy over what that kept. Bodies of different functions are tried together, or with --each one at a
+time. A body is refused where a goal of its function isn't proved. What the check of a batch doesn't settle, and what
+the compiler rejects, is tried alone; a body that changes anything else than functions is tried by a check of the whole
+crate, as `rt must-fail` does.
+
+Prints a line a body, with the first goal that isn't proved, and ends with 1 where a body isn't refused. A refusal says
+that the prover finds no proof: whether the contract rules the body out is for the reader of that goal to see. Libraries
+below are built where they aren't yet, so run `rt check` in the crate first. To try some beside other work:
+`nice -n 5 tools/wrong_bodies.py CRATE/NAME ..`.
 """
 import argparse
 import importlib.machinery
@@ -24,6 +31,7 @@ import sys
 AT_ONCE = 24
 ROOT = os.path.dirname(os.path.dirname(os.path.realpath(__file__)))
 FN = re.compile(r"([ \t]*)(?:pub(?:\([^)]*\))? )?(?:(?:final|const|unsafe) )*fn (\w+)")
+STATUS = re.compile(r"fn \w+::(\S+): (.*)")
 # What says only that a proof names something that the edit took away.
 NAMES = re.compile(r"has no field|is not in scope|has no `|was not admitted")
 
@@ -39,6 +47,29 @@ def load_rt():
 rt = load_rt()
 
 
+def words_of(text):
+    """Returns the last name of a path, and behind it those of what stands in its angle brackets."""
+    name, _, inner = re.sub(r"^\W*(mut )?", "", text.strip()).partition("<")
+    inner, depth, parts = inner.strip().removesuffix(">"), 0, [""]
+    for it in inner:
+        depth += (it == "<") - (it == ">")
+        parts += [""] if it == "," and not depth else []
+        parts[-1] += it
+    heads = [re.match(r"\W*([\w:]*)", it)[1] for it in parts if not it.strip(", ").startswith("'")]
+    return [it.split("::")[-1] for it in [name, *heads]]
+
+
+def owner_of(head):
+    """Returns how a check calls the owner of an impl's methods: the type, and behind it the trait and what it is of."""
+    depth = 0
+    for at, it in enumerate(head):
+        depth += (it == "<") - (it == ">")
+        if not depth and head[at].isspace():
+            break
+    trait, _, of = head[at:].removesuffix("{").partition(" for ")
+    return words_of(of)[0] + "".join(words_of(trait)) if of else words_of(trait)[0]
+
+
 class Function:
     """The innermost function around a line of a source file: in its body, or in its head where that is kept whole.
 
@@ -47,7 +78,7 @@ class Function:
 
     def __init__(self, path, lines, at, is_kept):
         if is_kept and lines[at].startswith("impl "):
-            self.path, self.name, self.lines = path, lines[at], range(at + 1, at + 2)
+            self.path, self.name, self.lines, self.end = path, lines[at], range(at + 1, at + 2), None
             return
         for first in range(at, -1, -1):
             head = FN.match(lines[first])
@@ -59,22 +90,35 @@ class Function:
             opens = next((it for it in outer if lines[it].endswith("{")), last)
             if opens < at < last or is_kept and first <= at <= opens < last:
                 self.path, self.name, self.lines = path, head[2], range(first + 1, last + 2)
+                self.end = self.end_below(lines[:first], head[1])
                 return
         raise ValueError(f"{path}:{at + 1} lies in no function's body")
+
+    def end_below(self, lines, indent):
+        """Returns how the name ends by which a check calls the function, with these lines above it."""
+        if not indent:
+            module = re.sub(r"^src/|(\blib|\bmain|/mod)?\.rt$", "", self.path).replace("/", "::")
+            return f"{module}::{self.name}" if module else self.name
+        outer = next((it for it in reversed(lines) if it[:1].isalpha()), "")
+        return f"{owner_of(outer[len('impl') :])}::{self.name}" if outer.startswith("impl") else None
+
+    def found_in(self, statuses):
+        """Returns its name and what a check said of it, where the check spoke of one that alone may be it."""
+        found = [it for it in statuses if f"::{it[0]}".endswith(f"::{self.end}")]
+        return found[0] if len(found) == 1 else (None, "the check prints no line for it")
 
     def clashes(self, other):
         return (self.path, self.name) == (other.path, other.name)
 
-    def is_refused_by(self, line):
-        """Returns whether a line of the prover says that a goal of this function isn't proved."""
+    def is_refused_by(self, line, name):
+        """Returns whether a line of the prover says that a goal of this function, of this name, isn't proved."""
         at = re.match(r"(?:note: )?(?:\./)?(\S+?):(\d+):\d+: (.*)", line)
         if not at:
             return False
         if at[1] == self.path:
             is_told = "is not proved" in at[3] or at[3].startswith("error:")
             return is_told and int(at[2]) in self.lines
-        module = re.sub(r"^src/(lib$|main$)?", "proofs/", self.path[: -len(".rt")]).rstrip("/")
-        is_own = at[1].startswith(f"{module}/") and f"/{self.name}/" in at[1][len(module) :]
+        is_own = bool(name) and at[1].startswith(f"proofs/{name.replace('::', '/')}/")
         return is_own and at[3].startswith("error:") and not NAMES.search(at[3])
 
 
@@ -98,6 +142,11 @@ class WrongBody:
         except (OSError, ValueError):
             self.functions = None
 
+    def ends(self):
+        """Returns how the names of its functions end, or none where one of them can't be named."""
+        ends = [it.end for it in self.functions or []]
+        return ends if None not in ends else []
+
     def fits(self, batch):
         others = [it for body in batch for it in body.functions]
         return len(batch) < AT_ONCE and not any(a.clashes(b) for a in self.functions for b in others)
@@ -109,6 +158,11 @@ def link_all(folder, to):
         shutil.copytree(folder, to, copy_function=os.link, dirs_exist_ok=True)
 
 
+def only(ends):
+    """Returns the words that have a check prove these functions alone."""
+    return [word for it in dict.fromkeys(ends) for word in ("--only", it)]
+
+
 class Trial:
     """The checks of one crate's wrong bodies, each over a copy of what was kept of the crate itself."""
 
@@ -116,11 +170,22 @@ class Trial:
         self.crate, self.flags, self.checks = crate, ["--jobs", "1"], 0
         self.room = f"{crate.folder}/out/wrong-bodies"
 
-    def is_proved(self):
+    def is_proved(self, bodies):
+        """Returns whether what the bodies change is proved as it stands, and keeps that for the checks that follow."""
         shutil.rmtree(self.room, ignore_errors=True)
         os.makedirs(f"{self.room}/whole")
         link_all(f"{self.crate.folder}/out/incremental", f"{self.room}/whole")
-        return rt.checked(self.crate, {}, self.flags, f"{self.room}/whole").returncode == 0
+        words = only(end for it in bodies for end in it.ends()) if all(it.ends() for it in bodies) else []
+        ran = rt.checked(self.crate, {}, [*self.flags, *words], f"{self.room}/whole")
+        if ran.returncode == 2 and words:
+            # One of the names fits no function, or several.
+            ran = rt.checked(self.crate, {}, self.flags, f"{self.room}/whole")
+            names = [f"::{it[1]}" for it in map(STATUS.match, ran.stdout.split("\n")) if it]
+            for fn in (fn for body in bodies for fn in body.functions or []):
+                fn.end = fn.end if sum(it.endswith(f"::{fn.end}") for it in names) == 1 else None
+        if ran.returncode:
+            print("\n".join(ran.stdout.rstrip("\n").split("\n")[-12:]))
+        return ran.returncode == 0
 
     def kept(self):
         # A new folder each time: what an earlier check left may still be written to.
@@ -130,53 +195,68 @@ class Trial:
         return f"{self.room}/{self.checks}"
 
     def together(self, batch):
-        """Yields what each body of a batch came to."""
-        if len(batch) < 2:
-            for body in batch:
-                yield from self.alone(body)
-            return
+        """Yields what each body of a batch came to, all of whose functions have names."""
         texts, _ = rt.edited("\n".join(it.text for it in batch), self.crate.folder)
-        ran = rt.checked(self.crate, texts, self.flags, self.kept()) if texts else None
-        lines = ran.stdout.rstrip("\n").split("\n") if ran else []
-        reached = ran and ran.returncode == 1 and lines[-1].startswith("logic=not-proved")
-        if not reached or rt.rtlib.STALE.search(ran.stdout) or any(rt.unread(it, texts) for it in lines):
-            half = len(batch) // 2
-            yield from self.together(batch[:half])
-            yield from self.together(batch[half:])
+        ends = [end for body in batch for end in body.ends()]
+        ran = rt.checked(self.crate, texts, [*self.flags, *only(ends)], self.kept()) if texts else None
+        lines = ran.stdout.rstrip("\n").split("\n") if ran else [""]
+        is_read = not any(rt.unread(it, texts) for it in lines) and not rt.rtlib.STALE.search(ran.stdout if ran else "")
+        if not re.match("only=|rattle: no verdict", lines[-1]) or not is_read:
+            yield from self.apart(batch, lines)
             return
-        left = []
+        statuses = [it.groups() for it in map(STATUS.match, lines) if it]
         for body in batch:
-            told = [it for it in lines if any(fn.is_refused_by(it) for fn in body.functions)]
+            found = [(fn, *fn.found_in(statuses)) for fn in body.functions]
+            told = [it for it in lines if any(fn.is_refused_by(it, name) for fn, name, _ in found)]
+            said = [it for _, _, it in found]
             if told:
-                yield body, True, f"refused with {len(batch) - 1} others: {told[0][:160]}"
+                yield body, True, f"refused: {told[0][:200]}"
+            elif all(it.startswith("proved") for it in said):
+                yield body, False, "NOT REFUSED: what it changes is still proved"
+            elif len(batch) > 1:
+                yield from self.together([body])
             else:
-                left.append(body)
-        if len(left) < len(batch):
-            yield from self.together(left)
+                first = next((it for it in lines if ": error" in it), said[0])
+                is_refused = any(it.startswith("not proved") for it in said)
+                word = "refused, and no goal of its own is named" if is_refused else "NOT TRIED"
+                yield body, is_refused, f"{word}: {first[:200]}"
+
+    def apart(self, batch, lines):
+        """Yields what each body of a batch came to that a check didn't get to the end of, by what it printed."""
+        if len(batch) == 1:
+            first = batch[0].fault or next((it for it in lines if "error" in it), lines[-1])
+            yield batch[0], False, f"BAD EDIT: it did not reach the prover: {first[:200]}"
             return
-        for body in left:
-            yield from self.alone(body)
+        at = [re.match(r"(?:\./)?(\S+?):(\d+):\d+: error", it) for it in lines]
+        places = [(it[1], int(it[2])) for it in at if it]
+        is_named = lambda body: any(p == fn.path and n in fn.lines for p, n in places for fn in body.functions)
+        named = [it for it in batch if is_named(it)]
+        rest = [it for it in batch if it not in named]
+        half = len(batch) // 2
+        for part in [*([it] for it in named), rest] if named else [batch[:half], batch[half:]]:
+            if part:
+                yield from self.together(part)
 
     def alone(self, body):
+        """Returns what a body came to in a check of the whole crate."""
         edit = f"{self.room}/{os.path.basename(body.name)}.edit"
         with open(edit, "w", encoding="utf-8") as it:
             it.write(body.text)
         outcome, said = rt.must_fail(self.crate, edit, self.flags, self.kept())
-        yield body, outcome in (rt.REFUSED, rt.AT_LIMIT), re.sub(r"^must-fail \S+: ", "", said) + " (alone)"
+        return body, outcome in (rt.REFUSED, rt.AT_LIMIT), re.sub(r"^must-fail \S+: ", "", said) + " (alone)"
 
-    def all(self, bodies):
-        batches, single = [], []
-        for body in bodies:
-            if body.functions:
-                fits = next((it for it in batches if body.fits(it)), None)
-                if fits is None:
-                    batches.append([body])
-                else:
-                    fits.append(body)
+    def all(self, bodies, is_each):
+        batches = []
+        for body in (it for it in bodies if it.ends()):
+            fits = next((it for it in batches if body.fits(it) and not is_each), None)
+            if fits is None:
+                batches.append([body])
             else:
-                single.append([body])
-        for batch in batches + single:
+                fits.append(body)
+        for batch in batches:
             yield from self.together(batch)
+        for body in (it for it in bodies if not it.ends()):
+            yield self.alone(body)
 
 
 def bodies_of(crate):
@@ -192,16 +272,16 @@ def bodies_of(crate):
     return [WrongBody(crate, it[1], it[2]) for it in entries]
 
 
-def try_all(crate, bodies):
+def try_all(crate, bodies, is_each):
     """Returns how many of a crate's wrong bodies are refused, and prints what each came to."""
     for dep in crate.below():
         if dep.build_rlib(["--jobs", "1"], anew=False):
             sys.exit(f"{dep.name} is not proved")
     trial, refused = Trial(crate), 0
     try:
-        if not trial.is_proved():
-            sys.exit(f"{crate.name} is not proved")
-        for body, well, said in trial.all(bodies):
+        if not trial.is_proved(bodies):
+            sys.exit(f"{crate.name}: what the bodies change is not proved as it stands")
+        for body, well, said in trial.all(bodies, is_each):
             print(f"{body.name}: {said}", flush=True)
             refused += well
     finally:
@@ -216,6 +296,7 @@ def read_words(words):
     parser.add_argument("--list", action="store_true", dest="lists")
     parser.add_argument("--sample", type=int, metavar="N")
     parser.add_argument("--seed", type=int, default=None, metavar="S")
+    parser.add_argument("--each", action="store_true")
     parser.add_argument("names", nargs="*", metavar="CRATE | CRATE/NAME")
     return parser.parse_args(words)
 
@@ -246,7 +327,7 @@ def main(words):
         own = [it for it in bodies if it.crate is crate]
         if own:
             held = rt.rtlib.lock([crate, *crate.below()])
-            failed += len(own) - try_all(crate, own)
+            failed += len(own) - try_all(crate, own, asked.each)
             for it in held:
                 os.close(it)
     return 1 if failed else 0
