@@ -4,9 +4,18 @@ pub mod Found
 pub mod Written
 pub mod Imports
 pub mod Entries
+pub mod ModuleLists
 pub mod Bindings
+-- ---- what globs brought
+pub mod Places
+pub mod Exact
+pub mod Noted
+pub mod NotedScopes
+pub mod GlobBindings
 -- ---- definitions
 pub mod Listings
 pub mod Ahead
 pub mod Backwards
 pub mod Modules
+-- ---- diagnostics
+pub mod Diagnostics

@@ -1,8 +1,9 @@
 -- Where are a run's imports written?
-use Rattle.std.specs.Prelude.{◌≡◌, ℕ, true, List, Option, Some, Contains}
+use Rattle.std.specs.Prelude.{◌≡◌, ℕ, true, List, Option, None, Some, IsSome, Contains}
 use Rattle.hir_base.specs.declared.ids.Crate.{Crate}
 use Rattle.hir_base.specs.declared.ids.ExternCrateId.{ExternCrateId}
 use Rattle.hir_base.specs.declared.ids.ModuleDefId.{ModuleDefId}
+use Rattle.hir_base.specs.declared.ids.TraitId.{TraitId}
 use Rattle.hir_base.specs.declared.ids.UseId.{UseId}
 use Rattle.hir_base.specs.declared.macro_kind.MacroId.{MacroId}
 use Rattle.hir_item_tree.specs.Collected.{is_enabled}
@@ -12,6 +13,7 @@ use Rattle.hir_item_tree.specs.UseTree.{UseTree}
 use Rattle.hir_item_tree.specs.declared.shape.ExternCrateName.{ExternCrateName}
 use Rattle.hir_item_tree.specs.declared.tree_id.TreeKey.{TreeKey}
 use Rattle.hir_use_tree.specs.declared.imports.Import.{Import}
+use Rattle.hir_use_tree.specs.declared.imports.ImportAlias.TheVariants.{Underscore}
 use Rattle.hir_use_tree.specs.declared.imports.ImportKind.{ImportKind}
 use Rattle.hir_scope.specs.declared.imports.ImportId.{ImportId}
 use Rattle.hir_scope.specs.declared.imports.ImportOrExternCrate.{ImportOrExternCrate}
@@ -21,7 +23,7 @@ use Rattle.hir_scope.specs.declared.imports.ImportOrGlob.TheVariants as value_wa
 use Rattle.hir_scope.specs.PerNs.{Item}
 use Rattle.hir_scope.specs.declared.per_ns.PerNs.{PerNs}
 use Rattle.hir_def_map.specs.Overlay.{Maps}
-use Rattle.hir_def_map.specs.State.{entry_at, numbered}
+use Rattle.hir_def_map.specs.State.{ModuleValue, entry_at, module_at, numbered}
 use Rattle.hir_glob_imports.specs.declared.edge.Edge.{Edge}
 use Rattle.hir_import_resolution.specs.declared.directive.ImportDirective.{ImportDirective}
 use Rattle.hir_import_resolution.specs.declared.directive.ImportSource.{ImportSource}
@@ -116,13 +118,33 @@ abbrev pub BringsValue : ImportDirective → ImportOrGlob → Type 0
 BringsValue r (value_ways.Import id) = way_of r.source ≡ ways.Import id
 BringsValue r (value_ways.Glob id) = glob_of r.source ≡ Some id
 
--- what a name stands for was declared, or was brought by an import of the run
-pub record AreBrought (tables : TablesValue) (w : Workspace) (from : Beginning) (answer : CollectedValue) (items : PerNs) : Type 0 where
-  pub types : (i : Item ModuleDefId ImportOrExternCrate) (way : ImportOrExternCrate) → items.types ≡ Some i → i.import ≡ Some way → HasImport tables w from answer (λ r. Brings r way)
-  pub values : (i : Item ModuleDefId ImportOrGlob) (way : ImportOrGlob) → items.values ≡ Some i → i.import ≡ Some way → HasImport tables w from answer (λ r. BringsValue r way)
-  pub macros : (i : Item MacroId ImportOrExternCrate) (way : ImportOrExternCrate) → items.macros ≡ Some i → i.import ≡ Some way → HasImport tables w from answer (λ r. Brings r way)
+-- what a name of a module stands for was declared, or was brought by an import that is written in the module
+pub record AreBrought (tables : TablesValue) (w : Workspace) (from : Beginning) (answer : CollectedValue) (number : ℕ) (items : PerNs) : Type 0 where
+  pub types : (i : Item ModuleDefId ImportOrExternCrate) (way : ImportOrExternCrate) → items.types ≡ Some i → i.import ≡ Some way
+      → HasImport tables w from answer (λ r. Brings r way × (r.home ≡ number))
+  pub values : (i : Item ModuleDefId ImportOrGlob) (way : ImportOrGlob) → items.values ≡ Some i → i.import ≡ Some way
+      → HasImport tables w from answer (λ r. BringsValue r way × (r.home ≡ number))
+  pub macros : (i : Item MacroId ImportOrExternCrate) (way : ImportOrExternCrate) → items.macros ≡ Some i → i.import ≡ Some way
+      → HasImport tables w from answer (λ r. Brings r way × (r.home ≡ number))
 
 -- so is each binding of a run's map
 abbrev pub BindingsAreWritten : Type 0
 BindingsAreWritten = (tables : TablesValue) (w : Workspace) (finished : Maps) (from : Beginning) (answer : CollectedValue) → Ends tables w finished from answer
-    → (number : ℕ) (name : List ℕ) → AreBrought tables w from answer (entry_at answer.map number name)
+    → (number : ℕ) (name : List ℕ) → AreBrought tables w from answer number (entry_at answer.map number name)
+
+-- an import is a `use .. as _`
+pub record IsUnderscoreImport (r : ImportDirective) (id : ImportId) : Type 0 where
+  pub way : way_of r.source ≡ ways.Import id
+  pub alias : r.alias ≡ Some Underscore
+
+-- a trait that a module has without a name is one that a `use .. as _` which is written in the module keeps, or a glob which is
+-- written there brought it
+pub record IsTraitBrought (tables : TablesValue) (w : Workspace) (from : Beginning) (answer : CollectedValue) (number : ℕ) (item : Item (Unit {0}) ImportId) : Type 0 where
+  pub by_import : (id : ImportId) → item.import ≡ Some id → HasImport tables w from answer (λ r. IsUnderscoreImport r id × (r.home ≡ number))
+  pub by_glob : item.import ≡ None → HasImport tables w from answer (λ r. IsSome (glob_of r.source) × (r.home ≡ number))
+
+-- so is each such trait of a run's map
+abbrev pub UnnamedTraitsAreWritten : Type 0
+UnnamedTraitsAreWritten = (tables : TablesValue) (w : Workspace) (finished : Maps) (from : Beginning) (answer : CollectedValue) → Ends tables w finished from answer
+    → (number : ℕ) (m : ModuleValue) → module_at answer.map number ≡ Some m → (id : TraitId) (item : Item (Unit {0}) ImportId) → Contains m.scope.unnamed_traits (id, item)
+    → IsTraitBrought tables w from answer number item

@@ -1,7 +1,9 @@
 //! What holds of every run of the collector. The functions do nothing: their contracts are the laws.
 #![tactic(auto)]
 
-ghost use Rattle.hir_def_collector_laws.specs.Imports.{BindingsAreWritten, GlobsAreWritten, ImportsAreWritten, LeftoversAreWritten};
+ghost use Rattle.hir_def_collector_laws.specs.Diagnostics.{DiagnosticsAreOfItems};
+ghost use Rattle.hir_def_collector_laws.specs.Globs.{GlobsBringWhatIsShown};
+ghost use Rattle.hir_def_collector_laws.specs.Imports.{BindingsAreWritten, GlobsAreWritten, ImportsAreWritten, LeftoversAreWritten, UnnamedTraitsAreWritten};
 ghost use Rattle.hir_def_collector_laws.specs.Modules.{ModulesListTheirItems};
 
 /// Each import that a run came upon is a leaf of an enabled `use` item, at its own place in preorder, or an enabled `extern
@@ -12,14 +14,26 @@ pub fn imports_are_written()
     ensures globs { GlobsAreWritten }
 {}
 
-/// What a name stands for was declared, or was brought by an import that is written so: by a leaf of a `use` item, a glob or
-/// an `extern crate` item.
+/// What a name stands for was declared, or was brought by an import that is written so in the name's module: by a leaf of a
+/// `use` item, a glob or an `extern crate` item. So is each trait that a module has without a name: by a `use .. as _` or a
+/// glob.
 pub fn bindings_are_written()
     ensures bindings { BindingsAreWritten }
+    ensures traits { UnnamedTraitsAreWritten }
+{}
+
+/// A name that a glob brought came along a recorded edge of that glob, and is what the edge's source shows in the end.
+pub fn globs_bring_what_is_shown()
+    ensures shown { GlobsBringWhatIsShown }
 {}
 
 /// A module lists, in their order, the definitions that its enabled items declare: those of its file, or inside the `mod`
 /// item that declares it.
 pub fn modules_list_their_items()
     ensures modules { ModulesListTheirItems }
+{}
+
+/// Each diagnostic names a module of the run's map, and an item that is written in a tree which the run asked for.
+pub fn diagnostics_are_of_items()
+    ensures diagnostics { DiagnosticsAreOfItems }
 {}

@@ -1,9 +1,9 @@
 -- What is pending, once edges are to be looked at.
-use Rattle.std.proofs.Common.{◌≡◌, ◌∙◌, ap, sym, subst, refl, ℕ, ◌<◌, ◌≤◌, ◌-◌, ◌==◌, Bool, true, false, ◌⊎◌, inl, inr, List, [], ◌∷◌, ◌++◌, length, Option, None, Some, Result, Ok, Err, OnOk, slice_get, get_or, slice_index, if◌then◌else◌, arith}
+use Rattle.std.proofs.Common.{◌≡◌, ◌∙◌, ap, sym, subst, refl, ℕ, zero, suc, ◌<◌, ◌≤◌, ◌-◌, ◌==◌, Bool, true, false, ◌⊎◌, inl, inr, List, [], ◌∷◌, ◌++◌, length, Option, None, Some, Result, Ok, Err, OnOk, slice_get, slice_index, if◌then◌else◌, arith}
 use mathlib.Core.Bool.{true≢false}
 use Rattle.std.specs.Prelude.{Contains, IsSome, slice_index_or}
 use Rattle.std.specs.Cmp.{unsigned_Decides}
-use Rattle.std.proofs.lemmas.List.Elements.{Contains-append_left, Contains-push}
+use Rattle.std.proofs.lemmas.List.Elements.{Contains-append_cases, Contains-append_left, Contains-push}
 use Rattle.std.proofs.lemmas.Option.{slice_get_read, get_or_from_slice_get}
 use Rattle.std.proofs.lemmas.Result.{on_ok_weaker}
 use Rattle.hir_glob_imports.specs.declared.edge.Bound.{Bound}
@@ -51,24 +51,29 @@ each_more old new edges key made left some is same each i above below = go (at_o
         subst (λ (q : ℕ × Key). Contains new q) p (pushed_here old new (slice_index edges (left - 1), made) is)
     go (inr more) = pushed_kept old new (slice_index edges (left - 1), made) is (slice_index edges i, key) (each i more below)
 
--- two readings of an element are one
-pub read_once : {A : Type 0} (xs : List A) (i : ℕ) (x y : A) → i < length xs → x ≡ get_or xs i x → y ≡ get_or xs i y → x ≡ y
-read_once xs i x y below is_x is_y =
-    let one : Some x ≡ Some y = sym (slice_get_read xs (length xs) i x refl below is_x) ∙ slice_get_read xs (length xs) i y refl below is_y in
-    cc
-
-pub each_key_more : (old new : List (ℕ × Key)) (edge : ℕ) (keys : List Key) (read made : Key) (left : ℕ) → 0 < left → left ≤ length keys
-    → read ≡ get_or keys (left - 1) read → new ≡ old ++ (edge, made) ∷ [] → made ≡ read
-    → ((i : ℕ) (key : Key) → left ≤ i → i < length keys → slice_index_or keys i key ≡ key → Contains old (edge, key))
-    → (i : ℕ) (key : Key) → left - 1 ≤ i → i < length keys → slice_index_or keys i key ≡ key → Contains new (edge, key)
-each_key_more old new edge keys read made left some fits is_read is same each i key above below at = go (at_or_above i left some above)
+only : {A : Type 0} (x y : A) → Contains (x ∷ []) y → x ≡ y
+only x y h = go h.0 h.1 h.2
   where
-    go : (i ≡ left - 1) ⊎ (left ≤ i) → Contains new (edge, key)
-    go (inl here) =
-        let key_is : key ≡ get_or keys (left - 1) key = sym at ∙ ap (λ (n : ℕ). get_or keys n key) here in
-        let one : read ≡ key = read_once keys (left - 1) read key (omega arith) is_read key_is in
-        subst (λ (k : Key). Contains new (edge, k)) (same ∙ one) (pushed_here old new (edge, made) is)
-    go (inr more) = pushed_kept old new (edge, made) is (edge, key) (each i key more below at)
+    go : (k : ℕ) → k < length (x ∷ []) → slice_index_or (x ∷ []) k y ≡ y → x ≡ y
+    go zero below at = at
+    go (suc k) below at = absurd (omega arith)
+
+-- a key that was left stays so, or was taken out and is pending
+pub each_left : (old new : List (ℕ × Key)) (edge : ℕ) (left rest : List Key) (made : Key) → left ≡ rest ++ made ∷ [] → new ≡ old ++ (edge, made) ∷ []
+    → (key : Key) → Contains left key ⊎ Contains old (edge, key) → Contains rest key ⊎ Contains new (edge, key)
+each_left old new edge left rest made popped is key (inr done) = inr (pushed_kept old new (edge, made) is (edge, key) done)
+each_left old new edge left rest made popped is key (inl waits) =
+    go (Contains-append_cases rest (made ∷ []) key (subst (λ (xs : List Key). Contains xs key) popped waits))
+  where
+    go : Contains rest key ⊎ Contains (made ∷ []) key → Contains rest key ⊎ Contains new (edge, key)
+    go (inl stays) = inl stays
+    go (inr here) = inr (subst (λ (k : Key). Contains new (edge, k)) (only made key here) (pushed_here old new (edge, made) is))
+
+-- where none is left, each is pending
+pub each_taken : (pending : List (ℕ × Key)) (edge : ℕ) (left : List Key) → length left ≡ 0 → (key : Key) → Contains left key ⊎ Contains pending (edge, key)
+    → Contains pending (edge, key)
+each_taken pending edge left none key (inr done) = done
+each_taken pending edge left none key (inl waits) = absurd (omega (arith, waits.1))
 
 -- an edge that is listed is at some number of the list
 pub listed_each : (pending : List (ℕ × Key)) (edges : List ℕ) (key : Key)

@@ -70,11 +70,17 @@ module _ {S : Type 0} (t : NameTable S) (n : S) (g : GlobsValue) (count : ℕ) (
       why : IsCopy b (shown (t.view n) e s.key) (bound_in (t.view n) s)
       why = copy_from (t.view n) j e s.key b (shown (t.view n) e s.key) (bound_in (t.view n) s) (brought_of g s) update
 
+  pub copies_there : (b : Bound) → update_in (t.view n) (brought_of g) j e s ≡ Copy b → (t.view n).bound e.source s.key ≡ Some b
+  copies_there b update = there_from_seen ((t.view n).sees e.importer) ((t.view n).bound e.source s.key) b (may_copy b update).shows.shown
+
   pub may_follow : (b : Bound) → update_in (t.view n) (brought_of g) j e s ≡ Follow b → May t (state_of n g count) (follows_along j e s b)
   may_follow b update = record { last = why.last; shows = record { recorded = recorded; at = at; shown = why.shown }; named = why.named; brought_last = why.brought; by_it = why.by_it; differs = why.differs }
     where
       why : IsFollow j e s.key b (shown (t.view n) e s.key) (bound_in (t.view n) s) (brought_of g s)
       why = follow_from (t.view n) j e s.key b (shown (t.view n) e s.key) (bound_in (t.view n) s) (brought_of g s) update
+
+  pub follows_there : (b : Bound) → update_in (t.view n) (brought_of g) j e s ≡ Follow b → (t.view n).bound e.source s.key ≡ Some b
+  follows_there b update = there_from_seen ((t.view n).sees e.importer) ((t.view n).bound e.source s.key) b (may_follow b update).shows.shown
 
   pub may_raise_to : (vis : Visibility) → update_in (t.view n) (brought_of g) j e s ≡ Raise vis → May t (state_of n g count) (raises_along j e s vis)
   may_raise_to vis update = record { b = why.b; c = why.c; shows = record { recorded = recorded; at = at; shown = why.shown }; stands = why.stands_there; may = why.may; same = why.raise.same; greater = why.raise.greater; differs = why.raise.differs }

@@ -82,15 +82,14 @@ fn add_out(out_of: &mut EdgesByModule, source: Target, j: usize) -> Result<(), A
 }
 
 /// An edge is to be looked at at keys, the first of them first.
-fn add_keys(pending: &mut Vec<(usize, Key)>, edge: usize, keys: &[Key]) -> Result<(), AllocError>
+fn add_keys(pending: &mut Vec<(usize, Key)>, edge: usize, keys: Vec<Key>) -> Result<(), AllocError>
     ensures kept { OnOk result ((j : ℕ) (other : Key)
         → Contains pending.old.items (j, other) → Contains pending.new.items (j, other)) }
-    ensures each { OnOk result ((key : Key) → Contains keys.now key → Contains pending.new.items (edge, key)) }
+    ensures each { OnOk result ((key : Key) → Contains keys.items key → Contains pending.new.items (edge, key)) }
 {
-    let mut left = keys.len();
-    'next: while left > 0 {
-        left -= 1;
-        pending.push((edge, keys[left].clone()?))?;
+    let mut left = keys;
+    'next: while let Some(key) = left.pop() {
+        pending.push((edge, key))?;
     }
     Ok(())
 }
@@ -111,7 +110,7 @@ impl GlobImports {
     {
         let keys = names.keys(alloc, edge.source)?;
         let j = self.edges.len();
-        add_keys(&mut self.pending, j, &keys)?;
+        add_keys(&mut self.pending, j, keys)?;
         self.into.add(edge.importer, j)?;
         add_out(&mut self.out_of, edge.source, j)?;
         self.edges.push(edge)?;
@@ -132,7 +131,7 @@ impl GlobImports {
         ensures widened { OnOk result (self.new.edges ≡ slice_set self.old.edges j (edge_with_vis edge vis)) }
     {
         let keys = names.keys(alloc, edge.source)?;
-        add_keys(&mut self.pending, j, &keys)?;
+        add_keys(&mut self.pending, j, keys)?;
         set_edge(
             &mut self.edges,
             j,

@@ -1,5 +1,5 @@
 //! The names of modules, as globs read and write them.
-ghost use Rattle.std.specs.Prelude.{◌≡◌, IsSome, IfOk, OnOk, OnErr, Contains};
+ghost use Rattle.std.specs.Prelude.{◌≡◌, Some, IsSome, IfOk, OnOk, OnErr, Contains};
 ghost use Rattle.hir_glob_imports.specs.declared.edge.Key.{Key};
 ghost use Rattle.hir_glob_imports.specs.View.{NameTable, IsNameTable, bound_in};
 
@@ -40,13 +40,22 @@ pub trait Names {
         &mut self,
         slot: &Slot,
         of: Target,
+        shown: Bound,
         vis: Visibility,
         by: GlobId,
     ) -> Result<(), AllocError>
+        requires { (table.view self.old).bound of slot.now.key ≡ Some shown }
         ensures ok { OnOk result (self.new ≡ table.copied self.old slot.now of vis by) };
 
     /// Gives a slot the definition that a target has at its key, and a visibility.
-    fn follow(&mut self, slot: &Slot, of: Target, vis: Visibility) -> Result<(), AllocError>
+    fn follow(
+        &mut self,
+        slot: &Slot,
+        of: Target,
+        shown: Bound,
+        vis: Visibility,
+    ) -> Result<(), AllocError>
+        requires { (table.view self.old).bound of slot.now.key ≡ Some shown }
         ensures ok { OnOk result (self.new ≡ table.followed self.old slot.now of vis) };
 
     /// Gives a slot another visibility.

@@ -1,5 +1,5 @@
 //! Steps along edges.
-ghost use Rattle.std.specs.Prelude.{◌≡◌, ◌+◌, ◌≤◌, true, false, OnOk, IfOk, slice_get};
+ghost use Rattle.std.specs.Prelude.{◌≡◌, ◌+◌, ◌≤◌, true, false, Some, OnOk, IfOk, slice_get};
 ghost use Rattle.hir_glob_imports.specs.declared.edge.Update.TheVariants.{Nothing, Copy, Follow, Raise};
 ghost use Rattle.hir_glob_imports.specs.Inner.{IsKeptBut, Takes};
 ghost use Rattle.hir_glob_imports.specs.Rules.{after, copies_along, follows_along, noted, IsSpent};
@@ -71,6 +71,7 @@ impl GlobImports {
         slot: &Slot,
         shown: Bound,
     ) -> Result<(), GlobError>
+        requires there { (N.table.view names.old).bound edge.source slot.now.key ≡ Some shown }
         requires small { count.old ≤ MAX_STEPS }
         ensures is { OnOk result (state_of names.new self.new count.new
             ≡ after N.table (state_of names.old self.old count.old) (copies_along j edge slot.now shown)) }
@@ -79,7 +80,7 @@ impl GlobImports {
         ensures many { result ≡ Err GlobError.TooMany → count.old ≡ MAX_STEPS }
     {
         let vis = names.lesser(edge.vis, shown.vis);
-        names.copy(slot, edge.source, vis, edge.id)?;
+        names.copy(slot, edge.source, shown, vis, edge.id)?;
         self.note(
             slot,
             Brought {
@@ -101,6 +102,7 @@ impl GlobImports {
         slot: &Slot,
         shown: Bound,
     ) -> Result<(), GlobError>
+        requires there { (N.table.view names.old).bound edge.source slot.now.key ≡ Some shown }
         requires small { count.old ≤ MAX_STEPS }
         ensures is { OnOk result (state_of names.new self.new count.new
             ≡ after N.table (state_of names.old self.old count.old) (follows_along j edge slot.now shown)) }
@@ -109,7 +111,7 @@ impl GlobImports {
         ensures many { result ≡ Err GlobError.TooMany → count.old ≡ MAX_STEPS }
     {
         let vis = names.lesser(edge.vis, shown.vis);
-        names.follow(slot, edge.source, vis)?;
+        names.follow(slot, edge.source, shown, vis)?;
         self.note(
             slot,
             Brought {

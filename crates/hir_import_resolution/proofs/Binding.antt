@@ -34,7 +34,7 @@ use Rattle.hir_glob_imports.specs.declared.edge.Key.TheVariants.{Types, Values, 
 use Rattle.hir_import_resolution.specs.Inner.Steps.{IsBound}
 use Rattle.hir_import_resolution.specs.Names.{ScopesValue, bound_by, bound_trait, view_of, with_trait}
 use Rattle.hir_import_resolution.specs.Inner.ScopeLaws.{bound_scope, keeps-trait}
-use Rattle.hir_import_resolution.proofs.Views.{changed_here, changes_in_slot, changes_nowhere, differ_in_slot, differ_nowhere}
+use Rattle.hir_import_resolution.specs.Inner.ViewLaws.{changed_here, changes_in_slot, changes_nowhere, differ_in_slot, differ_nowhere}
 
 -- ---- one namespace
 

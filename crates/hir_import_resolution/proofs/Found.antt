@@ -1,15 +1,26 @@
 -- What look-ups find in a map among several.
-use Rattle.std.proofs.Common.{◌≡◌, ap, refl, ℕ, Option, None, Some}
+use Rattle.std.proofs.Common.{◌≡◌, ◌∙◌, ap, refl, ℕ, List, false, Option, None, Some, is_some}
 use Rattle.std.specs.Option.{option_and_then, option_map}
 use Rattle.hir_base.specs.declared.ids.EnumId.{EnumId}
+use Rattle.hir_base.specs.declared.ids.ModuleDefId.{ModuleDefId}
 use Rattle.hir_base.specs.declared.ids.ModuleId.{ModuleId}
 use Rattle.hir_base.specs.declared.ids.TraitId.{TraitId}
+use Rattle.hir_scope.specs.Entries.{item_at}
+use Rattle.hir_scope.specs.PerNs.{Item}
 use Rattle.hir_scope.specs.Scope.{ScopeValue}
-use Rattle.hir_scope.specs.Scope.Reads.{unnamed_vis}
+use Rattle.hir_scope.specs.Scope.Reads.{type_at}
+use Rattle.hir_scope.specs.declared.imports.ImportOrExternCrate.{ImportOrExternCrate}
+use Rattle.hir_scope.specs.declared.item_in_ns.ItemInNs.{ItemInNs}
+use Rattle.hir_scope.specs.declared.item_in_ns.ItemInNs.TheVariants as in_ns
+use Rattle.hir_scope.specs.declared.visibility.Visibility.{Visibility}
 use Rattle.hir_def_map.specs.Overlay.{Maps, Placed, map_in, module_in, variants_in}
 use Rattle.hir_def_map.specs.State.{Map, ModuleValue, module_at, scope_at, variants_at}
+use Rattle.hir_glob_imports.specs.declared.edge.Key.{Key}
+use Rattle.hir_glob_imports.specs.declared.edge.Key.TheVariants.{Types, Values, Macros, Unnamed}
 use Rattle.hir_import_resolution.specs.KeyLists.{scope_in}
-use Rattle.hir_import_resolution.specs.Names.{trait_vis}
+use Rattle.hir_import_resolution.specs.Names.{bound_by, trait_vis}
+use Rattle.hir_import_resolution.specs.Inner.ScopeLaws.{bound_scope}
+use Rattle.hir_import_resolution.specs.Inner.ViewLaws.{bound_inside, inside_scope}
 
 module _ (maps : Maps) where
   module-found : (m : ModuleId) (map : Map) → map_in maps m.map ≡ Some map → module_in maps m ≡ module_at map m.index
@@ -54,20 +65,51 @@ module _ (maps : Maps) where
 
 pub ruleset found = (trait-found, trait-none, scope-found, scope-none, variants-found, variants-none)
 
--- who may see a trait of a module, by its scope
-module _ (map : Map) (at : ℕ) (id : TraitId) where
-  pub trait-scope : (scope : ScopeValue) → scope_at map at ≡ Some scope → trait_vis (module_at map at) id ≡ unnamed_vis scope id
-  trait-scope scope e = go (module_at map at) e
+-- what stands at a key of a module, by its scope
+module _ (map : Map) (at : ℕ) (key : Key) where
+  pub bound-scope : (scope : ScopeValue) → scope_at map at ≡ Some scope → bound_inside key (module_at map at) ≡ bound_scope scope key
+  bound-scope scope e = go (module_at map at) e
     where
-      go : (o : Option ModuleValue) → option_map (λ (m : ModuleValue). m.scope) o ≡ Some scope → trait_vis o id ≡ unnamed_vis scope id
+      go : (o : Option ModuleValue) → option_map (λ (m : ModuleValue). m.scope) o ≡ Some scope → bound_inside key o ≡ bound_scope scope key
       go None f = absurd cc
-      go (Some m) f = let same : m.scope ≡ scope = cc in ap (λ (x : ScopeValue). unnamed_vis x id) same
+      go (Some m) f = let same : m.scope ≡ scope = cc in inside_scope m key ∙ ap (λ (x : ScopeValue). bound_scope x key) same
 
-  pub trait-no_scope : scope_at map at ≡ None → trait_vis (module_at map at) id ≡ None
-  trait-no_scope e = go (module_at map at) e
+  pub bound-no_scope : scope_at map at ≡ None → bound_inside key (module_at map at) ≡ None
+  bound-no_scope e = go (module_at map at) e
     where
-      go : (o : Option ModuleValue) → option_map (λ (m : ModuleValue). m.scope) o ≡ None → trait_vis o id ≡ None
-      go None f = refl
+      vacant : (k : Key) → bound_inside k None ≡ None
+      vacant (Types name) = refl
+      vacant (Values name) = refl
+      vacant (Macros name) = refl
+      vacant (Unnamed id) = refl
+
+      go : (o : Option ModuleValue) → option_map (λ (m : ModuleValue). m.scope) o ≡ None → bound_inside key o ≡ None
+      go None f = vacant key
       go (Some m) f = absurd cc
 
-pub ruleset scoped = (trait-scope, trait-no_scope)
+pub ruleset scoped = (bound-scope, bound-no_scope)
+
+-- what a name stands for in one namespace of a scope
+module _ (scope : ScopeValue) (name : List ℕ) where
+  pub type-found : (def : ModuleDefId) (vis : Visibility) → type_at scope name ≡ Some (def, vis)
+      → bound_by in_ns.Types (item_at scope.types name) ≡ Some (record { def = in_ns.Types def; vis = vis })
+  type-found def vis e = go (item_at scope.types name) e
+    where
+      go : (o : Option (Item ModuleDefId ImportOrExternCrate)) → option_map {U = ModuleDefId × Visibility} (λ (i : Item ModuleDefId ImportOrExternCrate). (i.def, i.vis)) o ≡ Some (def, vis)
+          → bound_by in_ns.Types o ≡ Some (record { def = in_ns.Types def; vis = vis })
+      go None f = absurd cc
+      go (Some i) f = let same : (i.def, i.vis) ≡ (def, vis) = cc in ap (λ (p : ModuleDefId × Visibility). Some (record { def = in_ns.Types p.0; vis = p.1 })) same
+
+  pub type-none : type_at scope name ≡ None → bound_by in_ns.Types (item_at scope.types name) ≡ None
+  type-none e = go (item_at scope.types name) e
+    where
+      go : (o : Option (Item ModuleDefId ImportOrExternCrate)) → option_map {U = ModuleDefId × Visibility} (λ (i : Item ModuleDefId ImportOrExternCrate). (i.def, i.vis)) o ≡ None
+          → bound_by in_ns.Types o ≡ None
+      go None f = refl
+      go (Some i) f = absurd cc
+
+pub bound-none : {D I : Type 0} (in_namespace : D → ItemInNs) (o : Option (Item D I)) → is_some o ≡ false → bound_by in_namespace o ≡ None
+bound-none in_namespace None e = refl
+bound-none in_namespace (Some i) e = absurd cc
+
+pub ruleset in_one = (type-found, type-none, bound-none)

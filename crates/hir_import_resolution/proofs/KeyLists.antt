@@ -3,7 +3,7 @@ use Rattle.std.proofs.Common.{◌≡◌, ◌∙◌, ap, sym, subst, refl, ℕ, L
 use mathlib.Core.Bool.{true≢false}
 use Rattle.std.specs.BTreeMap.{is_at}
 use Rattle.std.specs.Cmp.Lexicographic.{slice_cmp}
-use Rattle.std.specs.Map.{lookup}
+use Rattle.std.specs.Map.{lookup, values_of}
 use Rattle.std.specs.Option.{option_and_then, option_map}
 use Rattle.std.specs.Ordering.{is_eq, nat_cmp}
 use Rattle.std.specs.Prelude.{Contains, IsSome, map}
@@ -18,8 +18,7 @@ use Rattle.hir_item_tree.specs.Shape.{has_constructor}
 use Rattle.hir_scope.specs.Entries.{item_at}
 use Rattle.hir_scope.specs.PerNs.{Item, keep_item, with_constructor}
 use Rattle.hir_scope.specs.Scope.{ScopeValue, binding_of}
-use Rattle.hir_scope.specs.Scope.Entries.{entries_of as named_entries, unnamed_binding}
-use Rattle.hir_scope.specs.Scope.Reads.{unnamed_vis}
+use Rattle.hir_scope.specs.Scope.Reads.{traits_among, unnamed_vis}
 use Rattle.hir_scope.specs.declared.imports.ImportId.{ImportId}
 use Rattle.hir_scope.specs.declared.item_in_ns.ItemInNs.{ItemInNs}
 use Rattle.hir_scope.specs.declared.item_in_ns.ItemInNs.TheVariants as in_ns
@@ -36,7 +35,7 @@ use Rattle.hir_glob_imports.specs.declared.edge.Key.TheVariants.{Types, Values, 
 use Rattle.hir_glob_imports.specs.declared.edge.Target.{Target}
 use Rattle.hir_glob_imports.specs.declared.edge.Target.TheVariants as targets
 use Rattle.hir_import_resolution.specs.Directives.{open_items}
-use Rattle.hir_import_resolution.specs.KeyLists.{enum_keys, has_namespace, key_in, keys_among, keys_in, keys_of, name_keys, resolutions_of, scope_keys, trait_keys, variant_keys}
+use Rattle.hir_import_resolution.specs.KeyLists.{enum_keys, has_namespace, key_in, keys_among, keys_in, keys_of, name_keys, scope_keys, trait_key, trait_keys, traits_in, variant_keys}
 use Rattle.hir_import_resolution.specs.Names.{ScopesValue, bound_at, bound_by, bound_of, bound_trait, is_foreign, is_open, open_vis, trait_vis, variant_items}
 use Rattle.hir_import_resolution.specs.Visibilities.{is_public}
 use Rattle.hir_import_resolution.specs.Inner.ScopeLaws.{same_trait}
@@ -88,29 +87,32 @@ module _ (namespace : Namespace) (name : List ℕ) where
           (ap (λ (x : EnumVariant). has_namespace namespace (variant_items (Some x))) here ∙ there) (ap (key_in namespace) (sym (text_at name e.0 s)))
       go below false s f = later_listed (has_namespace namespace (variant_items (Some e.1))) (key_in namespace e.0) (variant_keys namespace es) (key_in namespace name) (below f)
 
-module _ (crossing : Bool) where
-  -- names aren't among what has none
-  past_names : (es : List (List ℕ × PerNs)) (rest : List (Option (List ℕ) × PerNs)) → trait_keys crossing (map (λ entry. (Some entry.0, entry.1)) es ++ rest) ≡ trait_keys crossing rest
-  past_names [] rest = refl
-  past_names (e ∷ es) rest = past_names es rest
+module _ (crossing : Bool) (scope : ScopeValue) where
+  past_traits : (ids others : List TraitId) (key : Key) → Contains (trait_keys crossing scope others) key → Contains (trait_keys crossing scope (ids ++ others)) key
+  past_traits [] others key h = h
+  past_traits (id ∷ ids) others key h =
+      Contains-append_right (trait_key crossing id (unnamed_vis scope id)) (trait_keys crossing scope (ids ++ others)) key (past_traits ids others key h)
 
-  trait_listed : (id : TraitId) (ts : List (TraitId × Item (Unit {0}) ImportId)) (i : Item (Unit {0}) ImportId) → lookup (trait_id.ghosts.eq id) ts ≡ Some i → is_open crossing i.vis ≡ true
-      → Contains (trait_keys crossing (map (λ entry. (None, unnamed_binding entry)) ts)) (Unnamed id)
-  trait_listed id [] i found shown = absurd cc
-  trait_listed id (t ∷ ts) i found shown = go (λ f. trait_listed id ts i f shown) (trait_id.ghosts.eq id t.0) refl found
+  trait_here : (id : TraitId) (vis : Visibility) → unnamed_vis scope id ≡ Some vis → is_open crossing vis ≡ true → Contains (trait_key crossing id (unnamed_vis scope id)) (Unnamed id)
+  trait_here id vis seen shown =
+      subst (λ (o : Option Visibility). Contains (trait_key crossing id o) (Unnamed id)) (sym seen) (listed_where (is_open crossing vis) (Unnamed id) [] (Unnamed id) shown refl)
+
+  trait_listed : (id : TraitId) (vis : Visibility) → unnamed_vis scope id ≡ Some vis → is_open crossing vis ≡ true
+      → (ts : List (TraitId × Item (Unit {0}) ImportId)) (i : Item (Unit {0}) ImportId) → lookup (trait_id.ghosts.eq id) ts ≡ Some i
+      → Contains (trait_keys crossing scope (map (λ (entry : TraitId × Item (Unit {0}) ImportId). entry.0) ts)) (Unnamed id)
+  trait_listed id vis seen shown [] i found = absurd cc
+  trait_listed id vis seen shown (t ∷ ts) i found = go (λ f. trait_listed id vis seen shown ts i f) (trait_id.ghosts.eq id t.0) refl found
     where
       rest : List Key
-      rest = trait_keys crossing (map (λ entry. (None, unnamed_binding entry)) ts)
+      rest = trait_keys crossing scope (map (λ (entry : TraitId × Item (Unit {0}) ImportId). entry.0) ts)
 
       go : (lookup (trait_id.ghosts.eq id) ts ≡ Some i → Contains rest (Unnamed id))
           → (b : Bool) → trait_id.ghosts.eq id t.0 ≡ b → cond b (Some t.1) (lookup (trait_id.ghosts.eq id) ts) ≡ Some i
-          → Contains (cond (is_open crossing t.1.vis) (Unnamed t.0 ∷ []) [] ++ rest) (Unnamed id)
+          → Contains (trait_key crossing t.0 (unnamed_vis scope t.0) ++ rest) (Unnamed id)
       go below true s f =
-          let here : t.1 ≡ i = cc in
-          Contains-append_left (cond (is_open crossing t.1.vis) (Unnamed t.0 ∷ []) []) rest (Unnamed id)
-          (listed_where (is_open crossing t.1.vis) (Unnamed t.0) [] (Unnamed id)
-          (ap (λ (x : Item (Unit {0}) ImportId). is_open crossing x.vis) here ∙ shown) (ap Unnamed (sym (same_trait id t.0 s))))
-      go below false s f = Contains-append_right (cond (is_open crossing t.1.vis) (Unnamed t.0 ∷ []) []) rest (Unnamed id) (below f)
+          Contains-append_left (trait_key crossing t.0 (unnamed_vis scope t.0)) rest (Unnamed id)
+          (subst (λ (x : TraitId). Contains (trait_key crossing x (unnamed_vis scope x)) (Unnamed id)) (same_trait id t.0 s) (trait_here id vis seen shown))
+      go below false s f = Contains-append_right (trait_key crossing t.0 (unnamed_vis scope t.0)) rest (Unnamed id) (below f)
 
 -- ---- what is open
 
@@ -166,7 +168,7 @@ module _ (crossing : Bool) (scope : ScopeValue) where
   macros = name_keys namespaces.Macros crossing scope.macros
 
   abbrev traits : List Key
-  traits = trait_keys crossing (resolutions_of scope)
+  traits = trait_keys crossing scope (traits_in scope)
 
   among_types : (key : Key) → Contains types key → Contains (scope_keys crossing scope) key
   among_types key h = Contains-append_left ((types ++ values) ++ macros) traits key (Contains-append_left (types ++ values) macros key (Contains-append_left types values key h))
@@ -201,8 +203,8 @@ module _ (crossing : Bool) (scope : ScopeValue) where
       let shown = open_trait id crossing (unnamed_vis scope id) h in
       let found = vis_there (lookup (trait_id.ghosts.eq id) scope.unnamed_traits) shown.0 shown.1 in
       among_traits (Unnamed id)
-      (subst (λ (keys : List Key). Contains keys (Unnamed id)) (sym (past_names crossing (named_entries scope) (map (λ entry. (None, unnamed_binding entry)) scope.unnamed_traits)))
-      (trait_listed crossing id scope.unnamed_traits found.0 found.1 (ap (is_open crossing) found.2 ∙ shown.2)))
+      (past_traits crossing scope (traits_among (values_of scope.types)) (map (λ (entry : TraitId × Item (Unit {0}) ImportId). entry.0) scope.unnamed_traits) (Unnamed id)
+      (trait_listed crossing scope id shown.0 shown.1 shown.2 scope.unnamed_traits found.0 found.1))
 
 -- the keys of a module, where it is there
 module_listed : (crossing : Bool) (o : Option ModuleValue) (key : Key) → is_some (bound_at (λ name. open_items crossing (entry_of o name)) (λ id. open_vis crossing (trait_vis o id)) key) ≡ true

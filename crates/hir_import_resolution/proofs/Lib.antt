@@ -10,7 +10,6 @@ pub mod Recorded
 pub mod Writes
 pub mod Along
 -- what a push changes
-pub mod Views
 pub mod Binding
 pub mod Bound
 -- what a resolver does
@@ -25,3 +24,8 @@ pub mod Counting
 pub mod Running
 pub mod Passes
 pub mod Starting
+-- what is queued before a round
+pub mod Growing
+pub mod GrownPlaces
+pub mod GlobsGrowing
+pub mod GrowingAround

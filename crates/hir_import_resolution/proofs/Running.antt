@@ -42,6 +42,7 @@ requeued r now then q old idle same = record {
   begun = record {
     settled = idle;
     unfinished = λ p below. ap (λ (f : List Bool). not (slice_index_or f p true)) same ∙ old.begun.unfinished p below;
+    count = ap (λ (f : List Bool). length f) same ∙ old.begun.count;
     there = old.begun.there;
     apart = old.begun.apart;
     kept = old.begun.kept;
@@ -60,6 +61,7 @@ watched r i watchers old keeps watches = record {
     begun = record {
       settled = still_settled (reads_at r.apart (finished_by r) (state_by r)) (IsSettled (finished_by r) (state_by r)) (Some i) r.worklist r.watchers watchers old.begun.settled keeps;
       unfinished = old.begun.unfinished;
+      count = old.begun.count;
       there = old.begun.there;
       apart = old.begun.apart;
       kept = old.begun.kept;
@@ -82,6 +84,7 @@ tried_running r i old none linked = record {
   begun = record {
     settled = tried r.apart (finished_by r) (state_by r) i r.worklist r.watchers old.running.begun.settled old.watching (nothing_due (finished_by r) (state_by r) i none linked);
     unfinished = old.running.begun.unfinished;
+    count = old.running.begun.count;
     there = old.running.begun.there;
     apart = old.running.begun.apart;
     kept = old.running.begun.kept;
@@ -108,6 +111,9 @@ begun_from r0 r1 now slots q watchers reported old changes idle same kept record
   unfinished = λ p below.
       ap (λ (f : List Bool). not (slice_index_or f p true)) (same ∙ ap (λ (x : Queue). x.finished) changes.worklist)
       ∙ old.unfinished p (subst (λ (xs : List ImportDirective). p < length xs) imports below);
+  count =
+      ap (λ (f : List Bool). length f) (same ∙ ap (λ (x : Queue). x.finished) changes.worklist) ∙ old.count
+      ∙ sym (ap (λ (xs : List ImportDirective). length xs) imports);
   there = λ p import e.
       subst (λ (n : ℕ). import.home < n) (sym (same_length r0 r1 slots changes)) (old.there p import (sym (ap (λ (xs : List ImportDirective). slice_get xs p) imports) ∙ e));
   apart = λ e.
@@ -206,18 +212,6 @@ running_waved r0 r1 r2 slots old changes taken kept recorded small rests rest wo
   begun = begun_after r0 r1 r2 None slots r0.taken.items old old.settled changes (λ j. (taken j).items) kept recorded small rest woken fresh;
   waved = ap (λ (r : Resolver). r.globs.pending) rest ∙ rests;
 }
-
--- at first all imports are queued, and none is idle
-pub running_first : (r0 r1 : Resolver) (slots : List PathSlot) (reported : Vec Slot Global) → IsBegun r0 None → ((p : ℕ) → ¬ IsIdle r0.worklist p) → ChangesSlots r0 r1 slots → IsKeptIn r1
-    → AreRecorded r1 → r1.count ≤ MAX_STEPS → r1.globs.pending ≡ [] → reported.items ≡ [] → IsRunning (record r1 { changes = reported }) None
-running_first r0 r1 slots reported old queued changes kept recorded small rests fresh = record {
-  begun = begun_from r0 r1 None slots r1.worklist r1.watchers reported old changes
-      (record { watched = record { each = λ p idle other. absurd (none p idle) }; settled = λ p idle other. absurd (none p idle) }) refl kept recorded small fresh;
-  waved = rests;
-}
-  where
-    none : (p : ℕ) → ¬ IsIdle r1.worklist p
-    none p idle = queued p (subst (λ (x : Queue). IsIdle x p) changes.worklist idle)
 
 -- ---- a step, and steps after it
 

@@ -1,8 +1,10 @@
 -- Which imports are settled as the state changes?
-use Rattle.std.proofs.Common.{◌≡◌, ◌≢◌, ◌∙◌, ap, sym, refl, subst, ℕ, Bool, true, false, not, ◌&&◌, ◌||◌, Option, None, Some, List, [], ◌∷◌, ◌++◌, cond, arith}
+use Rattle.std.proofs.Common.{◌≡◌, ◌≢◌, ◌∙◌, ap, sym, refl, subst, ℕ, ◌<◌, Bool, true, false, not, ◌&&◌, ◌||◌, Option, None, Some, List, [], ◌∷◌, ◌++◌, length, cond, arith}
 use Rattle.std.specs.Prelude.{Contains, slice_get, slice_set}
 use Rattle.std.specs.Option.{option_and_then}
 use Rattle.std.proofs.lemmas.List.Elements.{Contains-append_left, Contains-append_right}
+use Rattle.hir_base.specs.declared.ids.Crate.{Crate}
+use Rattle.hir_base.specs.declared.ids.ExternCrateId.{ExternCrateId}
 use Rattle.hir_scope.specs.declared.imports.GlobId.{GlobId}
 use Rattle.hir_scope.specs.declared.imports.ImportId.{ImportId}
 use Rattle.hir_scope.specs.declared.per_ns.PerNs.{PerNs}
@@ -14,9 +16,9 @@ use Rattle.hir_def_map.specs.Scoping.{Resolution, resolution_of}
 use Rattle.hir_def_map.specs.Scoping.Slots.{reads}
 use Rattle.hir_def_map.specs.State.{numbered}
 use Rattle.hir_def_map.specs.declared.nameres.path_resolution.slots.Slot.{Slot as PathSlot}
-use Rattle.hir_def_map_laws.proofs.SlotLists.{unread_scopes}
-use Rattle.hir_def_map_laws.specs.ReadLaw.{IsReadAlike}
-use Rattle.hir_def_map_laws.specs.SlotChanges.{ScopesChangeAmong}
+use Rattle.hir_def_map_laws.proofs.SlotLists.{unread as unread_slots, unread_scopes}
+use Rattle.hir_def_map_laws.specs.ReadLaw.{BeginsWithCrates, IsReadAlike, StandsBeside}
+use Rattle.hir_def_map_laws.specs.SlotChanges.{ChangesAmong, ScopesChangeAmong}
 use Rattle.hir_glob_imports.specs.declared.edge.Target.{Target}
 use Rattle.hir_import_resolution.specs.declared.directive.ImportDirective.{ImportDirective}
 use Rattle.hir_import_resolution.specs.declared.directive.ImportSource.{ImportSource}
@@ -40,7 +42,7 @@ pub record IsAlike (finished : Maps) (s t : ImportState) (r : ImportDirective) :
   pub target : (by : GlobId) → glob_of r.source ≡ Some by → target_of finished t.local t.map r ≡ target_of finished s.local s.map r
 
 -- what is settled stays so as long as it reaches the same
-pub stays_settled : (finished : Maps) (s t : ImportState) (p : ℕ) → t.imports ≡ s.imports → slice_get t.taken p ≡ slice_get s.taken p
+pub stays_settled : (finished : Maps) (s t : ImportState) (p : ℕ) → slice_get t.imports p ≡ slice_get s.imports p → slice_get t.taken p ≡ slice_get s.taken p
     → ((r : ImportDirective) → slice_get s.imports p ≡ Some r → IsAlike finished s t r) → IsSettled finished s p → IsSettled finished t p
 stays_settled finished s t p same taken alike old = record {
   among = λ r x e f.
@@ -49,12 +51,21 @@ stays_settled finished s t p same taken alike old = record {
 }
   where
     before : (r : ImportDirective) → slice_get t.imports p ≡ Some r → slice_get s.imports p ≡ Some r
-    before r e = sym (ap (λ (xs : List ImportDirective). slice_get xs p) same) ∙ e
+    before r e = sym same ∙ e
 
 -- an import reaches the same, and reads the same slots
 pub record IsUnchanged (finished : Maps) (s t : ImportState) (r : ImportDirective) (source : ImportSource) : Type 0 where
   pub alike : IsAlike finished s t r
   pub slots : path_reads finished t r source ≡ path_reads finished s r source
+
+-- an `extern crate` reads nothing
+extern_alike : (finished : Maps) (s t : ImportState) (r : ImportDirective) (id : ExternCrateId) (krate : Option Crate) → r.source ≡ sources.ExternCrate id krate → IsAlike finished s t r
+extern_alike finished s t r id krate e = record {
+  reached =
+      ap (λ (x : ImportSource). (answer_by_source x (path_answer finished t.local t.map r)).resolved_def) e
+      ∙ sym (ap (λ (x : ImportSource). (answer_by_source x (path_answer finished s.local s.map r)).resolved_def) e);
+  target = λ by g. absurd (let none : None ≡ Some by = sym (ap glob_of e) ∙ g in cc);
+}
 
 -- where it reads none of the slots that change, it does
 pub unchanged : (finished : Maps) (s t : ImportState) (slots : List PathSlot) (r : ImportDirective) (source : ImportSource) → r.source ≡ source → IsApart finished s.map.id s.local
@@ -74,15 +85,29 @@ unchanged finished s t slots r (sources.Use id kind) e apart changes local unrea
 
     same : path_answer finished t.local t.map r ≡ path_answer finished s.local s.map r
     same = (λ i. resolution_of (overlay finished t.map) (by_import (local i)) (numbered (changes.differs.id i) r.home) r.path) ∙ read.answers
-unchanged finished s t slots r (sources.ExternCrate id krate) e apart changes local unread = record {
+unchanged finished s t slots r (sources.ExternCrate id krate) e apart changes local unread =
+    record { alike = extern_alike finished s t r id krate e; slots = refl }
+
+-- the same while the map grows: where it reads none of the slots that change, it reaches the same
+pub unchanged_grown : (finished : Maps) (s t : ImportState) (slots : List PathSlot) (r : ImportDirective) (source : ImportSource) → r.source ≡ source → StandsBeside finished s.map
+    → BeginsWithCrates s.local → r.home < length s.map.modules → ChangesAmong s.map s.local t.map t.local slots
+    → ((slot : PathSlot) → Contains slots slot → ¬ Contains (path_reads finished s r source) slot) → IsUnchanged finished s t r source
+unfolding answer_in
+unchanged_grown finished s t slots r (sources.Use id kind) e stands begins there changes unread = record {
   alike = record {
-    reached =
-        ap (λ (x : ImportSource). (answer_by_source x (path_answer finished t.local t.map r)).resolved_def) e
-        ∙ sym (ap (λ (x : ImportSource). (answer_by_source x (path_answer finished s.local s.map r)).resolved_def) e);
-    target = λ by g. absurd (let none : None ≡ Some by = sym (ap glob_of e) ∙ g in cc);
+    reached = ap (λ (a : Resolution). (answer_by_source r.source a).resolved_def) same;
+    target = λ by g i. target_among (changes.grows.id i) (same i).resolved_def.types;
   };
-  slots = refl;
+  slots = (λ i. reads finished (by_import t.local) t.map (numbered (changes.grows.id i) r.home) r.path) ∙ read.slots;
 }
+  where
+    read : IsReadAlike finished s.map (by_import s.local) t.map t.local (numbered s.map.id r.home) r.path
+    read = unread_slots finished s.map t.map (by_import s.local) t.local slots r.home r.path stands begins there changes unread
+
+    same : path_answer finished t.local t.map r ≡ path_answer finished s.local s.map r
+    same = (λ i. resolution_of (overlay finished t.map) (by_import t.local) (numbered (changes.grows.id i) r.home) r.path) ∙ read.answers
+unchanged_grown finished s t slots r (sources.ExternCrate id krate) e stands begins there changes unread =
+    record { alike = extern_alike finished s t r id krate e; slots = refl }
 
 -- ---- takings
 

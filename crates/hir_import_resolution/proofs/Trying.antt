@@ -40,7 +40,8 @@ pub same_scopes : (apart : Bool) (finished : Maps) (s t : ImportState) (now : Op
 same_scopes apart finished s t now q watchers map local imports taken idle =
     restated slot_cmp slot_total (reads_at apart finished s) (reads_at apart finished t) (IsSettled finished s) (IsSettled finished t) now q watchers idle
     (λ p rests other old. (λ i. reads_at apart finished (record t { map = map i; local = local i; imports = imports i }) p))
-    (λ p rests other old. stays_settled finished s t p imports (ap (λ (xs : List TakenValue). slice_get xs p) taken) (λ d e. alike d) old)
+    (λ p rests other old.
+    stays_settled finished s t p (ap (λ (xs : List ImportDirective). slice_get xs p) imports) (ap (λ (xs : List TakenValue). slice_get xs p) taken) (λ d e. alike d) old)
   where
     alike : (d : ImportDirective) → IsAlike finished s t d
     alike d = record {
@@ -48,25 +49,39 @@ same_scopes apart finished s t now q watchers map local imports taken idle =
       target = λ by g i. target_of finished (local i) (map i) d;
     }
 
--- slots change, and what read them is woken
-pub announced : (apart : Bool) (finished : Maps) (s t : ImportState) (slots : List PathSlot) (q r : Queue) (watchers after : Watchers PathSlot)
-    → (apart ≡ true → IsApart finished s.map.id s.local) → ScopesChangeAmong s.map t.map s.local slots → t.local ≡ s.local → t.imports ≡ s.imports → t.taken ≡ s.taken
+-- an import is there in both states, and its takings reached the same before them
+pub record IsSameAt (s t : ImportState) (p : ℕ) : Type 0 where
+  pub import : slice_get t.imports p ≡ slice_get s.imports p
+  pub taken : slice_get t.taken p ≡ slice_get s.taken p
+
+-- what changes is woken: an import that is idle afterwards was there and reads none of it, so it means the same
+pub woken_anew : (apart : Bool) (finished : Maps) (s t : ImportState) (slots : List PathSlot) (q r : Queue) (watchers after : Watchers PathSlot)
+    → ((p : ℕ) → IsIdle r p → IsSameAt s t p)
+    → (apart ≡ true → (p : ℕ) (d : ImportDirective) → slice_get s.imports p ≡ Some d
+    → ((slot : PathSlot) → Contains slots slot → ¬ Contains (path_reads finished s d d.source) slot) → IsUnchanged finished s t d d.source)
     → AreIdleSettled apart finished s None q watchers → IsWoken apart slots q watchers r after → AreIdleSettled apart finished t None r after
-announced true finished s t slots q r watchers after is_apart changes local imports taken idle woken =
+woken_anew true finished s t slots q r watchers after stay same idle woken =
     restated slot_cmp slot_total (reads_at true finished s) (reads_at true finished t) (IsUnread slot_cmp slot_total (reads_at true finished s) (IsSettled finished s) slots) (IsSettled finished t) None r after
     (woken_settled (reads_at true finished s) (IsSettled finished s) None r after q watchers slots (woken.watching refl) idle)
-    (λ p rests other old. (λ i. reads_by finished t (slice_get (imports i) p)) ∙ same_reads (slice_get s.imports p) (λ slot among. old.unread slot among))
+    (λ p rests other old. ap (reads_by finished t) (stay p rests).import ∙ same_reads p (slice_get s.imports p) refl (λ slot among. old.unread slot among))
     (λ p rests other old.
-    stays_settled finished s t p imports (ap (λ (xs : List TakenValue). slice_get xs p) taken)
-    (λ d e. (same d (λ slot among. subst (λ (o : Option ImportDirective). ¬ Contains (reads_by finished s o) slot) e (old.unread slot among))).alike) old.settled)
+    stays_settled finished s t p (stay p rests).import (stay p rests).taken
+    (λ d e. (same refl p d e (λ slot among. subst (λ (o : Option ImportDirective). ¬ Contains (reads_by finished s o) slot) e (old.unread slot among))).alike) old.settled)
   where
-    same : (d : ImportDirective) → ((slot : PathSlot) → Contains slots slot → ¬ Contains (path_reads finished s d d.source) slot) → IsUnchanged finished s t d d.source
-    same d unread = unchanged finished s t slots d d.source refl (is_apart refl) changes local unread
-
-    same_reads : (o : Option ImportDirective) → ((slot : PathSlot) → Contains slots slot → ¬ Contains (reads_by finished s o) slot) → reads_by finished t o ≡ reads_by finished s o
-    same_reads None unread = refl
-    same_reads (Some d) unread = (same d unread).slots
-announced false finished s t slots q r watchers after is_apart changes local imports taken idle woken = record {
+    same_reads : (p : ℕ) (o : Option ImportDirective) → slice_get s.imports p ≡ o → ((slot : PathSlot) → Contains slots slot → ¬ Contains (reads_by finished s o) slot)
+        → reads_by finished t o ≡ reads_by finished s o
+    same_reads p None e unread = refl
+    same_reads p (Some d) e unread = (same refl p d e unread).slots
+woken_anew false finished s t slots q r watchers after stay same idle woken = record {
   watched = record { each = λ p rests other. absurd (woken.all refl p rests) };
   settled = λ p rests other. absurd (woken.all refl p rests);
 }
+
+-- slots change in scopes alone, and what read them is woken
+pub announced : (apart : Bool) (finished : Maps) (s t : ImportState) (slots : List PathSlot) (q r : Queue) (watchers after : Watchers PathSlot)
+    → (apart ≡ true → IsApart finished s.map.id s.local) → ScopesChangeAmong s.map t.map s.local slots → t.local ≡ s.local → t.imports ≡ s.imports → t.taken ≡ s.taken
+    → AreIdleSettled apart finished s None q watchers → IsWoken apart slots q watchers r after → AreIdleSettled apart finished t None r after
+announced apart finished s t slots q r watchers after is_apart changes local imports taken idle woken =
+    woken_anew apart finished s t slots q r watchers after
+    (λ p rests. record { import = ap (λ (xs : List ImportDirective). slice_get xs p) imports; taken = ap (λ (xs : List TakenValue). slice_get xs p) taken })
+    (λ is p d e unread. unchanged finished s t slots d d.source refl (is_apart is) changes local unread) idle woken

@@ -12,6 +12,7 @@ use Rattle.hir_def_map.specs.declared.nameres.path_resolution.slots.Slot.{Slot a
 use Rattle.hir_def_map.specs.declared.nameres.path_resolution.slots.Slot.TheVariants.{Module as of_module}
 use Rattle.hir_glob_imports.specs.Keys.{name_of}
 use Rattle.hir_glob_imports.specs.declared.edge.Slot.{Slot}
+use Rattle.hir_worklist.proofs.Idle.{current-woken_outside}
 use Rattle.hir_worklist.proofs.Settled.{none_changed, one_more_changed, IsUnread}
 use Rattle.hir_worklist.specs.Moves.{Wakes}
 use Rattle.hir_worklist.specs.Queue.{IsIdle, Queue}
@@ -96,13 +97,18 @@ wakes_no_more slots n q watchers over = subst (λ (xs : List Slot). WakesEach q 
 -- ---- the pass
 
 pub same_pass : (q : Queue) → IsSamePass q q
-same_pass q = record { finished = refl; next = refl; end = refl }
+same_pass q = record { finished = refl; next = refl; end = refl; outside = λ e f. e }
 
 pub pass_woken : (q r : Queue) (chosen : ℕ → Bool) → Wakes q r chosen → IsSamePass q r
-pass_woken q r chosen w = record { finished = w.finished; next = w.next; end = w.end }
+pass_woken q r chosen w = record { finished = w.finished; next = w.next; end = w.end; outside = current-woken_outside q r chosen w }
 
 pub pass_join : (p q r : Queue) → IsSamePass p q → IsSamePass q r → IsSamePass p r
-pass_join p q r first then = record { finished = then.finished ∙ first.finished; next = then.next ∙ first.next; end = then.end ∙ first.end }
+pass_join p q r first then = record {
+  finished = then.finished ∙ first.finished;
+  next = then.next ∙ first.next;
+  end = then.end ∙ first.end;
+  outside = λ e f. then.outside (first.outside e f) (first.end ∙ f);
+}
 
 -- ---- what is idle once the slots are woken
 

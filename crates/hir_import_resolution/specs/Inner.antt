@@ -1,5 +1,6 @@
 -- Words of private code.
 pub mod ScopeLaws
+pub mod ViewLaws
 pub mod TableLaws
 pub mod OpenLaws
 pub mod State

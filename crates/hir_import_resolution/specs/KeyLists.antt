@@ -1,22 +1,22 @@
 -- At which keys does a target have something, in the order in which a glob brings it?
-use Rattle.std.specs.Prelude.{ℕ, Bool, false, List, [], ◌∷◌, ◌++◌, Option, None, Some, is_some, cond, option_map}
-use Rattle.hir_base.specs.declared.ids.ModuleDefId.{ModuleDefId}
+use Rattle.std.specs.Prelude.{ℕ, Bool, false, List, [], ◌∷◌, ◌++◌, Option, None, Some, is_some, cond, map, option_map}
+use Rattle.std.specs.Map.{values_of}
 use Rattle.hir_base.specs.declared.ids.ModuleId.{ModuleId}
 use Rattle.hir_base.specs.declared.ids.TraitId.{TraitId}
 use Rattle.hir_scope.specs.PerNs.{Item}
 use Rattle.hir_scope.specs.Scope.{ScopeValue}
-use Rattle.hir_scope.specs.Scope.Entries.{entries_of, resolutions_in}
-use Rattle.hir_scope.specs.declared.imports.ImportOrExternCrate.{ImportOrExternCrate}
+use Rattle.hir_scope.specs.Scope.Reads.{traits_among, unnamed_vis}
+use Rattle.hir_scope.specs.declared.imports.ImportId.{ImportId}
 use Rattle.hir_scope.specs.declared.per_ns.Namespace.{Namespace}
 use Rattle.hir_scope.specs.declared.per_ns.Namespace.TheVariants as namespaces
 use Rattle.hir_scope.specs.declared.per_ns.PerNs.{PerNs}
+use Rattle.hir_scope.specs.declared.visibility.Visibility.{Visibility}
 use Rattle.hir_def_map.specs.Overlay.{Maps, module_in, overlay, variants_in}
 use Rattle.hir_def_map.specs.State.{ModuleValue, Variants, scope_at}
 use Rattle.hir_glob_imports.specs.declared.edge.Key.{Key}
 use Rattle.hir_glob_imports.specs.declared.edge.Key.TheVariants.{Types, Values, Macros, Unnamed}
 use Rattle.hir_glob_imports.specs.declared.edge.Target.{Target}
 use Rattle.hir_glob_imports.specs.declared.edge.Target.TheVariants as targets
-use Rattle.hir_import_resolution.specs.Directives.{trait_among}
 use Rattle.hir_import_resolution.specs.Names.{ScopesValue, is_foreign, is_open, variant_items}
 
 abbrev pub key_in : Namespace → List ℕ → Key
@@ -30,34 +30,25 @@ name_keys namespace crossing [] = []
 name_keys namespace crossing (e ∷ es) =
     cond (is_open crossing e.1.vis) (key_in namespace e.0 ∷ name_keys namespace crossing es) (name_keys namespace crossing es)
 
--- the key of a trait without a name
-abbrev pub unnamed_key : Option TraitId → List Key
-unnamed_key None = []
-unnamed_key (Some id) = Unnamed id ∷ []
+-- the key of a trait that has this visibility without a name, where that is open
+abbrev pub trait_key : Bool → TraitId → Option Visibility → List Key
+trait_key crossing id None = []
+trait_key crossing id (Some vis) = cond (is_open crossing vis) (Unnamed id ∷ []) []
 
--- the key of the trait that a type is, where that is open
-abbrev pub trait_key : Bool → Option (Item ModuleDefId ImportOrExternCrate) → List Key
-trait_key crossing None = []
-trait_key crossing (Some item) = cond (is_open crossing item.vis) (unnamed_key (trait_among (Some item))) []
+-- the keys of those of some traits that a scope has without a name
+abbrev pub trait_keys : Bool → ScopeValue → List TraitId → List Key
+trait_keys crossing scope [] = []
+trait_keys crossing scope (id ∷ ids) = trait_key crossing id (unnamed_vis scope id) ++ trait_keys crossing scope ids
 
-abbrev pub resolution_key : Bool → Option (List ℕ) → PerNs → List Key
-resolution_key crossing (Some name) items = []
-resolution_key crossing None items = trait_key crossing items.types
+-- the traits of a scope: those that names stand for, and those without one
+abbrev pub traits_in : ScopeValue → List TraitId
+traits_in scope = traits_among (values_of scope.types) ++ map (λ (entry : TraitId × Item (Unit {0}) ImportId). entry.0) scope.unnamed_traits
 
--- the keys of what has no name
-abbrev pub trait_keys : Bool → List (Option (List ℕ) × PerNs) → List Key
-trait_keys crossing [] = []
-trait_keys crossing (e ∷ es) = resolution_key crossing e.0 e.1 ++ trait_keys crossing es
-
--- the names of a scope, each with what it stands for, and then the traits without a name
-abbrev pub resolutions_of : ScopeValue → List (Option (List ℕ) × PerNs)
-resolutions_of scope = resolutions_in (entries_of scope) scope.unnamed_traits
-
--- the keys of a scope: types, values and macros by name, and then traits in the order in which they came
+-- the keys of a scope: types, values and macros by name, and then traits without a name
 abbrev pub scope_keys : Bool → ScopeValue → List Key
 scope_keys crossing scope =
     ((name_keys namespaces.Types crossing scope.types ++ name_keys namespaces.Values crossing scope.values) ++ name_keys namespaces.Macros crossing scope.macros)
-    ++ trait_keys crossing (resolutions_of scope)
+    ++ trait_keys crossing scope (traits_in scope)
 
 abbrev pub keys_in : Bool → Option ScopeValue → List Key
 keys_in crossing None = []

@@ -10,6 +10,8 @@ pub mod Changes
 pub mod Rules
 -- ---- where they rest
 pub mod Rest
+-- ---- and what may happen before they are taken up again
+pub mod Rounds
 -- ---- words of private code
 pub mod KeyLists
 pub mod Inner

@@ -3,15 +3,21 @@
 
 pub mod answers;
 pub mod directive;
+pub mod import_queue;
 pub mod imports;
+pub mod laws;
 pub mod namespaces;
 pub mod resolve;
 mod resolver;
+pub mod rounds;
 pub mod scopes;
 pub mod taken;
 
 pub use directive::{ImportDirective, ImportSource};
+pub use import_queue::ImportQueue;
 pub use imports::Imports;
 pub use namespaces::Namespaces;
 pub use resolve::{ImportError, resolve_imports};
+pub use resolver::bind::forget;
+pub use rounds::{Resting, begin_imports, resume_imports};
 pub use taken::Taken;

@@ -10,7 +10,7 @@ ghost use Rattle.hir_import_resolution.specs.Inner.State.{IsApart, state_in};
 ghost use Rattle.hir_import_resolution.specs.State.{scopes_of};
 
 use crate::imports::Imports;
-use crate::resolver::Resolver;
+use crate::rounds::begin_imports;
 use hir_def_map::world::part::WorldPart;
 use hir_glob_imports::{GlobError, MAX_STEPS};
 use std::alloc::{AllocError, Global};
@@ -70,7 +70,6 @@ pub fn resolve_imports(
     // Steps lead on to as many as are counted, and one more may be taken.
     ensures many { result ≡ Err ImportError.TooMany → IsSpent (part_of world.entry) (state_in imports) }
 {
-    let mut resolver = Resolver::new(alloc, world, apart, imports)?;
-    resolver.settle()?;
-    Ok(resolver.finish())
+    let resting = begin_imports(alloc, world, apart, imports)?;
+    Ok(resting.imports)
 }

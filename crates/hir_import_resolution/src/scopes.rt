@@ -1,5 +1,6 @@
 //! The names that globs read and write: those of a map that is built, and of what its globs reach elsewhere.
 ghost use Rattle.std.specs.Prelude.{◌≡◌, OnOk};
+ghost use Rattle.hir_scope.specs.Entries.{item_at};
 ghost use Rattle.hir_scope.specs.declared.item_in_ns.ItemInNs.TheVariants as in_ns;
 ghost use Rattle.hir_def_map.specs.Overlay.{entry_in, module_in};
 ghost use Rattle.hir_def_map.specs.State.{module_at, with_scope};
@@ -7,6 +8,8 @@ ghost use Rattle.hir_def_map.specs.WorldParts.{part_of};
 ghost use Rattle.hir_import_resolution.specs.Names.{bound_by, bound_of, bound_trait, entries_of, is_foreign, is_open, items_by, open_vis, pushed_by, redefined, revised, trait_vis, traits_of, variant_items, with_trait, with_trait_at};
 ghost use Rattle.hir_import_resolution.specs.Scopes.{value_of, with_value};
 ghost use Rattle.hir_import_resolution.specs.Visibilities.{greater_in, sees_in};
+ghost use Rattle.hir_import_resolution.specs.Inner.ScopeLaws.{bound_scope};
+ghost use Rattle.hir_import_resolution.specs.Inner.ViewLaws.{bound_inside};
 
 mod keys;
 mod writes;
@@ -135,6 +138,67 @@ fn bound_trait(id: TraitId, vis: Option<Visibility>) -> Option<Bound>
             def: ItemInNs::Types(ModuleDefId::TraitId(id)),
             vis,
         }),
+        None => None,
+    }
+}
+
+/// What type a name stands for in a scope.
+#[tactic(auto, using(crate::proofs::Found::in_one))]
+fn type_in(scope: &ItemScope, name: &Name) -> Option<Bound>
+    ensures value { result ≡ bound_by in_ns.Types (item_at scope.now.types name.now) }
+{
+    match scope.type_(name) {
+        Some((def, vis)) => Some(Bound {
+            def: ItemInNs::Types(def),
+            vis,
+        }),
+        None => None,
+    }
+}
+
+/// What value a name stands for in a scope.
+#[tactic(auto, using(crate::proofs::Found::in_one))]
+fn value_in(scope: &ItemScope, name: &Name) -> Option<Bound>
+    ensures value { result ≡ bound_by in_ns.Values (item_at scope.now.values name.now) }
+{
+    if scope.has_value(name) {
+        bound_value(scope.get(name).values)
+    } else {
+        None
+    }
+}
+
+/// What macro a name stands for in a scope.
+#[tactic(auto, using(crate::proofs::Found::in_one))]
+fn macro_in(scope: &ItemScope, name: &Name) -> Option<Bound>
+    ensures value { result ≡ bound_by in_ns.Macros (item_at scope.now.macros name.now) }
+{
+    if scope.has_macro(name) {
+        bound_macro(scope.get(name).macros)
+    } else {
+        None
+    }
+}
+
+/// What stands at a key of a scope.
+fn bound_scope(scope: &ItemScope, key: &Key) -> Option<Bound>
+    ensures value { result ≡ bound_scope scope.now key.now }
+{
+    match key {
+        Key::Types(name) => type_in(scope, name),
+        Key::Values(name) => value_in(scope, name),
+        Key::Macros(name) => macro_in(scope, name),
+        Key::Unnamed(id) => bound_trait(*id, scope.unnamed_trait_vis(*id)),
+    }
+}
+
+/// What stands at a key of a module of a map.
+#[tactic(auto, using(crate::proofs::Found::scoped))]
+fn bound_inside(map: &DefMap, at: u32, key: &Key) -> Option<Bound>
+    ensures value { result ≡ bound_inside key.now (module_at map.now at) }
+{
+    match map.scope(at) {
+        Some(scope) => bound_scope(scope, key),
         None => None,
     }
 }
@@ -286,8 +350,8 @@ impl OpenScopes<'_> {
         }
     }
 
-    /// What stands at a key of a target.
-    fn bound_of(&self, of: Target, key: &Key) -> Option<Bound>
+    /// What stands at a key of a target, by all that its name stands for.
+    fn bound_elsewhere(&self, of: Target, key: &Key) -> Option<Bound>
         ensures value { result ≡ bound_of (value_of self.now) of key.now }
     {
         match key {
@@ -295,6 +359,17 @@ impl OpenScopes<'_> {
             Key::Values(name) => bound_value(self.entry(of, name).values),
             Key::Macros(name) => bound_macro(self.entry(of, name).macros),
             Key::Unnamed(id) => bound_trait(*id, self.trait_vis(of, *id)),
+        }
+    }
+
+    /// What stands at a key of a target.
+    #[tactic(auto, using(crate::specs::Inner::ViewLaws::inside_own))]
+    fn bound_of(&self, of: Target, key: &Key) -> Option<Bound>
+        ensures value { result ≡ bound_of (value_of self.now) of key.now }
+    {
+        match of {
+            Target::Own(at) => bound_inside(&self.map, at, key),
+            Target::Module(_) | Target::Enum(_) => self.bound_elsewhere(of, key),
         }
     }
 
@@ -355,28 +430,29 @@ impl Names for OpenScopes<'_> {
     fn copy(
         &mut self,
         slot: &Slot,
-        of: Target,
+        _of: Target,
+        shown: Bound,
         vis: Visibility,
         by: GlobId,
     ) -> Result<(), AllocError> {
-        let Some(bound) = self.bound_of(of, &slot.key) else {
-            return Ok(());
-        };
         match &slot.key {
             Key::Types(name) | Key::Values(name) | Key::Macros(name) => {
-                self.push_by(slot.at, name, items_by(bound.def, vis), by)
+                self.push_by(slot.at, name, items_by(shown.def, vis), by)
             }
             Key::Unnamed(id) => self.keep_trait(slot.at, *id, vis),
         }
     }
 
-    fn follow(&mut self, slot: &Slot, of: Target, vis: Visibility) -> Result<(), AllocError> {
-        let Some(bound) = self.bound_of(of, &slot.key) else {
-            return Ok(());
-        };
+    fn follow(
+        &mut self,
+        slot: &Slot,
+        _of: Target,
+        shown: Bound,
+        vis: Visibility,
+    ) -> Result<(), AllocError> {
         match &slot.key {
             Key::Types(name) | Key::Values(name) | Key::Macros(name) => {
-                redefine_at(&mut self.map, slot.at, name, bound.def, vis);
+                redefine_at(&mut self.map, slot.at, name, shown.def, vis);
                 Ok(())
             }
             Key::Unnamed(id) => self.keep_trait(slot.at, *id, vis),

@@ -2,13 +2,15 @@
 use Rattle.std.proofs.Common.{◌≡◌, ◌⊎◌, inl, inr, ℕ, zero, suc, ◌<◌, arith, ap, slice_get, Bool, true, false, nat_le, nat_lt, List, [], ◌∷◌, length, Option, Some, None, Result, Ok, Err, refl, sym, subst, ◌∙◌}
 use Rattle.hir_base.specs.ModPath.{Path}
 use Rattle.hir_base.specs.Place.{PlaceValue}
+use Rattle.hir_base.specs.declared.ids.Crate.{Crate}
 use Rattle.hir_base.specs.declared.ids.MapId.{MapId}
 use Rattle.hir_def_collector.specs.declared.source_database.Key.{Key}
-use Rattle.hir_wire.specs.CommandValue.{CommandValue, edit, resolve}
+use Rattle.hir_wire.specs.CommandValue.{CommandValue, diagnostics, edit, resolve}
 use Rattle.hir_wire.specs.Commands.{reading_of}
 use Rattle.hir_wire.specs.declared.answer.Answer.{Answer}
 use Rattle.hir_wire.specs.declared.command.Shadow.{Shadow}
 use Rattle.hir_wire.specs.declared.command.MacroStyle.{MacroStyle}
+use Rattle.hir_wire.specs.declared.diagnostic.Diagnostic.{Diagnostic}
 use Rattle.hir_wire.specs.declared.read_error.ReadError.{ReadError}
 use Rattle.hir_wire.specs.declared.read_error.ReadError.TheVariants as read_error
 use Rattle.hir_wire.specs.declared.reply.Reply.{Reply}
@@ -28,11 +30,13 @@ use Rattle.hir_session.specs.Machine.Moves.{applies, refuses, refreshes, refresh
 use Rattle.hir_session.specs.Machine.AnswersCommand.{finds_no_memory, begins, refuses_session, comes_too_soon, comes_too_late, calls}
 use Rattle.hir_session.specs.Machine.AnswersLine.{finds_no_memory_for_line, reads_no_command, carries_out}
 use Rattle.hir_session.specs.Lines.{AnswersWithin, AnswersInput, AnswersLines}
-use Rattle.hir_session.specs.Headline.{Query, Asks, Alters, IsAlteredBetween, Stands, Headline, RepliesHoldTheHeadline, state_at}
+use Rattle.hir_session.specs.Headline.{Query, Asks, AsksDiagnostics, Alters, IsAlteredBetween, Stands, AreAllTold, Headline, RepliesHoldTheHeadline, state_at}
 use Rattle.hir_session.proofs.Truth.{on_bool, clash}
 use Rattle.hir_session.proofs.Differ.{IsSame, same_after_edit, same_after_refresh, same_at_first, same_answer}
 use Rattle.hir_session.proofs.Histories.{after_input, begun_input, history_sound, one_value}
 use Rattle.hir_session.proofs.Stand.{stands}
+use Rattle.hir_session.proofs.Telling.{told_within}
+use Rattle.hir_session.proofs.Told.{tell}
 use Rattle.hir_session.specs.Histories.History.{none as nothing_yet}
 
 -- ---- what a reply with an answer says
@@ -201,6 +205,19 @@ module _ (runs : RunsBindFromSources) (paths : PathsAnswerFromSources) (leads : 
       let rest = stands_at n q a done.0 lines answers new done.2 (good_next line answer good done.1) (record { line = asks.line; is = asks.is; read = asks.read }) told in
       record { session = rest.session; is = rest.is; stands = rest.stands }
 
+  told_at : (n : ℕ) (krate : Crate) (list : List Diagnostic) (old : MachineState) (lines : List (List ℕ)) (answers : List Reply) (new : MachineState) (done : AnswersLines old lines answers new)
+      → IsGood old → AsksDiagnostics lines n krate → slice_get answers n ≡ Some (reply.Diagnostics list) → AreAllTold old lines answers new done n krate list
+  told_at n krate list old [] [] new done good asks told = absurd (let wrong = told in cc)
+  told_at n krate list old [] (answer ∷ answers) new done good asks told = absurd done
+  told_at n krate list old (line ∷ lines) [] new done good asks told = absurd done
+  told_at zero krate list old (line ∷ lines) (answer ∷ answers) new done good asks told =
+      let read : reading_of line ≡ Ok (diagnostics krate) = ap reading_of (first_of asks.is) ∙ asks.read in
+      let here = told_within done.0 (nat_le (length line) LINE_LIMIT) line read (subst (λ (r : Reply). AnswersInput old line r done.0) (first_of told) done.1) in
+      record { session = here.at; is = here.before; stands = tell runs here.at krate list (good here.at here.before) here.is }
+  told_at (suc n) krate list old (line ∷ lines) (answer ∷ answers) new done good asks told =
+      let rest = told_at n krate list done.0 lines answers new done.2 (good_next line answer good done.1) (record { line = asks.line; is = asks.is; read = asks.read }) told in
+      record { session = rest.session; is = rest.is; stands = rest.stands }
+
 -- where what is behind a place was as it is in a session, it is so up to a number, or a line before altered a key that was asked for
 record IsKeptUpTo (from : SessionState) (id : MapId) (old : MachineState) (lines : List (List ℕ)) (answers : List Reply) (new : MachineState) (done : AnswersLines old lines answers new) (n : ℕ) : Type 0 where
   session : SessionState
@@ -299,5 +316,6 @@ differ_at runs paths leads zero (suc n) q one other old (line ∷ lines) (answer
 pub headline : RunsBindFromSources → PathsAnswerFromSources → PathsLeadToWhatIsThere → RepliesHoldTheHeadline
 headline runs paths leads lines answers last done = record {
   stands = λ n query answer asks told. stands_at runs paths leads n query answer first_state lines answers last done good_first asks told;
+  tells = λ n krate told asks is. told_at runs paths leads n krate told first_state lines answers last done good_first asks is;
   differ = λ m n query one other low first second told again. differ_at runs paths leads m n query one other first_state lines answers last done good_first low first second told again;
 }

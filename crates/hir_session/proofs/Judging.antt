@@ -1,68 +1,88 @@
 -- The places that were judged so far, and the keys of one.
-use Rattle.std.proofs.Common.{◌≡◌, ◌≢◌, Some, None, ◌⊎◌, inl, inr, ℕ, zero, suc, ◌+◌, ◌<◌, ◌≤◌, true, false, is_some, List, [], ◌∷◌, ◌++◌, length, slice_index_or, arith, Option, refl, sym, ap, ◌∙◌, subst, Contains}
+use Rattle.std.proofs.Common.{◌≡◌, ◌≢◌, Some, None, IsTrue, if◌then◌else◌, ◌⊎◌, inl, inr, ℕ, zero, suc, ◌+◌, ◌<◌, ◌≤◌, true, false, is_some, List, [], ◌∷◌, ◌++◌, length, slice_index_or, arith, Option, refl, sym, ap, ◌∙◌, subst, Contains, map}
 use Rattle.std.specs.List.{list_any}
+use Rattle.std.proofs.lemmas.Bool.{eqb-true}
+use Rattle.std.proofs.lemmas.Map.Lookups.{CmpEqualImpliesEq}
+use Rattle.std.proofs.lemmas.Map.Views.{btree_set_contains_iff}
+use Rattle.std.specs.BTreeSet.{BTreeSet}
+use Rattle.std.specs.Ordering.{is_eq}
 use Rattle.std.proofs.lemmas.List.Elements.{Contains-append_left, Contains-append_right, Contains-append_cases}
+use Rattle.hir_base.specs.declared.ast_id.BlockId.{BlockId}
+use Rattle.hir_base.specs.declared.ast_id.HirFileId.{HirFileId}
+use Rattle.hir_base.specs.declared.ast_id.HirFileId.TheVariants.{File, Macro}
 use Rattle.hir_base.specs.declared.ids.MapId.{MapId}
+use Rattle.hir_base.specs.contracts.ids.MapIdOrd.TheImpl as map_order
+use Rattle.hir_base.specs.contracts.ids.MapIdOrd.TheImpl.Laws.{total-law as order_total}
 use Rattle.hir_item_tree.specs.Source.{SourceValue}
 use Rattle.hir_def_map.specs.Overlay.{no_maps}
 use Rattle.hir_base.specs.declared.ids.Crate.{Crate}
 use Rattle.hir_tables.specs.Tables.{TablesValue, file_at}
 use Rattle.hir_base.specs.declared.ast_id.FileId.{FileId}
 use Rattle.hir_def_collector.specs.Asked.{IsOwnPart}
-use Rattle.hir_def_collector.specs.Keys.{AgreeOn, look, map_keys}
+use Rattle.hir_def_collector.specs.Keys.{AgreeOn, enum_tree, look, map_keys}
 use Rattle.hir_def_collector.specs.declared.source_database.Key.{Key}
+use Rattle.hir_def_collector.specs.declared.source_database.Key.TheVariants as keys
 use Rattle.hir_def_collector.specs.Workspace.{Workspace}
-use Rattle.hir_session.specs.Crates.{CrateValue, id_of}
+use Rattle.hir_session.specs.Crates.{CrateValue}
 use Rattle.hir_session.specs.Kept.{Resolutions, kept_in}
-use Rattle.hir_session.specs.Files.{Files, edited_at, workspace_in}
+use Rattle.hir_session.specs.Askers.{asked_file, file_of, is_in}
+use Rattle.hir_session.specs.Files.{Files, edited_at, path_in, workspace_in}
 use Rattle.hir_session.specs.SessionState.{Resolution}
-use Rattle.hir_session.specs.EditedFiles.{AreHit, HasAltered, IsAsked, IsJudged, IsNoted, asked_under}
+use Rattle.hir_session.specs.EditedFiles.{AreHit, AreJudged, HasAltered, IsAsked, IsJudged, IsNoted, IsNumberOf, asked_under, is_path}
 use Rattle.hir_session.specs.EditedFiles.IsJudged.{hit, missed}
 use Rattle.hir_session.specs.EditedFiles.IsNoted.{hit as noted, missed as unnoted}
-use Rattle.hir_session.proofs.Depending.{any-found}
-use Rattle.hir_session.proofs.FileLemmas.{agrees_unnumbered, look-other}
-use Rattle.hir_session.proofs.Truth.{clash, on_same}
+use Rattle.hir_session.proofs.Depending.{any-found, found-any}
+use Rattle.hir_session.proofs.FileLemmas.{agrees_unnumbered, call_apart, look-other, numbered_tree}
+use Rattle.hir_session.proofs.Ids.{equal_id}
+use Rattle.hir_session.proofs.Truth.{clash, on_bool, on_same}
 
--- the crates below were judged
-pub judging-start : (tables : TablesValue) (v w : Workspace) (kept : Resolutions) → AreHit tables v w kept 0 []
+-- none was judged
+pub judging-start : (tables : TablesValue) (v w : Workspace) (kept : Resolutions) → AreJudged tables v w kept [] []
 judging-start tables v w kept = record {
   asked = λ id among. absurd (let past : among.0 < 0 = among.1 in omega arith);
-  missed = λ k r below is. absurd (omega arith);
+  missed = λ id r among is. absurd (let past : among.0 < 0 = among.1 in omega arith);
 }
 
+-- what is mapped of one more
+pub one_behind : {A : Type 0} (f : A → MapId) (xs : List A) (x : A) → map f (xs ++ x ∷ []) ≡ map f xs ++ f x ∷ []
+one_behind f [] x = refl
+one_behind f (y ∷ xs) x = ap (λ (zs : List MapId). f y ∷ zs) (one_behind f xs x)
+
+of_one : (x id : MapId) → Contains (x ∷ []) id → x ≡ id
+of_one x id (zero, within, is) = is
+of_one x id (suc n, within, is) = absurd (omega arith)
+
 -- one more was judged
-pub judging-more : (tables : TablesValue) (v w : Workspace) (kept : Resolutions) (k : ℕ) (old new : List MapId) → AreHit tables v w kept k old
-    → IsJudged tables v w (kept_in kept (id_of k)) (id_of k) old new → AreHit tables v w kept (k + 1) new
-judging-more tables v w kept k old new so_far (hit asked is) = subst (λ (ids : List MapId). AreHit tables v w kept (k + 1) ids) (sym is) (record {
-  asked = λ id among. elim (Contains-append_cases old (id_of k ∷ []) id among) [
+pub judging-more : (tables : TablesValue) (v w : Workspace) (kept : Resolutions) (ids : List MapId) (at : MapId) (old new : List MapId) → AreJudged tables v w kept ids old
+    → IsJudged tables v w (kept_in kept at) at old new → AreJudged tables v w kept (ids ++ at ∷ []) new
+judging-more tables v w kept ids at old new so_far (hit asked is) = subst (λ (hits : List MapId). AreJudged tables v w kept (ids ++ at ∷ []) hits) (sym is) (record {
+  asked = λ id among. elim (Contains-append_cases old (at ∷ []) id among) [
     | inl early ↦ so_far.asked id early
-    | inr last ↦ subst (λ (x : MapId). IsAsked tables v w (kept_in kept x)) (of_one (id_of k) id last) asked
+    | inr last ↦ subst (λ (x : MapId). IsAsked tables v w (kept_in kept x)) (of_one at id last) asked
   ];
-  missed = λ j r below found. on_same j k
-      (λ e. inl (Contains-append_right old (id_of k ∷ []) (id_of j) (subst (λ (n : ℕ). Contains (id_of k ∷ []) (id_of n)) (sym e) (0, omega arith, refl))))
-      (λ ne. elim (so_far.missed j r (omega arith) found) [
-        | inl early ↦ inl (Contains-append_left old (id_of k ∷ []) (id_of j) early)
-        | inr alike ↦ inr alike
-      ]);
+  missed = λ id r among found. elim (Contains-append_cases ids (at ∷ []) id among) [
+    | inl early ↦ elim (so_far.missed id r early found) [
+      | inl was ↦ inl (Contains-append_left old (at ∷ []) id was)
+      | inr alike ↦ inr alike
+    ]
+    | inr last ↦ inl (Contains-append_right old (at ∷ []) id last)
+  ];
 })
-  where
-    of_one : (x id : MapId) → Contains (x ∷ []) id → x ≡ id
-    of_one x id (zero, within, is) = is
-    of_one x id (suc n, within, is) = absurd (omega arith)
-judging-more tables v w kept k old new so_far (missed alike is) = subst (λ (ids : List MapId). AreHit tables v w kept (k + 1) ids) (sym is) (record {
+judging-more tables v w kept ids at old new so_far (missed alike is) = subst (λ (hits : List MapId). AreJudged tables v w kept (ids ++ at ∷ []) hits) (sym is) (record {
   asked = so_far.asked;
-  missed = λ j r below found. on_same j k
-      (λ e. inr (alike r (ap (λ (n : ℕ). kept_in kept (id_of n)) (sym e) ∙ found)))
-      (λ ne. so_far.missed j r (omega arith) found);
+  missed = λ id r among found. elim (Contains-append_cases ids (at ∷ []) id among) [
+    | inl early ↦ so_far.missed id r early found
+    | inr last ↦ inr (alike r (ap (kept_in kept) (of_one at id last) ∙ found))
+  ];
 })
 
 -- no run names a file without a number
 pub unnumbered_hit : (crates : List CrateValue) (tables : TablesValue) (F : Files) (path : List ℕ) (there : Option SourceValue) (kept : Resolutions) (hits : List MapId) → hits ≡ []
-    → ((id : FileId) → file_at tables id ≢ Some path) → AreHit tables (workspace_in crates F) (workspace_in crates (edited_at F path there)) kept (length crates) hits
+    → ((id : FileId) → file_at tables id ≢ Some path) → AreHit tables (workspace_in crates F) (workspace_in crates (edited_at F path there)) kept hits
 unnumbered_hit crates tables F path there kept hits none apart =
-    subst (λ (ids : List MapId). AreHit tables (workspace_in crates F) (workspace_in crates (edited_at F path there)) kept (length crates) ids) (sym none) (record {
+    subst (λ (ids : List MapId). AreHit tables (workspace_in crates F) (workspace_in crates (edited_at F path there)) kept ids) (sym none) (record {
       asked = λ id among. absurd (let past : among.0 < 0 = among.1 in omega arith);
-      missed = λ k r below is. inr (agrees_unnumbered crates tables F path there r.asked apart);
+      missed = λ id r is. inr (agrees_unnumbered crates tables F path there r.asked apart);
     })
 
 -- ---- the keys of a run
@@ -152,3 +172,55 @@ judged_by tables v w r own id old new part (noted altered is) =
     hit (record { found = r; is = refl; altered = altered_of_own tables own r.asked v w part altered }) is
 judged_by tables v w r own id old new part (unnoted agree is) =
     missed (λ q same. let here : r ≡ q = cc in subst (λ (x : Resolution). AgreeOn tables x.asked v no_maps w no_maps) here (agrees_on_own tables own r.asked v w part agree)) is
+
+-- ---- those that were not judged
+
+-- a key of the file asks for it by its number
+of_number : (tables : TablesValue) (path : List ℕ) (number : FileId) (id : HirFileId) (b : Option BlockId) → IsNumberOf tables path number
+    → is_path path (path_in tables (record { file = id; block = b })) ≡ true → file_of id b ≡ Some number
+of_number tables path number (File f) None numbered is =
+    let same : f.file_id.0 ≡ number.0 = eqb-true f.file_id.0 number.0 (numbered_tree tables path number f None numbered ∙ is) in
+    λ i. Some (record { 0 = same i })
+of_number tables path number (File f) (Some b) numbered is = clash (numbered_tree tables path number f (Some b) numbered ∙ is) refl
+of_number tables path number (Macro call) b numbered is = clash is (call_apart tables path call b)
+
+asks : (b : Bool) (c : Crate) → is_some (if b then Some c else None) ≡ true → b ≡ true
+asks true c on = refl
+asks false c on = clash on refl
+
+asks_by_number : (tables : TablesValue) (path : List ℕ) (number : FileId) (key : Key) → IsNumberOf tables path number
+    → is_some (asked_under tables path key) ≡ true → asked_file key ≡ Some number
+asks_by_number tables path number (keys.Tree key) numbered is =
+    of_number tables path number key.id.file key.id.block numbered (asks (is_path path (path_in tables key.id)) key.krate is)
+asks_by_number tables path number (keys.Variants id) numbered is =
+    of_number tables path number id.loc.file_id id.loc.block numbered (asks (is_path path (path_in tables (enum_tree id))) id.loc.container.map.krate is)
+asks_by_number tables path number (keys.Map id) numbered is = clash is refl
+
+-- where each place whose run asked for the file was judged, those are hit that were
+pub all_judged : (crates : List CrateValue) (tables : TablesValue) (F : Files) (path : List ℕ) (there : Option SourceValue) (kept : Resolutions) (number : FileId) (ids hits : List MapId)
+    → IsNumberOf tables path number
+    → ((id : MapId) (r : Resolution) (key : Key) → kept_in kept id ≡ Some r → Contains r.asked key → asked_file key ≡ Some number → Contains ids id)
+    → AreJudged tables (workspace_in crates F) (workspace_in crates (edited_at F path there)) kept ids hits
+    → AreHit tables (workspace_in crates F) (workspace_in crates (edited_at F path there)) kept hits
+all_judged crates tables F path there kept number ids hits numbered all judged = record {
+  asked = judged.asked;
+  missed = λ id r is. on_bool (list_any (λ (key : Key). is_some (asked_under tables path key)) r.asked)
+      (λ some.
+      let found = found-any (λ (key : Key). is_some (asked_under tables path key)) r.asked some in
+      judged.missed id r (all id r found.0 is found.1 (asks_by_number tables path number found.0 numbered found.2)) is)
+      (λ none. inr (agrees_unasked crates tables F path there r.asked none));
+}
+
+-- no two ids are tied
+exact_ids : CmpEqualImpliesEq map_order.ghosts.cmp
+exact_ids a b tied = equal_id a b (ap is_eq tied)
+
+-- a place that is in a set is one of its keys
+pub in_set : (o : Option (BTreeSet MapId)) (ids : BTreeSet MapId) (id : MapId) → o ≡ Some ids → is_in o id ≡ true → Contains ids.keys id
+in_set o ids id is has =
+    let there : is_in (Some ids) id ≡ true = ap (λ (x : Option (BTreeSet MapId)). is_in x id) (sym is) ∙ has in
+    (btree_set_contains_iff order_total exact_ids ids id).0 there
+
+-- and none is in no set
+pub in_none : (o : Option (BTreeSet MapId)) (id : MapId) → o ≡ None → is_in o id ≡ true → Contains [] id
+in_none o id is has = clash has (ap (λ (x : Option (BTreeSet MapId)). is_in x id) is)

@@ -19,7 +19,8 @@ use Rattle.hir_def_map.specs.State.{Local, Map}
 use Rattle.hir_def_map.specs.Overlay.{Maps, Placed, holders_or, holders_under, map_in, no_maps, placed_with, with_map}
 use Rattle.hir_def_map.specs.World.{finished_in, local_in, placed_of}
 use Rattle.hir_def_collector.specs.Derivation.{CollectedValue}
-use Rattle.hir_session.specs.declared.kept.KeptRun.{KeptRun}
+use Rattle.hir_def_collector.specs.declared.source_database.Key.{Key}
+use Rattle.hir_session.specs.declared.runs.KeptRun.{KeptRun}
 use Rattle.hir_session.specs.Kept.{Resolutions, finished_by, kept_in, names_in, names_of, entry_with, resolution_at, resolution_from, resolutions_in, AreForgotten, AreUnheld}
 use Rattle.hir_session.proofs.Ids.{equal_id, on_id, other_id, own_id}
 use Rattle.hir_session.proofs.Truth.{both_true, clash, on_bool, on_same}
@@ -71,6 +72,22 @@ kept_from maps runs id map local run is_map is_local is_run =
     (λ i. resolution_from (is_map i) (is_local i) (is_run i))
     ∙ at_found (found_in maps id) (run_in runs id)
     ∙ sym (kept_at maps runs id)
+
+-- a key that what is kept of a place asked for is one of its run
+pub asked_by_run : (maps : Store) (runs : Runs) (id : MapId) (r : CollectedValue) (key : Key) → kept_in (resolutions_in maps runs) id ≡ Some r → Contains r.asked key
+    → (run : KeptRun) × (run_in runs id ≡ Some run) × Contains run.asked key
+asked_by_run maps runs id r key is among = go (found_in maps id) (run_in runs id) refl (sym (kept_at maps runs id) ∙ is)
+  where
+    go : (o : Option Finished) (known : Option KeptRun) → run_in runs id ≡ known → option_map (λ (f : Finished). resolution_at f known) o ≡ Some r
+        → (run : KeptRun) × (run_in runs id ≡ Some run) × Contains run.asked key
+    go None known at same = absurd (let wrong : ⊥ = cc in wrong)
+    go (Some f) None at same =
+        let found : resolution_at f None ≡ r = cc in
+        let none : Contains [] key = subst (λ (x : CollectedValue). Contains x.asked key) (sym found) among in
+        absurd (let past : none.0 < 0 = none.1 in omega arith)
+    go (Some f) (Some run) at same =
+        let found : resolution_at f (Some run) ≡ r = cc in
+        (run, at, subst (λ (x : CollectedValue). Contains x.asked key) (sym found) among)
 
 -- ---- none
 

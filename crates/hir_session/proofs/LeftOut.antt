@@ -81,11 +81,11 @@ use Rattle.hir_session.proofs.Worlds.{AgreeOn-refl, DependsOn-below, DependsOn-h
 
 -- ---- options
 
-present : (b : Bool) → not b ≡ false → b ≡ true
+pub present : (b : Bool) → not b ≡ false → b ≡ true
 present true f = refl
 present false f = absurd (true≢false f)
 
-mapped_some : {A B : Type 0} (f : A → B) (o : Option A) → is_some (option_map f o) ≡ is_some o
+pub mapped_some : {A B : Type 0} (f : A → B) (o : Option A) → is_some (option_map f o) ≡ is_some o
 mapped_some f None = refl
 mapped_some f (Some x) = refl
 
@@ -95,7 +95,7 @@ unmarked_behind : (s : SessionState) → IsSound s → (k : ℕ) → is_marked s
 unmarked_behind s sound k off c behind = DependsOn-holds {P = λ i. is_marked s (id_of i) ≡ false} (λ i d p among. follows_unmarked sound i d p among) ((depended sound k c).0 behind) off
 
 -- what is kept of a current crate
-abbrev current_of : (s : SessionState) → IsSound s → (k : ℕ) → is_marked s (id_of k) ≡ false → Resolution
+abbrev pub current_of : (s : SessionState) → IsSound s → (k : ℕ) → is_marked s (id_of k) ≡ false → Resolution
 current_of s sound k off = (sound.current (id_of k) off).found
 
 own_apart : (s : SessionState) (sound : IsSound s) (k : ℕ) (off : is_marked s (id_of k) ≡ false) → read_of s (id_of k) (current_of s sound k off).map.id ≡ None
@@ -146,7 +146,7 @@ module _ (runs : RunsBindFromSources) (s : SessionState) (sound : IsSound s) (t 
 
 module _ (paths : List (List ℕ)) (maps : Maps) where
   -- the test of what has no source item
-  abbrev unsourced : SourceTest
+  abbrev pub unsourced : SourceTest
   unsourced = record { holder = λ file block. not (is_some (source_of paths file block)); shown = λ m. is_missing maps (named.Module m) }
 
   item_there : (krate : Crate) (kind : SourceKind) (held : HirFileId) (block : Option BlockId) (id : SyntaxId) → unsourced.holder held block ≡ false
@@ -191,7 +191,7 @@ module _ (paths : List (List ℕ)) (maps : Maps) where
   all_there (Some d) (Some i) (Some v) f g h = refl
 
   module _ (nowhere : HoldsNowhere unsourced maps) where
-    module_shown : (m : ModuleId) → ModuleIsThere maps m → is_some (module_definition paths maps m) ≡ true
+    pub module_shown : (m : ModuleId) → ModuleIsThere maps m → is_some (module_definition paths maps m) ≡ true
     module_shown m there = go (maps m.map) refl there
       where
         found : (placed : Placed) → HoldsNowhereIn unsourced placed.map → (o : Option ModuleValue) → module_at placed.map m.index ≡ o → is_some o ≡ true
@@ -309,7 +309,7 @@ by_cause tables w finished from last root begins key means (candidate at passed 
 by_cause tables w finished from last root begins key means (dependency krate among is) = absurd (let wrong : ⊥ = cc in wrong)
 
 -- a tree that the run for a current crate asked for is of a file of the table
-asked_there : (s : SessionState) (sound : IsSound s) (j : ℕ) (off : is_marked s (id_of j) ≡ false) (key : TreeKey) → Contains (current_of s sound j off).asked (keys.Tree key)
+pub asked_there : (s : SessionState) (sound : IsSound s) (j : ℕ) (off : is_marked s (id_of j) ≡ false) (key : TreeKey) → Contains (current_of s sound j off).asked (keys.Tree key)
     → is_some (source_of s.tables.files key.id.file key.id.block) ≡ true
 asked_there s sound j off key asked =
     let now = sound.current (id_of j) off in
@@ -349,6 +349,30 @@ module _ (finished : Maps) (map : Map) (names : HasNoDanglingReference (overlay 
 
 -- ---- answers
 
+-- the maps on which a current crate stands, it among them
+abbrev pub maps_behind : (s : SessionState) (sound : IsSound s) (k : ℕ) → is_marked s (id_of k) ≡ false → Maps
+maps_behind s sound k off = overlay (read_of s (id_of k)) (current_of s sound k off).map
+
+-- what they bind, and the crates with which its paths may begin, have sources
+pub record IsSourced (s : SessionState) (maps : Maps) (r : Resolution) : Type 0 where
+  pub bound : HoldsNowhere (unsourced s.tables.files maps) maps
+  pub begun : HoldsOfNoExtern (unsourced s.tables.files maps) r.local
+
+pub sourced : RunsBindFromSources → (s : SessionState) (sound : IsSound s) (k : ℕ) (off : is_marked s (id_of k) ≡ false)
+    → IsSourced s (maps_behind s sound k off) (current_of s sound k off)
+sourced runs s sound k off =
+    let r : Resolution = current_of s sound k off in
+    let maps : Maps = maps_behind s sound k off in
+    let test : SourceTest = unsourced s.tables.files maps in
+    let written : (j : ℕ) (off : is_marked s (id_of j) ≡ false) (key : TreeKey) → Contains (current_of s sound j off).asked (keys.Tree key) → test.holder key.id.file key.id.block ≡ false =
+    λ j off key asked. ap not (asked_there s sound j off key asked) in
+    let shows : (m : ModuleId) → ModuleIsThere maps m → test.shown m ≡ false = λ m there. ap not there in
+    let own = binds runs s sound test written (suc k) k (omega arith) off shows in
+    record {
+      bound = HoldsNowhere-overlay test (read_of s (id_of k)) r.map (reads runs s sound test written k off shows (binds runs s sound test written k)) own.0;
+      begun = own.1;
+    }
+
 -- an answer from a module of a current crate leaves nothing out
 pub whole : RunsBindFromSources → PathsAnswerFromSources → PathsLeadToWhatIsThere → (s : SessionState) (sound : IsSound s) (k : ℕ) (off : is_marked s (id_of k) ≡ false)
     → (elements : List PlaceElement) (at : ModuleId) (path : Path) (shadow : Shadow) (style : Option MacroStyle)
@@ -361,20 +385,16 @@ whole runs answers leads s sound k off elements at path shadow style is =
     let r : Resolution = now.found in
     let maps : Maps = overlay (read_of s (id_of k)) r.map in
     let test : SourceTest = unsourced s.tables.files maps in
-    let written : (j : ℕ) (off : is_marked s (id_of j) ≡ false) (key : TreeKey) → Contains (current_of s sound j off).asked (keys.Tree key) → test.holder key.id.file key.id.block ≡ false =
-    λ j off key asked. ap not (asked_there s sound j off key asked) in
-    let shows : (m : ModuleId) → ModuleIsThere maps m → test.shown m ≡ false = λ m there. ap not there in
-    let own = binds runs s sound test written (suc k) k (omega arith) off shows in
-    let nowhere : HoldsNowhere test maps = HoldsNowhere-overlay test (read_of s (id_of k)) r.map (reads runs s sound test written k off shows (binds runs s sound test written k)) own.0 in
+    let written : IsSourced s maps r = sourced runs s sound k off in
     let asking : Asking = asking_of r.local shadow style in
     let apart = own_apart s sound k off in
     let closed = IsClosed-overlay (read_of s (id_of k)) r.map apart (behind_whole s k sound (unmarked_behind s sound k off)) now.gives.names in
     let root = module_there (read_of s (id_of k)) r.map 0 now.gives.names.root in
     let there = below_there (read_of s (id_of k)) r.map now.gives.names elements (root_of r.map.id) at root is in
-    let none : HoldsOfNone test (resolution_of maps asking at path).resolved_def = answers test maps asking at path nowhere own.1 in
+    let none : HoldsOfNone test (resolution_of maps asking at path).resolved_def = answers test maps asking at path written.bound written.begun in
     let lead : AreThere maps (resolution_of maps asking at path).resolved_def = leads maps asking at path closed (LocalIsThere-begins maps r.local now.gives.begins) there in
     record {
-      types = types s.tables.files maps nowhere (resolution_of maps asking at path).resolved_def.types none.types lead;
-      values = values s.tables.files maps nowhere (resolution_of maps asking at path).resolved_def.values none.values;
-      macros = macros s.tables.files maps nowhere (resolution_of maps asking at path).resolved_def.macros none.macros;
+      types = types s.tables.files maps written.bound (resolution_of maps asking at path).resolved_def.types none.types lead;
+      values = values s.tables.files maps written.bound (resolution_of maps asking at path).resolved_def.values none.values;
+      macros = macros s.tables.files maps written.bound (resolution_of maps asking at path).resolved_def.macros none.macros;
     }

@@ -3,6 +3,7 @@ pub mod LowerLaws
 pub mod Depending
 pub mod Transitive
 pub mod Ids
+pub mod Noting
 pub mod KeptLemmas
 pub mod Names
 pub mod Worlds
@@ -20,11 +21,14 @@ pub mod FileLemmas
 pub mod Changing
 pub mod Current
 pub mod LeftOut
+pub mod Reported
+pub mod Told
 pub mod Growing
 pub mod Differ
 pub mod Stand
 pub mod Replies
 pub mod Histories
+pub mod Telling
 pub mod Headline
 pub mod EditLaws
 pub mod CutLemmas

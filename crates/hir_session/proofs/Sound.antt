@@ -116,7 +116,7 @@ any_of P (x ∷ xs) each = elim (each x (zero, omega arith, refl)) [
 -- ---- an edit
 
 module _ (s : SessionState) (sound : IsSound s) (F : Files) (hits : List MapId) (K : Resolutions)
-    (hit : AreHit s.tables (workspace_of s) (workspace_in s.crates F) s.kept (length s.crates) hits) (forgotten : AreForgotten s.kept hits K) where
+    (hit : AreHit s.tables (workspace_of s) (workspace_in s.crates F) s.kept hits) (forgotten : AreForgotten s.kept hits K) where
   abbrev edited : Workspace
   edited = workspace_in s.crates F
 
@@ -125,13 +125,7 @@ module _ (s : SessionState) (sound : IsSound s) (F : Files) (hits : List MapId) 
 
   -- a place of which something is kept is hit, or what it asked for is as it was
   judged : (id : MapId) (r : Resolution) → kept_of s id ≡ Some r → Contains hits id ⊎ AgreeOn s.tables r.asked (workspace_of s) no_maps edited no_maps
-  judged id r is =
-      let place = sound.placed id (some_unmarked (kept_of s id) r is) in
-      let own = of_number id place.of_crate in
-      elim (hit.missed id.krate.0 r place.within (ap (kept_of s) (sym own) ∙ is)) [
-        | inl does ↦ inl (subst (λ (x : MapId). Contains hits x) (sym own) does)
-        | inr alike ↦ inr alike
-      ]
+  judged id r is = hit.missed id r is
 
   hit_touched : (id : MapId) → Contains hits id → IsTouched s edited id
   hit_touched id among = let asked = hit.asked id among in asked_for asked.altered.key asked.found asked.is asked.altered.asked asked.altered.altered
@@ -249,12 +243,12 @@ module _ (s : SessionState) (file : List ℕ) (there : Option SourceValue) (hits
   after = record s { files = edited_at s.files file there; kept = K }
 
   -- it is sound
-  pub edited_sound : IsSound s → AreHit s.tables (workspace_of s) (workspace_in s.crates (edited_at s.files file there)) s.kept (length s.crates) hits
+  pub edited_sound : IsSound s → AreHit s.tables (workspace_of s) (workspace_in s.crates (edited_at s.files file there)) s.kept hits
       → AreForgotten s.kept hits K → IsSound after
   edited_sound sound hit forgotten = applied_sound s sound (edited_at s.files file there) hits K hit forgotten
 
   -- and the edit has its effect
-  pub edited_becomes : (view : SessionState) → s ≡ view → IsSound s → AreHit s.tables (workspace_of s) (workspace_in s.crates (edited_at s.files file there)) s.kept (length s.crates) hits
+  pub edited_becomes : (view : SessionState) → s ≡ view → IsSound s → AreHit s.tables (workspace_of s) (workspace_in s.crates (edited_at s.files file there)) s.kept hits
       → AreForgotten s.kept hits K → Becomes view (edited_at view.files file there) after
   edited_becomes view seen sound hit forgotten =
       subst (λ (v : SessionState). Becomes v (edited_at v.files file there) after) seen (becomes s sound (edited_at s.files file there) hits K hit forgotten)

@@ -25,7 +25,7 @@ use Rattle.hir_session.proofs.Differ.{unmarked_behind}
 use Rattle.hir_session.proofs.LeftOut.{whole}
 use Rattle.hir_session.proofs.Truth.{on_bool}
 
-on_option : {A X : Type 0} (o : Option X) → (o ≡ None → A) → ((x : X) → o ≡ Some x → A) → A
+pub on_option : {A X : Type 0} (o : Option X) → (o ≡ None → A) → ((x : X) → o ≡ Some x → A) → A
 on_option None f g = f refl
 on_option (Some x) f g = g x refl
 

@@ -11,7 +11,6 @@ use Rattle.hir_def_collector.specs.declared.source_database.Key.{Key}
 use Rattle.hir_def_collector.specs.declared.source_database.Key.TheVariants.{Tree, Variants, Map}
 use Rattle.hir_item_tree.specs.SourceTree.{SourceTreeValue, variants_of}
 use Rattle.hir_session.specs.Files.{path_in}
-use Rattle.hir_session.specs.Crates.{id_of}
 use Rattle.hir_session.specs.Kept.{Resolutions, kept_in}
 use Rattle.hir_session.specs.SessionState.{Resolution}
 use Rattle.hir_tables.specs.Interning.{IsOnce}
@@ -62,7 +61,12 @@ pub data IsJudged (tables : TablesValue) (v w : Workspace) (kept : Option Resolu
   hit : IsAsked tables v w kept → new ≡ old ++ id ∷ [] → IsJudged tables v w kept id old new
   missed : ((r : Resolution) → kept ≡ Some r → AgreeOn tables r.asked v no_maps w no_maps) → new ≡ old → IsJudged tables v w kept id old new
 
--- the places are those of the first so many crates of which the run asked for something that is altered
-pub record AreHit (tables : TablesValue) (v w : Workspace) (kept : Resolutions) (count : ℕ) (hits : List MapId) : Type 0 where
+-- these places were judged: the run of each that is hit asked for something that is altered, that of each other one didn't
+pub record AreJudged (tables : TablesValue) (v w : Workspace) (kept : Resolutions) (ids hits : List MapId) : Type 0 where
   pub asked : (id : MapId) → Contains hits id → IsAsked tables v w (kept_in kept id)
-  pub missed : (k : ℕ) (r : Resolution) → k < count → kept_in kept (id_of k) ≡ Some r → Contains hits (id_of k) ⊎ AgreeOn tables r.asked v no_maps w no_maps
+  pub missed : (id : MapId) (r : Resolution) → Contains ids id → kept_in kept id ≡ Some r → Contains hits id ⊎ AgreeOn tables r.asked v no_maps w no_maps
+
+-- the places are those whose run asked for something that is altered
+pub record AreHit (tables : TablesValue) (v w : Workspace) (kept : Resolutions) (hits : List MapId) : Type 0 where
+  pub asked : (id : MapId) → Contains hits id → IsAsked tables v w (kept_in kept id)
+  pub missed : (id : MapId) (r : Resolution) → kept_in kept id ≡ Some r → Contains hits id ⊎ AgreeOn tables r.asked v no_maps w no_maps

@@ -2,14 +2,16 @@
 use Rattle.std.specs.Prelude.{◌≡◌, ◌⊎◌, ℕ, zero, suc, ◌<◌, List, [], ◌∷◌, Option, Some, Ok, slice_get}
 use Rattle.hir_base.specs.ModPath.{Path}
 use Rattle.hir_base.specs.Place.{PlaceValue}
+use Rattle.hir_base.specs.declared.ids.Crate.{Crate}
 use Rattle.hir_base.specs.declared.ids.MapId.{MapId}
 use Rattle.hir_def_collector.specs.declared.source_database.Key.{Key}
-use Rattle.hir_wire.specs.CommandValue.{edit, resolve}
+use Rattle.hir_wire.specs.CommandValue.{diagnostics, edit, resolve}
 use Rattle.hir_wire.specs.Commands.{reading_of}
 use Rattle.hir_wire.specs.Edits.{EditValue}
 use Rattle.hir_wire.specs.declared.answer.Answer.{Answer}
 use Rattle.hir_wire.specs.declared.command.Shadow.{Shadow}
 use Rattle.hir_wire.specs.declared.command.MacroStyle.{MacroStyle}
+use Rattle.hir_wire.specs.declared.diagnostic.Diagnostic.{Diagnostic}
 use Rattle.hir_wire.specs.declared.reply.Reply.{Reply}
 use Rattle.hir_wire.specs.declared.reply.Reply.TheVariants as reply
 use Rattle.hir_session.specs.SessionState.{SessionState, workspace_of}
@@ -18,6 +20,7 @@ use Rattle.hir_session.specs.Due.{IsAskedBehind}
 use Rattle.hir_session.specs.Changes.{Applies}
 use Rattle.hir_session.specs.Status.{map_of}
 use Rattle.hir_session.specs.AnswersStand.{AnswersStand}
+use Rattle.hir_session.specs.DiagnosticsStand.{DiagnosticsStand}
 use Rattle.hir_session.specs.Machine.{MachineState, first_state}
 use Rattle.hir_session.specs.Lines.{AnswersLines}
 
@@ -33,6 +36,12 @@ pub record Asks (lines : List (List ℕ)) (n : ℕ) (query : Query) : Type 0 whe
   pub line : List ℕ
   pub is : slice_get lines n ≡ Some line
   pub read : reading_of line ≡ Ok (resolve query.place query.path query.shadow query.style)
+
+-- the line of this number asks for the diagnostics of the crate
+pub record AsksDiagnostics (lines : List (List ℕ)) (n : ℕ) (krate : Crate) : Type 0 where
+  pub line : List ℕ
+  pub is : slice_get lines n ≡ Some line
+  pub read : reading_of line ≡ Ok (diagnostics krate)
 
 -- the state in which the line of a number is answered
 abbrev pub state_at : ℕ → (old : MachineState) (lines : List (List ℕ)) (answers : List Reply) (new : MachineState) → AnswersLines old lines answers new → MachineState
@@ -67,6 +76,12 @@ module _ (old : MachineState) (lines : List (List ℕ)) (answers : List Reply) (
     pub is : state_before n ≡ Some session
     pub stands : AnswersStand session query.place query.path query.shadow query.style answer
 
+  -- the diagnostics of this number are all that were to be told in the session in which they were
+  pub record AreAllTold (n : ℕ) (krate : Crate) (told : List Diagnostic) : Type 0 where
+    pub session : SessionState
+    pub is : state_before n ≡ Some session
+    pub stands : DiagnosticsStand session krate told
+
   -- a line between the two numbers is an edit that altered a key which was asked for behind the first answer
   pub record IsAlteredBetween (m n : ℕ) (place : PlaceValue) : Type 0 where
     pub key : Key
@@ -83,6 +98,9 @@ pub record Headline (lines : List (List ℕ)) (answers : List Reply) (last : Mac
   -- each answer is what its path means by the present sources
   pub stands : (n : ℕ) (query : Query) (answer : Answer) → Asks lines n query → slice_get answers n ≡ Some (reply.Answer answer)
       → Stands first_state lines answers last done n query answer
+  -- so are all diagnostics that are told of a crate: none of what its run reports is left out
+  pub tells : (n : ℕ) (krate : Crate) (told : List Diagnostic) → AsksDiagnostics lines n krate → slice_get answers n ≡ Some (reply.Diagnostics told)
+      → AreAllTold first_state lines answers last done n krate told
   -- two answers to one query differ only where an edit between them altered something that was asked for behind the first
   pub differ : (m n : ℕ) (query : Query) (one other : Answer) → m < n → Asks lines m query → Asks lines n query
       → slice_get answers m ≡ Some (reply.Answer one) → slice_get answers n ≡ Some (reply.Answer other)

@@ -14,7 +14,7 @@ use Rattle.hir_def_map.specs.Overlay.{Maps}
 use Rattle.hir_def_collector.specs.Derivation.{CollectedValue}
 use Rattle.hir_def_collector.specs.declared.source_database.Key.{Key}
 use Rattle.hir_session.specs.declared.kept.KeptResolution.{KeptResolution}
-use Rattle.hir_session.specs.declared.kept.KeptRun.{KeptRun}
+use Rattle.hir_session.specs.declared.runs.KeptRun.{KeptRun}
 
 -- what is kept of each place that was resolved, by the id of its map
 abbrev pub Resolutions : Type 0

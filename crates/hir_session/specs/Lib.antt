@@ -2,6 +2,7 @@ pub mod Crates
 pub mod Files
 pub mod Inputs
 pub mod SourceTrees
+pub mod Askers
 pub mod Kept
 pub mod KeptCodes
 pub mod SessionState
@@ -14,6 +15,7 @@ pub mod Marks
 pub mod EditedFiles
 pub mod Invalidated
 pub mod Due
+pub mod Nesting
 pub mod NotYet
 pub mod Refusals
 pub mod Beginning
@@ -25,6 +27,7 @@ pub mod LeavesOut
 pub mod AnswersStand
 pub mod TreeText
 pub mod Diagnostics
+pub mod DiagnosticsStand
 pub mod Machine
 pub mod Histories
 pub mod MachineCodes

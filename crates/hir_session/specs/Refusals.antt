@@ -26,6 +26,7 @@ use Rattle.hir_session.specs.declared.error.TreeTextError.TheVariants as tree_te
 use Rattle.hir_session.specs.declared.error.DiagnosticsError.{DiagnosticsError}
 use Rattle.hir_session.specs.declared.error.DiagnosticsError.TheVariants as diagnostics_error
 use Rattle.hir_session.specs.SessionState.{max_crates}
+use Rattle.hir_session.specs.Nesting.{is_nested_too_deep}
 use Rattle.hir_session.specs.NotYet.{is_crate_taken, is_source_taken}
 
 -- memory ran out
@@ -106,7 +107,9 @@ edit_result_of (Err e) = Err (edit_error_of e)
 
 -- what a source is refused for
 abbrev pub verdict_of_source : SourceValue → Result (Unit {0}) EditError
-verdict_of_source source = if is_source_taken source then edit_result_of (verdict_of_check source) else Err edit_error.NotYet
+verdict_of_source source =
+    if is_nested_too_deep source then Err (edit_error.TooLarge limit.Modules) else
+    (if is_source_taken source then edit_result_of (verdict_of_check source) else Err edit_error.NotYet)
 
 -- that the edit is accepted, or the first thing for which it is refused
 abbrev pub verdict_of_apply : EditValue → Result (Unit {0}) EditError

@@ -1,19 +1,18 @@
 //! Which places an edit of a file invalidates.
 //!
 //! A run notes what it asked for: what sources have under crates, and the variants of enums. An edit changes one file. Where
-//! that has no number no run asked for it, and nothing is compared. Else the keys of each place that is resolved are gone
-//! through: if one of them asks for the file, what the file has under the place's crate is made of the new source, compared
-//! at each such key with what it had, and then kept in its place.
+//! that has no number no run asked for it, and nothing is compared. Else the keys of each place that may have asked for it are
+//! gone through: if one of them does, what the file has under the place's crate is made of the new source, compared at each
+//! such key with what it had, and then kept in its place.
 //!
 //! The one difficulty: a place is invalidated exactly where something that it asked for became another. Equal trees don't say
 //! so: an absent file isn't an empty one, and the variants of an enum stand beside its tree.
-ghost use Rattle.std.specs.Prelude.{◌≡◌, ◌≢◌, ◌<◌, ◌^◌, true, false, length, is_some, IfOk, OnOk, Some, option_map};
+ghost use Rattle.std.specs.Prelude.{◌≡◌, ◌≢◌, [], true, false, is_some, IfOk, OnOk, Some, option_map};
 ghost use Rattle.std.specs.List.{list_any};
 ghost use Rattle.hir_item_tree.specs.Source.{source_view};
 ghost use Rattle.hir_def_map.specs.Overlay.{no_maps};
 ghost use Rattle.hir_def_collector.specs.Keys.{AgreeOn, look};
-ghost use Rattle.hir_session.specs.Crates.{id_of};
-ghost use Rattle.hir_session.specs.EditedFiles.{asked_under, seen_at, AreHit, HasAltered, IsJudged, IsNoted};
+ghost use Rattle.hir_session.specs.EditedFiles.{asked_under, seen_at, AreHit, AreJudged, HasAltered, IsJudged, IsNoted};
 ghost use Rattle.hir_session.specs.Inputs.{edit_value, edited, workspace_by};
 ghost use Rattle.hir_session.specs.Invalidated.{IsChange, HasTreesOf};
 ghost use Rattle.hir_session.specs.Kept.{kept_in};
@@ -29,7 +28,7 @@ use hir_def_collector::source_database::Key;
 use hir_item_tree::source_tree::SourceTree;
 use hir_tables::Tables;
 use std::alloc::{AllocError, Global};
-use std::collections::BTreeMap;
+use std::collections::{BTreeMap, BTreeSet};
 use std::rc::Rc;
 
 /// What an edit of a file leads to.
@@ -177,24 +176,50 @@ fn judge(
     note(alloc, file, asked.own(), id, hits, trees)
 }
 
+/// What an edit leads to that nothing is known to ask for.
+fn nothing_hit(alloc: Global) -> Invalidation
+    ensures none { result.hits.items ≡ [] }
+    ensures empty { result.trees.entries ≡ [] }
+{
+    Invalidation {
+        hits: Vec::new(alloc),
+        trees: BTreeMap::new(alloc),
+    }
+}
+
+/// What an edit of a file that has a number leads to, where only these places can have asked for it.
+fn invalidated_among(
+    alloc: Global,
+    file: &EditedFile<'_>,
+    kept: &Kept,
+    askers: &BTreeSet<MapId>,
+) -> Result<Invalidation, AllocError>
+    ensures judged { IfOk result (λ found. AreJudged file.now.tables.now (workspace_by file.now.inputs.now)
+        (workspace_by (edited file.now.inputs.now (edit_value file.now.edit))) kept.now askers.now.keys found.hits.items) }
+    ensures trees { IfOk result (λ found. HasTreesOf file.now.inputs.now (edit_value file.now.edit) found.trees) }
+{
+    let mut hits = Vec::new(alloc);
+    let mut trees = BTreeMap::new(alloc);
+    for id in askers {
+        judge(alloc, file, kept, *id, &mut hits, &mut trees)?;
+    }
+    Ok(Invalidation { hits, trees })
+}
+
 /// What an edit of a file that has a number leads to.
 fn invalidated_by(
     alloc: Global,
     file: &EditedFile<'_>,
     kept: &Kept,
 ) -> Result<Invalidation, AllocError>
-    requires few { length file.now.inputs.now.crates < 2 ^ 32 }
     ensures hit { IfOk result (λ found. AreHit file.now.tables.now (workspace_by file.now.inputs.now)
-        (workspace_by (edited file.now.inputs.now (edit_value file.now.edit))) kept.now (length file.now.inputs.now.crates) found.hits.items) }
+        (workspace_by (edited file.now.inputs.now (edit_value file.now.edit))) kept.now found.hits.items) }
     ensures trees { IfOk result (λ found. HasTreesOf file.now.inputs.now (edit_value file.now.edit) found.trees) }
 {
-    let mut hits = Vec::new(alloc);
-    let mut trees = BTreeMap::new(alloc);
-    for k in 0..file.inputs.crates().len() {
-        let id = MapId::of_crate(Crate(k as u32));
-        judge(alloc, file, kept, id, &mut hits, &mut trees)?;
+    match kept.askers(file.number) {
+        Some(askers) => invalidated_among(alloc, file, kept, askers),
+        None => Ok(nothing_hit(alloc)),
     }
-    Ok(Invalidation { hits, trees })
 }
 
 /// What an edit of a file leads to. Where no run could name the file, nothing is compared.
@@ -205,9 +230,8 @@ pub fn invalidated(
     kept: &Kept,
     edit: FileEdit<'_>,
 ) -> Result<Invalidation, AllocError>
-    requires few { length inputs.now.crates < 2 ^ 32 }
     ensures hit { IfOk result (λ found. AreHit tables.now (workspace_by inputs.now) (workspace_by (edited inputs.now (edit_value edit.entry)))
-        kept.now (length inputs.now.crates) found.hits.items) }
+        kept.now found.hits.items) }
     ensures trees { IfOk result (λ found. HasTreesOf inputs.now (edit_value edit.entry) found.trees) }
 {
     match tables.file_number(edit.path) {
@@ -220,9 +244,6 @@ pub fn invalidated(
             };
             invalidated_by(alloc, &file, kept)
         }
-        None => Ok(Invalidation {
-            hits: Vec::new(alloc),
-            trees: BTreeMap::new(alloc),
-        }),
+        None => Ok(nothing_hit(alloc)),
     }
 }

@@ -1,16 +1,20 @@
 //! What is kept of the places that were resolved.
 ghost use Rattle.std.specs.Prelude.{◌≡◌, ◌≢◌, ◌⊎◌, true, false, is_some, cond, None, Some, Contains, IfOk, OnOk, OnErr, option_map};
-ghost use Rattle.std.specs.BTreeMap.{get, is_at, IsUnchanged};
+ghost use Rattle.std.specs.BTreeMap.{is_at, IsUnchanged};
 ghost use Rattle.hir_base.specs.declared.ids.MapId.{MapId};
 ghost use Rattle.hir_base.specs.contracts.ids.MapIdOrd.TheImpl as map_order;
 ghost use Rattle.hir_def_map.specs.Insertion.{may_join};
 ghost use Rattle.hir_def_map.specs.References.{is_well_formed};
 ghost use Rattle.hir_def_map.specs.Removal.{Depends};
 ghost use Rattle.hir_def_map.specs.Overlay.{with_map};
-ghost use Rattle.hir_def_collector.specs.Derivation.{collected_view};
+ghost use Rattle.hir_def_collector.specs.Derivation.{CollectedValue, collected_view};
+ghost use Rattle.hir_def_collector.specs.declared.source_database.Key.{Key};
 ghost use Rattle.hir_def_map.specs.World.{finished_in, local_in};
+ghost use Rattle.hir_session.specs.Askers.{asked_file, is_in};
 ghost use Rattle.hir_session.specs.Kept.{finished_by, kept_in, names_in, leftover_of, was_limited, asked_of, keys_of, resolution_from, resolution_of, AreForgotten};
 
+use crate::runs::{KeptRun, Runs};
+use hir_base::ast_id::FileId;
 use hir_base::ids::MapId;
 use hir_def_collector::collector::collected::{Asked, Collected};
 use hir_def_map::nameres::DefMap;
@@ -19,16 +23,8 @@ use hir_def_map::world::World;
 use hir_def_map::world::insert::InsertError;
 use hir_scope::imports::ImportOrExternCrate;
 use std::alloc::{AllocError, Global};
-use std::collections::BTreeMap;
+use std::collections::BTreeSet;
 use std::marker::Model;
-
-/// What is kept of a run beside the map and the crates that its paths may begin with.
-#[derive(Drop)]
-struct KeptRun {
-    leftover: Vec<ImportOrExternCrate>,
-    round_limit_met: bool,
-    asked: Asked,
-}
 
 /// What is kept of a place, as `Collected` has it.
 #[derive(Clone, Copy)]
@@ -46,7 +42,7 @@ pub struct KeptResolution<'a> {
 #[derive(Drop)]
 pub struct Kept {
     world: World,
-    runs: BTreeMap<MapId, KeptRun>,
+    runs: Runs,
 }
 
 impl Model for Kept {
@@ -59,7 +55,7 @@ impl Model for Kept {
 
     ghost use Rattle.hir_session.specs.Kept.{resolutions_in, AreUnheld};
 
-    ghost view = { λ k. resolutions_in k.world.maps k.runs };
+    ghost view = { λ k. resolutions_in k.world.maps k.runs.by_place };
 
     ghost invariant = { λ k. AreUnheld k.world.maps };
 }
@@ -111,21 +107,6 @@ fn joined<'a>(
     })
 }
 
-fn run_at(runs: &BTreeMap<MapId, KeptRun>, id: MapId) -> Option<&KeptRun>
-    ensures value { option_map (λ r. r.now) result ≡ get map_order.ghosts.cmp runs.now id }
-{
-    runs.get(&id)
-}
-
-fn put(runs: &mut BTreeMap<MapId, KeptRun>, id: MapId, run: KeptRun) -> Result<(), AllocError>
-    ensures here { OnOk result (get map_order.ghosts.cmp runs.new id ≡ Some run) }
-    ensures others { OnOk result ((j : MapId) → is_at (map_order.ghosts.cmp id) j ≡ false → get map_order.ghosts.cmp runs.new j ≡ get map_order.ghosts.cmp runs.old j) }
-    ensures err { OnErr result (IsUnchanged runs.old runs.new) }
-{
-    runs.insert(id, run)?;
-    Ok(())
-}
-
 /// Adds a map that is complete beside the others.
 fn join(world: &mut World, map: DefMap, local: LocalDefMap) -> Result<(), AllocError>
     requires may { may_join (finished_in world.old.maps) map local ≡ true }
@@ -151,7 +132,7 @@ impl Kept {
     {
         Kept {
             world: World::new(alloc),
-            runs: BTreeMap::new(alloc),
+            runs: Runs::new(alloc),
         }
     }
 
@@ -166,11 +147,15 @@ impl Kept {
     pub fn get(&self, id: MapId) -> Option<KeptResolution<'_>>
         ensures value { option_map resolution_of result ≡ kept_in self.now id }
     {
-        joined(
-            self.world.map(id),
-            self.world.local(id),
-            run_at(&self.runs, id),
-        )
+        joined(self.world.map(id), self.world.local(id), self.runs.get(id))
+    }
+
+    /// The places whose runs may have asked for a file. Each of which something is kept that asked for it is among them.
+    pub fn askers(&self, file: FileId) -> Option<&BTreeSet<MapId>>
+        ensures all { (id : MapId) (r : CollectedValue) (key : Key) → kept_in self.now id ≡ Some r → Contains r.asked key → asked_file key ≡ Some file
+            → is_in (option_map (λ ids. ids.now) result) id ≡ true }
+    {
+        self.runs.askers(file)
     }
 
     /// Keeps what was found of a place. Its map names only what is kept of others.
@@ -188,7 +173,7 @@ impl Kept {
             round_limit_met: found.round_limit_met,
             asked: found.asked,
         };
-        put(&mut self.runs, id, run)?;
+        self.runs.put(id, run)?;
         join(&mut self.world, found.map, found.local)?;
         Ok(())
     }

@@ -2,6 +2,7 @@
 #![tactic(auto)]
 
 mod answers;
+mod askers;
 mod beginning;
 pub mod crate_info;
 mod crates;
@@ -14,9 +15,11 @@ mod inputs;
 mod invalidate;
 mod kept;
 pub mod laws;
+mod nesting;
 mod not_yet;
 mod open_line;
 mod output;
+mod runs;
 mod server;
 pub mod server_state;
 pub mod session;

@@ -34,6 +34,7 @@ use crate::front::{has_deep_condition, has_long_path};
 use crate::inputs::Inputs;
 use crate::invalidate::{Invalidation, invalidated};
 use crate::kept::Kept;
+use crate::nesting::nests_too_deep;
 use crate::not_yet::{is_any_untaken, is_source_taken_now};
 use hir_base::file_path::FilePath;
 use hir_base::ids::{Crate, MapId};
@@ -80,11 +81,15 @@ fn note(alloc: Global, done: &mut Vec<Place>, k: u32) -> Result<(), AllocError>
     Ok(())
 }
 
-/// Whether a source can be taken, is within the limits, and has each id once.
+/// Whether a source can be taken, is within the limits, and has each id once. How deep its items nest is looked at first,
+/// since what goes down the items needs stack for it.
 fn check_source(alloc: Global, source: &Source) -> Result<(), EditError>
     ensures accepted { OnOk result (verdict_of_source (source_view source.now) ≡ Ok tt) }
     ensures refused { IfErr result (λ e. IsEditMemory e ⊎ (verdict_of_source (source_view source.now) ≡ Err e)) }
 {
+    if nests_too_deep(source) {
+        return Err(EditError::TooLarge(Limit::Modules));
+    }
     if !is_source_taken_now(source) {
         return Err(EditError::NotYet);
     }

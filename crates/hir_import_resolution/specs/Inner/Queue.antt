@@ -9,7 +9,7 @@ use Rattle.hir_def_map.specs.declared.nameres.path_resolution.slots.Slot.{Slot a
 use Rattle.hir_def_map.specs.contracts.nameres.path_resolution.slots.SlotOrd.TheImpl as slot_order
 use Rattle.hir_glob_imports.specs.declared.step.TheConstants.{MAX_STEPS}
 use Rattle.hir_worklist.specs.Moves.{Wakes}
-use Rattle.hir_worklist.specs.Queue.{IsIdle, Queue, is_unfinished}
+use Rattle.hir_worklist.specs.Queue.{IsIdle, Queue, count_of, is_unfinished}
 use Rattle.hir_worklist.specs.Settling.{AreSettled, WatchesEach}
 use Rattle.hir_worklist.specs.Watching.{Forgets, is_watching}
 use Rattle.hir_worklist.specs.declared.watchers.Watchers.{Watchers}
@@ -55,11 +55,22 @@ pub data WakesEach (r : Queue) (after : Watchers PathSlot) : Queue → Watchers 
       → Wakes q between (is_watching slot_cmp watchers slot) → Forgets slot_cmp watchers left slot → WakesEach r after between left slots
       → WakesEach r after q watchers (slot ∷ slots)
 
+-- things were appended, and are to be tried in the next pass
+pub record IsLonger (q r : Queue) : Type 0 where
+  -- what is idle was there, and was idle
+  pub idle : (p : ℕ) → IsIdle r p → IsIdle q p
+  -- where nothing was finished, nothing is
+  pub unfinished : ((p : ℕ) → p < count_of q → is_unfinished q p ≡ true) → (p : ℕ) → p < count_of r → is_unfinished r p ≡ true
+  pub current : r.current ≡ q.current
+  pub end : r.end ≡ q.end
+
 -- a queue has the same things, and its pass is where it was
 pub record IsSamePass (q r : Queue) : Type 0 where
   pub finished : r.finished ≡ q.finished
   pub next : r.next ≡ q.next
   pub end : r.end ≡ q.end
+  -- what is queued outside a pass waits for the next one
+  pub outside : q.current ≡ [] → q.end ≡ 0 → r.current ≡ []
 
 -- of these slots what watches them is queued; where nothing is watched, all is queued
 pub record IsWoken (apart : Bool) (slots : List PathSlot) (q : Queue) (watchers : Watchers PathSlot) (r : Queue) (after : Watchers PathSlot) : Type 0 where
@@ -72,8 +83,9 @@ pub record IsWoken (apart : Bool) (slots : List PathSlot) (q : Queue) (watchers 
 -- what holds of a resolver between two calls, where this import is tried
 pub record IsBegun (r : Resolver) (tried : Option ℕ) : Type 0 where
   pub settled : AreIdleSettled r.apart (finished_by r) (state_by r) tried r.worklist r.watchers
-  -- no import is finished
+  -- no import is finished, and there is nothing besides
   pub unfinished : (p : ℕ) → p < length r.imports.items → is_unfinished r.worklist p ≡ true
+  pub count : count_of r.worklist ≡ length r.imports.items
   pub there : (p : ℕ) (import : ImportDirective) → slice_get r.imports.items p ≡ Some import → import.home < length r.scopes.map.modules
   pub apart : r.apart ≡ true → IsApart (finished_by r) r.scopes.map.id r.local
   pub kept : IsKeptIn r

@@ -16,6 +16,7 @@ use Rattle.hir_glob_imports.specs.declared.step.GlobError.{GlobError}
 use Rattle.hir_glob_imports.specs.declared.step.GlobError.TheVariants as glob_errors
 use Rattle.hir_worklist.specs.Queue.{Queue}
 use Rattle.hir_worklist.specs.declared.watchers.Watchers.{Watchers}
+use Rattle.hir_import_resolution.specs.declared.import_queue.ImportQueue.{ImportQueue}
 use Rattle.hir_import_resolution.specs.declared.imports.Imports.{Imports}
 use Rattle.hir_import_resolution.specs.declared.resolve.ImportError.{ImportError}
 use Rattle.hir_import_resolution.specs.declared.resolve.ImportError.TheVariants as errors
@@ -69,6 +70,10 @@ state_by r = record {
 -- the finished maps beside it
 abbrev pub finished_by : Resolver → Maps
 finished_by r = part_of r.scopes.world
+
+-- which of them are to be tried
+abbrev pub queue_by : Resolver → ImportQueue
+queue_by r = record { apart = r.apart; worklist = r.worklist; watchers = r.watchers }
 
 -- a resolver with other scopes and globs
 abbrev pub with_globs : Resolver → OpenScopes → GlobsValue → Resolver

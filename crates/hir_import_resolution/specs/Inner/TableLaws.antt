@@ -1,79 +1,37 @@
 -- Each write of a glob changes what stands in its slot, and nothing else.
-use Rattle.std.proofs.Common.{◌≡◌, ◌≢◌, ◌∙◌, ap, sym, subst, refl, ◌==◌, ℕ, zero, suc, ◌<◌, List, [], ◌∷◌, length, Bool, true, false, cond, nat_lt, Option, None, Some, arith}
+use Rattle.std.proofs.Common.{◌≡◌, ◌∙◌, ap, sym, subst, refl, ℕ, zero, suc, ◌<◌, List, [], ◌∷◌, length, Option, None, Some, arith}
 use Rattle.std.proofs.lemmas.Bool.{ltb-true}
-use mathlib.Core.Bool.{true≢false}
-use Rattle.std.specs.Cmp.{unsigned_Decides}
-use Rattle.std.specs.Option.{option_and_then}
-use Rattle.std.specs.Prelude.{slice_get, unwrap_or}
-use Rattle.hir_base.specs.contracts.ids.MapIdPartialEq.TheImpl as map_id
-use Rattle.hir_base.specs.declared.ids.EnumId.{EnumId}
-use Rattle.hir_base.specs.declared.ids.MapId.{MapId}
+use Rattle.std.specs.Prelude.{slice_get}
 use Rattle.hir_base.specs.declared.ids.ModuleDefId.{ModuleDefId}
 use Rattle.hir_base.specs.declared.ids.ModuleDefId.TheVariants as definitions
-use Rattle.hir_base.specs.declared.ids.ModuleId.{ModuleId}
 use Rattle.hir_base.specs.declared.ids.TraitId.{TraitId}
 use Rattle.hir_base.specs.declared.macro_kind.MacroId.{MacroId}
 use Rattle.hir_scope.specs.Entries.{item_at}
 use Rattle.hir_scope.specs.Globs.{GlobNames}
 use Rattle.hir_scope.specs.PerNs.{Item}
 use Rattle.hir_scope.specs.Scope.{ScopeValue}
-use Rattle.hir_scope.specs.Visibility.{greater_of, is_visible, lesser_of}
 use Rattle.hir_scope.specs.declared.imports.GlobId.{GlobId}
 use Rattle.hir_scope.specs.declared.imports.ImportOrExternCrate.{ImportOrExternCrate}
 use Rattle.hir_scope.specs.declared.imports.ImportOrGlob.{ImportOrGlob}
 use Rattle.hir_scope.specs.declared.item_in_ns.ItemInNs.{ItemInNs}
 use Rattle.hir_scope.specs.declared.item_in_ns.ItemInNs.TheVariants as in_ns
 use Rattle.hir_scope.specs.declared.visibility.Visibility.{Visibility}
-use Rattle.hir_def_map.specs.Ancestors.{above_by, above_in, frames_of, holders_by, holders_in}
-use Rattle.hir_def_map.specs.Overlay.{Placed, overlay, placed_in, variants_in}
-use Rattle.hir_def_map.specs.State.{ModuleValue, Variants, at_name, changed_at, entry_of, module_at, numbered, place_at, variants_at, with_module_scope, with_scope}
-use Rattle.hir_def_map.proofs.Grown.{frames_of-scope, kept, length-changed}
-use Rattle.hir_glob_imports.specs.Keys.{is_slot, same_slot, slot_at}
-use Rattle.hir_glob_imports.specs.View.{Binds, ChangesOnly, IsNameTable, with_vis}
+use Rattle.hir_def_map.specs.State.{ModuleValue, module_at, place_at, with_scope}
+use Rattle.hir_glob_imports.specs.Keys.{slot_at}
+use Rattle.hir_glob_imports.specs.View.{Binds, IsNameTable, with_vis}
 use Rattle.hir_glob_imports.specs.declared.edge.Bound.{Bound}
 use Rattle.hir_glob_imports.specs.declared.edge.Key.{Key}
 use Rattle.hir_glob_imports.specs.declared.edge.Key.TheVariants.{Types, Values, Macros, Unnamed}
 use Rattle.hir_glob_imports.specs.declared.edge.Target.{Target}
 use Rattle.hir_glob_imports.specs.declared.edge.Target.TheVariants as targets
-use Rattle.hir_glob_imports.proofs.Settling.{same_itself}
-use Rattle.hir_import_resolution.specs.Names.{ScopesValue, bound_at, bound_by, bound_of, copied_to, copied_where, entries_of, followed_to, followed_where, redefined_at, revised, scope_table, trait_vis, traits_of, variant_items, view_of, with_macro, with_trait, with_type, with_value}
-use Rattle.hir_import_resolution.specs.Visibilities.{greater_in, lesser_in, sees_in}
+use Rattle.hir_import_resolution.specs.Names.{ScopesValue, bound_of, copied_to, copied_where, entries_of, followed_to, followed_where, redefined_at, revised, scope_table, traits_of, view_of, with_macro, with_trait, with_type, with_value}
+use Rattle.hir_import_resolution.specs.Inner.ViewLaws.{bound_inside, changed_here, changed_once, changes_in_slot, inside_own, inside_scope}
 use Rattle.hir_import_resolution.specs.Inner.ScopeLaws.{IsItem, Keeps, bound_scope, item, item_of, keeps-pushed_macro, keeps-pushed_type, keeps-pushed_value, keeps-redefined_macro, keeps-redefined_type, keeps-redefined_value, keeps-revised, keeps-trait, pushed_def, pushed_macro_here, pushed_type_here, pushed_value_here, redefined_macro_here, redefined_type_here, redefined_value_here, revised_here, trait_def, trait_here, vacant_of}
-
--- ---- a list with one value changed
-
-changed_here : {A : Type 0} (xs : List A) (at : ℕ) (change : A → A) (x : A) → slice_get xs at ≡ Some x → slice_get (changed_at xs at change) at ≡ Some (change x)
-changed_here [] at change x e = absurd cc
-changed_here (y ∷ ys) zero change x e = let same : y ≡ x = cc in ap (λ z. Some (change z)) same
-changed_here (y ∷ ys) (suc at) change x e = changed_here ys at change x e
-
-changed_elsewhere : {A : Type 0} (xs : List A) (at : ℕ) (change : A → A) (k : ℕ) → k ≢ at → slice_get (changed_at xs at change) k ≡ slice_get xs k
-changed_elsewhere [] at change k ne = refl
-changed_elsewhere (y ∷ ys) zero change zero ne = absurd (ne refl)
-changed_elsewhere (y ∷ ys) zero change (suc k) ne = refl
-changed_elsewhere (y ∷ ys) (suc at) change zero ne = refl
-changed_elsewhere (y ∷ ys) (suc at) change (suc k) ne = changed_elsewhere ys at change k (λ e. ne (ap suc e))
 
 there_below : {A : Type 0} (xs : List A) (k : ℕ) → k < length xs → (x : A) × (slice_get xs k ≡ Some x)
 there_below [] k low = absurd (omega arith)
 there_below (x ∷ xs) zero low = (x, refl)
 there_below (x ∷ xs) (suc k) low = there_below xs k (omega arith)
-
--- what stands at a key of a module
-abbrev bound_inside : Key → Option ModuleValue → Option Bound
-bound_inside key o = bound_at (entry_of o) (trait_vis o) key
-
-inside_own : (n : ScopesValue) (at : ℕ) (key : Key) → bound_of n (targets.Own at) key ≡ bound_inside key (module_at n.map at)
-inside_own n at (Types name) = refl
-inside_own n at (Values name) = refl
-inside_own n at (Macros name) = refl
-inside_own n at (Unnamed id) = refl
-
-inside_scope : (m : ModuleValue) (key : Key) → bound_inside key (Some m) ≡ bound_scope m.scope key
-inside_scope m (Types name) = refl
-inside_scope m (Values name) = refl
-inside_scope m (Macros name) = refl
-inside_scope m (Unnamed id) = refl
 
 -- where something is bound, there is a module
 there_bound : (o : Option ModuleValue) (key : Key) (b : Bound) → bound_inside key o ≡ Some b → (m : ModuleValue) × (o ≡ Some m)
@@ -85,89 +43,14 @@ there_bound (Some m) key b e = (m, refl)
 
 -- ---- a scope of the map changes
 
-module _ (n : ScopesValue) (at : ℕ) (key : Key) (change : ScopeValue → ScopeValue) (globs : GlobNames) where
-  abbrev new : ScopesValue
-  new = record { finished = n.finished; map = with_scope n.map at change; globs = globs }
-
-  frames : (id : MapId) → frames_of (overlay n.finished new.map) id ≡ frames_of (overlay n.finished n.map) id
-  frames = frames_of-scope n.finished n.map at change
-
-  above : (m : ModuleId) → above_in (overlay n.finished new.map) m ≡ above_in (overlay n.finished n.map) m
-  unfolding above_in
-  above m = λ i. above_by (λ id. frames id i) m
-
-  holders : (m : ModuleId) → holders_in (overlay n.finished new.map) m ≡ holders_in (overlay n.finished n.map) m
-  holders m = λ i. holders_by (λ id. frames id i) m
-
-  sees_same : (from : ModuleId) (vis : Visibility) → sees_in n.finished new.map from vis ≡ sees_in n.finished n.map from vis
-  unfolding sees_in
-  sees_same from vis = λ i. is_visible (λ m. above m i) (λ m. holders m i) vis from
-
-  lesser_same : (a b : Visibility) → lesser_in n.finished new.map a b ≡ lesser_in n.finished n.map a b
-  unfolding lesser_in
-  lesser_same a b = λ i. lesser_of (λ m. above m i) n.map.id a b
-
-  greater_same : (a b : Visibility) → greater_in n.finished new.map a b ≡ greater_in n.finished n.map a b
-  unfolding greater_in
-  greater_same a b = λ i. greater_of (λ m. above m i) n.map.id a b
-
-  variants_same : (id : EnumId) → variants_in (overlay n.finished new.map) id ≡ variants_in (overlay n.finished n.map) id
-  variants_same id = go (map_id.ghosts.eq id.loc.container.map n.map.id)
-    where
-      go : (b : Bool) → option_and_then (λ (placed : Placed). variants_at placed.map id) (cond b (Some (placed_in n.finished new.map)) (n.finished id.loc.container.map))
-          ≡ option_and_then (λ (placed : Placed). variants_at placed.map id) (cond b (Some (placed_in n.finished n.map)) (n.finished id.loc.container.map))
-      go true = refl
-      go false = refl
-
-  module _ (keeps : Keeps key change) where
-    own_same : (k : ℕ) (other : Key) → same_slot (slot_at at key) (slot_at k other) ≡ false → bound_of new (targets.Own k) other ≡ bound_of n (targets.Own k) other
-    own_same k other away = inside_own new k other ∙ go (k == at) refl ∙ sym (inside_own n k other)
-      where
-        go : (b : Bool) → (k == at) ≡ b → bound_inside other (module_at new.map k) ≡ bound_inside other (module_at n.map k)
-        go true e =
-            let same : k ≡ at = (unsigned_Decides k at).0 e in
-            let apart : other ≢ key =
-            λ f. true≢false (sym (same_itself (slot_at at key)) ∙ (λ i. same_slot (slot_at at key) (slot_at (sym same i) (sym f i))) ∙ away) in
-            kept (bound_inside other) n.map.modules at (with_module_scope change)
-            (λ m. inside_scope (with_module_scope change m) other ∙ keeps m.scope other apart ∙ sym (inside_scope m other)) k
-        go false e = ap (bound_inside other) (changed_elsewhere n.map.modules at (with_module_scope change) k (λ f. true≢false (sym ((unsigned_Decides k at).1 f) ∙ e)))
-
-    enum_same : (id : EnumId) (other : Key) → bound_of new (targets.Enum id) other ≡ bound_of n (targets.Enum id) other
-    enum_same id (Types name) = λ i. bound_by in_ns.Types (variant_items (option_and_then (λ (vs : Variants). at_name vs name) (variants_same id i))).types
-    enum_same id (Values name) = λ i. bound_by in_ns.Values (variant_items (option_and_then (λ (vs : Variants). at_name vs name) (variants_same id i))).values
-    enum_same id (Macros name) = λ i. bound_by in_ns.Macros (variant_items (option_and_then (λ (vs : Variants). at_name vs name) (variants_same id i))).macros
-    enum_same id (Unnamed tr) = refl
-
-    module_same : (m : ModuleId) (other : Key) → bound_of new (targets.Module m) other ≡ bound_of n (targets.Module m) other
-    module_same m (Types name) = refl
-    module_same m (Values name) = refl
-    module_same m (Macros name) = refl
-    module_same m (Unnamed tr) = refl
-
-    bound_same : (of : Target) (other : Key) → is_slot (slot_at at key) of other ≡ false → bound_of new of other ≡ bound_of n of other
-    bound_same (targets.Own k) other away = own_same k other away
-    bound_same (targets.Module m) other away = module_same m other
-    bound_same (targets.Enum id) other away = enum_same id other
-
-    changes : ChangesOnly (slot_at at key) (view_of n) (view_of new)
-    changes = record {
-      bound = bound_same;
-      has = λ k. ap (nat_lt k) (length-changed n.map.modules at (with_module_scope change));
-      sees = λ k vis. sees_same (numbered n.map.id k) vis;
-      lesser = λ glob source. ap (λ (o : Option Visibility). unwrap_or o glob) (lesser_same glob source);
-      greater = greater_same;
-    }
-
-    -- the slot of a module that is there takes what the change binds
-    binds : (m : ModuleValue) → module_at n.map at ≡ Some m → (b : Bound) → bound_scope (change m.scope) key ≡ Some b → Binds (slot_at at key) b (view_of n) (view_of new)
-    binds m there b is = record {
-      changes = changes;
-      bound =
-          inside_own new at key
-          ∙ ap (bound_inside key) (changed_here n.map.modules at (with_module_scope change) m there)
-          ∙ inside_scope (with_module_scope change m) key
-          ∙ is;
-    }
+-- the slot of a module that is there takes what the change binds
+binds : (n : ScopesValue) (at : ℕ) (key : Key) (change : ScopeValue → ScopeValue) (globs : GlobNames) → Keeps key change
+    → (m : ModuleValue) → module_at n.map at ≡ Some m → (b : Bound) → bound_scope (change m.scope) key ≡ Some b
+    → Binds (slot_at at key) b (view_of n) (view_of (changed_once n at change globs))
+binds n at key change globs keeps m there b is = record {
+  changes = changes_in_slot n at change globs key keeps;
+  bound = changed_here n at change globs m there key ∙ is;
+}
 
 -- ---- what stands at a key of a target
 

@@ -29,8 +29,14 @@ fn forget_in(globs: &mut GlobImports, home: u32, key: Key, binds: bool) -> Resul
     }
 }
 
-/// The same in each namespace in which something is bound.
-fn forget(globs: &mut GlobImports, home: u32, name: &Name, items: PerNs) -> Result<(), AllocError>
+/// Items were bound under a name of a module: no glob has brought what stands there any more, in each namespace in which
+/// there is one, and the edges out of the module have to be looked at.
+pub fn forget(
+    globs: &mut GlobImports,
+    home: u32,
+    name: &Name,
+    items: PerNs,
+) -> Result<(), AllocError>
     ensures edges { OnOk result (globs.new.edges ≡ globs.old.edges) }
     ensures brought { OnOk result (brought_of globs.new ≡ forgotten home name.now items (brought_of globs.old)) }
     ensures kept { OnOk result ((v w : View) → IsKept v globs.old → IsBound home name.now items v w → IsKept w globs.new) }

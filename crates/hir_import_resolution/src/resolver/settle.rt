@@ -1,6 +1,5 @@
 //! Tries, until all imports rest.
-ghost use Rattle.std.specs.Prelude.{◌≡◌, ◌<◌, ◌≤◌, ℕ, [], None, Some, OnOk};
-ghost use Rattle.hir_worklist.specs.Queue.{IsIdle};
+ghost use Rattle.std.specs.Prelude.{◌≡◌, ◌<◌, ◌≤◌, [], None, Some, OnOk};
 ghost use Rattle.hir_import_resolution.specs.Inner.Queue.{IsBegun, IsRunning, IsSamePass, IsTrying};
 ghost use Rattle.hir_import_resolution.specs.Inner.State.{finished_by, state_by};
 ghost use Rattle.hir_import_resolution.specs.Inner.Steps.{IsLinking, taking_at};
@@ -18,6 +17,7 @@ impl Resolver<'_> {
         requires begun { IsBegun self.old None }
         ensures running { OnOk result (IsRunning self.new None) }
         ensures finished { OnOk result (finished_by self.new ≡ finished_by self.old) }
+        ensures apart { OnOk result (self.new.apart ≡ self.old.apart) }
         ensures steps { OnOk result (Steps (finished_by self.old) (state_by self.old) (state_by self.new)) }
         ensures pass { OnOk result (IsSamePass self.old.worklist self.new.worklist) }
         ensures many { result ≡ Err ImportError.TooMany → IsSpent (finished_by self.old) (state_by self.old) }
@@ -33,6 +33,7 @@ impl Resolver<'_> {
         requires trying { IsTrying self.old i }
         ensures running { OnOk result (IsRunning self.new None) }
         ensures finished { OnOk result (finished_by self.new ≡ finished_by self.old) }
+        ensures apart { OnOk result (self.new.apart ≡ self.old.apart) }
         ensures steps { OnOk result (Steps (finished_by self.old) (state_by self.old) (state_by self.new)) }
         ensures moves { OnOk result (self.old.count < self.new.count) }
         ensures pass { OnOk result (IsSamePass self.old.worklist self.new.worklist) }
@@ -51,6 +52,7 @@ impl Resolver<'_> {
         requires trying { IsTrying self.old i }
         ensures running { OnOk result (IsRunning self.new None) }
         ensures finished { OnOk result (finished_by self.new ≡ finished_by self.old) }
+        ensures apart { OnOk result (self.new.apart ≡ self.old.apart) }
         ensures steps { OnOk result (Steps (finished_by self.old) (state_by self.old) (state_by self.new)) }
         ensures moves { OnOk result (self.old.count < self.new.count) }
         ensures pass { OnOk result (IsSamePass self.old.worklist self.new.worklist) }
@@ -66,6 +68,7 @@ impl Resolver<'_> {
         requires running { IsRunning self.old (Some i) }
         ensures running { OnOk result (IsRunning self.new None) }
         ensures finished { OnOk result (finished_by self.new ≡ finished_by self.old) }
+        ensures apart { OnOk result (self.new.apart ≡ self.old.apart) }
         ensures steps { OnOk result (Steps (finished_by self.old) (state_by self.old) (state_by self.new)) }
         // What takes no step queues nothing.
         ensures moves { OnOk result (self.new.count ≡ self.old.count → self.new.worklist ≡ self.old.worklist) }
@@ -88,9 +91,11 @@ impl Resolver<'_> {
         requires over { self.old.worklist.current ≡ [] }
         ensures running { OnOk result (IsRunning self.new None) }
         ensures finished { OnOk result (finished_by self.new ≡ finished_by self.old) }
+        ensures apart { OnOk result (self.new.apart ≡ self.old.apart) }
         ensures steps { OnOk result (Steps (finished_by self.old) (state_by self.old) (state_by self.new)) }
         ensures moves { OnOk result (self.new.count ≡ self.old.count → self.new.worklist.later ≡ []) }
         ensures over { OnOk result (self.new.worklist.current ≡ []) }
+        ensures outside { OnOk result (self.new.worklist.end ≡ 0) }
         ensures many { result ≡ Err ImportError.TooMany → IsSpent (finished_by self.old) (state_by self.old) }
     {
         self.worklist.open();
@@ -100,18 +105,22 @@ impl Resolver<'_> {
         Ok(())
     }
 
-    /// Tries what is queued, pass by pass, until nothing is. At first all imports are.
+    /// Tries what is queued, pass by pass, until nothing is.
     pub(crate) fn settle(&mut self) -> Result<(), ImportError>
         requires begun { IsBegun self.old None }
-        requires queued { (p : ℕ) → ¬ IsIdle self.old.worklist p }
         requires over { self.old.worklist.current ≡ [] }
+        requires outside { self.old.worklist.end ≡ 0 }
         ensures rests { OnOk result (IsAtRest (finished_by self.old) (state_by self.new)) }
+        ensures running { OnOk result (IsRunning self.new None) }
+        ensures finished { OnOk result (finished_by self.new ≡ finished_by self.old) }
+        ensures apart { OnOk result (self.new.apart ≡ self.old.apart) }
         ensures steps { OnOk result (Steps (finished_by self.old) (state_by self.old) (state_by self.new)) }
+        ensures over { OnOk result (self.new.worklist.current ≡ []) }
+        ensures outside { OnOk result (self.new.worklist.end ≡ 0) }
         ensures small { OnOk result (self.new.count ≤ MAX_STEPS) }
         ensures many { result ≡ Err ImportError.TooMany → IsSpent (finished_by self.old) (state_by self.old) }
     {
-        self.spread()?;
-        self.changes.clear();
+        self.wave()?;
         'passes: while !self.worklist.is_settled() {
             self.pass()?;
         }

@@ -61,7 +61,7 @@ fn wake_each(
 }
 
 /// Queues all imports.
-fn wake_everything(worklist: &mut Worklist) -> Result<(), AllocError>
+pub(crate) fn wake_everything(worklist: &mut Worklist) -> Result<(), AllocError>
     ensures queued { OnOk result ((p : ℕ) → ¬ IsIdle worklist.new p) }
     ensures pass { OnOk result (IsSamePass worklist.old worklist.new) }
 {

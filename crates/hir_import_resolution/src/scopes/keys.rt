@@ -2,12 +2,11 @@
 ghost use Rattle.std.specs.Prelude.{◌≡◌, ◌++◌, IfOk, OnOk, option_copied, option_map};
 ghost use Rattle.hir_def_map.specs.Overlay.{overlay, variants_in};
 ghost use Rattle.hir_def_map.specs.WorldParts.{part_of};
-ghost use Rattle.hir_import_resolution.specs.KeyLists.{enum_keys, has_namespace, key_in, keys_among, keys_in, keys_of, name_keys, resolutions_of, scope_in, scope_keys, trait_key, trait_keys, variant_keys};
+ghost use Rattle.hir_import_resolution.specs.KeyLists.{enum_keys, has_namespace, key_in, keys_among, keys_in, keys_of, name_keys, scope_in, scope_keys, trait_key, trait_keys, traits_in, variant_keys};
 ghost use Rattle.hir_import_resolution.specs.Scopes.{value_of};
 
-use crate::answers::trait_among;
 use crate::scopes::{OpenScopes, is_foreign, is_open, variant_items};
-use hir_base::ids::{EnumId, ModuleId};
+use hir_base::ids::{EnumId, ModuleId, TraitId};
 use hir_base::name::Name;
 use hir_def_map::def_maps::DefMaps;
 use hir_def_map::nameres::enum_variants::EnumVariants;
@@ -15,7 +14,8 @@ use hir_def_map::world::part::WorldPart;
 use hir_glob_imports::{Key, Target};
 use hir_scope::item_scope::ItemScope;
 use hir_scope::item_scope::iter::bindings::Bindings;
-use hir_scope::per_ns::{Namespace, PerNs, TypesItem};
+use hir_scope::per_ns::{Namespace, PerNs};
+use hir_scope::visibility::Visibility;
 use std::alloc::{AllocError, Global};
 
 fn key_in(namespace: Namespace, name: &Name) -> Result<Key, AllocError>
@@ -47,34 +47,31 @@ fn add_names<Def, Import>(
     Ok(())
 }
 
-/// Adds the trait that a type is, if it is one.
+/// Adds a trait that has this visibility without a name, if it has one.
 fn add_trait(
     keys: &mut Vec<Key>,
     crossing: bool,
-    types: Option<TypesItem>,
+    id: TraitId,
+    vis: Option<Visibility>,
 ) -> Result<(), AllocError>
-    ensures ok { OnOk result (keys.new.items ≡ keys.old.items ++ trait_key crossing types) }
+    ensures ok { OnOk result (keys.new.items ≡ keys.old.items ++ trait_key crossing id vis) }
 {
-    match types {
-        Some(item) if is_open(crossing, item.vis) => {
-            if let Some(id) = trait_among(types) {
-                keys.push(Key::Unnamed(id))?;
-            }
+    match vis {
+        Some(vis) if is_open(crossing, vis) => {
+            keys.push(Key::Unnamed(id))?;
             Ok(())
         }
         _ => Ok(()),
     }
 }
 
-/// Adds the traits of a scope that have no name.
+/// Adds the traits that a scope has without a name.
 fn add_traits(keys: &mut Vec<Key>, crossing: bool, scope: &ItemScope) -> Result<(), AllocError>
-    ensures ok { OnOk result (keys.new.items ≡ keys.old.items ++ trait_keys crossing (resolutions_of scope.now)) }
+    ensures ok { OnOk result (keys.new.items ≡ keys.old.items ++ trait_keys crossing scope.now (traits_in scope.now)) }
 {
-    let mut left = scope.resolutions();
-    'next: while let Some((name, items)) = left.next() {
-        if name.is_none() {
-            add_trait(keys, crossing, items.types)?;
-        }
+    let mut left = scope.traits();
+    'next: while let Some(id) = left.next() {
+        add_trait(keys, crossing, id, scope.unnamed_trait_vis(id))?;
     }
     Ok(())
 }

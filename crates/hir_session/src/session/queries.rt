@@ -5,6 +5,7 @@ ghost use Rattle.hir_item_tree.specs.Source.{source_view};
 ghost use Rattle.hir_session.specs.Files.{file_at};
 ghost use Rattle.hir_session.specs.SessionState.{kept_of};
 ghost use Rattle.hir_session.specs.Diagnostics.{diagnostics_of};
+ghost use Rattle.hir_session.specs.DiagnosticsStand.{DiagnosticsStand};
 ghost use Rattle.hir_session.specs.Refusals.{IsDiagnosticsMemory, IsQueryMemory, IsTreeTextMemory};
 ghost use Rattle.hir_session.specs.Status.{status_of};
 ghost use Rattle.hir_wire.specs.declared.reply.Status.TheVariants as status;
@@ -160,6 +161,7 @@ impl Session {
     /// What couldn't be resolved in a crate, in the order in which it was come upon.
     pub fn diagnostics(&self, alloc: Global, krate: Crate) -> Result<Diagnostics, DiagnosticsError>
         ensures told { Gives IsDiagnosticsMemory result (diagnostics_of self.now krate) }
+        ensures stand { IfOk result (λ told. DiagnosticsStand self.now krate told) }
     {
         let Some(transitive) = self.inputs.crates().transitive_dependencies(krate) else {
             return Err(DiagnosticsError::UnknownCrate);

@@ -8,7 +8,7 @@ use Rattle.hir_session.proofs.invalidate.invalidated.Goals as goal
 
 pub returns-in-None : goal.returns-in-None
 returns-in-None c = record {
-  hit = unnumbered_hit c.args.inputs.now.crates c.args.tables.now c.args.inputs.now.files c.args.edit.path.now _ c.args.kept.now _ c.new.ensures.items
+  hit = unnumbered_hit c.args.inputs.now.crates c.args.tables.now c.args.inputs.now.files c.args.edit.path.now _ c.args.kept.now _ c.nothing_hit.ensures.none
       (λ id h. clash (ap (λ (o : Option FileId). is_some o) ((c.in-None.ensures.value id).1 h)) refl);
-  trees = no_trees _ _ _ _ c.new-in-None.ensures.empty;
+  trees = no_trees _ _ _ _ c.nothing_hit.ensures.empty;
 }

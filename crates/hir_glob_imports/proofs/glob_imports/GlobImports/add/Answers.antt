@@ -2,7 +2,6 @@
 use Rattle.std.proofs.Common.{◌≡◌, ◌∙◌, ap, sym, subst, refl, ℕ, List, length, arith}
 use Rattle.std.specs.Prelude.{Contains}
 use Rattle.hir_glob_imports.specs.declared.edge.Edge.{Edge}
-use Rattle.hir_glob_imports.specs.declared.edge.Key.{Key}
 use Rattle.hir_glob_imports.specs.Inner.{IsIndexed}
 use Rattle.hir_glob_imports.specs.Waves.{GlobsValue}
 use Rattle.hir_glob_imports.proofs.Linking.{indexed_more, indexed_push, linked_from, edges_added}
@@ -39,4 +38,4 @@ returns-clause-linked g c =
     c.in_ok-add_keys.ensures.kept
     (λ key some.
     subst (λ (k : ℕ). Contains c.add_keys.new.pending.items (k, key)) last
-    (c.in_ok-add_keys.ensures.each key (subst (λ (ks : List Key). Contains ks key) (sym c.deref.ensures.value) (c.in_ok-keys.ensures.each key some))))
+    (c.in_ok-add_keys.ensures.each key (c.in_ok-keys.ensures.each key some)))

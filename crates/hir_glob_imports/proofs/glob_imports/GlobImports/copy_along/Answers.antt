@@ -3,8 +3,13 @@ use Rattle.std.proofs.Common.{subst, Bool, rules}
 use Rattle.hir_glob_imports.specs.Inner.{Spreads}
 use Rattle.hir_glob_imports.specs.Rules.{copies_along}
 use Rattle.hir_glob_imports.specs.Waves.{state_of}
-use Rattle.hir_glob_imports.proofs.Taking.{copy_takes, may_copy, spent_by}
+use Rattle.hir_glob_imports.proofs.Taking.{copy_takes, copies_there, may_copy, spent_by}
 use Rattle.hir_glob_imports.proofs.glob_imports.GlobImports.copy_along.Goals as goal
+
+pub copy-requires-clause-there : goal.copy-requires-clause-there
+copy-requires-clause-there g c =
+    copies_there g.N.Names.table c.args.names.now c.args.self.now c.args.count.now c.args.j c.args.edge c.args.slot.now c.requires.recorded c.requires.at
+    c.args.shown c.requires.update
 
 pub returns-clause-takes : goal.returns-clause-takes
 returns-clause-takes g c =

@@ -2,8 +2,13 @@
 use Rattle.std.proofs.Common.{rules}
 use Rattle.hir_glob_imports.specs.Rules.{follows_along}
 use Rattle.hir_glob_imports.specs.Waves.{state_of}
-use Rattle.hir_glob_imports.proofs.Taking.{follow_takes, may_follow, spent_by}
+use Rattle.hir_glob_imports.proofs.Taking.{follow_takes, follows_there, may_follow, spent_by}
 use Rattle.hir_glob_imports.proofs.glob_imports.GlobImports.follow_along.Goals as goal
+
+pub follow-requires-clause-there : goal.follow-requires-clause-there
+follow-requires-clause-there g c =
+    follows_there g.N.Names.table c.args.names.now c.args.self.now c.args.count.now c.args.j c.args.edge c.args.slot.now c.requires.recorded c.requires.at
+    c.args.shown c.requires.update
 
 pub returns-clause-takes : goal.returns-clause-takes
 returns-clause-takes g c =

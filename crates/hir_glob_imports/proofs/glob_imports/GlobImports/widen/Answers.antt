@@ -1,8 +1,7 @@
 -- The edge is listed as before, and is to be looked at at each key of its source.
 use Rattle.std.proofs.Common.{◌≡◌, ◌∙◌, ap, sym, subst, refl, List, Some, slice_get}
-use Rattle.std.specs.Prelude.{Contains, slice_set}
+use Rattle.std.specs.Prelude.{slice_set}
 use Rattle.hir_glob_imports.specs.declared.edge.Edge.{Edge}
-use Rattle.hir_glob_imports.specs.declared.edge.Key.{Key}
 use Rattle.hir_glob_imports.specs.Waves.{GlobsValue, edge_with_vis}
 use Rattle.hir_glob_imports.proofs.Linking.{indexed_set, linked_from, one_or_written}
 use Rattle.hir_glob_imports.proofs.glob_imports.GlobImports.widen.Goals as goal
@@ -22,7 +21,7 @@ returns-clause-linked g c =
     (λ j d is. one_or_written c.self.inside.edges.items c.args.j (edge_with_vis c.args.edge c.args.vis) j d
     (subst (λ (es : List Edge). slice_get es j ≡ Some d) c.set_edge.ensures.value is))
     c.in_ok-add_keys.ensures.kept
-    (λ key some. c.in_ok-add_keys.ensures.each key (subst (λ (ks : List Key). Contains ks key) (sym c.deref.ensures.value) (c.in_ok-keys.ensures.each key some)))
+    (λ key some. c.in_ok-add_keys.ensures.each key (c.in_ok-keys.ensures.each key some))
 
 pub returns-clause-widened : goal.returns-clause-widened
 returns-clause-widened g c =

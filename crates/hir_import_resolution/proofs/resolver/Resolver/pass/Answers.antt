@@ -9,6 +9,7 @@ pub tries-init : goal.tries-init
 tries-init c = record {
   running = opened_running c.args.self.now c.open.new.self c.requires.running c.requires.over c.open.ensures.value;
   finished = refl;
+  apart = refl;
   steps = none;
   moves = λ e. ap (λ (q : Queue). q.later) c.open.ensures.value;
 }
@@ -20,6 +21,7 @@ pub tries-preserved : goal.tries-preserved
 tries-preserved c = record {
   running = c.in_ok-try_import.ensures.running;
   finished = c.in_ok-try_import.ensures.finished ∙ c.tries.invariant.finished;
+  apart = c.in_ok-try_import.ensures.apart ∙ c.tries.invariant.apart;
   steps = steps_on c.args.self.now c.tries.self c.try_import.new.self c.tries.invariant.finished c.tries.invariant.steps c.in_ok-try_import.ensures.steps;
   moves =
       nothing_later c.args.self.now c.tries.self c.try_import.new.self c.take.new.self c.in-Some.i c.tries.invariant.steps c.in_ok-try_import.ensures.steps c.tries.invariant.moves

@@ -9,6 +9,7 @@ abbrev pub invariant-tries : goal.invariant-tries
 invariant-tries l = record {
   running : IsRunning l.self None;
   finished : finished_by l.self ≡ finished_by l.initial.self;
+  apart : l.self.apart ≡ l.initial.self.apart;
   steps : Steps (finished_by l.initial.self) (state_by l.initial.self) (state_by l.self);
   moves : l.self.count ≡ l.initial.self.count → l.self.worklist.later ≡ [];
 }

@@ -10,8 +10,10 @@ abbrev pub invariant-passes : goal.invariant-passes
 invariant-passes l = record {
   running : IsRunning l.self None;
   finished : finished_by l.self ≡ finished_by l.initial.self;
+  apart : l.self.apart ≡ l.initial.self.apart;
   steps : Steps (finished_by l.initial.self) (state_by l.initial.self) (state_by l.self);
   over : l.self.worklist.current ≡ [];
+  outside : l.self.worklist.end ≡ 0;
 }
 
 -- the steps that are left, and a pass that takes none

@@ -1,5 +1,7 @@
 -- A glob is recorded, and names go along globs.
-use Rattle.std.proofs.Common.{refl, rules}
+use Rattle.std.proofs.Common.{◌∙◌, refl, rules, subst}
+use Rattle.hir_worklist.specs.Queue.{Queue}
+use Rattle.hir_import_resolution.specs.Inner.Queue.{IsSamePass}
 use Rattle.hir_import_resolution.proofs.Running.{begun_linked, count_taken, spent_taken, steps_taken}
 use Rattle.hir_import_resolution.proofs.resolver.Resolver.take_glob.Goals as goal
 
@@ -21,3 +23,9 @@ returns-clause-moves c =
 pub returns-in_err-wave-clause-many : goal.returns-in_err-wave-clause-many
 returns-in_err-wave-clause-many c many =
     spent_taken c.args.self.now c.link.new.self c.link.new.self c.in_ok-link.ensures.step c.in_ok-link.ensures.is.changes.world refl refl (c.in_err-wave.ensures.many (search rules))
+
+pub returns-clause-apart : goal.returns-clause-apart
+returns-clause-apart c = c.in_ok-wave.ensures.apart ∙ c.in_ok-link.ensures.is.changes.apart
+
+pub returns-clause-pass : goal.returns-clause-pass
+returns-clause-pass c = subst (λ (q : Queue). IsSamePass q c.wave.new.self.worklist) c.in_ok-link.ensures.is.changes.worklist c.in_ok-wave.ensures.pass

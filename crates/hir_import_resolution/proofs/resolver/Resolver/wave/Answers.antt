@@ -1,4 +1,8 @@
 -- Names go along globs, and what read them is woken.
+use Rattle.std.proofs.Common.{◌∙◌, ap, subst}
+use Rattle.hir_worklist.specs.Queue.{Queue}
+use Rattle.hir_import_resolution.specs.declared.resolver.Resolver.{Resolver}
+use Rattle.hir_import_resolution.specs.Inner.Queue.{IsSamePass}
 use Rattle.hir_import_resolution.specs.Inner.State.{path_slots}
 use Rattle.hir_import_resolution.proofs.Running.{running_waved}
 use Rattle.hir_import_resolution.proofs.resolver.Resolver.wave.Goals as goal
@@ -8,3 +12,10 @@ returns-clause-running c =
     running_waved c.args.self.now c.spread.new.self c.wake_changes.new.self (path_slots c.spread.new.self.changes.items) c.requires.begun c.in_ok-spread.ensures.is.changes c.in_ok-spread.ensures.is.taken
     c.in_ok-spread.ensures.kept (c.in_ok-spread.ensures.recorded c.requires.begun.recorded) c.in_ok-spread.ensures.small c.in_ok-spread.ensures.pending
     c.in_ok-wake_changes.ensures.rest c.in_ok-wake_changes.ensures.woken c.in_ok-wake_changes.ensures.changes
+
+pub returns-clause-apart : goal.returns-clause-apart
+returns-clause-apart c = ap (λ (r : Resolver). r.apart) c.in_ok-wake_changes.ensures.rest ∙ c.in_ok-spread.ensures.is.changes.apart
+
+pub returns-clause-pass : goal.returns-clause-pass
+returns-clause-pass c =
+    subst (λ (q : Queue). IsSamePass q c.wake_changes.new.self.worklist) c.in_ok-spread.ensures.is.changes.worklist c.in_ok-wake_changes.ensures.woken.pass

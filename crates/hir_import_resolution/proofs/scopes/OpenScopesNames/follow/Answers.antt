@@ -27,6 +27,6 @@ module _ (o : OpenScopes) (s : Slot) (of : Target) (vis : Visibility) (b : Bound
 pub returns-in-Types : goal.returns-in-Types
 returns-in-Types c = record {
   ok =
-      follows_named c.args.self.now c.args.slot.now c.args.of c.args.vis c.in-Some.bound c.in-Types.name c.redefine_at.new.map
-      (sym c.bound_of.ensures.value ∙ c.in-Some.is) c.in-Types.is c.redefine_at.ensures.value;
+      follows_named c.args.self.now c.args.slot.now c.args._of c.args.vis c.args.shown c.in-Types.name c.redefine_at.new.map
+      c.requires c.in-Types.is c.redefine_at.ensures.value;
 }

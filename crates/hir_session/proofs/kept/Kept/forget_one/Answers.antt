@@ -7,13 +7,13 @@ use Rattle.hir_session.proofs.kept.Kept.forget_one.Goals as goal
 
 pub returns-clause-gone : goal.returns-clause-gone
 returns-clause-gone c j d =
-    kept_gone c.self.inside.world.maps c.remove_with_dependents.new.self.maps c.self.inside.runs c.args.id
+    kept_gone c.self.inside.world.maps c.remove_with_dependents.new.self.maps c.self.inside.runs.by_place c.args.id
     c.remove_with_dependents.ensures.gone c.remove_with_dependents.ensures.stay j
     (subst (λ (kept : Resolutions). Depends (names_in kept) c.args.id j) (sym c.self.view_is) d)
 
 pub returns-clause-stay : goal.returns-clause-stay
 returns-clause-stay c j none =
-    kept_stays c.self.inside.world.maps c.remove_with_dependents.new.self.maps c.self.inside.runs c.args.id
+    kept_stays c.self.inside.world.maps c.remove_with_dependents.new.self.maps c.self.inside.runs.by_place c.args.id
     c.remove_with_dependents.ensures.gone c.remove_with_dependents.ensures.stay j
     (λ d. none (subst (λ (kept : Resolutions). Depends (names_in kept) c.args.id j) c.self.view_is d))
     ∙ ap (λ (kept : Resolutions). kept_in kept j) c.self.view_is

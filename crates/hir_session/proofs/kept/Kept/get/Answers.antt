@@ -7,6 +7,6 @@ use Rattle.hir_session.proofs.kept.Kept.get.Goals as goal
 pub returns : goal.returns
 returns c = record {
   value = c.joined.ensures.value
-      ∙ kept_from c.self.inside.world.maps c.self.inside.runs c.args.id _ _ _ c.map.ensures.value c.local.ensures.value c.run_at.ensures.value
+      ∙ kept_from c.self.inside.world.maps c.self.inside.runs.by_place c.args.id _ _ _ c.map.ensures.value c.local.ensures.value c.get.ensures.value
       ∙ ap (λ (kept : Resolutions). kept_in kept c.args.id) c.self.view_is;
 }

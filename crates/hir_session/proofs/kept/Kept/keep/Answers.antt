@@ -5,7 +5,7 @@ use Rattle.hir_base.specs.declared.ids.MapId.{MapId}
 use Rattle.hir_base.specs.contracts.ids.MapIdOrd.TheImpl as map_order
 use Rattle.hir_def_map.specs.World.{finished_in}
 use Rattle.hir_scope.proofs.Rewrites.{on_err}
-use Rattle.hir_session.specs.declared.kept.KeptRun.{KeptRun}
+use Rattle.hir_session.specs.declared.runs.KeptRun.{KeptRun}
 use Rattle.hir_session.specs.Kept.{Resolutions, kept_in}
 use Rattle.hir_session.proofs.KeptLemmas.{Runs, absent, kept_else, kept_here, may_join_there, run_aside, run_in, same_held, same_resolutions, same_runs, still_unheld}
 use Rattle.hir_session.proofs.kept.Kept.keep.Goals as goal
@@ -22,11 +22,11 @@ others old new id own is stand =
 
 pub returns-in_err-put-clause-err : goal.returns-in_err-put-clause-err
 returns-in_err-put-clause-err c =
-    on_err c.from_residual.result (same_runs c.self.inside.world.maps c.self.inside.runs c.put.new.runs c.in_err-put.ensures.err ∙ c.self.view_is)
+    on_err c.from_residual.result (same_runs c.self.inside.world.maps c.self.inside.runs.by_place c.put.new.self.by_place c.in_err-put.ensures.err ∙ c.self.view_is)
 
 pub join-requires : goal.join-requires
 join-requires c = record {
-  may = may_join_there c.self.inside.world.maps c.self.inside.runs c.self.invariant c.args.self.now c.self.view_is c.args.found.map c.args.found.local
+  may = may_join_there c.self.inside.world.maps c.self.inside.runs.by_place c.self.invariant c.args.self.now c.self.view_is c.args.found.map c.args.found.local
       c.requires.free c.requires.complete;
 }
 
@@ -36,38 +36,38 @@ invariant_of-self-in_err-join c = same_held c.self.inside.world.maps c.join.new.
 pub returns-in_err-join-clause-err : goal.returns-in_err-join-clause-err
 returns-in_err-join-clause-err c =
     on_err c.from_residual-in_err-join.result
-    (same_resolutions c.self.inside.world.maps c.join.new.world.maps c.put.new.runs c.in_err-join.ensures.err
-    ∙ run_aside c.self.inside.world.maps c.self.inside.runs c.put.new.runs c.args.found.map.id
-    (others c.self.inside.runs c.put.new.runs c.id-id.result c.args.found.map.id c.id-id.ensures.value c.in_ok-put.ensures.others)
-    (absent c.self.inside.world.maps c.self.inside.runs c.self.invariant c.args.self.now c.self.view_is c.args.found.map.id c.requires.free)
+    (same_resolutions c.self.inside.world.maps c.join.new.world.maps c.put.new.self.by_place c.in_err-join.ensures.err
+    ∙ run_aside c.self.inside.world.maps c.self.inside.runs.by_place c.put.new.self.by_place c.args.found.map.id
+    (others c.self.inside.runs.by_place c.put.new.self.by_place c.id-id.result c.args.found.map.id c.id-id.ensures.value c.in_ok-put.ensures.others)
+    (absent c.self.inside.world.maps c.self.inside.runs.by_place c.self.invariant c.args.self.now c.self.view_is c.args.found.map.id c.requires.free)
     ∙ c.self.view_is)
 
 pub invariant_of-self-2 : goal.invariant_of-self-2
 invariant_of-self-2 c =
-    still_unheld c.self.inside.world.maps c.join.new.world.maps c.self.inside.runs c.put.new.runs c.args.found.map c.args.found.local
+    still_unheld c.self.inside.world.maps c.join.new.world.maps c.self.inside.runs.by_place c.put.new.self.by_place c.args.found.map c.args.found.local
     (record { leftover = c.args.found.leftover; round_limit_met = c.args.found.round_limit_met; asked = c.args.found.asked })
     c.in_ok-join.ensures.maps c.in_ok-join.ensures.locals
-    (here c.put.new.runs _ c.id-id.result c.args.found.map.id c.id-id.ensures.value c.in_ok-put.ensures.here)
-    (others c.self.inside.runs c.put.new.runs c.id-id.result c.args.found.map.id c.id-id.ensures.value c.in_ok-put.ensures.others)
-    (absent c.self.inside.world.maps c.self.inside.runs c.self.invariant c.args.self.now c.self.view_is c.args.found.map.id c.requires.free)
+    (here c.put.new.self.by_place _ c.id-id.result c.args.found.map.id c.id-id.ensures.value c.in_ok-put.ensures.here)
+    (others c.self.inside.runs.by_place c.put.new.self.by_place c.id-id.result c.args.found.map.id c.id-id.ensures.value c.in_ok-put.ensures.others)
+    (absent c.self.inside.world.maps c.self.inside.runs.by_place c.self.invariant c.args.self.now c.self.view_is c.args.found.map.id c.requires.free)
     c.requires.unheld c.self.invariant
 
 pub returns-clause-here : goal.returns-clause-here
 returns-clause-here c =
-    kept_here c.self.inside.world.maps c.join.new.world.maps c.self.inside.runs c.put.new.runs c.args.found.map c.args.found.local
+    kept_here c.self.inside.world.maps c.join.new.world.maps c.self.inside.runs.by_place c.put.new.self.by_place c.args.found.map c.args.found.local
     (record { leftover = c.args.found.leftover; round_limit_met = c.args.found.round_limit_met; asked = c.args.found.asked })
     c.in_ok-join.ensures.maps c.in_ok-join.ensures.locals
-    (here c.put.new.runs _ c.id-id.result c.args.found.map.id c.id-id.ensures.value c.in_ok-put.ensures.here)
-    (others c.self.inside.runs c.put.new.runs c.id-id.result c.args.found.map.id c.id-id.ensures.value c.in_ok-put.ensures.others)
-    (absent c.self.inside.world.maps c.self.inside.runs c.self.invariant c.args.self.now c.self.view_is c.args.found.map.id c.requires.free)
+    (here c.put.new.self.by_place _ c.id-id.result c.args.found.map.id c.id-id.ensures.value c.in_ok-put.ensures.here)
+    (others c.self.inside.runs.by_place c.put.new.self.by_place c.id-id.result c.args.found.map.id c.id-id.ensures.value c.in_ok-put.ensures.others)
+    (absent c.self.inside.world.maps c.self.inside.runs.by_place c.self.invariant c.args.self.now c.self.view_is c.args.found.map.id c.requires.free)
 
 pub returns-clause-others : goal.returns-clause-others
 returns-clause-others c id ne =
-    kept_else c.self.inside.world.maps c.join.new.world.maps c.self.inside.runs c.put.new.runs c.args.found.map c.args.found.local
+    kept_else c.self.inside.world.maps c.join.new.world.maps c.self.inside.runs.by_place c.put.new.self.by_place c.args.found.map c.args.found.local
     (record { leftover = c.args.found.leftover; round_limit_met = c.args.found.round_limit_met; asked = c.args.found.asked })
     c.in_ok-join.ensures.maps c.in_ok-join.ensures.locals
-    (here c.put.new.runs _ c.id-id.result c.args.found.map.id c.id-id.ensures.value c.in_ok-put.ensures.here)
-    (others c.self.inside.runs c.put.new.runs c.id-id.result c.args.found.map.id c.id-id.ensures.value c.in_ok-put.ensures.others)
-    (absent c.self.inside.world.maps c.self.inside.runs c.self.invariant c.args.self.now c.self.view_is c.args.found.map.id c.requires.free)
+    (here c.put.new.self.by_place _ c.id-id.result c.args.found.map.id c.id-id.ensures.value c.in_ok-put.ensures.here)
+    (others c.self.inside.runs.by_place c.put.new.self.by_place c.id-id.result c.args.found.map.id c.id-id.ensures.value c.in_ok-put.ensures.others)
+    (absent c.self.inside.world.maps c.self.inside.runs.by_place c.self.invariant c.args.self.now c.self.view_is c.args.found.map.id c.requires.free)
     id ne
     ∙ ap (λ (kept : Resolutions). kept_in kept id) c.self.view_is

@@ -6,4 +6,4 @@ pub invariant_of-result : goal.invariant_of-result
 invariant_of-result c = none_held c.new.result.maps c.new.ensures.value
 
 pub returns : goal.returns
-returns c = record { none = none_kept c.new.result.maps c.new-2.result c.new.ensures.value }
+returns c = record { none = none_kept c.new.result.maps c.new-2.result.by_place c.new.ensures.value }

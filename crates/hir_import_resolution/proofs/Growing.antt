@@ -1,0 +1,184 @@
+-- What was up to date stays so while the map grows, once what has changed is woken and what came besides is queued.
+use Rattle.std.proofs.Common.{◌≡◌, ◌∙◌, ap, sym, refl, subst, ℕ, zero, suc, ◌<◌, ◌≤◌, Bool, true, false, ◌++◌, Option, None, Some, List, [], ◌∷◌, length, get_or, drop, length-append, ◌+◌, arith}
+use Rattle.std.proofs.Math.Seq.{drop-cons}
+use Rattle.std.proofs.lemmas.List.{drop_all}
+use Rattle.std.specs.Prelude.{not, slice_get, slice_index_or}
+use Rattle.hir_def_map.specs.Overlay.{Maps}
+use Rattle.hir_def_map.specs.declared.nameres.path_resolution.slots.Slot.{Slot as PathSlot}
+use Rattle.hir_worklist.proofs.Idle.{idle-appended}
+use Rattle.hir_worklist.specs.Moves.{Appends, Wakes, empty_queue}
+use Rattle.hir_worklist.specs.Queue.{IsIdle, Queue, count_of, is_unfinished}
+use Rattle.hir_worklist.specs.Watching.{Forgets, is_watching}
+use Rattle.hir_worklist.specs.declared.watchers.Watchers.{Watchers}
+use Rattle.hir_import_resolution.specs.declared.directive.ImportDirective.{ImportDirective}
+use Rattle.hir_import_resolution.specs.declared.import_queue.ImportQueue.{ImportQueue}
+use Rattle.hir_import_resolution.specs.Inner.Queue.{AreIdleSettled, IsLonger, IsWoken, WakesEach, slot_cmp, more, none}
+use Rattle.hir_import_resolution.specs.Inner.State.{IsApart}
+use Rattle.hir_import_resolution.specs.Rounds.{Grew, GrowthsFollowOneAnother, IsResumable, IsUpToDate, is_apart}
+use Rattle.hir_import_resolution.specs.State.{ImportState}
+use Rattle.hir_import_resolution.proofs.Settled.{unchanged_grown}
+use Rattle.hir_import_resolution.proofs.Trying.{woken_anew}
+use Rattle.hir_def_map_laws.proofs.InScopes.{crates_outside}
+use Rattle.hir_def_map_laws.proofs.SlotLists.{follow}
+use Rattle.hir_def_map_laws.specs.ReadLaw.{KeepApart}
+use Rattle.hir_base.specs.declared.ids.MapId.{MapId}
+
+-- ---- slots that are woken, one after another
+
+-- one of those that are left, and the others
+pub wakes_one : (slots : List PathSlot) (s : PathSlot) (n : ℕ) (r : Queue) (after : Watchers PathSlot) (q between : Queue) (watchers left : Watchers PathSlot) → n < length slots
+    → get_or slots n s ≡ s → Wakes q between (is_watching slot_cmp watchers s) → Forgets slot_cmp watchers left s → WakesEach r after between left (drop (n + 1) slots)
+    → WakesEach r after q watchers (drop n slots)
+wakes_one slots s n r after q between watchers left below is wakes forgets then =
+    subst (λ (xs : List PathSlot). WakesEach r after q watchers xs) (sym (drop-cons slots n s below ∙ (λ i. is i ∷ drop (suc n) slots)))
+    (more q between watchers left s (drop (suc n) slots) wakes forgets (subst (λ (m : ℕ). WakesEach r after between left (drop m slots)) (add_one n) then))
+  where
+    add_one : (n : ℕ) → n + 1 ≡ suc n
+    add_one n = omega arith
+
+-- none is left
+pub wakes_all : (slots : List PathSlot) (n : ℕ) (q : Queue) (watchers : Watchers PathSlot) → length slots ≤ n → WakesEach q watchers q watchers (drop n slots)
+wakes_all slots n q watchers over = subst (λ (xs : List PathSlot). WakesEach q watchers q watchers xs) (sym (drop_all n slots over)) none
+
+-- ---- things that are appended
+
+below_unfinished : (finished : List Bool) (p : ℕ) → not (slice_index_or finished p true) ≡ true → p < length finished
+below_unfinished [] p e = absurd cc
+below_unfinished (x ∷ xs) zero e = omega arith
+below_unfinished (x ∷ xs) (suc p) e = let below : p < length xs = below_unfinished xs p e in omega arith
+
+-- what isn't finished is there
+pub idle_below : (q : Queue) (p : ℕ) → IsIdle q p → p < count_of q
+idle_below q p idle = below_unfinished q.finished p idle.unfinished
+
+-- the last thing isn't finished
+push_unfinished : (finished : List Bool) (p : ℕ) → ((k : ℕ) → k < length finished → not (slice_index_or finished k true) ≡ true) → p < length (finished ++ false ∷ [])
+    → not (slice_index_or (finished ++ false ∷ []) p true) ≡ true
+push_unfinished [] zero all below = refl
+push_unfinished [] (suc p) all below = absurd (omega arith)
+push_unfinished (x ∷ xs) zero all below = all 0 (omega arith)
+push_unfinished (x ∷ xs) (suc p) all below = push_unfinished xs p (λ k l. all (suc k) (omega arith)) (omega arith)
+
+pub as_long : (q : Queue) → IsLonger q q
+as_long q = record { idle = λ p i. i; unfinished = λ all p below. all p below; current = refl; end = refl }
+
+pub one_longer : (q r s : Queue) → IsLonger q r → Appends r s → IsLonger q s
+one_longer q r s first then = record {
+  idle = λ p i. first.idle p (idle-appended r s p then i).0;
+  unfinished = λ all p below.
+      subst (λ (f : List Bool). not (slice_index_or f p true) ≡ true) (sym then.finished)
+      (push_unfinished r.finished p (first.unfinished all) (subst (λ (f : List Bool). p < length f) then.finished below));
+  current = then.current ∙ first.current;
+  end = then.end ∙ first.end;
+}
+
+pub counts_one : (r s : Queue) → Appends r s → count_of s ≡ count_of r + 1
+counts_one r s a = ap (λ (f : List Bool). length f) a.finished ∙ length-append r.finished (false ∷ [])
+
+-- ---- at first
+
+-- nothing is idle where nothing was
+pub none_idle : (q r : Queue) → q ≡ empty_queue → IsLonger q r → (p : ℕ) → ¬ IsIdle r p
+none_idle q r empty longer p idle =
+    let before : p < 0 = below_unfinished [] p (subst (λ (x : Queue). is_unfinished x p ≡ true) empty (longer.idle p idle).unfinished) in absurd (omega arith)
+
+-- so a queue of all imports is up to date
+pub up_to_date_first : (finished : Maps) (queue : ImportQueue) (q : Queue) (s : ImportState) (n : ℕ) → q ≡ empty_queue → IsLonger q queue.worklist → n ≡ length s.imports → (count_of q ≤ n → count_of queue.worklist ≡ n)
+    → ((p : ℕ) (d : ImportDirective) → slice_get s.imports p ≡ Some d → d.home < length s.map.modules) → IsUpToDate finished queue s
+up_to_date_first finished queue q s n empty longer all count there = record {
+  settled = record {
+    watched = record { each = λ p idle other. absurd (none_idle q queue.worklist empty longer p idle) };
+    settled = λ p idle other. absurd (none_idle q queue.worklist empty longer p idle);
+  };
+  count = as_many;
+  unfinished = λ p below. longer.unfinished no_more p (subst (λ (n : ℕ). p < n) (sym as_many) below);
+  there = there;
+  over = longer.current ∙ ap (λ (x : Queue). x.current) empty;
+  outside = longer.end ∙ ap (λ (x : Queue). x.end) empty;
+}
+  where
+    none_there : count_of q ≡ 0
+    none_there = ap count_of empty
+
+    as_many : count_of queue.worklist ≡ length s.imports
+    as_many = count (omega (arith, none_there)) ∙ all
+
+    no_more : (p : ℕ) → p < count_of q → is_unfinished q p ≡ true
+    no_more p below = absurd (omega (arith, none_there))
+
+-- ---- later
+
+as_long_by_places : {A : Type 0} (xs ys : List A) → ((i : ℕ) → i < length xs → slice_get ys i ≡ slice_get xs i) → length xs ≤ length ys
+as_long_by_places [] ys same = omega arith
+as_long_by_places (x ∷ xs) [] same = let none : None ≡ Some x = same 0 (omega arith) in absurd cc
+as_long_by_places (x ∷ xs) (y ∷ ys) same = let rest : length xs ≤ length ys = as_long_by_places xs ys (λ i l. same (suc i) (omega arith)) in omega arith
+
+pub growths_follow : GrowthsFollowOneAnother
+growths_follow one two three first then a b = record {
+  map = follow one.map two.map three.map one.local two.local three.local first then a.map b.map;
+  imports = λ i low. b.imports i (further i low) ∙ a.imports i low;
+  taken = λ i low. b.taken i (further i low) ∙ a.taken i low;
+}
+  where
+    long : length one.imports ≤ length two.imports
+    long = as_long_by_places one.imports two.imports a.imports
+
+    further : (i : ℕ) → i < length one.imports → i < length two.imports
+    further i low = omega (arith, long)
+
+module _ (finished : Maps) (queue : ImportQueue) (now : ImportState) (slots : List PathSlot) (given : IsResumable finished queue now slots) where
+  abbrev before : ImportState
+  before = given.before
+
+  -- the map lies apart from finished ones still
+  pub apart_now : is_apart queue ≡ true → IsApart finished now.map.id now.local
+  apart_now e = record {
+    apart = subst (λ (id : MapId). KeepApart finished id) (sym given.grew.map.grows.id) (given.stands e).apart;
+    outside = crates_outside now.map.id now.local (given.begins_now e);
+  }
+
+  module _ (woken : ImportQueue) (wakes : IsWoken queue.apart slots queue.worklist queue.watchers woken.worklist woken.watchers) (apart : woken.apart ≡ queue.apart) where
+    same_count : count_of woken.worklist ≡ length before.imports
+    same_count = ap (λ (f : List Bool). length f) wakes.pass.finished ∙ given.up_to_date.count
+
+    idle_there : (p : ℕ) → IsIdle woken.worklist p → p < length before.imports
+    idle_there p idle = subst (λ (n : ℕ). p < n) same_count (idle_below woken.worklist p idle)
+
+    -- what is idle once the readers are woken is settled
+    settled_now : AreIdleSettled queue.apart finished now None woken.worklist woken.watchers
+    settled_now =
+        woken_anew queue.apart finished before now slots queue.worklist woken.worklist queue.watchers woken.watchers
+        (λ p idle. record { import = given.grew.imports p (idle_there p idle); taken = given.grew.taken p (idle_there p idle) })
+        (λ e p d is unread. unchanged_grown finished before now slots d d.source refl (given.stands e) (given.begins e) (given.up_to_date.there p d is) given.grew.map unread)
+        given.up_to_date.settled wakes
+
+    pub up_to_date_again : (last : ImportQueue) (n : ℕ) → last ≡ record woken { worklist = last.worklist } → IsLonger woken.worklist last.worklist → n ≡ length now.imports
+        → (count_of woken.worklist ≤ n → count_of last.worklist ≡ n)
+        → ((p : ℕ) (d : ImportDirective) → slice_get now.imports p ≡ Some d → d.home < length now.map.modules) → IsUpToDate finished last now
+    up_to_date_again last n rest longer all count there = record {
+      settled =
+          subst (λ (w : Watchers PathSlot). AreIdleSettled last.apart finished now None last.worklist w) (sym (ap (λ (x : ImportQueue). x.watchers) rest))
+          (subst (λ (b : Bool). AreIdleSettled b finished now None last.worklist woken.watchers) (sym (ap (λ (x : ImportQueue). x.apart) rest ∙ apart)) fewer);
+      count = as_many;
+      unfinished = λ p below. longer.unfinished old_unfinished p (subst (λ (n : ℕ). p < n) (sym as_many) below);
+      there = there;
+      over = longer.current ∙ wakes.pass.outside given.up_to_date.over given.up_to_date.outside;
+      outside = longer.end ∙ wakes.pass.end ∙ given.up_to_date.outside;
+    }
+      where
+        grown : length before.imports ≤ length now.imports
+        grown = as_long_by_places before.imports now.imports given.grew.imports
+
+        as_many : count_of last.worklist ≡ length now.imports
+        as_many = count (omega (arith, grown, same_count, all)) ∙ all
+
+        old_unfinished : (p : ℕ) → p < count_of woken.worklist → is_unfinished woken.worklist p ≡ true
+        old_unfinished p below =
+            ap (λ (f : List Bool). not (slice_index_or f p true)) wakes.pass.finished
+            ∙ given.up_to_date.unfinished p (subst (λ (n : ℕ). p < n) same_count below)
+
+        fewer : AreIdleSettled queue.apart finished now None last.worklist woken.watchers
+        fewer = record {
+          watched = record { each = λ p idle other. settled_now.watched.each p (longer.idle p idle) other };
+          settled = λ p idle other. settled_now.settled p (longer.idle p idle) other;
+        }

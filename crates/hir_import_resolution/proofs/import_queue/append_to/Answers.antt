@@ -1,0 +1,21 @@
+-- One more is appended in each turn.
+use Rattle.std.proofs.Common.{◌≡◌, ◌+◌, ap, arith, length, List, Bool, false, [], ◌∷◌}
+use Rattle.std.proofs.Common.{length-append}
+use Rattle.hir_worklist.specs.Queue.{count_of}
+use Rattle.hir_import_resolution.proofs.Growing.{as_long, counts_one, one_longer}
+use Rattle.hir_import_resolution.proofs.import_queue.append_to.Goals as goal
+
+pub things-init : goal.things-init
+things-init c = record { longer = as_long c.args.worklist.now; within = λ below. below }
+
+pub things-preserved : goal.things-preserved
+things-preserved c = record {
+  longer = one_longer c.args.worklist.now c.things.worklist c.push.new.self c.things.invariant.longer c.in_ok-push.ensures.ok;
+  within = λ below. let one = counts_one c.things.worklist c.push.new.self c.in_ok-push.ensures.ok in omega (arith, one, c.len.ensures.value, c.things-test.true);
+}
+
+pub things-smaller : goal.things-smaller
+things-smaller c = let one = counts_one c.things.worklist c.push.new.self c.in_ok-push.ensures.ok in omega (arith, one, c.len.ensures.value, c.things-test.true)
+
+pub returns-clause-count : goal.returns-clause-count
+returns-clause-count c = λ below. let within = c.things.invariant.within below in omega (arith, within, c.len.ensures.value, c.things-test.false)

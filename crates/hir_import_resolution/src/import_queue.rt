@@ -1,0 +1,82 @@
+//! Which imports are to be tried.
+ghost use Rattle.std.specs.Prelude.{◌≡◌, ◌≤◌, OnOk};
+ghost use Rattle.hir_worklist.specs.Moves.{empty_queue};
+ghost use Rattle.hir_worklist.specs.Queue.{count_of};
+ghost use Rattle.hir_import_resolution.specs.Inner.Queue.{IsLonger, IsSamePass, IsWoken, WakesEach};
+
+use crate::resolver::watch::wake_everything;
+use hir_def_map::nameres::path_resolution::slots::Slot;
+use hir_worklist::{Watchers, Worklist};
+use std::alloc::{AllocError, Global};
+
+/// Which imports of a map are to be tried, by their places, and what the others read when they were tried.
+#[derive(Drop)]
+pub struct ImportQueue {
+    /// Whether finished maps don't refer to the map that is built.
+    pub(crate) apart: bool,
+    /// The imports that are to be tried.
+    pub(crate) worklist: Worklist,
+    /// The imports by the slots that their last tries read.
+    pub(crate) watchers: Watchers<Slot>,
+}
+
+/// Appends things until there are so many.
+fn append_to(worklist: &mut Worklist, count: usize) -> Result<(), AllocError>
+    ensures longer { OnOk result (IsLonger worklist.old worklist.new) }
+    ensures count { OnOk result (count_of worklist.old ≤ count → count_of worklist.new ≡ count) }
+{
+    'things: while worklist.len() < count {
+        worklist.push()?;
+    }
+    Ok(())
+}
+
+/// Queues what watches slots.
+fn wake_slots(
+    watchers: &mut Watchers<Slot>,
+    worklist: &mut Worklist,
+    slots: &[Slot],
+) -> Result<(), AllocError>
+    ensures woken { OnOk result (WakesEach worklist.new watchers.new worklist.old watchers.old slots.now) }
+    ensures pass { OnOk result (IsSamePass worklist.old worklist.new) }
+{
+    for slot in slots {
+        watchers.wake_all(slot, worklist)?;
+    }
+    Ok(())
+}
+
+impl ImportQueue {
+    /// No imports.
+    pub(crate) fn new(alloc: Global, apart: bool) -> ImportQueue
+        ensures apart { result.apart ≡ apart }
+        ensures none { result.worklist ≡ empty_queue }
+    {
+        ImportQueue {
+            apart,
+            worklist: Worklist::new(alloc),
+            watchers: Watchers::new(alloc),
+        }
+    }
+
+    /// Queues the imports that came besides, so that there are so many.
+    pub(crate) fn append(&mut self, count: usize) -> Result<(), AllocError>
+        ensures longer { OnOk result (IsLonger self.old.worklist self.new.worklist) }
+        ensures count { OnOk result (count_of self.old.worklist ≤ count → count_of self.new.worklist ≡ count) }
+        ensures rest { self.new ≡ record self.old { worklist = self.new.worklist } }
+    {
+        append_to(&mut self.worklist, count)
+    }
+
+    /// Queues the imports that read one of the slots; all where they watch nothing.
+    pub(crate) fn wake(&mut self, slots: &[Slot]) -> Result<(), AllocError>
+        ensures woken { OnOk result (IsWoken self.old.apart slots.now self.old.worklist self.old.watchers self.new.worklist self.new.watchers) }
+        ensures apart { self.new.apart ≡ self.old.apart }
+    {
+        if self.apart {
+            wake_slots(&mut self.watchers, &mut self.worklist, slots)
+        } else {
+            wake_everything(&mut self.worklist)
+        }
+    }
+}

@@ -1,0 +1,324 @@
+-- A run reports only what the sources write that it asked for, in modules of its map.
+use Rattle.std.specs.Prelude.{◌≡◌, ◌<◌, ◌≤◌, ℕ, Bool, true, false, List, [], ◌∷◌, ◌++◌, length, Contains, Option, None, Some, cond, map as list_map, if◌then◌else◌}
+use Rattle.std.specs.List.{list_any}
+use Rattle.std.proofs.Common.{ap, refl, subst, sym, ◌∙◌, arith}
+use Rattle.std.proofs.lemmas.List.Elements.{Contains-append_left, Contains-append_right}
+use Rattle.hir_base.specs.Cfg.{Cfg}
+use Rattle.hir_base.specs.ModPath.{Path}
+use Rattle.hir_base.specs.declared.ast_id.AstId.{AstId}
+use Rattle.hir_base.specs.declared.ast_id.AstKind.{AstKind}
+use Rattle.hir_base.specs.declared.ast_id.AstKind.TheVariants as nodes
+use Rattle.hir_base.specs.declared.ast_id.BlockId.{BlockId}
+use Rattle.hir_base.specs.declared.ast_id.HirFileId.{HirFileId}
+use Rattle.hir_base.specs.declared.ast_id.SyntaxId.{SyntaxId}
+use Rattle.hir_base.specs.declared.cfg.CfgAtom.{CfgAtom}
+use Rattle.hir_base.specs.declared.ids.MapId.{MapId}
+use Rattle.hir_item_tree.specs.Collected.{is_enabled}
+use Rattle.hir_item_tree.specs.Imports.{imports_of}
+use Rattle.hir_item_tree.specs.KeptForest.{Head, KeptForest, item, no_items}
+use Rattle.hir_item_tree.specs.Kinds.{item_head, item_kind}
+use Rattle.hir_item_tree.specs.declared.tree_id.TreeKey.{TreeKey}
+use Rattle.hir_use_tree.specs.declared.imports.Import.{Import}
+use Rattle.hir_mod_dir.specs.Directory.{Directory}
+use Rattle.hir_mod_dir.specs.ModuleFiles.{inline_directory}
+use Rattle.hir_tables.specs.Tables.{TablesValue}
+use Rattle.hir_def_map.proofs.NoneOf.{neither, not_first, not_second}
+use Rattle.hir_def_map.specs.Diagnostics.{diagnostic_view, node_of as node_about}
+use Rattle.hir_def_map.specs.Overlay.{Maps}
+use Rattle.hir_def_map.specs.State.{Map, numbered}
+use Rattle.hir_def_map.specs.declared.nameres.diagnostics.DefDiagnostic.{DefDiagnostic}
+use Rattle.hir_def_map.specs.declared.nameres.diagnostics.DefDiagnosticKind.TheVariants as kinds
+use Rattle.hir_import_resolution.specs.Directives.{TakenValue, is_untaken}
+use Rattle.hir_import_resolution.specs.Rules.{acts as import_acts}
+use Rattle.hir_import_resolution.specs.State.{ImportState}
+use Rattle.hir_import_resolution.specs.declared.directive.ImportDirective.{ImportDirective}
+use Rattle.hir_import_resolution.specs.declared.directive.ImportSource.{ImportSource}
+use Rattle.hir_import_resolution.specs.declared.directive.ImportSource.TheVariants as sources
+use Rattle.hir_def_collector.specs.Changes.{Change, lists, makes, gives_variants, begins_paths, reaches, changes_imports, tells, goes_on, act, perform}
+use Rattle.hir_def_collector.specs.Derivation.{CollectedValue, Ends}
+use Rattle.hir_def_collector.specs.Imports.{reached_import}
+use Rattle.hir_def_collector.specs.ItemIds.{module_id, node_of, use_id}
+use Rattle.hir_def_collector.specs.Items.{inline_origin}
+use Rattle.hir_def_collector.specs.Keys.{Environment, environment, map_keys}
+use Rattle.hir_def_collector.specs.ModuleFiles.{file_key}
+use Rattle.hir_def_collector.specs.Reports.{IsUnconfigured, begins_with, crates_among, leftover_diagnostics, report_by, reports_of, unresolved_among}
+use Rattle.hir_def_collector.specs.Start.{Beginning, begin_of, krate_of, read_by, root_key, root_site, root_tree, start_of, tree_key}
+use Rattle.hir_def_collector.specs.State.{State, Visit, import_state, visits}
+use Rattle.hir_def_collector.specs.Steps.{Rule, drops_item, passes_over, declares_item, declares_enum, lists_constant, lists_impl, opens_module, opens_file, drops_file, misses_file, enters_block, reaches_imports, reaches_crate, resolves_imports, May, acts, asking, inside_block, inside_file, inside_module, keys_read, making, path_of, reads, visits_inside, Step, Steps, none, more}
+use Rattle.hir_def_collector.specs.Workspace.{Workspace, transitive_dependencies_in}
+use Rattle.hir_def_collector.specs.declared.collector.site.Site.{Site}
+use Rattle.hir_def_collector.specs.declared.source_database.Key.{Key}
+use Rattle.hir_def_collector.specs.declared.source_database.Key.TheVariants as keys
+use Rattle.hir_def_collector.proofs.Asks.{still_asked, still_asked-Step}
+use Rattle.hir_def_collector.proofs.Changes.{AllFine, Keeps-act, all_fine, asked-Step, perform_keeps}
+use Rattle.hir_def_collector.proofs.Grows.{Grows-act, Grows-perform}
+use Rattle.hir_def_collector.proofs.Holds.{in_range-start}
+use Rattle.hir_def_collector.proofs.ImportEdits.{Edit, edit_of, edited, imports_after, map_after}
+use Rattle.hir_def_collector.proofs.InRange.{ImportsBelow, IsInRange, in_range-Steps, next_home}
+use Rattle.hir_def_collector.proofs.Lists.{none_joined}
+use Rattle.hir_def_collector.proofs.ModuleFiles.{found_read}
+
+-- the node that a diagnostic is about
+abbrev pub reported_node : DefDiagnostic → AstId
+reported_node d = node_about (diagnostic_view d).kind
+
+-- changes leave the map's id, and those of imports what was reported
+id-perform : (cs : List Change) (s : State) → (perform s cs).core.map.id ≡ s.core.map.id
+id-perform [] s = refl
+id-perform (c ∷ cs) s = id-perform cs (act s c) ∙ (Keeps-act s c).id
+
+diagnostics_edited : (m : Map) (o : Option (ℕ × Edit)) → (edited m o).diagnostics ≡ m.diagnostics
+diagnostics_edited m None = refl
+diagnostics_edited m (Some e) = refl
+
+module _ (unwritten : HirFileId → Option BlockId → Bool) where
+  -- a diagnostic is in one of so many modules of a map, and about something of which the test doesn't hold
+  pub record IsReport (id : MapId) (count : ℕ) (d : DefDiagnostic) : Type 0 where
+    pub own : d.in_module.map ≡ id
+    pub below : d.in_module.index < count
+    pub written : unwritten (reported_node d).file_id (reported_node d).block ≡ false
+
+  abbrev pub AreReports : MapId → ℕ → List DefDiagnostic → Type 0
+  AreReports id count [] = Unit {0}
+  AreReports id count (d ∷ ds) = IsReport id count d × AreReports id count ds
+
+  abbrev on_site : Visit → Bool
+  on_site v = unwritten v.site.tree.file v.site.tree.block
+
+  abbrev of_source : ImportSource → Bool
+  of_source (sources.Use id kind) = unwritten id.use_.loc.file_id id.use_.loc.block
+  of_source (sources.ExternCrate id krate) = unwritten id.loc.file_id id.loc.block
+
+  abbrev on_reached : ImportDirective → Bool
+  on_reached r = of_source r.source
+
+  -- the test holds of nothing that a run has reported or come upon
+  record IsReported (s : State) : Type 0 where
+    reports : AreReports s.core.map.id (length s.core.map.modules) s.core.map.diagnostics
+    visits : list_any on_site s.agenda ≡ false
+    reached : list_any on_reached s.core.reached ≡ false
+
+  -- nor of a source that was asked for
+  abbrev AreClear : State → Type 0
+  AreClear s = (key : TreeKey) → Contains s.core.asked (keys.Tree key) → unwritten key.id.file key.id.block ≡ false
+
+  -- ---- lists
+
+  reports_more : (id : MapId) (n k : ℕ) → n ≤ k → (ds : List DefDiagnostic) → AreReports id n ds → AreReports id k ds
+  reports_more id n k low [] f = tt
+  reports_more id n k low (d ∷ ds) f =
+      let first : IsReport id n d = f.0 in
+      (record { own = first.own; below = (let below : d.in_module.index < n = first.below in omega arith); written = first.written }, reports_more id n k low ds f.1)
+
+  reports_joined : (id : MapId) (n : ℕ) (xs ys : List DefDiagnostic) → AreReports id n xs → AreReports id n ys → AreReports id n (xs ++ ys)
+  reports_joined id n [] ys f g = g
+  reports_joined id n (x ∷ xs) ys f g = (f.0, reports_joined id n xs ys f.1 g)
+
+  site_visits : (s : Site) → unwritten s.tree.file s.tree.block ≡ false → (is : KeptForest) → list_any on_site (visits s is) ≡ false
+  site_visits s f no_items = refl
+  site_visits s f (item i is) = neither (unwritten s.tree.file s.tree.block) (list_any on_site (visits s is)) f (site_visits s f is)
+
+  use_imports : (m : Map) (s : Site) (head : Head) → unwritten s.tree.file s.tree.block ≡ false → (is : List Import)
+      → list_any on_reached (list_map (reached_import s.home (use_id m s head.id) head.visibility) is) ≡ false
+  use_imports m s head f [] = refl
+  use_imports m s head f (i ∷ is) =
+      neither (unwritten s.tree.file s.tree.block) (list_any on_reached (list_map (reached_import s.home (use_id m s head.id) head.visibility) is)) f (use_imports m s head f is)
+
+  -- ---- changes
+
+  -- what is reported, reached or to be visited next is so
+  abbrev StaysReported : State → Change → Type 0
+  StaysReported s (lists home d) = Unit {0}
+  StaysReported s (makes home name origin visibility) = Unit {0}
+  StaysReported s (gives_variants id variants) = Unit {0}
+  StaysReported s (begins_paths r) = Unit {0}
+  StaysReported s (reaches rs) = list_any on_reached rs ≡ false
+  StaysReported s (changes_imports c) = Unit {0}
+  StaysReported s (tells d) = IsReport s.core.map.id (length s.core.map.modules) d
+  StaysReported s (goes_on vs) = list_any on_site vs ≡ false
+
+  in_larger : (s : State) (m : Map) → m.id ≡ s.core.map.id → m.diagnostics ≡ s.core.map.diagnostics → length s.core.map.modules ≤ length m.modules → IsReported s
+      → AreReports m.id (length m.modules) m.diagnostics
+  in_larger s m same told longer p =
+      subst (λ (ds : List DefDiagnostic). AreReports m.id (length m.modules) ds) (sym told)
+      (subst (λ (id : MapId). AreReports id (length m.modules) s.core.map.diagnostics) (sym same)
+      (reports_more s.core.map.id (length s.core.map.modules) (length m.modules) longer s.core.map.diagnostics p.reports))
+
+  reported-act : (s : State) (c : Change) → IsReported s → StaysReported s c → IsReported (act s c)
+  reported-act s (lists home d) p fine =
+      record { reports = in_larger s (act s (lists home d)).core.map refl refl (Grows-act s (lists home d)).longer p; visits = p.visits; reached = p.reached }
+  reported-act s (makes home name origin visibility) p fine = record {
+    reports = in_larger s (act s (makes home name origin visibility)).core.map refl refl (Grows-act s (makes home name origin visibility)).longer p;
+    visits = p.visits;
+    reached = p.reached;
+  }
+  reported-act s (gives_variants id variants) p fine =
+      record { reports = in_larger s (act s (gives_variants id variants)).core.map refl refl (Grows-act s (gives_variants id variants)).longer p; visits = p.visits; reached = p.reached }
+  reported-act s (begins_paths r) p fine = record { reports = p.reports; visits = p.visits; reached = p.reached }
+  reported-act s (reaches rs) p fine = record { reports = p.reports; visits = p.visits; reached = none_joined on_reached s.core.reached rs p.reached fine }
+  reported-act s (changes_imports c) p fine =
+      let i : ImportState = import_state s in
+      let told : (act s (changes_imports c)).core.map.diagnostics ≡ s.core.map.diagnostics = ap (λ (m : Map). m.diagnostics) (map_after i c) ∙ diagnostics_edited s.core.map (edit_of i c) in
+      record {
+        reports = in_larger s (act s (changes_imports c)).core.map (Keeps-act s (changes_imports c)).id told (Grows-act s (changes_imports c)).longer p;
+        visits = p.visits;
+        reached = subst (λ (rs : List ImportDirective). list_any on_reached rs ≡ false) (sym (imports_after i c)) p.reached;
+      }
+  reported-act s (tells d) p fine = record {
+    reports = reports_joined s.core.map.id (length s.core.map.modules) s.core.map.diagnostics (d ∷ []) p.reports (fine, tt);
+    visits = p.visits;
+    reached = p.reached;
+  }
+  reported-act s (goes_on vs) p fine = record { reports = p.reports; visits = fine; reached = p.reached }
+
+  -- ---- rules
+
+  module _ (s : State) (inside : IsInRange s) (p : IsReported s) where
+    -- the next item, and what stays behind it
+    next_clear : (v : Visit) (rest : List Visit) → s.agenda ≡ v ∷ rest → list_any on_site (v ∷ rest) ≡ false
+    next_clear v rest next = subst (λ (vs : List Visit). list_any on_site vs ≡ false) next p.visits
+
+    file : (v : Visit) (rest : List Visit) → s.agenda ≡ v ∷ rest → unwritten v.site.tree.file v.site.tree.block ≡ false
+    file v rest next = not_first (on_site v) (list_any on_site rest) (next_clear v rest next)
+
+    left : (v : Visit) (rest : List Visit) → s.agenda ≡ v ∷ rest → list_any on_site rest ≡ false
+    left v rest next = not_second (on_site v) (list_any on_site rest) (next_clear v rest next)
+
+    low : (v : Visit) (rest : List Visit) → s.agenda ≡ v ∷ rest → v.site.home < length s.core.map.modules
+    low v rest next = next_home s inside v rest next
+
+    -- an item that is left out is reported so
+    unconfigured : (v : Visit) (rest : List Visit) → s.agenda ≡ v ∷ rest → (kind : AstKind) (at : SyntaxId) (condition : Cfg) (d : DefDiagnostic)
+        → IsUnconfigured (module_id s.core.map v.site.home) (node_of v.site.tree kind at) condition s.core.options d → IsReport s.core.map.id (length s.core.map.modules) d
+    unconfigured v rest next kind at condition d told =
+        subst (IsReport s.core.map.id (length s.core.map.modules)) (sym told.is) (record { own = refl; below = low v rest next; written = file v rest next })
+
+    inside_clear : (site : Site) (dir : Option Directory) (items : KeptForest) (rest : List Visit) → unwritten site.tree.file site.tree.block ≡ false → list_any on_site rest ≡ false
+        → list_any on_site (visits_inside s.core.map site dir items ++ rest) ≡ false
+    inside_clear site None items rest own clear = clear
+    inside_clear site (Some dir) items rest own clear =
+        none_joined on_site (visits (inside_module s.core.map site dir) items) rest (site_visits (inside_module s.core.map site dir) own items) clear
+
+    -- the sources that a rule reads are clear of the test too
+    stays_reported : (finished : Maps) (r : Rule) → May finished s r → ((key : TreeKey) → Contains (keys_read (reads s r)) (keys.Tree key) → unwritten key.id.file key.id.block ≡ false)
+        → AllFine StaysReported (asking s r) (acts finished s r)
+    stays_reported finished (drops_item v report rest) may read =
+        (left v rest may.next, (unconfigured v rest may.next (item_kind v.item) (item_head v.item).id may.condition report may.reported, tt))
+    stays_reported finished (passes_over site head l rest) may read = (left _ rest may.here.next, tt)
+    stays_reported finished (declares_item v d rest) may read = (left v rest may.here.next, (tt, (tt, tt)))
+    stays_reported finished (declares_enum site head name found rest) may read = (left _ rest may.next, (tt, (tt, (tt, tt))))
+    stays_reported finished (lists_constant site head rest) may read = (left _ rest may.next, (tt, tt))
+    stays_reported finished (lists_impl site head of_trait rest) may read = (left _ rest may.next, (tt, tt))
+    stays_reported finished (opens_module site head name items rest) may read =
+        (tt, (inside_clear site (inline_directory site.dir name (path_of head)) items rest (file _ rest may.next) (left _ rest may.next), (tt, (tt, tt))))
+    stays_reported finished (opens_file site head name search f rest) may read =
+        let m : Map = s.core.map in
+        let within : Site = inside_file m f in
+        let own : unwritten within.tree.file within.tree.block ≡ false =
+        read (file_key m.id.krate m.crate_data.edition f.id) (found_read m.id.krate m.crate_data.edition search.absent search.found f may.found) in
+        (tt, (none_joined on_site (visits within f.tree.items) rest (site_visits within own f.tree.items) (left _ rest may.looks.here.next), (tt, (tt, tt))))
+    stays_reported finished (drops_file site head name search report rest) may read =
+        (left _ rest may.looks.here.next, (unconfigured _ rest may.looks.here.next nodes.Module head.id may.condition report may.reported, tt))
+    stays_reported finished (misses_file site head name search report rest) may read =
+        let before : State = asking s (misses_file site head name search report rest) in
+        let changes : List Change = making finished s site head name (inline_origin site.tree head.id) rest in
+        let made : State = perform before changes in
+        let same : made.core.map.id ≡ s.core.map.id = id-perform changes before in
+        let longer : length s.core.map.modules ≤ length made.core.map.modules = (Grows-perform changes before).longer in
+        let here : site.home < length s.core.map.modules = low _ rest may.looks.here.next in
+        let within : site.home < length made.core.map.modules = omega arith in
+        let told : IsReport made.core.map.id (length made.core.map.modules) report =
+        subst (IsReport made.core.map.id (length made.core.map.modules)) (sym may.reported.is) (record { own = sym same; below = within; written = file _ rest may.looks.here.next }) in
+        (tt, (left _ rest may.looks.here.next, (tt, (tt, (told, tt)))))
+    stays_reported finished (enters_block site head items rest) may read =
+        let within : Site = inside_block s.core.map site head in
+        (none_joined on_site (visits within items) rest (site_visits within (file _ rest may.next) items) (left _ rest may.next), (tt, tt))
+    stays_reported finished (reaches_imports site head tree rest) may read = (left _ rest may.next, (use_imports s.core.map site head (file _ rest may.next) (imports_of tree), (tt, tt)))
+    stays_reported finished (reaches_crate site head name alias rest) may read =
+        (left _ rest may.next, (tt, (neither (unwritten site.tree.file site.tree.block) false (file _ rest may.next) refl, (tt, tt))))
+    stays_reported finished (resolves_imports rule) may read = all_fine StaysReported (λ t c. tt) (import_acts finished (import_state s) rule) s
+
+    reported-Step : (env : Environment) (finished : Maps) (new : State) → Step env finished s new → AreClear new → IsReported new
+    reported-Step env finished new step clear =
+        let read : (key : TreeKey) → Contains (keys_read (reads s step.rule)) (keys.Tree key) → unwritten key.id.file key.id.block ≡ false =
+        λ key h. clear key (subst (λ (ks : List Key). Contains ks (keys.Tree key)) (sym (asked-Step step)) (Contains-append_right s.core.asked (keys_read (reads s step.rule)) (keys.Tree key) h)) in
+        let first : IsReported (asking s step.rule) = record { reports = p.reports; visits = p.visits; reached = p.reached } in
+        let done = perform_keeps IsReported StaysReported reported-act (acts finished s step.rule) (asking s step.rule) first (stays_reported finished step.rule step.may read) in
+        subst IsReported (sym step.is) (record { reports = done.reports; visits = done.visits; reached = done.reached })
+
+  -- so it is in all states to which steps lead
+  all_reported : (env : Environment) (finished : Maps) (from to : State) → IsInRange from → IsReported from → Steps env finished from to → AreClear to → IsReported to
+  all_reported env finished from to inside first none clear = first
+  all_reported env finished from to inside first (more old new before last) clear =
+      let asked : AreClear old = λ key h. clear key (still_asked-Step last (keys.Tree key) h) in
+      reported-Step old (in_range-Steps before inside) (all_reported env finished from old inside first before asked) env finished new last clear
+
+  -- ---- where a run begins, and where it ends
+
+  first_reported : (finished : Maps) (tables : TablesValue) (w : Workspace) (from : Beginning) → unwritten from.tree.file from.tree.block ≡ false → IsReported (start_of tables w finished from)
+  first_reported finished tables w from written =
+      let tree = root_tree tables w from in record { reports = tt; visits = go (is_enabled tree.attributes) tree.items; reached = refl }
+    where
+      go : (b : Bool) (is : KeptForest) → list_any on_site (if b then visits (root_site from.tree) is else []) ≡ false
+      go true is = site_visits (root_site from.tree) written is
+      go false is = refl
+
+  -- the imports that are left over are among those that were reached
+  unresolved_clear : (rs : List ImportDirective) (ts : List TakenValue) → list_any on_reached rs ≡ false → list_any on_reached (unresolved_among rs ts) ≡ false
+  unresolved_clear [] ts f = refl
+  unresolved_clear (r ∷ rs) [] f = refl
+  unresolved_clear (r ∷ rs) (t ∷ ts) f = go (is_untaken t) (unresolved_clear rs ts (not_second (on_reached r) (list_any on_reached rs) f))
+    where
+      go : (b : Bool) → list_any on_reached (unresolved_among rs ts) ≡ false → list_any on_reached (cond b (r ∷ unresolved_among rs ts) (unresolved_among rs ts)) ≡ false
+      go true rest = neither (on_reached r) (list_any on_reached (unresolved_among rs ts)) (not_first (on_reached r) (list_any on_reached rs) f) rest
+      go false rest = rest
+
+  unresolved_below : (n : ℕ) (rs : List ImportDirective) (ts : List TakenValue) → ImportsBelow n rs → ImportsBelow n (unresolved_among rs ts)
+  unresolved_below n [] ts f = tt
+  unresolved_below n (r ∷ rs) [] f = tt
+  unresolved_below n (r ∷ rs) (t ∷ ts) f = go (is_untaken t) (unresolved_below n rs ts f.1)
+    where
+      go : (b : Bool) → ImportsBelow n (unresolved_among rs ts) → ImportsBelow n (cond b (r ∷ unresolved_among rs ts) (unresolved_among rs ts))
+      go true rest = (f.0, rest)
+      go false rest = rest
+
+  -- what is told of one, and of all
+  import_reported : (id : MapId) (n : ℕ) (names : List (List ℕ)) (home : ℕ) (source : ImportSource) (path : Path) → home < n → of_source source ≡ false
+      → AreReports id n (report_by (numbered id home) names source path)
+  import_reported id n names home (sources.ExternCrate by krate) path low f = (record { own = refl; below = low; written = f }, tt)
+  import_reported id n names home (sources.Use by kind) path low f = go (begins_with names path.kind path.segments)
+    where
+      go : (b : Bool) → AreReports id n (cond b [] (record { in_module = numbered id home; kind = kinds.UnresolvedImport by.use_ by.idx } ∷ []))
+      go true = tt
+      go false = (record { own = refl; below = low; written = f }, tt)
+
+  imports_reported : (id : MapId) (n : ℕ) (names : List (List ℕ)) (rs : List ImportDirective) → list_any on_reached rs ≡ false → ImportsBelow n rs → AreReports id n (reports_of id names rs)
+  imports_reported id n names [] f g = tt
+  imports_reported id n names (r ∷ rs) f g =
+      reports_joined id n (report_by (numbered id r.home) names r.source r.path) (reports_of id names rs)
+      (import_reported id n names r.home r.source r.path g.0 (not_first (on_reached r) (list_any on_reached rs) f))
+      (imports_reported id n names rs (not_second (on_reached r) (list_any on_reached rs) f) g.1)
+
+  -- where the test holds of no source that was asked for, each diagnostic is of a module of the map, and about something of which it doesn't hold
+  pub ends_reported : (tables : TablesValue) (w : Workspace) (all : Maps) (from : Beginning) (answer : CollectedValue) → Ends tables w all from answer
+      → ((key : TreeKey) → Contains answer.asked (keys.Tree key) → unwritten key.id.file key.id.block ≡ false)
+      → AreReports answer.map.id (length answer.map.modules) answer.map.diagnostics
+  ends_reported tables w all from answer e clear =
+      let finished : Maps = read_by w all from.start in
+      let begun : State = begin_of tables w all from in
+      let asked : AreClear e.last =
+      λ key h. clear key (subst (λ (ks : List Key). Contains ks (keys.Tree key)) (sym e.asked_is)
+      (Contains-append_left e.last.core.asked (map_keys (transitive_dependencies_in w (krate_of from.start))) (keys.Tree key) h)) in
+      let root : unwritten from.tree.file from.tree.block ≡ false =
+      asked (tree_key from.start from.tree) (still_asked e.derived (root_key from.start from.tree) (0, omega arith, refl)) in
+      let inside : IsInRange begun = in_range-start tables w finished from in
+      let end : IsReported e.last = all_reported (environment tables w) finished begun e.last inside (first_reported finished tables w from root) e.derived asked in
+      let below : IsInRange e.last = in_range-Steps e.derived inside in
+      let m : Map = e.last.core.map in
+      let n : ℕ = length m.modules in
+      let unresolved : List ImportDirective = unresolved_among e.last.core.reached e.last.core.taken in
+      let leftover : AreReports m.id n (leftover_diagnostics m e.last.core.reached e.last.core.taken) =
+      imports_reported m.id n (crates_among [] unresolved) unresolved (unresolved_clear e.last.core.reached e.last.core.taken end.reached)
+      (unresolved_below n e.last.core.reached e.last.core.taken below.imports) in
+      subst (λ (x : Map). AreReports x.id (length x.modules) x.diagnostics) (sym e.map_is)
+      (reports_joined m.id n m.diagnostics (leftover_diagnostics m e.last.core.reached e.last.core.taken) end.reports leftover)

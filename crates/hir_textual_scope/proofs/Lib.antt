@@ -1,0 +1,5 @@
+pub mod NameOrder
+pub mod MoreMacros
+pub mod NamedMacros
+pub mod Positions
+pub mod NewMacro
