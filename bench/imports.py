@@ -28,6 +28,9 @@ class Nodes:
     def struct(self, name):
         return self.make("Struct", name=name)
 
+    def function(self, name):
+        return self.make("Fn", name=name)
+
     def glob(self, path):
         return self.make("Use", tree={"glob": path})
 
@@ -62,6 +65,23 @@ def prelude(n, names=1000):
     return modules + [made.module("prelude", *(made.struct(f"S{k}") for k in range(names)))], f"m0::S{names - 1}"
 
 
+def library(n):
+    """A library that at 40 has the size of Rust's standard one: 66,000 nodes, 5,300 imports, 280,000 names that globs bring.
+
+    n modules of a thousand functions each are re-exported by globs, one after the other through seven modules; others have
+    items and imports of their own.
+    """
+    made = Nodes()
+    modules = [made.module(f"f{k}", *(made.function(f"f{k}_{i}") for i in range(1000))) for k in range(n)]
+    modules.append(made.module("all0", *(made.glob(f"crate::f{k}") for k in range(n))))
+    modules += [made.module(f"all{k}", made.glob(f"crate::all{k - 1}")) for k in range(1, 7)]
+    for k in range(25 * n // 4):
+        items = [made.struct(f"S{i}") for i in range(80)]
+        imports = [made.use(f"crate::all{i % 7}::f{i % n}_{k % 1000}", f"g{i}") for i in range(20)]
+        modules.append(made.module(f"u{k}", *items, *imports, made.use("self::S0", "T")))
+    return modules, "u0::T"
+
+
 def unresolved(n):
     """n imports that reach nothing."""
     made = Nodes()
@@ -73,6 +93,7 @@ INPUTS = {
     re_exports: [500, 1000, 2000],
     ring: [100, 200, 400],
     prelude: [125, 250, 500],
+    library: [10, 20],
     unresolved: [2500, 5000, 10000],
 }
 

@@ -1,5 +1,5 @@
 -- The places that were judged so far, and the keys of one.
-use Rattle.std.proofs.Common.{◌≡◌, ◌≢◌, Some, None, IsTrue, if◌then◌else◌, ◌⊎◌, inl, inr, ℕ, zero, suc, ◌+◌, ◌<◌, ◌≤◌, true, false, is_some, List, [], ◌∷◌, ◌++◌, length, slice_index_or, arith, Option, refl, sym, ap, ◌∙◌, subst, Contains, map}
+use Rattle.std.proofs.Common.{◌≡◌, ◌≢◌, Some, None, Bool, if◌then◌else◌, ◌⊎◌, inl, inr, ℕ, zero, suc, ◌+◌, ◌<◌, ◌≤◌, true, false, is_some, List, [], ◌∷◌, ◌++◌, length, slice_index_or, arith, Option, refl, sym, ap, ◌∙◌, subst, Contains, map}
 use Rattle.std.specs.List.{list_any}
 use Rattle.std.proofs.lemmas.Bool.{eqb-true}
 use Rattle.std.proofs.lemmas.Map.Lookups.{CmpEqualImpliesEq}
@@ -51,6 +51,11 @@ one_behind f (y ∷ xs) x = ap (λ (zs : List MapId). f y ∷ zs) (one_behind f 
 of_one : (x id : MapId) → Contains (x ∷ []) id → x ≡ id
 of_one x id (zero, within, is) = is
 of_one x id (suc n, within, is) = absurd (omega arith)
+
+-- the same places
+pub judged-same : {tables : TablesValue} {v w : Workspace} {kept : Resolutions} {ids others hits : List MapId} → ids ≡ others
+    → AreJudged tables v w kept ids hits → AreJudged tables v w kept others hits
+judged-same {tables} {v} {w} {kept} {hits = hits} same judged = subst (λ (xs : List MapId). AreJudged tables v w kept xs hits) same judged
 
 -- one more was judged
 pub judging-more : (tables : TablesValue) (v w : Workspace) (kept : Resolutions) (ids : List MapId) (at : MapId) (old new : List MapId) → AreJudged tables v w kept ids old

@@ -1,9 +1,8 @@
 -- One more place is judged.
-use Rattle.std.proofs.Common.{◌∙◌, ap, sym, subst, rules, List, ◌++◌, append-nil, append_assoc, map}
+use Rattle.std.proofs.Common.{◌∙◌, ap, sym, rules, List, ◌++◌, append-nil, append_assoc, map}
 use Rattle.hir_base.specs.declared.ids.MapId.{MapId}
-use Rattle.hir_session.specs.EditedFiles.{AreJudged}
 use Rattle.hir_session.proofs.Changing.{no_trees}
-use Rattle.hir_session.proofs.Judging.{judging-start, judging-more, one_behind}
+use Rattle.hir_session.proofs.Judging.{judged-same, judging-start, judging-more, one_behind}
 use Rattle.hir_session.proofs.invalidate.invalidated_among.Goals as goal
 
 pub loop-id-init : goal.loop-id-init
@@ -15,7 +14,7 @@ loop-id-init c = record {
 
 pub loop-id-preserved : goal.loop-id-preserved
 loop-id-preserved c = record {
-  judged = subst (λ (ids : List MapId). AreJudged _ _ _ _ ids c.judge.new.hits.items) (sym (one_behind _ c.loop-id.yielded c.in-Some.id))
+  judged = judged-same (sym (one_behind _ c.loop-id.yielded c.in-Some.id))
       (judging-more _ _ _ _ _ c.in-Some.id.now _ _ c.loop-id.invariant.judged c.in_ok-judge.ensures.judged);
   left = rw (one_behind, append_assoc, ← c.in-Some.ensures.steps) c.loop-id.invariant.left;
   trees = c.in_ok-judge.ensures.trees c.loop-id.invariant.trees;
@@ -24,7 +23,7 @@ loop-id-preserved c = record {
 -- none is left
 pub returns : goal.returns
 returns c = record {
-  judged = subst (λ (ids : List MapId). AreJudged _ _ _ _ ids c.loop-id.hits.items)
+  judged = judged-same
       (sym (append-nil _) ∙ ap (λ (rest : List MapId). map (λ i. i.now) c.loop-id.yielded ++ rest) (sym c.in-None.ensures.steps.0) ∙ c.loop-id.invariant.left)
       c.loop-id.invariant.judged;
   trees = c.loop-id.invariant.trees;
