@@ -119,7 +119,9 @@ class Function:
         if at[1] == self.path:
             is_told = "is not proved" in at[3] or at[3].startswith("error:")
             return is_told and int(at[2]) in self.lines
-        is_own = bool(name) and at[1].startswith(f"proofs/{name.replace('::', '/')}/")
+        # Functions that call one another have one proof, whose folder begins with a +.
+        above, _, last = (name or "no function").replace("::", "/").rpartition("/")
+        is_own = at[1].startswith((f"proofs/{above}/{last}/", f"proofs/{above}/+".replace("//", "/")))
         return is_own and at[3].startswith("error:") and not NAMES.search(at[3])
 
 
@@ -222,7 +224,8 @@ class Trial:
             else:
                 first = next((it for it in lines if ": error" in it), said[0])
                 is_refused = any(it.startswith("not proved") for it in said)
-                word = "refused by a name alone that its proof cites" if is_refused else "NOT TRIED"
+                word = "refused by a name alone that its proof cites" if NAMES.search(first) else "refused"
+                word = word if is_refused else "NOT TRIED"
                 yield body, is_refused, f"{word}: {first[:240]}"
         for body in left:
             yield from self.together([body])
