@@ -15,8 +15,9 @@ the compiler rejects, is tried alone; a body that changes anything else than fun
 crate, as `rt must-fail` does.
 
 Prints a line a body, with the first goal that isn't proved, and ends with 1 where a body isn't refused. A refusal says
-that the prover finds no proof: whether the contract rules the body out is for the reader of that goal to see. Libraries
-below are built where they aren't yet, so run `rt check` in the crate first. To try some beside other work:
+that the prover finds no proof: whether the contract rules the body out is for the reader of that goal to see. One "by a
+name alone" says little, since a proof cites a call that the edit took away: change a value, and keep the calls.
+Libraries below are built where they aren't yet, so run `rt check` in the crate first. To try some beside other work:
 `nice -n 5 tools/wrong_bodies.py CRATE/NAME ..`.
 """
 import argparse
@@ -28,12 +29,12 @@ import re
 import shutil
 import sys
 
-AT_ONCE = 24
+AT_ONCE = 8
 ROOT = os.path.dirname(os.path.dirname(os.path.realpath(__file__)))
 FN = re.compile(r"([ \t]*)(?:pub(?:\([^)]*\))? )?(?:(?:final|const|unsafe) )*fn (\w+)")
 STATUS = re.compile(r"fn \w+::(\S+): (.*)")
 # What says only that a proof names something that the edit took away.
-NAMES = re.compile(r"has no field|is not in scope|has no `|was not admitted")
+NAMES = re.compile(r"has no |is not in scope|was not admitted|does not export|no such")
 
 
 def load_rt():
@@ -118,7 +119,9 @@ class Function:
         if at[1] == self.path:
             is_told = "is not proved" in at[3] or at[3].startswith("error:")
             return is_told and int(at[2]) in self.lines
-        is_own = bool(name) and at[1].startswith(f"proofs/{name.replace('::', '/')}/")
+        # Functions that call one another have one proof, whose folder begins with a +.
+        above, _, last = (name or "no function").replace("::", "/").rpartition("/")
+        is_own = at[1].startswith((f"proofs/{above}/{last}/", f"proofs/{above}/+".replace("//", "/")))
         return is_own and at[3].startswith("error:") and not NAMES.search(at[3])
 
 
@@ -205,21 +208,27 @@ class Trial:
             yield from self.apart(batch, lines)
             return
         statuses = [it.groups() for it in map(STATUS.match, lines) if it]
+        left = []
         for body in batch:
             found = [(fn, *fn.found_in(statuses)) for fn in body.functions]
             told = [it for it in lines if any(fn.is_refused_by(it, name) for fn, name, _ in found)]
             said = [it for _, _, it in found]
             if told:
-                yield body, True, f"refused: {told[0][:200]}"
+                # A goal first, before a proof that doesn't fit its goal any more.
+                told.sort(key=lambda it: "is not proved" not in it)
+                yield body, True, f"refused: {told[0][:240]}"
             elif all(it.startswith("proved") for it in said):
                 yield body, False, "NOT REFUSED: what it changes is still proved"
             elif len(batch) > 1:
-                yield from self.together([body])
+                left.append(body)
             else:
                 first = next((it for it in lines if ": error" in it), said[0])
                 is_refused = any(it.startswith("not proved") for it in said)
-                word = "refused, and no goal of its own is named" if is_refused else "NOT TRIED"
-                yield body, is_refused, f"{word}: {first[:200]}"
+                word = "refused by a name alone that its proof cites" if NAMES.search(first) else "refused"
+                word = word if is_refused else "NOT TRIED"
+                yield body, is_refused, f"{word}: {first[:240]}"
+        for body in left:
+            yield from self.together([body])
 
     def apart(self, batch, lines):
         """Yields what each body of a batch came to that a check didn't get to the end of, by what it printed."""
