@@ -15,8 +15,8 @@ use mathlib.Core.Bool.{true≢false}
 use Rattle.hir_scope.specs.Bindings.{with_item_definition, with_item_visibility}
 use Rattle.hir_scope.specs.Entries.{item_at}
 use Rattle.hir_scope.specs.Scope.{ScopeValue, binding_of}
-use Rattle.hir_scope.specs.Scope.Reads.{legacy_at}
-use Rattle.hir_def_map.specs.Scoping.FirstSegment.{last_macro, legacy_of}
+use Rattle.hir_scope.specs.Scope.Reads.{last_legacy_at}
+use Rattle.hir_def_map.specs.Scoping.FirstSegment.{legacy_of}
 use Rattle.hir_def_map.specs.State.{Local, Map, ModuleValue, changed_at, entry_at, entry_of, module_at, numbered, parent_at, parent_of, place_at, pushed, pushed_module, with_module_scope, with_scope}
 use Rattle.hir_def_map.proofs.Grown.{kept}
 use Rattle.hir_def_map_laws.specs.ReadLaw.{AgreeAt, DiffersInScopes, Grows}
@@ -193,7 +193,7 @@ changed_elsewhere (x ∷ xs) (suc at) change (suc k) ne = changed_elsewhere xs a
 -- a change of a scope that leaves other names and the textual scope changes the slot of the name alone
 scope_changed : (map : Map) (local : Local) (at : ℕ) (name : List ℕ) (change : ScopeValue → ScopeValue)
     → ((scope : ScopeValue) (other : List ℕ) → other ≢ name → binding_of (change scope) other ≡ binding_of scope other)
-    → ((scope : ScopeValue) (other : List ℕ) → legacy_at (change scope) other ≡ legacy_at scope other)
+    → ((scope : ScopeValue) (other : List ℕ) → last_legacy_at (change scope) other ≡ last_legacy_at scope other)
     → ChangesOnly map local (with_scope map at change) local (Some (of_module at name))
 scope_changed map local at name change names legacies = record {
   grows = Grows-changed map at (with_module_scope change) (λ m. refl);
@@ -201,7 +201,7 @@ scope_changed map local at name change names legacies = record {
 }
   where
     legacy : (k : ℕ) (other : List ℕ) → legacy_of (module_at (with_scope map at change) k) other ≡ legacy_of (module_at map k) other
-    legacy k other = kept (λ (o : Option ModuleValue). legacy_of o other) map.modules at (with_module_scope change) (λ m. ap (λ o. option_and_then last_macro o) (legacies m.scope other)) k
+    legacy k other = kept (λ (o : Option ModuleValue). legacy_of o other) map.modules at (with_module_scope change) (λ m. legacies m.scope other) k
 
     entries : (k : ℕ) (other : List ℕ) → Some (of_module k other) ≢ Some (of_module at name) → (b : Bool) → (k == at) ≡ b
         → entry_at (with_scope map at change) k other ≡ entry_at map k other
