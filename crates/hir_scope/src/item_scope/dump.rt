@@ -1,6 +1,7 @@
 //! A scope as text, for tests of whoever fills it.
 ghost use Rattle.std.specs.Prelude.{◌≡◌, ◌++◌, [], ◌∷◌, Some, OnOk, IfOk};
 ghost use Rattle.std.specs.List.{flat_map};
+ghost use Rattle.std.specs.Option.{option_copied};
 ghost use Rattle.std.specs.String.{string_bytes};
 ghost use Rattle.hir_scope.specs.Scope.Entries.{entries_of};
 ghost use Rattle.hir_scope.specs.Dump.{import_word, value_import_word, style_marks, macro_word, type_text, value_text, macro_text, binding_text, line, entry_line, unnamed_line, in_order, legacy_text, legacy_line, names_of_macros, dump_of};
