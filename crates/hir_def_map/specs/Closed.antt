@@ -3,20 +3,22 @@ use Rattle.std.specs.Prelude.{◌≡◌, ℕ, true, false, is_some, List, Option
 use Rattle.std.specs.List.{All}
 use Rattle.hir_base.specs.ModPath.{Path}
 use Rattle.hir_base.specs.declared.ids.Crate.{Crate}
+use Rattle.hir_base.specs.declared.ids.EnumId.{EnumId}
 use Rattle.hir_base.specs.declared.ids.ExternCrateId.{ExternCrateId}
 use Rattle.hir_base.specs.declared.ids.MapId.{MapId}
 use Rattle.hir_base.specs.declared.ids.ModuleDefId.{ModuleDefId}
 use Rattle.hir_base.specs.declared.ids.ModuleId.{ModuleId}
-use Rattle.hir_scope.specs.declared.imports.ImportOrExternCrate.{ImportOrExternCrate}
-use Rattle.hir_scope.specs.PerNs.{Item}
 use Rattle.hir_scope.specs.declared.per_ns.PerNs.{PerNs}
+use Rattle.hir_scope.specs.declared.visibility.Visibility.{Visibility}
 use Rattle.hir_def_map.specs.State.{Local, at_name, root_of}
 use Rattle.hir_def_map.specs.Overlay.{Maps, entry_in, map_in, module_in, parent_in}
 use Rattle.hir_def_map.specs.Ancestors.{holders_in}
-use Rattle.hir_def_map.specs.References.{crate_map, is_missing, reference_to, test_of}
+use Rattle.hir_def_map.specs.References.{crate_map, is_missing, reference_to, test_of, test_visibility, Fails}
 use Rattle.hir_def_map.specs.Scoping.{resolution_of}
 use Rattle.hir_def_map.specs.Scoping.Asking.{Asking}
+use Rattle.hir_def_map.specs.Scoping.Segments.{variant_in}
 use Rattle.hir_def_map.specs.Scoping.Start.{is_dependency}
+use Rattle.hir_def_map.specs.declared.nameres.enum_variants.EnumVariant.{EnumVariant}
 
 -- the module is there
 abbrev pub ModuleIsThere : Maps → ModuleId → Type 0
@@ -26,17 +28,17 @@ ModuleIsThere maps m = is_some (module_in maps m) ≡ true
 abbrev pub MapIsThere : Maps → MapId → Type 0
 MapIsThere maps id = is_some (maps id) ≡ true
 
--- a definition that is a module or an enum is there
+-- a definition that is a module or an enum is there, and so is a variant's enum
 abbrev pub IsThere : Maps → ModuleDefId → Type 0
 IsThere maps def = test_of (is_missing maps) (reference_to def) ≡ false
 
-abbrev pub TypeIsThere : Maps → Option (Item ModuleDefId ImportOrExternCrate) → Type 0
-TypeIsThere maps None = Unit {0}
-TypeIsThere maps (Some item) = IsThere maps item.def
+-- the module that a visibility names is there
+abbrev pub VisibilityIsThere : Maps → Visibility → Type 0
+VisibilityIsThere maps vis = test_visibility (is_missing maps) vis ≡ false
 
--- the modules and enums among the items are there
+-- what the items are is there, and so are the modules that may see them
 abbrev pub AreThere : Maps → PerNs → Type 0
-AreThere maps items = TypeIsThere maps items.types
+AreThere maps items = Fails (is_missing maps) items
 
 -- all that is named in the maps lies among them
 pub record IsClosed (maps : Maps) : Type 0 where
@@ -48,8 +50,10 @@ pub record IsClosed (maps : Maps) : Type 0 where
   -- what a module is in is there, and what holds its map
   pub parents : (m p : ModuleId) → parent_in maps m ≡ Some p → ModuleIsThere maps p
   pub holders : (m : ModuleId) → All (ModuleIsThere maps) (holders_in maps m)
-  -- so are the modules and enums that its names stand for
-  pub types : (m : ModuleId) (name : List ℕ) → AreThere maps (entry_in maps m name)
+  -- so is what its names stand for
+  pub names : (m : ModuleId) (name : List ℕ) → AreThere maps (entry_in maps m name)
+  -- a variant is that of its enum
+  pub variants : (id : EnumId) (name : List ℕ) (variant : EnumVariant) → variant_in maps id name ≡ Some variant → variant.id.parent ≡ id
 
 -- the crates that a path may begin with are there
 pub record LocalIsThere (maps : Maps) (local : Local) : Type 0 where

@@ -1,5 +1,5 @@
 -- What does a map refer to, and is that there?
-use Rattle.std.specs.Prelude.{ℕ, zero, suc, Bool, true, false, ◌&&◌, ◌||◌, not, is_some, Option, None, Some, List, length, option_map}
+use Rattle.std.specs.Prelude.{◌≡◌, ℕ, zero, suc, Bool, true, false, ◌&&◌, ◌||◌, not, is_some, Option, None, Some, List, length, option_map}
 use Rattle.std.specs.List.{list_any, list_all}
 use Rattle.std.specs.BTreeMap.{is_at}
 use Rattle.hir_base.specs.declared.ids.AdtId.TheVariants as adt
@@ -9,35 +9,52 @@ use Rattle.hir_base.specs.declared.ids.MapId.{MapId}
 use Rattle.hir_base.specs.declared.ids.ModuleDefId.{ModuleDefId}
 use Rattle.hir_base.specs.declared.ids.ModuleDefId.TheVariants as def
 use Rattle.hir_base.specs.declared.ids.ModuleId.{ModuleId}
+use Rattle.hir_base.specs.declared.ids.EnumId.{EnumId}
+use Rattle.hir_base.specs.declared.ids.TraitId.{TraitId}
 use Rattle.hir_base.specs.declared.ids.UseId.{UseId}
+use Rattle.hir_base.specs.declared.macro_kind.MacroId.{MacroId}
+use Rattle.hir_base.specs.contracts.ids.EnumIdPartialEq.TheImpl as enum_id
 use Rattle.hir_base.specs.contracts.ids.MapIdOrd.TheImpl as map_order
 use Rattle.hir_base.specs.contracts.ids.MapIdPartialEq.TheImpl as map_id
 use Rattle.hir_scope.specs.ModuleTree.{same_crate}
+use Rattle.hir_scope.specs.Scope.{ScopeValue}
+use Rattle.hir_scope.specs.declared.imports.ImportId.{ImportId}
 use Rattle.hir_scope.specs.declared.imports.ImportOrExternCrate.{ImportOrExternCrate}
+use Rattle.hir_scope.specs.declared.imports.ImportOrGlob.{ImportOrGlob}
+use Rattle.hir_scope.specs.declared.per_ns.PerNs.{PerNs}
+use Rattle.hir_scope.specs.declared.visibility.Visibility.{Visibility}
+use Rattle.hir_scope.specs.declared.visibility.Visibility.TheVariants as visibility
 use Rattle.hir_scope.specs.PerNs.{Item}
+use Rattle.hir_def_map.specs.declared.nameres.enum_variants.EnumVariant.{EnumVariant}
 use Rattle.hir_def_map.specs.declared.world.reference.Reference.{Reference}
 use Rattle.hir_def_map.specs.declared.world.reference.Reference.TheVariants as named
 pub use Rattle.hir_def_map.specs.State.{crate_map}
-use Rattle.hir_def_map.specs.State.{Local, Map, ModuleValue}
+use Rattle.hir_def_map.specs.State.{Local, Map, ModuleValue, Variants}
 use Rattle.hir_def_map.specs.Overlay.{Maps, overlay, module_in, variants_in}
 use Rattle.hir_def_map.specs.Ancestors.{leads_to_root, own_frame}
 
 -- ---- one reference
 
--- what a type is that has to be there: a module or an enum
+-- what has to be there for a definition: a module itself, an enum itself, and a variant's enum
 abbrev pub reference_to : ModuleDefId → Option Reference
 reference_to (def.ModuleId m) = Some (named.Module m)
 reference_to (def.AdtId (adt.EnumId e)) = Some (named.Enum e)
 reference_to (def.AdtId (adt.StructId id)) = None
 reference_to (def.AdtId (adt.UnionId id)) = None
 reference_to (def.FunctionId id) = None
-reference_to (def.EnumVariantId id) = None
+reference_to (def.EnumVariantId id) = Some (named.Enum id.parent)
 reference_to (def.ConstId id) = None
 reference_to (def.StaticId id) = None
 reference_to (def.TraitId id) = None
 reference_to (def.TypeAliasId id) = None
 reference_to (def.BuiltinType id) = None
 reference_to (def.MacroId id) = None
+
+-- the module that a visibility names
+abbrev pub visibility_reference : Visibility → Option Reference
+visibility_reference (visibility.Module m explicitness) = Some (named.Module m)
+visibility_reference (visibility.PubCrate krate) = None
+visibility_reference visibility.Public = None
 
 -- the map in which it has to be
 abbrev pub map_of_reference : Reference → MapId
@@ -65,12 +82,51 @@ test_of test (Some n) = test n
 abbrev pub test_child : (Reference → Bool) → (List ℕ × ModuleId) → Bool
 test_child test child = test (named.Module child.1)
 
-abbrev pub test_type : (Reference → Bool) → (List ℕ × Item ModuleDefId ImportOrExternCrate) → Bool
-test_type test type = test_of test (reference_to type.1.def)
+abbrev pub test_visibility : (Reference → Bool) → Visibility → Bool
+test_visibility test vis = test_of test (visibility_reference vis)
 
--- a module refers to its parent, its children, and the modules and enums among its types
+-- a type or a value refers by its definition and by its visibility
+abbrev pub test_item : {I : Type 0} → (Reference → Bool) → Item ModuleDefId I → Bool
+test_item test item = test_of test (reference_to item.def) || test_visibility test item.vis
+
+abbrev pub test_type : (Reference → Bool) → (List ℕ × Item ModuleDefId ImportOrExternCrate) → Bool
+test_type test type = test_item test type.1
+
+abbrev pub test_value : (Reference → Bool) → (List ℕ × Item ModuleDefId ImportOrGlob) → Bool
+test_value test value = test_item test value.1
+
+-- macros, and traits without names, by their visibility alone
+abbrev pub test_macro : (Reference → Bool) → (List ℕ × Item MacroId ImportOrExternCrate) → Bool
+test_macro test makro = test_visibility test makro.1.vis
+
+abbrev pub test_trait : (Reference → Bool) → (TraitId × Item (Unit {0}) ImportId) → Bool
+test_trait test trait_ = test_visibility test trait_.1.vis
+
+-- of nothing does a test hold to which items refer
+abbrev pub FailsAtItem : {I : Type 0} → (Reference → Bool) → Option (Item ModuleDefId I) → Type 0
+FailsAtItem test None = Unit {0}
+FailsAtItem test (Some item) = test_item test item ≡ false
+
+abbrev pub FailsAtMacro : (Reference → Bool) → Option (Item MacroId ImportOrExternCrate) → Type 0
+FailsAtMacro test None = Unit {0}
+FailsAtMacro test (Some item) = test_visibility test item.vis ≡ false
+
+pub record Fails (test : Reference → Bool) (items : PerNs) : Type 0 where
+  pub types : FailsAtItem test items.types
+  pub values : FailsAtItem test items.values
+  pub macros : FailsAtMacro test items.macros
+
+-- a scope refers by what its names stand for, and by its traits without names
+abbrev pub any_reference_in_scope : (Reference → Bool) → ScopeValue → Bool
+any_reference_in_scope test scope =
+    list_any (test_type test) scope.types
+    || (list_any (test_value test) scope.values || (list_any (test_macro test) scope.macros || list_any (test_trait test) scope.unnamed_traits))
+
+-- a module refers to its parent, to the module that may see it, to its children, and by its scope
 abbrev pub any_reference_in : (Reference → Bool) → ModuleValue → Bool
-any_reference_in test m = test_of test (option_map named.Module m.parent) || (list_any (test_child test) m.children || list_any (test_type test) m.scope.types)
+any_reference_in test m =
+    test_of test (option_map named.Module m.parent)
+    || (test_visibility test m.visibility || (list_any (test_child test) m.children || any_reference_in_scope test m.scope))
 
 abbrev pub test_extern : (Reference → Bool) → (List ℕ × (ModuleId × Option ExternCrateId)) → Bool
 test_extern test entry = test (named.Module entry.1.0)
@@ -122,15 +178,24 @@ is_parent_in id (Some p) = map_id.ghosts.eq p.map id
 abbrev pub has_its_parents : Map → Bool
 has_its_parents map = list_all (λ (m : ModuleValue). is_parent_in map.id m.parent) map.modules
 
+-- whether variants are those of an enum
+abbrev pub are_variants_of : EnumId → Variants → Bool
+are_variants_of id variants = list_all (λ (v : List ℕ × EnumVariant). enum_id.ghosts.eq v.1.id.parent id) variants
+
+-- whether each enum has its own variants
+abbrev pub has_its_variants : Map → Bool
+has_its_variants map = list_all (λ (e : EnumId × Variants). are_variants_of e.0 e.1) map.enums
+
 -- whether a holder, if there is one, is a module of a finished map of the crate
 abbrev pub is_holder_for : Maps → MapId → Option ModuleId → Bool
 is_holder_for finished id None = true
 is_holder_for finished id (Some h) = same_crate h.map.krate id.krate && is_some (module_in finished h)
 
--- whether a map is well-formed over finished ones: parents lead to a root, the holder is finished, and no reference is dangling
+-- whether a map is well-formed over finished ones: parents lead to a root, variants are their enum's, the holder is finished, and no reference is dangling
 abbrev pub is_well_formed : Maps → Map → Local → Bool
 is_well_formed finished map local =
     each_leads_to_root map
     && (has_its_parents map
+    && (has_its_variants map
     && (is_holder_for finished map.id map.holder
-    && not (any_reference (is_missing (overlay finished map)) map local)))
+    && not (any_reference (is_missing (overlay finished map)) map local))))

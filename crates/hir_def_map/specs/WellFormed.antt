@@ -4,7 +4,7 @@ use Rattle.std.specs.List.{list_any}
 use Rattle.hir_base.specs.declared.ids.MapId.{MapId}
 use Rattle.hir_base.specs.declared.ids.ModuleId.{ModuleId}
 use Rattle.hir_base.specs.contracts.ids.MapIdPartialEq.TheImpl as map_id
-use Rattle.hir_def_map.specs.References.{is_holder_for, is_missing, any_reference_in, any_own_crate, prelude_reference, test_crate, test_of, test_extern, is_there}
+use Rattle.hir_def_map.specs.References.{has_its_variants, is_holder_for, is_missing, any_reference_in, any_own_crate, prelude_reference, test_crate, test_of, test_extern, is_there}
 use Rattle.hir_def_map.specs.State.{Map, IsInOrder, Local}
 use Rattle.hir_def_map.specs.Overlay.{Maps, Placed, holders_under}
 use Rattle.hir_def_map.specs.declared.world.reference.Reference.{Reference}
@@ -23,6 +23,8 @@ pub record HasNoDanglingReference (maps : Maps) (map : Map) : Type 0 where
   pub outside : is_held_outside map.id map.holder ≡ true
   pub root : 0 < length map.modules
   pub in_order : IsInOrder map
+  -- and enums with variants of their own
+  pub variants : has_its_variants map ≡ true
   pub modules : list_any (any_reference_in (is_missing maps)) map.modules ≡ false
   pub prelude : test_of (is_missing maps) (prelude_reference map.prelude) ≡ false
   pub dependencies : list_any (test_crate (is_missing maps)) map.crate_data.dependencies ≡ false

@@ -7,21 +7,17 @@ use Rattle.hir_base.specs.declared.ids.Crate.{Crate}
 use Rattle.hir_base.specs.declared.ids.EnumId.{EnumId}
 use Rattle.hir_base.specs.declared.ids.ExternCrateId.{ExternCrateId}
 use Rattle.hir_base.specs.declared.ids.MapId.{MapId}
-use Rattle.hir_base.specs.declared.ids.ModuleDefId.{ModuleDefId}
 use Rattle.hir_base.specs.declared.ids.ModuleId.{ModuleId}
 use Rattle.hir_base.specs.contracts.ids.MapIdPartialEq.TheImpl as map_id
-use Rattle.hir_scope.specs.declared.imports.ImportOrExternCrate.{ImportOrExternCrate}
-use Rattle.hir_scope.specs.PerNs.{Item}
-use Rattle.hir_scope.specs.declared.per_ns.PerNs.{PerNs}
 use Rattle.hir_def_map.specs.Ancestors.{holders_in}
 use Rattle.hir_def_map.specs.WellFormed.{AreWellFormed, HasNoDanglingReference}
-use Rattle.hir_def_map.specs.References.{map_of_reference, reference_to, test_of}
+use Rattle.hir_def_map.specs.References.{map_of_reference, any_reference_in, Fails}
 use Rattle.hir_def_map.specs.Reaches.{by_import}
 use Rattle.hir_def_map.specs.Scoping.{resolution_of}
 use Rattle.hir_def_map.specs.Scoping.Asking.{Asking}
 use Rattle.hir_def_map.specs.Scoping.FirstSegment.{legacy_of}
 use Rattle.hir_def_map.specs.State.{IsInOrder, Local, Map, ModuleValue, Variants, at_name, changed_at, entry_at, module_at, numbered, parent_at, variants_at}
-use Rattle.hir_def_map.specs.Overlay.{Maps, overlay, entry_in, map_in, parent_in}
+use Rattle.hir_def_map.specs.Overlay.{Maps, overlay, map_in, module_in}
 use Rattle.hir_def_map.specs.World.{IsChecked, finished_in}
 use Rattle.hir_def_map.specs.WorldParts.{among, part_of}
 use Rattle.hir_def_map.specs.declared.world.finished.Finished.{Finished}
@@ -33,15 +29,6 @@ use Rattle.hir_def_map.specs.declared.nameres.path_resolution.slots.Slot.TheVari
 use Rattle.hir_def_map.specs.Scoping.Slots.{is_in, prelude_module_of, reads}
 
 -- ---- a map beside finished ones
-
--- of no module or enum that a type is does a test hold
-abbrev pub FailsAtType : (Reference → Bool) → Option (Item ModuleDefId ImportOrExternCrate) → Type 0
-FailsAtType test None = Unit {0}
-FailsAtType test (Some item) = test_of test (reference_to item.def) ≡ false
-
--- of no module or enum among the items does it hold
-abbrev pub Fails : (Reference → Bool) → PerNs → Type 0
-Fails test items = FailsAtType test items.types
 
 -- whether what is named lies in the map of an id
 abbrev pub is_named_in : MapId → Reference → Bool
@@ -56,8 +43,7 @@ has_no_variants map (named.Map id) = false
 -- the finished maps name nothing in the map of an id, which isn't among them
 pub record KeepApart (finished : Maps) (own : MapId) : Type 0 where
   pub absent : finished own ≡ None
-  pub types : (m : ModuleId) (name : List ℕ) → Fails (is_named_in own) (entry_in finished m name)
-  pub parents : (m p : ModuleId) → parent_in finished m ≡ Some p → is_in own p ≡ false
+  pub modules : (m : ModuleId) (value : ModuleValue) → module_in finished m ≡ Some value → any_reference_in (is_named_in own) value ≡ false
   pub holders : (m : ModuleId) → All (λ (h : ModuleId). is_in own h ≡ false) (holders_in finished m)
   pub preludes : (id : MapId) (p : ModuleId) → prelude_module_of (map_in finished id) ≡ Some p → is_in own p ≡ false
 

@@ -9,7 +9,7 @@ ghost use Rattle.hir_def_map.specs.References.{is_well_formed};
 ghost use Rattle.hir_def_map.specs.WellFormed.{AreWellFormed, HasNoDanglingExtern, HasNoDanglingReference};
 ghost use Rattle.hir_def_map.specs.Closed.{IsClosed};
 ghost use Rattle.hir_def_map.specs.State.{Local, Map};
-ghost use Rattle.hir_def_map_laws.specs.Building.{DeclarationsKeepNames, DeclarationsKeepPlaces, DeclarationsNameWhatIsThere, EnumsKeepToSources, ListsKeepToSources, ModulesKeepToSources, ModulesNameWhatIsThere, PushesKeepPlaces, PushesKeepToSources, PushesNameWhatIsThere};
+ghost use Rattle.hir_def_map_laws.specs.Building.{DeclarationsKeepNames, DeclarationsKeepPlaces, DeclarationsNameWhatIsThere, EnumsKeepToSources, EnumsNameWhatIsThere, ListsKeepToSources, ModulesKeepToSources, ModulesNameWhatIsThere, PushesKeepPlaces, PushesKeepToSources, PushesNameWhatIsThere, ScopesNameWhatIsThere, UpdatesNameWhatIsThere};
 ghost use Rattle.hir_def_map_laws.specs.ReadLaw.{ChangedModulesDifferInScopes, CrateMapsBeginOutside, CratesAreOutside, ImportsReadAlike, PartsKeepApart, ReadsDecide, ScopesReadAlike, SomeMapsKeepApart, WholeMapsKeepApart, WholeMapsStandBeside, WorldsKeepApart};
 ghost use Rattle.hir_def_map_laws.specs.SlotChanges.{ChangedScopesChangeTheirSlot, ChangesFollowOneAnother, CratesChangeTheirSlot, EnumsChangeNoSlot, ListsChangeNoSlot, MacroUsesChangeTheirSlot, ModulesChangeNoSlot, NothingChangesNoScope, NothingChangesNoSlot, OneChangeIsAmongItsSlot, OneScopeChangeIsAmongItsSlot, OtherSlotsDoNotMatter, PushesChangeTheirScope, PushesChangeTheirSlot, ScopeChangesFollowOneAnother, TextualMacrosChangeTheirSlot, TraitsChangeNoScope, TraitsChangeNoSlot, UnreadScopesDoNotMatter, UnreadSlotsDoNotMatter, UpdatesChangeTheirScope, UpdatesChangeTheirSlot};
 ghost use Rattle.hir_def_map_laws.specs.Paths.{BlocksAskHolders, CratesAskThemselves, InnerModulesAskPreludes, LaterSegmentsAreSeen, RootedStepsLeadToParents, SegmentsAreSeen, StepsLeadToParents, UnnamedBindingsDoNotMatter};
@@ -123,11 +123,15 @@ pub fn whole_maps_are_closed()
         → is_well_formed finished map local ≡ true }
 {}
 
-/// Pushes, lists, modules and preludes that name what is there leave a map that names only what is there.
+/// Pushes, lists, modules, enums and changes of scopes that name what is there leave a map that names only what is
+/// there, visibilities included.
 pub fn building_names_what_is_there()
     ensures pushed { PushesNameWhatIsThere }
     ensures listed { DeclarationsNameWhatIsThere }
     ensures made { ModulesNameWhatIsThere }
+    ensures enums { EnumsNameWhatIsThere }
+    ensures scopes { ScopesNameWhatIsThere }
+    ensures updates { (finished : Maps) (map : Map) (at : ℕ) (name : List ℕ) → UpdatesNameWhatIsThere finished map at name }
 {}
 
 /// Pushes, lists, modules and enums leave a map that binds only what is written where it and they do.

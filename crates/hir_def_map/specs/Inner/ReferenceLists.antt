@@ -1,4 +1,4 @@
--- The references of a map, one after another, as the code walks over them; `None` stands for a type that is no reference.
+-- The references of a map, one after another, as the code walks over them; `None` stands for what has no reference.
 use Rattle.std.specs.Prelude.{ℕ, Bool, ◌||◌, List, [], ◌∷◌, ◌++◌, Option, None, Some, is_some, cond, map, option_map}
 use Rattle.std.specs.List.{list_any}
 use Rattle.hir_base.specs.declared.ids.Crate.{Crate}
@@ -6,12 +6,18 @@ use Rattle.hir_base.specs.declared.ids.ExternCrateId.{ExternCrateId}
 use Rattle.hir_base.specs.declared.ids.MapId.{MapId}
 use Rattle.hir_base.specs.declared.ids.ModuleDefId.{ModuleDefId}
 use Rattle.hir_base.specs.declared.ids.ModuleId.{ModuleId}
+use Rattle.hir_base.specs.declared.ids.TraitId.{TraitId}
 use Rattle.hir_base.specs.declared.ids.UseId.{UseId}
+use Rattle.hir_base.specs.declared.macro_kind.MacroId.{MacroId}
+use Rattle.hir_scope.specs.Scope.{ScopeValue}
+use Rattle.hir_scope.specs.declared.imports.ImportId.{ImportId}
 use Rattle.hir_scope.specs.declared.imports.ImportOrExternCrate.{ImportOrExternCrate}
+use Rattle.hir_scope.specs.declared.imports.ImportOrGlob.{ImportOrGlob}
+use Rattle.hir_scope.specs.declared.visibility.Visibility.{Visibility}
 use Rattle.hir_scope.specs.PerNs.{Item}
 use Rattle.hir_def_map.specs.declared.world.reference.Reference.{Reference}
 use Rattle.hir_def_map.specs.declared.world.reference.Reference.TheVariants as reference
-use Rattle.hir_def_map.specs.References.{reference_to, test_of}
+use Rattle.hir_def_map.specs.References.{reference_to, test_of, visibility_reference}
 use Rattle.hir_def_map.specs.State.{Local, Map, ModuleValue, crate_map}
 
 -- a module before other references, if there is one
@@ -27,8 +33,12 @@ crate_before (Some c) rest = Some (reference.Map (crate_map c)) ∷ rest
 abbrev pub child_reference : (List ℕ × ModuleId) → Option Reference
 child_reference child = Some (reference.Module child.1)
 
-abbrev pub type_reference : (List ℕ × Item ModuleDefId ImportOrExternCrate) → Option Reference
-type_reference type = reference_to type.1.def
+-- what an item is, and who may see it
+abbrev pub item_reference : {K I : Type 0} → (K × Item ModuleDefId I) → Option Reference
+item_reference item = reference_to item.1.def
+
+abbrev pub item_visibility : {K D I : Type 0} → (K × Item D I) → Option Reference
+item_visibility item = visibility_reference item.1.vis
 
 abbrev pub extern_reference : (List ℕ × (ModuleId × Option ExternCrateId)) → Option Reference
 extern_reference entry = Some (reference.Module entry.1.0)
@@ -36,9 +46,22 @@ extern_reference entry = Some (reference.Module entry.1.0)
 abbrev pub crate_reference : Crate → Option Reference
 crate_reference c = Some (reference.Map (crate_map c))
 
--- a parent, children and types
-abbrev pub module_list : Option ModuleId → List (List ℕ × ModuleId) → List (List ℕ × Item ModuleDefId ImportOrExternCrate) → List (Option Reference)
-module_list parent children types = module_before parent (map child_reference children ++ map type_reference types)
+-- a visibility before other references, if there is one
+abbrev pub visibility_before : Option Visibility → List (Option Reference) → List (Option Reference)
+visibility_before None rest = rest
+visibility_before (Some vis) rest = visibility_reference vis ∷ rest
+
+-- what types are and who may see them, what values are and who may see them, who may see macros, and traits without names
+abbrev pub scope_list : List (List ℕ × Item ModuleDefId ImportOrExternCrate) → List (List ℕ × Item ModuleDefId ImportOrExternCrate) → List (List ℕ × Item ModuleDefId ImportOrGlob)
+    → List (List ℕ × Item ModuleDefId ImportOrGlob) → List (List ℕ × Item MacroId ImportOrExternCrate) → List (TraitId × Item (Unit {0}) ImportId) → List (Option Reference)
+scope_list types seen_types values seen_values macros traits =
+    map item_reference types
+    ++ (map item_visibility seen_types
+    ++ (map item_reference values ++ (map item_visibility seen_values ++ (map item_visibility macros ++ map item_visibility traits))))
+
+-- a parent, a visibility, children and what a scope refers to
+abbrev pub module_list : Option ModuleId → Option Visibility → List (List ℕ × ModuleId) → List (Option Reference) → List (Option Reference)
+module_list parent vis children scope = module_before parent (visibility_before vis (map child_reference children ++ scope))
 
 -- a prelude, a holder, the crates that paths may begin with, those that are depended on, and a block's crate
 abbrev pub besides_list : Option ModuleId → Option ModuleId → Local → List Crate → Option Crate → List (Option Reference)
@@ -49,9 +72,13 @@ besides_list prelude holder externs crates own =
 abbrev pub block_crate : MapId → Option Crate
 block_crate id = cond (is_some id.block) (Some id.krate) None
 
+-- the references of a scope
+abbrev pub references_in_scope : ScopeValue → List (Option Reference)
+references_in_scope scope = scope_list scope.types scope.types scope.values scope.values scope.macros scope.unnamed_traits
+
 -- the references of a module
 abbrev pub references_in : ModuleValue → List (Option Reference)
-references_in m = module_list m.parent m.children m.scope.types
+references_in m = module_list m.parent (Some m.visibility) m.children (references_in_scope m.scope)
 
 -- those of a map besides the ones of its modules
 abbrev pub references_besides : Map → Local → List (Option Reference)

@@ -1,8 +1,10 @@
 //! The variants of an enum.
 ghost use Rattle.std.specs.Prelude.{◌≡◌, [], OnOk, OnErr};
+ghost use Rattle.hir_def_map.specs.References.{are_variants_of, has_its_variants};
 ghost use Rattle.hir_def_map.specs.State.{at_name, with_name};
 
-use hir_base::ids::EnumVariantId;
+use crate::nameres::DefMap;
+use hir_base::ids::{EnumId, EnumVariantId};
 use hir_base::name::Name;
 use hir_item_tree::shape::FieldsShape;
 use std::alloc::{AllocError, Global};
@@ -61,6 +63,34 @@ impl EnumVariants {
         ensures value { result ≡ self.now }
     {
         self.variants.iter()
+    }
+
+    /// Whether they are the variants of an enum.
+    pub(crate) fn are_of(&self, id: EnumId) -> bool
+        ensures value { result ≡ are_variants_of id self.now }
+    {
+        let mut left = self.variants.iter();
+        'each: while let Some((_, variant)) = left.next() {
+            if variant.id.parent != id {
+                return false;
+            }
+        }
+        true
+    }
+}
+
+impl DefMap {
+    /// Whether each enum has its own variants.
+    pub(crate) fn has_its_variants(&self) -> bool
+        ensures value { result ≡ has_its_variants self.now }
+    {
+        let mut left = self.enums.iter();
+        'each: while let Some((id, variants)) = left.next() {
+            if !variants.are_of(*id) {
+                return false;
+            }
+        }
+        true
     }
 }
 

@@ -1,28 +1,102 @@
 //! The references of a map: one after another.
 //!
-//! A type that is neither a module nor an enum stands in a walk as `None`.
+//! A definition for which nothing has to be there, and a visibility that names no module, stand in a walk as `None`.
 ghost use Rattle.std.specs.Prelude.{◌≡◌, List, option_map};
 ghost use Rattle.std.specs.Iterator.{YieldsFirst, item_count};
-ghost use Rattle.hir_def_map.specs.Inner.ReferenceLists.{block_crate, references_besides, references_in};
+ghost use Rattle.hir_def_map.specs.Inner.ReferenceLists.{block_crate, references_besides, references_in, references_in_scope};
 
 use crate::nameres::DefMap;
 use crate::nameres::local_def_map::LocalDefMap;
 use crate::nameres::module_data::ModuleData;
-use crate::world::reference::{Reference, reference_to};
-use hir_base::ids::{Crate, ExternCrateId, MapId, ModuleDefId, ModuleId};
+use crate::world::reference::{Reference, reference_to, visibility_reference};
+use hir_base::ids::{Crate, ExternCrateId, MapId, ModuleDefId, ModuleId, TraitId};
+use hir_base::macro_kind::MacroId;
 use hir_base::name::Name;
 use hir_crate_graph::Crates;
-use hir_scope::imports::ImportOrExternCrate;
+use hir_scope::imports::{ImportId, ImportOrExternCrate, ImportOrGlob};
+use hir_scope::item_scope::ItemScope;
 use hir_scope::item_scope::iter::bindings::Bindings;
+use hir_scope::per_ns::Item;
+use hir_scope::visibility::Visibility;
 use std::collections::btree_map;
 use std::marker::Model;
 
-/// The references of a module: its parent, its children, and its types.
+/// The references of a scope: what its types and values are, and the modules that may see these, its macros and its
+/// traits without names.
+///
+/// The types and the values are walked over twice, once for what they are and once for who may see them.
+#[derive(Drop)]
+pub(crate) struct ScopeReferences<'a> {
+    types: Bindings<'a, ModuleDefId, ImportOrExternCrate>,
+    seen_types: Bindings<'a, ModuleDefId, ImportOrExternCrate>,
+    values: Bindings<'a, ModuleDefId, ImportOrGlob>,
+    seen_values: Bindings<'a, ModuleDefId, ImportOrGlob>,
+    macros: Bindings<'a, MacroId, ImportOrExternCrate>,
+    traits: indexmap::map::Iter<'a, TraitId, Item<(), ImportId>>,
+}
+
+impl<'a> Model for ScopeReferences<'a> {
+    ghost use Rattle.std.specs.Prelude.{List, Option};
+    ghost use Rattle.hir_def_map.specs.declared.world.reference.Reference.{Reference};
+    ghost use Rattle.hir_def_map.specs.Inner.ReferenceLists.{scope_list};
+
+    ghost Value = { List (Option Reference) };
+
+    ghost view = { λ walk. scope_list walk.types walk.seen_types walk.values walk.seen_values walk.macros walk.traits };
+}
+
+impl ScopeReferences<'_> {
+    fn of(scope: &ItemScope) -> ScopeReferences<'_>
+        ensures value { result ≡ references_in_scope scope.now }
+    {
+        ScopeReferences {
+            types: scope.types(),
+            seen_types: scope.types(),
+            values: scope.values(),
+            seen_values: scope.values(),
+            macros: scope.macros(),
+            traits: scope.unnamed_traits(),
+        }
+    }
+}
+
+impl<'a> Iterator for ScopeReferences<'a> {
+    type Item = Option<Reference>;
+
+    ghost next_gives = { YieldsFirst (λ (left : List _). left) };
+
+    ghost remaining = { item_count (λ (left : List _). left) };
+
+    fn next(&mut self) -> Option<Option<Reference>> {
+        if let Some((_, item)) = self.types.next() {
+            return Some(reference_to(item.def));
+        }
+        if let Some((_, item)) = self.seen_types.next() {
+            return Some(visibility_reference(item.vis));
+        }
+        if let Some((_, item)) = self.values.next() {
+            return Some(reference_to(item.def));
+        }
+        if let Some((_, item)) = self.seen_values.next() {
+            return Some(visibility_reference(item.vis));
+        }
+        if let Some((_, item)) = self.macros.next() {
+            return Some(visibility_reference(item.vis));
+        }
+        match self.traits.next() {
+            Some((_, item)) => Some(visibility_reference(item.vis)),
+            None => None,
+        }
+    }
+}
+
+/// The references of a module: its parent, the module that may see it, its children, and those of its scope.
 #[derive(Drop)]
 pub(crate) struct ModuleReferences<'a> {
     parent: Option<ModuleId>,
+    visibility: Option<Visibility>,
     children: btree_map::Iter<'a, Name, ModuleId>,
-    types: Bindings<'a, ModuleDefId, ImportOrExternCrate>,
+    scope: ScopeReferences<'a>,
 }
 
 impl<'a> Model for ModuleReferences<'a> {
@@ -32,7 +106,7 @@ impl<'a> Model for ModuleReferences<'a> {
 
     ghost Value = { List (Option Reference) };
 
-    ghost view = { λ walk. module_list walk.parent walk.children walk.types };
+    ghost view = { λ walk. module_list walk.parent walk.visibility walk.children walk.scope };
 }
 
 impl ModuleReferences<'_> {
@@ -41,8 +115,9 @@ impl ModuleReferences<'_> {
     {
         ModuleReferences {
             parent: module.parent(),
+            visibility: Some(module.visibility()),
             children: module.children(),
-            types: module.scope().types(),
+            scope: ScopeReferences::of(module.scope()),
         }
     }
 }
@@ -58,13 +133,13 @@ impl<'a> Iterator for ModuleReferences<'a> {
         if let Some(parent) = self.parent.take() {
             return Some(Some(Reference::Module(parent)));
         }
+        if let Some(vis) = self.visibility.take() {
+            return Some(visibility_reference(vis));
+        }
         if let Some((_, child)) = self.children.next() {
             return Some(Some(Reference::Module(*child)));
         }
-        match self.types.next() {
-            Some((_, item)) => Some(reference_to(item.def)),
-            None => None,
-        }
+        self.scope.next()
     }
 }
 

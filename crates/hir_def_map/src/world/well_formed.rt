@@ -1,4 +1,5 @@
-//! Whether a map is well-formed over the finished ones: it has no dangling reference, and parents lead to a root.
+//! Whether a map is well-formed over the finished ones: it has no dangling reference, parents lead to a root, and
+//! variants are their enum's.
 ghost use Rattle.std.specs.Prelude.{◌≡◌, is_some};
 ghost use Rattle.std.specs.List.{list_any};
 ghost use Rattle.hir_def_map.specs.Overlay.{overlay, module_in, variants_in};
@@ -145,6 +146,7 @@ impl World {
     {
         map.each_leads_to_root()
             && map.has_its_parents()
+            && map.has_its_variants()
             && self.is_holder_for(map.id(), map.parent())
             && !self.has_dangling(map, local)
     }

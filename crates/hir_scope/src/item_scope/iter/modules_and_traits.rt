@@ -71,6 +71,13 @@ impl ItemScope {
             unnamed: self.unnamed_traits.keys(),
         }
     }
+
+    /// The traits that are imported without a name, each with its visibility and what brought it.
+    pub fn unnamed_traits(&self) -> indexmap::map::Iter<'_, TraitId, Item<(), ImportId>>
+        ensures value { result ≡ self.now.unnamed_traits }
+    {
+        self.unnamed_traits.iter()
+    }
 }
 
 impl<'a> Iterator for ModulesInScope<'a> {
