@@ -10,11 +10,14 @@ use Rattle.std.specs.Map.{lookup}
 use Rattle.std.specs.Result.{OnOk, OnErr}
 use Rattle.hir_base.specs.declared.ids.Crate.{Crate}
 use Rattle.hir_base.specs.declared.ids.MapId.{MapId}
+use Rattle.hir_base.specs.declared.ids.ModuleDefId.{ModuleDefId}
 use Rattle.hir_base.specs.declared.ids.ModuleId.{ModuleId}
 use Rattle.hir_base.specs.contracts.ids.MapIdOrd.TheImpl as map_order
 use Rattle.hir_base.specs.contracts.ids.MapIdOrd.TheImpl.Laws.{total-law as order_total, matches_eq-law as order_ties}
 use Rattle.hir_base.specs.contracts.ids.MapIdPartialEq.TheImpl as map_id
 use Rattle.hir_scope.specs.ModuleTree.{same_crate}
+use Rattle.hir_scope.specs.PerNs.{Item}
+use Rattle.hir_scope.specs.Scope.{ScopeValue}
 use Rattle.hir_def_map.specs.declared.world.finished.Finished.{Finished}
 use Rattle.hir_def_map.specs.declared.world.reference.Reference.{Reference}
 use Rattle.hir_def_map.specs.declared.world.reference.Reference.TheVariants as named
@@ -22,7 +25,7 @@ use Rattle.hir_def_map.specs.State.{Local, Map, ModuleValue, module_at, variants
 use Rattle.hir_def_map.specs.Overlay.{Maps, Placed, overlay, holders_of, holders_or, holders_under, module_in, placed_in, placed_with, with_map}
 use Rattle.hir_def_map.specs.Ancestors.{IsPlaced}
 use Rattle.hir_def_map.specs.Inner.OverlayLaws.{exact_map, IsPlaced-with_map}
-use Rattle.hir_def_map.specs.References.{each_leads_to_root, has_its_parents, is_well_formed, is_holder_for, is_missing, is_there, lies_in, map_of_reference, reference_to, any_reference_in, any_own_crate, any_reference, prelude_reference, test_child, test_crate, test_extern, test_of, test_type}
+use Rattle.hir_def_map.specs.References.{each_leads_to_root, has_its_parents, has_its_variants, is_well_formed, is_holder_for, is_missing, is_there, lies_in, map_of_reference, reference_to, any_reference_in, any_reference_in_scope, any_own_crate, any_reference, prelude_reference, test_child, test_crate, test_extern, test_item, test_macro, test_of, test_trait, test_type, test_value, test_visibility, visibility_reference}
 use Rattle.hir_def_map.specs.World.{IsChecked, IsFinished, finished_in, placed_of}
 use Rattle.hir_def_map.specs.Removal.{FallsWith, lists_in, lists_of, refers_in, refers_of}
 use Rattle.hir_def_map.specs.Inner.Recorded.{IsRecordedFor}
@@ -73,13 +76,28 @@ finds_of (Some n) test e = (n, e, λ other o. o)
 finds_one : (n : Reference) → Finds (λ test. test n)
 finds_one n test e = (n, e, λ other o. o)
 
+finds_item : {I : Type 0} (item : Item ModuleDefId I) → Finds (λ test. test_item test item)
+finds_item item = finds_or (λ test. test_of test (reference_to item.def)) (λ test. test_visibility test item.vis) (finds_of (reference_to item.def)) (finds_of (visibility_reference item.vis))
+
+finds_in_scope : (scope : ScopeValue) → Finds (λ test. any_reference_in_scope test scope)
+finds_in_scope scope =
+    finds_or (λ test. list_any (test_type test) scope.types) (λ test. list_any (test_value test) scope.values || (list_any (test_macro test) scope.macros || list_any (test_trait test) scope.unnamed_traits))
+    (finds_any test_type (λ t. finds_item t.1) scope.types)
+    (finds_or (λ test. list_any (test_value test) scope.values) (λ test. list_any (test_macro test) scope.macros || list_any (test_trait test) scope.unnamed_traits)
+    (finds_any test_value (λ v. finds_item v.1) scope.values)
+    (finds_or (λ test. list_any (test_macro test) scope.macros) (λ test. list_any (test_trait test) scope.unnamed_traits)
+    (finds_any test_macro (λ m. finds_of (visibility_reference m.1.vis)) scope.macros)
+    (finds_any test_trait (λ t. finds_of (visibility_reference t.1.vis)) scope.unnamed_traits)))
+
 finds_in_module : (m : ModuleValue) → Finds (λ test. any_reference_in test m)
 finds_in_module m =
-    finds_or (λ test. test_of test (option_map named.Module m.parent)) (λ test. list_any (test_child test) m.children || list_any (test_type test) m.scope.types)
+    finds_or (λ test. test_of test (option_map named.Module m.parent)) (λ test. test_visibility test m.visibility || (list_any (test_child test) m.children || any_reference_in_scope test m.scope))
     (finds_of (option_map named.Module m.parent))
-    (finds_or (λ test. list_any (test_child test) m.children) (λ test. list_any (test_type test) m.scope.types)
+    (finds_or (λ test. test_visibility test m.visibility) (λ test. list_any (test_child test) m.children || any_reference_in_scope test m.scope)
+    (finds_of (visibility_reference m.visibility))
+    (finds_or (λ test. list_any (test_child test) m.children) (λ test. any_reference_in_scope test m.scope)
     (finds_any test_child (λ c. finds_one (named.Module c.1)) m.children)
-    (finds_any test_type (λ t. finds_of (reference_to t.1.def)) m.scope.types))
+    (finds_in_scope m.scope)))
 
 finds_crate : (krate : Crate) → Finds (λ test. test_crate test krate)
 finds_crate krate = finds_one _
@@ -221,8 +239,11 @@ module _ (A : Maps) (map : Map) (local : Local) (e : is_well_formed A map local 
   abbrev holder_kept_too : Bool
   holder_kept_too = is_holder_for A map.id map.holder && names_kept
 
+  abbrev variants_too : Bool
+  variants_too = has_its_variants map && holder_kept_too
+
   abbrev parents_too : Bool
-  parents_too = has_its_parents map && holder_kept_too
+  parents_too = has_its_parents map && variants_too
 
   leads : each_leads_to_root map ≡ true
   leads = first_so (each_leads_to_root map) parents_too e
@@ -231,24 +252,31 @@ module _ (A : Maps) (map : Map) (local : Local) (e : is_well_formed A map local 
   past_leads = second_so (each_leads_to_root map) parents_too e
 
   parents : has_its_parents map ≡ true
-  parents = first_so (has_its_parents map) holder_kept_too past_leads
+  parents = first_so (has_its_parents map) variants_too past_leads
 
-  past_parents : holder_kept_too ≡ true
-  past_parents = second_so (has_its_parents map) holder_kept_too past_leads
+  past_parents : variants_too ≡ true
+  past_parents = second_so (has_its_parents map) variants_too past_leads
+
+  variants : has_its_variants map ≡ true
+  variants = first_so (has_its_variants map) holder_kept_too past_parents
+
+  past_variants : holder_kept_too ≡ true
+  past_variants = second_so (has_its_variants map) holder_kept_too past_parents
 
   pub holder : is_holder_for A map.id map.holder ≡ true
-  holder = first_so (is_holder_for A map.id map.holder) names_kept past_parents
+  holder = first_so (is_holder_for A map.id map.holder) names_kept past_variants
 
   pub nothing_missing : any_reference (is_missing (overlay A map)) map local ≡ false
-  nothing_missing = not_so (any_reference (is_missing (overlay A map)) map local) (second_so (is_holder_for A map.id map.holder) names_kept past_parents)
+  nothing_missing = not_so (any_reference (is_missing (overlay A map)) map local) (second_so (is_holder_for A map.id map.holder) names_kept past_variants)
 
   complete_kept : (B : Maps) → ((k : MapId) → any_reference (lies_in k) map local ≡ true → IsSameAt (overlay A map) (overlay B map) k)
       → ((h : ModuleId) → map.holder ≡ Some h → IsSameAt A B h.map) → is_well_formed B map local ≡ true
   complete_kept B same held =
       both (each_leads_to_root map) _ leads
       (both (has_its_parents map) _ parents
+      (both (has_its_variants map) _ variants
       (both (is_holder_for B map.id map.holder) _ (holder_kept A B map.id map.holder held holder)
-      (ap not (missing_kept (overlay A map) (overlay B map) map local same nothing_missing))))
+      (ap not (missing_kept (overlay A map) (overlay B map) map local same nothing_missing)))))
 
 -- a finished map stays finished where the maps that it names stay
 module _ (A B : Maps) (id : MapId) (g : Finished) (finished : IsFinished A id g) (here : is_some (A id) ≡ true)

@@ -1,9 +1,13 @@
 -- what a map is made of
 pub mod NoneOf
+pub mod Fails
+pub mod Referred
+pub mod EnumIds
 pub mod Grown
 pub mod Listed
 pub mod Externs
 pub mod WellFormed
+pub mod ScopeChanges
 pub mod StaysWellFormed
 pub mod StaysSourced
 -- paths

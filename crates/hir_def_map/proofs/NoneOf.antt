@@ -1,7 +1,8 @@
 -- A test that holds of nothing in a list.
 use Rattle.std.specs.Prelude.{◌≡◌, ◌++◌, ℕ, zero, suc, Bool, true, false, ◌||◌, List, [], ◌∷◌, Some, cond, slice_get}
 use Rattle.std.specs.Ordering.{match_ordering}
-use Rattle.std.specs.List.{list_any}
+use Rattle.std.specs.Cmp.{first_so, second_so}
+use Rattle.std.specs.List.{list_all, list_any}
 use Rattle.std.specs.BTreeMap.{insert_entry, is_at}
 use Rattle.std.specs.Map.{lookup, set_value}
 use Rattle.std.specs.declared.cmp.Ordering.{Ordering}
@@ -93,7 +94,7 @@ module _ {K V : Type 0} (p : V → Bool) where
       go true below = neither (p v) (list_any on_value es) g (not_second (p e.1) (list_any on_value es) f)
       go false below = neither (p e.1) (list_any on_value (insert_last eq es k v)) (not_first (p e.1) (list_any on_value es) f) below
 
-  none_set : (test : K → Bool) (es : List (K × V)) (v : V) → NoneOfValues es → p v ≡ false → NoneOfValues (set_value test es v)
+  pub none_set : (test : K → Bool) (es : List (K × V)) (v : V) → NoneOfValues es → p v ≡ false → NoneOfValues (set_value test es v)
   none_set test [] v f g = refl
   none_set test (e ∷ es) v f g = go (test e.0) (none_set test es v (not_second (p e.1) (list_any on_value es) f) g)
     where
@@ -107,3 +108,14 @@ module _ {K V : Type 0} (p : V → Bool) where
       go : (b : Bool) → NoneOfValues (cond b (set_value (is_at (cmp k)) es v) (insert_entry cmp es k v))
       go true = none_set (is_at (cmp k)) es v f g
       go false = none_inserted cmp es k v f g
+
+-- ---- a test that holds of all
+
+-- it holds of a value that is found
+pub all_found : {K V : Type 0} (p : V → Bool) (test : K → Bool) (es : List (K × V)) (v : V) → list_all (λ (e : K × V). p e.1) es ≡ true → lookup test es ≡ Some v → p v ≡ true
+all_found p test [] v all e = absurd cc
+all_found {K} {V} p test (x ∷ xs) v all e = go (test x.0) (λ f. all_found p test xs v (second_so (p x.1) (list_all (λ (y : K × V). p y.1) xs) all) f) e
+  where
+    go : (b : Bool) → (lookup test xs ≡ Some v → p v ≡ true) → cond b (Some x.1) (lookup test xs) ≡ Some v → p v ≡ true
+    go true below f = let same : x.1 ≡ v = cc in ap p (sym same) ∙ first_so (p x.1) (list_all (λ (y : K × V). p y.1) xs) all
+    go false below f = below f

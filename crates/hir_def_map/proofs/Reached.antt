@@ -1,47 +1,48 @@
 -- A path leads only to what is there.
 use Rattle.std.proofs.Common.{◌≡◌, ◌∙◌, ap, sym, refl, ℕ, zero, suc, ◌+◌, List, [], ◌∷◌, Bool, true, false, ◌&&◌, ◌||◌, cond, Option, None, Some}
 use Rattle.std.specs.List.{All}
-use Rattle.std.specs.Option.{option_and_then}
+use Rattle.std.specs.Option.{option_and_then, option_map}
 use Rattle.std.specs.Prelude.{is_some, not}
 use Rattle.std.proofs.lemmas.List.Elements.{All-head, All-tail}
-use Rattle.hir_base.specs.declared.builtin_type.BuiltinType.{BuiltinType as AnyBuiltin}
-use Rattle.hir_base.specs.BuiltinType.{builtin_named}
 use Rattle.hir_base.specs.declared.ids.AdtId.{AdtId}
 use Rattle.hir_base.specs.declared.ids.AdtId.TheVariants as adts
 use Rattle.hir_base.specs.declared.ids.Crate.{Crate}
+use Rattle.hir_base.specs.declared.ids.EnumId.{EnumId}
 use Rattle.hir_base.specs.declared.ids.ExternCrateId.{ExternCrateId}
 use Rattle.hir_base.specs.declared.ids.ModuleId.{ModuleId as AnyModule}
 use Rattle.hir_base.specs.declared.ids.ModuleDefId.{ModuleDefId}
 use Rattle.hir_base.specs.declared.ids.ModuleDefId.TheVariants.{ModuleId, FunctionId, AdtId as AnyAdt, EnumVariantId, ConstId, StaticId, TraitId, TypeAliasId, BuiltinType, MacroId}
 use Rattle.hir_base.specs.declared.ids.UseId.{UseId}
-use Rattle.hir_base.specs.declared.macro_kind.MacroId.{MacroId as AnyMacro}
 use Rattle.hir_base.specs.declared.mod_path.PathKind.{PathKind}
 use Rattle.hir_base.specs.declared.mod_path.PathKind.TheVariants as kinds
 use Rattle.hir_item_tree.specs.Shape.{has_constructor}
 use Rattle.hir_scope.specs.declared.imports.ImportOrExternCrate.{ImportOrExternCrate}
-use Rattle.hir_scope.specs.PerNs.{Item, keep_item, keep_of, nothing, or_of, with_constructor}
+use Rattle.hir_scope.specs.declared.imports.ImportOrExternCrate.TheVariants as ways
+use Rattle.hir_scope.specs.PerNs.{Item, item_of, nothing, or_of, with_constructor}
 use Rattle.hir_scope.specs.declared.per_ns.PerNs.{PerNs}
 use Rattle.hir_scope.specs.declared.visibility.Visibility.{Visibility}
 use Rattle.hir_scope.specs.ModuleTree.{same_block, same_crate}
-use Rattle.hir_scope.specs.Bindings.{first_of}
 use Rattle.hir_scope.specs.Visibility.{is_visible}
 use Rattle.hir_def_map.specs.Overlay.{Maps, entry_in, map_in, module_in, parent_in}
 use Rattle.hir_def_map.specs.State.{at_name}
 use Rattle.hir_def_map.specs.Inner.OverlayLaws.{exact_crate}
 use Rattle.hir_def_map.specs.Ancestors.{above_in, holders_in}
-use Rattle.hir_def_map.specs.Closed.{AreThere, IsClosed, IsThere, LocalIsThere, MapIsThere, ModuleIsThere, TypeIsThere}
-use Rattle.hir_def_map.specs.References.{crate_map}
+use Rattle.hir_def_map.specs.Closed.{AreThere, IsClosed, LocalIsThere, MapIsThere, ModuleIsThere}
+use Rattle.hir_def_map.specs.References.{crate_map, is_missing, reference_to, test_item, test_of, test_visibility, FailsAtItem}
 use Rattle.hir_def_map.specs.Scoping.Asking.{Asking}
 use Rattle.hir_def_map.specs.Scoping.Blocks.{from_blocks, in_preludes, inherited, joined, with_preludes}
-use Rattle.hir_def_map.specs.Scoping.FirstSegment.{builtin_bound, builtin_name, extern_bound, extern_name, fits, is_block_root, legacy_bound, legacy_name, legacy_of, macro_use_bound, macro_use_name, macro_use_of, name_in_module, name_in_preludes, name_in_crate_root_or_extern_prelude, names_module, prelude_bound, prelude_name, prelude_of, scope_name, shadow_before, unless_block_root, with_builtin}
-use Rattle.hir_def_map.specs.Scoping.Segments.{after_enum, crossing, nearest_non_block_among, nearest_non_block_module, rest, seen, through, through_adt, through_type, unresolved, variant_in}
+use Rattle.hir_def_map.specs.Scoping.FirstSegment.{extern_bound, extern_name, is_block_root, name_in_module, name_in_preludes, name_in_crate_root_or_extern_prelude, prelude_bound, prelude_of, shadow_before}
+use Rattle.hir_def_map.specs.Scoping.Segments.{after_enum, crossing, nearest_non_block_among, nearest_non_block_module, rest, seen, stopped, through, through_adt, through_type, unresolved, variant_bound, variant_in}
 use Rattle.hir_def_map.specs.Scoping.Start.{abs_from, climb, crate_root, from_start, is_dependency, is_import, is_in_reach, module_bound, is_in_edition_2015, settled_in_block, super_from}
 use Rattle.hir_def_map.specs.declared.nameres.enum_variants.EnumVariant.{EnumVariant}
 use Rattle.hir_base.specs.declared.resolve_mode.BuiltinShadowMode.{BuiltinShadowMode}
-use Rattle.hir_base.specs.declared.resolve_mode.BuiltinShadowMode.TheVariants as shadow_modes
 use Rattle.hir_base.specs.declared.resolve_mode.MacroSubNs.{MacroSubNs}
 use Rattle.hir_def_map.specs.declared.nameres.path_resolution.ReachedFixedPoint.TheVariants.{Yes, No}
 use Rattle.hir_def_map.specs.declared.nameres.path_resolution.ResolvePathResult.{ResolvePathResult}
+use Rattle.hir_def_map.specs.declared.world.reference.Reference.{Reference}
+use Rattle.hir_def_map.specs.declared.world.reference.Reference.TheVariants as named
+use Rattle.hir_def_map.proofs.Fails.{Fails-cond, Fails-in_module, Fails-in_preludes, Fails-in_root, Fails-keep, Fails-nothing, Fails-or, Fails-public}
+use Rattle.hir_def_map.proofs.NoneOf.{neither, not_first, not_second}
 
 module _ (maps : Maps) where
   abbrev There : PerNs → Type 0
@@ -50,152 +51,105 @@ module _ (maps : Maps) where
   abbrev Answers : ResolvePathResult → Type 0
   Answers r = AreThere maps r.resolved_def
 
-  -- ---- joined and chosen
+  abbrev missing : Reference → Bool
+  missing n = is_missing maps n
+
+  nothing_there : There nothing
+  nothing_there = Fails-nothing missing
 
   -- of two that are there the one is there
   either : (b : Bool) (p q : PerNs) → There p → There q → There (cond b p q)
-  either true p q f g = f
-  either false p q f g = g
+  either b p q f g = Fails-cond missing b p q f g
 
   either_answer : (b : Bool) (p q : ResolvePathResult) → Answers p → Answers q → Answers (cond b p q)
   either_answer true p q f g = f
   either_answer false p q f g = g
 
   or_there : (a b : PerNs) → There a → There b → There (or_of a b)
-  or_there a b f g = go a.types f
-    where
-      go : (t : Option (Item ModuleDefId ImportOrExternCrate)) → TypeIsThere maps t → TypeIsThere maps (first_of t b.types)
-      go None h = g
-      go (Some i) h = h
-
-  keep_there : (test : Visibility → Bool) (p : PerNs) → There p → There (keep_of test p)
-  keep_there test p f = go p.types f
-    where
-      kept : (b : Bool) (i : Item ModuleDefId ImportOrExternCrate) → IsThere maps i.def → TypeIsThere maps (cond b (Some i) None)
-      kept true i h = h
-      kept false i h = tt
-
-      go : (t : Option (Item ModuleDefId ImportOrExternCrate)) → TypeIsThere maps t → TypeIsThere maps (keep_item test t)
-      go None h = tt
-      go (Some i) h = kept (test i.vis) i h
+  or_there a b f g = Fails-or missing a b f g
 
   module_there : (m : AnyModule) → ModuleIsThere maps m → There (module_bound m)
-  module_there m e = ap not e
-
-  -- ---- names of first segments
-
-  legacy_there : (sub_ns : Option MacroSubNs) (o : Option AnyMacro) → There (legacy_bound sub_ns o)
-  legacy_there sub_ns None = tt
-  legacy_there sub_ns (Some m) = go (fits sub_ns m)
-    where
-      go : (b : Bool) → There (cond b (legacy_bound None (Some m)) nothing)
-      go true = tt
-      go false = tt
-
-  builtin_there : (at : AnyModule) (name : List ℕ) → There (builtin_name at name)
-  unfolding builtin_name
-  builtin_there at name = go (is_some at.map.block) (builtin_named name)
-    where
-      go : (b : Bool) (o : Option AnyBuiltin) → There (cond b nothing (builtin_bound o))
-      go true o = tt
-      go false None = tt
-      go false (Some t) = refl
-
-  macro_use_there : (o : Option (AnyMacro × Option ExternCrateId)) → There (macro_use_bound o)
-  macro_use_there None = tt
-  macro_use_there (Some e) = tt
+  module_there m e = Fails-public missing (ModuleId m) None (ap not e)
 
   module _ (closed : IsClosed maps) (asking : Asking) (local : LocalIsThere maps asking.local) where
     extern_there : (name : List ℕ) → There (extern_name asking.local name)
     extern_there name = go (at_name asking.local name) refl
       where
         go : (o : Option (AnyModule × Option ExternCrateId)) → at_name asking.local name ≡ o → There (extern_bound o)
-        go None e = tt
-        go (Some entry) e = module_there entry.0 (local.modules name entry e)
+        go None e = nothing_there
+        go (Some entry) e = Fails-public missing (ModuleId entry.0) (option_map ways.ExternCrate entry.1) (ap not (local.modules name entry e))
 
     prelude_there : (o : Option (AnyModule × Option UseId)) (name : List ℕ) → There (prelude_bound maps o name)
-    prelude_there None name = tt
-    prelude_there (Some p) name = closed.types p.0 name
-
-    unless_there : (at : AnyModule) (p : PerNs) → There p → There (unless_block_root at p)
-    unless_there at p f = either (is_block_root at) nothing p tt f
-
-    builtin_or : (shadow : BuiltinShadowMode) (scope builtin : PerNs) → There scope → There builtin → There (with_builtin shadow scope builtin)
-    builtin_or shadow_modes.Module scope builtin f g = or_there scope builtin f g
-    builtin_or shadow_modes.Other scope builtin f g = either (names_module scope.types) (or_of builtin scope) (or_of scope builtin) (or_there builtin scope g f) (or_there scope builtin f g)
+    prelude_there None name = nothing_there
+    prelude_there (Some p) name = closed.names p.0 name
 
     name_there : (sub_ns : Option MacroSubNs) (shadow : BuiltinShadowMode) (at : AnyModule) (name : List ℕ) → There (name_in_module maps asking.local sub_ns shadow at name)
-    name_there sub_ns shadow at name =
-        let legacy : PerNs = legacy_name maps sub_ns at name in
-        let scope : PerNs = with_builtin shadow (scope_name maps sub_ns at name) (builtin_name at name) in
-        let crate_ : PerNs = unless_block_root at (extern_name asking.local name) in
-        let macro_use : PerNs = macro_use_name maps at name in
-        let prelude : PerNs = unless_block_root at (prelude_name maps at name) in
-        or_there (or_of (or_of (or_of legacy scope) crate_) macro_use) prelude
-        (or_there (or_of (or_of legacy scope) crate_) macro_use
-        (or_there (or_of legacy scope) crate_
-        (or_there legacy scope
-        (legacy_there sub_ns (legacy_of (module_in maps at) name))
-        (builtin_or shadow (scope_name maps sub_ns at name) (builtin_name at name) (closed.types at name) (builtin_there at name)))
-        (unless_there at (extern_name asking.local name) (extern_there name)))
-        (macro_use_there (macro_use_of (map_in maps at.map) name)))
-        (unless_there at (prelude_name maps at name) (prelude_there (prelude_of (map_in maps at.map)) name))
+    name_there sub_ns shadow at name = Fails-in_module missing maps asking.local at name (extern_there name) sub_ns shadow (closed.names at name) (prelude_there (prelude_of (map_in maps at.map)) name)
 
     preludes_there : (at : AnyModule) (name : List ℕ) → There (name_in_preludes maps asking.local at name)
-    preludes_there at name =
-        or_there (or_of (extern_name asking.local name) (macro_use_name maps at name)) (prelude_name maps at name)
-        (or_there (extern_name asking.local name) (macro_use_name maps at name) (extern_there name) (macro_use_there (macro_use_of (map_in maps at.map) name)))
-        (prelude_there (prelude_of (map_in maps at.map)) name)
+    preludes_there at name = Fails-in_preludes missing maps asking.local at name (extern_there name) (prelude_there (prelude_of (map_in maps at.map)) name)
 
     root_there : (at : AnyModule) (name : List ℕ) → There (name_in_crate_root_or_extern_prelude maps asking.local at name)
-    root_there at name =
-        or_there (entry_in maps (crate_root at.map.krate) name) (unless_block_root at (extern_name asking.local name))
-        (closed.types (crate_root at.map.krate) name) (unless_there at (extern_name asking.local name) (extern_there name))
+    root_there at name = Fails-in_root missing maps asking.local at name (extern_there name) (closed.names (crate_root at.map.krate) name)
 
     -- ---- further segments
 
     seen_there : (from at : AnyModule) (name : List ℕ) → There (seen maps from at name)
-    seen_there from at name = keep_there (λ v. is_visible (above_in maps) (holders_in maps) v from) (entry_in maps at name) (closed.types at name)
+    seen_there from at name = Fails-keep missing (λ v. is_visible (above_in maps) (holders_in maps) v from) (entry_in maps at name) (closed.names at name)
 
-    enum_there : (ss : List (List ℕ)) (i : ℕ) (item : Item ModuleDefId ImportOrExternCrate) → IsThere maps item.def → (o : Option EnumVariant) → Answers (after_enum ss i item o)
-    enum_there ss i item f None = f
-    enum_there [] i item f (Some v) = go (cond (has_constructor v.shape) (Some item.vis) None)
+    -- a type at which a path stops
+    stopped_there : (i : ℕ) (item : Item ModuleDefId ImportOrExternCrate) → FailsAtItem missing (Some item) → Answers (stopped i item)
+    stopped_there i item f = record { types = f; values = tt; macros = tt }
+
+    variant_there : (vis : Visibility) (variant : EnumVariant) → test_item missing (item_of {I = ImportOrExternCrate} (EnumVariantId variant.id) vis None) ≡ false → There (variant_bound vis variant)
+    variant_there vis variant f = go (has_constructor variant.shape)
       where
-        go : (c : Option Visibility) → There (with_constructor (EnumVariantId v.id) item.vis c None)
-        go None = refl
-        go (Some x) = refl
-    enum_there (s ∷ ss) i item f (Some v) = tt
+        go : (b : Bool) → There (with_constructor (EnumVariantId variant.id) vis (cond b (Some vis) None) None)
+        go true = record { types = f; values = f; macros = tt }
+        go false = record { types = f; values = tt; macros = tt }
+
+    enum_there : (ss : List (List ℕ)) (i : ℕ) (item : Item ModuleDefId ImportOrExternCrate) (id : EnumId) (name : List ℕ) → is_missing maps (named.Enum id) ≡ false
+        → FailsAtItem missing (Some item) → (o : Option EnumVariant) → variant_in maps id name ≡ o → Answers (after_enum ss i item o)
+    enum_there ss i item id name there f None e = stopped_there i item f
+    enum_there [] i item id name there f (Some v) e =
+        let own : is_missing maps (named.Enum v.id.parent) ≡ false = ap (λ (x : EnumId). is_missing maps (named.Enum x)) (closed.variants id name v e) ∙ there in
+        variant_there item.vis v
+        (neither (is_missing maps (named.Enum v.id.parent)) (test_visibility missing item.vis) own (not_second (test_of missing (reference_to item.def)) (test_visibility missing item.vis) f))
+    enum_there (s ∷ ss) i item id name there f (Some v) e = nothing_there
 
     through_there : (further : AnyModule → PerNs → ResolvePathResult) → ((from : AnyModule) (now : PerNs) → There now → Answers (further from now))
-        → (from : AnyModule) (ss : List (List ℕ)) (i : ℕ) (s : List ℕ) (t : Option (Item ModuleDefId ImportOrExternCrate)) → TypeIsThere maps t
+        → (from : AnyModule) (ss : List (List ℕ)) (i : ℕ) (s : List ℕ) (t : Option (Item ModuleDefId ImportOrExternCrate)) → FailsAtItem missing t
         → Answers (through_type further maps from ss i s t)
-    through_there further below from ss i s None f = tt
-    through_there further below from ss i s (Some item) f = go item.def
+    through_there further below from ss i s None f = nothing_there
+    through_there further below from ss i s (Some item) f = go item.def (not_first (test_of missing (reference_to item.def)) (test_visibility missing item.vis) f)
       where
         here : (m : AnyModule) (b : Bool) → Answers (cond b (further from (seen maps from m s)) (crossing (further (nearest_non_block_module maps m) (seen maps (nearest_non_block_module maps m) (nearest_non_block_module maps m) s))))
         here m true = below from (seen maps from m s) (seen_there from m s)
         here m false = below (nearest_non_block_module maps m) (seen maps (nearest_non_block_module maps m) (nearest_non_block_module maps m) s) (seen_there (nearest_non_block_module maps m) (nearest_non_block_module maps m) s)
 
-        adt : (a : AdtId) → Answers (through_adt maps ss i s item a)
-        adt (adts.EnumId id) = enum_there ss i item f (variant_in maps id s)
-        adt (adts.StructId id) = f
-        adt (adts.UnionId id) = f
+        stops : Answers (stopped i item)
+        stops = stopped_there i item f
 
-        go : (d : ModuleDefId) → Answers (through further maps from ss i s item d)
-        go (ModuleId m) = here m (same_crate m.map.krate from.map.krate)
-        go (AnyAdt a) = adt a
-        go (FunctionId x) = f
-        go (EnumVariantId x) = f
-        go (ConstId x) = f
-        go (StaticId x) = f
-        go (TraitId x) = f
-        go (TypeAliasId x) = f
-        go (BuiltinType x) = f
-        go (MacroId x) = f
+        adt : (a : AdtId) → test_of missing (reference_to (AnyAdt a)) ≡ false → Answers (through_adt maps ss i s item a)
+        adt (adts.EnumId id) there = enum_there ss i item id s there f (variant_in maps id s) refl
+        adt (adts.StructId id) there = stops
+        adt (adts.UnionId id) there = stops
+
+        go : (d : ModuleDefId) → test_of missing (reference_to d) ≡ false → Answers (through further maps from ss i s item d)
+        go (ModuleId m) there = here m (same_crate m.map.krate from.map.krate)
+        go (AnyAdt a) there = adt a there
+        go (FunctionId x) there = stops
+        go (EnumVariantId x) there = stops
+        go (ConstId x) there = stops
+        go (StaticId x) there = stops
+        go (TraitId x) there = stops
+        go (TypeAliasId x) there = stops
+        go (BuiltinType x) there = stops
+        go (MacroId x) there = stops
 
     rest_there : (from : AnyModule) (ss : List (List ℕ)) (i : ℕ) (now : PerNs) → There now → Answers (rest maps from ss i now)
     rest_there from [] i now f = f
-    rest_there from (s ∷ ss) i now f = through_there (λ next_from next. rest maps next_from ss (i + 1) next) (λ next_from next g. rest_there next_from ss (i + 1) next g) from ss i s now.types f
+    rest_there from (s ∷ ss) i now f = through_there (λ next_from next. rest maps next_from ss (i + 1) next) (λ next_from next g. rest_there next_from ss (i + 1) next g) from ss i s now.types f.types
 
     -- ---- roots
 
@@ -224,7 +178,7 @@ module _ (maps : Maps) where
     settled_there m r f = either_answer (is_some m.map.block && not (is_block_root m)) (record r { reached_fixedpoint = Yes }) r f f
 
     super_there : (from : AnyModule) (ss : List (List ℕ)) (o : Option AnyModule) → ((m : AnyModule) → o ≡ Some m → ModuleIsThere maps m) → Answers (super_from maps from ss o)
-    super_there from ss None f = tt
+    super_there from ss None f = nothing_there
     super_there from ss (Some m) f =
         either_answer (same_block m.map.block from.map.block) (rest maps from ss 0 (module_bound m)) (settled_in_block m (rest maps m ss 0 (module_bound m)))
         (rest_there from ss 0 (module_bound m) (module_there m (f m refl)))
@@ -234,7 +188,7 @@ module _ (maps : Maps) where
     crate_there c e = module_there (crate_root c) (closed.roots (crate_map c) e)
 
     abs_there : (from : AnyModule) (ss : List (List ℕ)) (names : PerNs) → There names → Answers (abs_from maps from ss names)
-    abs_there from ss names f = either_answer (is_some names.types) (rest maps from ss 1 names) (unresolved No) (rest_there from ss 1 names f) tt
+    abs_there from ss names f = either_answer (is_some names.types) (rest maps from ss 1 names) (unresolved No) (rest_there from ss 1 names f) nothing_there
 
     same_crates : (a b : Crate) → same_crate a b ≡ true → a ≡ b
     same_crates a b e = exact_crate a b e
@@ -247,19 +201,19 @@ module _ (maps : Maps) where
             → Answers (cond (b || d) (rest maps from ss 0 (module_bound (crate_root c))) (unresolved No))
         go true s d t = rest_there from ss 0 (module_bound (crate_root c)) (crate_there c (ap (λ (k : Crate). is_some (maps (crate_map k))) (same_crates c from.map.krate s) ∙ closed.crates from e))
         go false s true t = rest_there from ss 0 (module_bound (crate_root c)) (crate_there c (closed.dependencies from.map c t))
-        go false s false t = tt
+        go false s false t = nothing_there
 
     start_there : (from : AnyModule) → ModuleIsThere maps from → (kind : PathKind) (ss : List (List ℕ)) → Answers (from_start maps asking from kind ss)
     start_there from e kinds.Crate ss = rest_there from ss 0 (module_bound (crate_root from.map.krate)) (crate_there from.map.krate (closed.crates from e))
     start_there from e (kinds.DollarCrate c) ss = reach_there from e c ss
     start_there from e (kinds.Super n) ss = super_there from ss (climb maps n (nearest_non_block_module maps from)) (λ m f. climb_there n (nearest_non_block_module maps from) (nearest_there from e) m f)
-    start_there from e kinds.Plain [] = tt
+    start_there from e kinds.Plain [] = nothing_there
     start_there from e kinds.Plain (s ∷ ss) = either_answer (is_in_edition_2015 (map_in maps from.map) && is_import asking.mode)
         (rest maps from ss 1 (name_in_crate_root_or_extern_prelude maps asking.local from s))
         (rest maps from ss 1 (name_in_module maps asking.local asking.sub_ns (shadow_before ss asking.shadow) from s))
         (rest_there from ss 1 (name_in_crate_root_or_extern_prelude maps asking.local from s) (root_there from s))
         (rest_there from ss 1 (name_in_module maps asking.local asking.sub_ns (shadow_before ss asking.shadow) from s) (name_there asking.sub_ns (shadow_before ss asking.shadow) from s))
-    start_there from e kinds.Abs [] = tt
+    start_there from e kinds.Abs [] = nothing_there
     start_there from e kinds.Abs (s ∷ ss) = either_answer (is_in_edition_2015 (map_in maps from.map))
         (rest maps from ss 1 (name_in_crate_root_or_extern_prelude maps asking.local from s))
         (abs_from maps from ss (extern_name asking.local s))
@@ -269,16 +223,16 @@ module _ (maps : Maps) where
     -- ---- blocks
 
     in_preludes_there : (root : AnyModule) (kind : PathKind) (ss : List (List ℕ)) → Answers (in_preludes maps asking root kind ss)
-    in_preludes_there root kinds.Crate ss = tt
-    in_preludes_there root (kinds.DollarCrate c) ss = tt
-    in_preludes_there root (kinds.Super n) ss = tt
-    in_preludes_there root kinds.Plain [] = tt
+    in_preludes_there root kinds.Crate ss = nothing_there
+    in_preludes_there root (kinds.DollarCrate c) ss = nothing_there
+    in_preludes_there root (kinds.Super n) ss = nothing_there
+    in_preludes_there root kinds.Plain [] = nothing_there
     in_preludes_there root kinds.Plain (s ∷ ss) = either_answer (is_in_edition_2015 (map_in maps root.map) && is_import asking.mode)
         (rest maps root ss 1 (extern_name asking.local s))
         (rest maps root ss 1 (name_in_preludes maps asking.local root s))
         (rest_there root ss 1 (extern_name asking.local s) (extern_there s))
         (rest_there root ss 1 (name_in_preludes maps asking.local root s) (preludes_there root s))
-    in_preludes_there root kinds.Abs [] = tt
+    in_preludes_there root kinds.Abs [] = nothing_there
     in_preludes_there root kinds.Abs (s ∷ ss) = either_answer (is_in_edition_2015 (map_in maps root.map))
         (rest maps root ss 1 (extern_name asking.local s))
         (abs_from maps root ss (extern_name asking.local s))

@@ -8,12 +8,13 @@ use Rattle.hir_base.specs.declared.ids.ModuleDefId.{ModuleDefId}
 use Rattle.hir_base.specs.declared.ids.ModuleId.{ModuleId}
 use Rattle.hir_base.specs.declared.ids.UseId.{UseId}
 use Rattle.hir_base.specs.declared.ast_id.BlockId.{BlockId}
-use Rattle.hir_scope.specs.declared.imports.ImportOrExternCrate.{ImportOrExternCrate}
 use Rattle.hir_scope.specs.PerNs.{Item}
+use Rattle.hir_scope.specs.Scope.{ScopeValue}
+use Rattle.hir_scope.specs.declared.visibility.Visibility.{Visibility}
 use Rattle.hir_def_map.specs.declared.world.reference.Reference.{Reference}
 use Rattle.hir_def_map.specs.declared.world.reference.Reference.TheVariants as reference
-use Rattle.hir_def_map.specs.Inner.ReferenceLists.{any_listed, block_crate, child_reference, crate_before, crate_reference, extern_reference, listed_in, module_before, references_besides, references_in, type_reference}
-use Rattle.hir_def_map.specs.References.{any_own_crate, any_reference, any_reference_besides, any_reference_in, prelude_reference, test_child, test_crate, test_extern, test_of, test_type}
+use Rattle.hir_def_map.specs.Inner.ReferenceLists.{any_listed, block_crate, child_reference, crate_before, crate_reference, extern_reference, item_reference, item_visibility, listed_in, module_before, references_besides, references_in, references_in_scope, visibility_before}
+use Rattle.hir_def_map.specs.References.{any_own_crate, any_reference, any_reference_besides, any_reference_in, any_reference_in_scope, prelude_reference, test_child, test_crate, test_extern, test_item, test_macro, test_of, test_type, test_value, test_visibility}
 use Rattle.hir_def_map.specs.State.{Local, Map, ModuleValue, crate_map}
 
 or-assoc : (a b c : Bool) → ((a || b) || c) ≡ (a || (b || c))
@@ -31,6 +32,18 @@ any-append p (x ∷ xs) ys = ap (λ (b : Bool). p x || b) (any-append p xs ys) �
 any-map : {A B : Type 0} (p : B → Bool) (f : A → B) (xs : List A) → list_any p (map f xs) ≡ list_any (λ (x : A). p (f x)) xs
 any-map p f [] = refl
 any-map p f (x ∷ xs) = ap (λ (b : Bool). p (f x) || b) (any-map p f xs)
+
+-- two tests of each, and each test of all
+any-or : {A : Type 0} (p q : A → Bool) (xs : List A) → (list_any p xs || list_any q xs) ≡ list_any (λ (x : A). p x || q x) xs
+any-or p q [] = refl
+any-or p q (x ∷ xs) = crossed (p x) (list_any p xs) (q x) (list_any q xs) ∙ ap (λ (b : Bool). (p x || q x) || b) (any-or p q xs)
+  where
+    crossed : (a b c d : Bool) → ((a || b) || (c || d)) ≡ ((a || c) || (b || d))
+    crossed true b c d = refl
+    crossed false true true d = refl
+    crossed false true false d = refl
+    crossed false false true d = refl
+    crossed false false false d = refl
 
 module _ (test : Reference → Bool) where
   abbrev holds : List (Option Reference) → Bool
@@ -50,13 +63,43 @@ module _ (test : Reference → Bool) where
       go true = or-false (test_crate test id.krate)
       go false = refl
 
+  any-visibility : (v : Visibility) (rest : List (Option Reference)) → holds (visibility_before (Some v) rest) ≡ (test_visibility test v || holds rest)
+  any-visibility v rest = refl
+
+  -- what items are and who may see them, as one goes over the items once
+  any-items : {I : Type 0} (items : List (List ℕ × Item ModuleDefId I)) (rest : List (Option Reference))
+      → holds (map item_reference items ++ (map item_visibility items ++ rest)) ≡ (list_any (λ (e : List ℕ × Item ModuleDefId I). test_item test e.1) items || holds rest)
+  any-items {I} items rest =
+      let defs = list_any (λ (e : List ℕ × Item ModuleDefId I). test_of test (item_reference e)) items in
+      let seen = list_any (λ (e : List ℕ × Item ModuleDefId I). test_of test (item_visibility e)) items in
+      any-part item_reference items (map item_visibility items ++ rest)
+      ∙ ap (λ (b : Bool). defs || b) (any-part item_visibility items rest)
+      ∙ sym (or-assoc defs seen (holds rest))
+      ∙ ap (λ (b : Bool). b || holds rest) (any-or (λ (e : List ℕ × Item ModuleDefId I). test_of test (item_reference e)) (λ (e : List ℕ × Item ModuleDefId I). test_of test (item_visibility e)) items)
+
+  -- of a scope
+  any_in_scope : (scope : ScopeValue) → holds (references_in_scope scope) ≡ any_reference_in_scope test scope
+  any_in_scope scope =
+      let traits = map item_visibility scope.unnamed_traits in
+      let macros = map item_visibility scope.macros ++ traits in
+      let values = map item_reference scope.values ++ (map item_visibility scope.values ++ macros) in
+      any-items scope.types values
+      ∙ ap (λ (b : Bool). list_any (test_type test) scope.types || b)
+      (any-items scope.values macros
+      ∙ ap (λ (b : Bool). list_any (test_value test) scope.values || b)
+      (any-part item_visibility scope.macros traits
+      ∙ ap (λ (b : Bool). list_any (test_macro test) scope.macros || b) (any-map (test_of test) item_visibility scope.unnamed_traits)))
+
   -- of a module
   pub any_in : (m : ModuleValue) → holds (references_in m) ≡ any_reference_in test m
   any_in m =
-      any-module m.parent (map child_reference m.children ++ map type_reference m.scope.types)
+      let rest = map child_reference m.children ++ references_in_scope m.scope in
+      any-module m.parent (visibility_before (Some m.visibility) rest)
       ∙ ap (λ (b : Bool). test_of test (option_map reference.Module m.parent) || b)
-      (any-part child_reference m.children (map type_reference m.scope.types)
-      ∙ ap (λ (b : Bool). list_any (test_child test) m.children || b) (any-map (test_of test) type_reference m.scope.types))
+      (any-visibility m.visibility rest
+      ∙ ap (λ (b : Bool). test_visibility test m.visibility || b)
+      (any-part child_reference m.children (references_in_scope m.scope)
+      ∙ ap (λ (b : Bool). list_any (test_child test) m.children || b) (any_in_scope m.scope)))
 
   prelude_is : (o : Option (ModuleId × Option UseId)) → test_of test (option_map reference.Module (option_map (λ (p : ModuleId × Option UseId). p.0) o)) ≡ test_of test (prelude_reference o)
   prelude_is None = refl

@@ -1,47 +1,48 @@
 -- Building leaves a map that names only what is there.
-use Rattle.std.specs.Prelude.{◌≡◌, ◌⊎◌, ℕ, zero, suc, ◌<◌, ◌+◌, ◌++◌, List, [], ◌∷◌, length, Bool, true, false, ◌&&◌, ◌||◌, not, is_some, Option, None, Some, cond, slice_get, option_and_then, option_map}
-use Rattle.std.specs.List.{list_any}
-use Rattle.std.specs.Ordering.{nat_cmp}
+use Rattle.std.specs.Prelude.{◌≡◌, ◌⊎◌, ℕ, zero, suc, ◌<◌, ◌+◌, ◌++◌, List, [], ◌∷◌, length, Bool, true, false, ◌&&◌, not, is_some, Option, None, Some, cond, slice_get, option_and_then, option_map}
+use Rattle.std.specs.List.{list_all, list_any}
+use Rattle.std.specs.Map.{lookup}
+use Rattle.std.specs.Ordering.{is_eq, match_ordering, nat_cmp}
+use Rattle.std.specs.declared.cmp.Ordering.{Ordering}
+use Rattle.std.specs.declared.cmp.Ordering.TheVariants.{Less, Equal, Greater}
 use Rattle.std.specs.Cmp.Lexicographic.{slice_cmp}
-use Rattle.std.specs.Cmp.{second_so}
-use Rattle.std.specs.BTreeMap.{is_at}
+use Rattle.std.specs.Cmp.{first_so, second_so}
+use Rattle.std.specs.BTreeMap.{insert_entry, is_at}
 use Rattle.std.proofs.Common.{ap, inl, inr, refl, subst, sym, ◌∙◌, arith}
 use mathlib.Core.Bool.{true≢false}
 use Rattle.hir_base.specs.declared.ids.EnumId.{EnumId}
 use Rattle.hir_base.specs.declared.ids.ExternCrateId.{ExternCrateId}
 use Rattle.hir_base.specs.declared.ids.MapId.{MapId}
-use Rattle.hir_base.specs.declared.ids.ModuleDefId.{ModuleDefId}
 use Rattle.hir_base.specs.declared.ids.ModuleId.{ModuleId}
 use Rattle.hir_base.specs.declared.ids.UseId.{UseId}
+use Rattle.hir_base.specs.contracts.ids.EnumIdOrd.TheImpl as enum_order
+use Rattle.hir_base.specs.contracts.ids.EnumIdOrd.TheImpl.Laws.{matches_eq-law as enum_ties}
 use Rattle.hir_base.specs.contracts.ids.MapIdPartialEq.TheImpl as map_id
-use Rattle.hir_base.specs.contracts.ids.ModuleDefIdPartialEq.TheImpl as module_def
-use Rattle.hir_scope.specs.contracts.imports.ImportOrExternCratePartialEq.TheImpl as item_import
 use Rattle.hir_scope.specs.declared.imports.ImportOrExternCrate.{ImportOrExternCrate}
-use Rattle.hir_scope.specs.PerNs.{Item, is_nothing}
 use Rattle.hir_scope.specs.declared.per_ns.PerNs.{PerNs}
 use Rattle.hir_scope.specs.declared.visibility.Visibility.{Visibility}
-use Rattle.hir_scope.specs.Globs.{GlobNames, Place, has_place}
-use Rattle.hir_scope.specs.ImportRecords.{is_glob}
+use Rattle.hir_scope.specs.Globs.{GlobNames}
 use Rattle.hir_scope.specs.ModuleTree.{same_crate}
 use Rattle.hir_scope.specs.Scope.{ScopeValue}
-use Rattle.hir_scope.specs.Entries.{item_at}
-use Rattle.hir_scope.specs.Bindings.{written_items, taken, type_candidate, takes}
-use Rattle.hir_scope.specs.Scope.Push.{written_scope, pushed_scope, taken_candidates, with_unresolved}
+use Rattle.hir_scope.specs.Scope.Push.{pushed_scope}
 use Rattle.hir_def_map.specs.declared.nameres.declaration.Declaration.{Declaration}
-use Rattle.hir_def_map.specs.declared.nameres.declaration.Declaration.TheVariants as declaration
 use Rattle.hir_def_map.specs.declared.nameres.origin.ModuleOrigin.{ModuleOrigin}
 use Rattle.hir_def_map.specs.declared.world.reference.Reference.{Reference}
 use Rattle.hir_def_map.specs.declared.world.reference.Reference.TheVariants as named
 use Rattle.hir_def_map.specs.Declaration.{listed}
-use Rattle.hir_def_map.specs.State.{Local, Map, ModuleValue, at_name, changed_at, module_at, new_id, new_module, numbered, parent_of, place_at, pushed, variants_at, with_child, with_module, with_module_scope, with_name, with_prelude, with_scope, IsBefore}
+use Rattle.hir_def_map.specs.State.{Local, Map, ModuleValue, Variants, at_name, changed_at, module_at, new_id, new_module, numbered, parent_of, place_at, pushed, variants_at, with_child, with_enum, with_module, with_module_scope, with_name, with_prelude, with_scope, IsBefore}
 use Rattle.hir_def_map.specs.Overlay.{Maps, Placed, overlay, holders_of, holders_or, holders_under, module_in, placed_in}
 use Rattle.hir_def_map.specs.Inner.OverlayLaws.{exact_map, same_id}
+use Rattle.hir_def_map.proofs.EnumIds.{exact_enum}
+use Rattle.hir_def_map.proofs.Fails.{of_less}
 use Rattle.hir_def_map.proofs.Grown.{kept, length-changed}
-use Rattle.hir_def_map.specs.References.{is_holder_for, is_missing, is_there, reference_to, any_reference_in, prelude_reference, test_child, test_of, test_type}
-use Rattle.hir_def_map.specs.Closed.{AreThere, IsClosed, LocalIsThere, ModuleIsThere, TypeIsThere}
+use Rattle.hir_def_map.proofs.Referred.{module_parts, module_whole}
+use Rattle.hir_def_map.proofs.ScopeChanges.{listed_fails, module_scope_fails, pushed_fails}
+use Rattle.hir_def_map.specs.References.{are_variants_of, is_holder_for, is_missing, is_there, any_reference_in, any_reference_in_scope, prelude_reference, test_child, test_of, visibility_reference}
+use Rattle.hir_def_map.specs.Closed.{AreThere, IsClosed, LocalIsThere, ModuleIsThere, VisibilityIsThere}
 use Rattle.hir_def_map.specs.WellFormed.{AreWellFormed, HasNoDanglingExtern, Extends, IsWellFormed, HasNoDanglingReference, is_held_outside}
-use Rattle.hir_def_map.proofs.WellFormed.{HasNoDanglingExtern-more, IsClosed-well_formed, HasNoDanglingReference-more}
-use Rattle.hir_def_map.proofs.NoneOf.{neither, none_changed, none_found, none_inserted, none_more, none_with_entry, not_first, not_second}
+use Rattle.hir_def_map.proofs.WellFormed.{HasNoDanglingExtern-more, IsClosed-well_formed, HasNoDanglingReference-more, none_missing}
+use Rattle.hir_def_map.proofs.NoneOf.{none_changed, none_found, none_inserted, none_more}
 
 -- ---- more is there
 
@@ -89,42 +90,6 @@ module _ (finished : Maps) (old new : Map) (same : new.id ≡ old.id) (modules :
 
 -- ---- the scope of one module
 
-module _ (maps : Maps) where
-  abbrev missing : Reference → Bool
-  missing n = is_missing maps n
-
-  -- items that are there leave types that are
-  types_pushed : (globs : GlobNames) (place : Place) (items : PerNs) (import : Option ImportOrExternCrate) (scope : ScopeValue) → AreThere maps items
-      → list_any (test_type missing) scope.types ≡ false → list_any (test_type missing) (pushed_scope globs place items import scope).types ≡ false
-  types_pushed globs place items import scope there f = go (is_nothing items)
-    where
-      bound : (i : Item ModuleDefId ImportOrExternCrate) → test_of missing (reference_to i.def) ≡ false → (b : Bool)
-          → list_any (test_type missing) (written_items place.1 (cond b (type_candidate (Some i) import) None) scope.types) ≡ false
-      bound i h true = none_with_entry (λ (x : Item ModuleDefId ImportOrExternCrate). test_of missing (reference_to x.def)) (slice_cmp nat_cmp) scope.types place.1 (record { def = i.def; vis = i.vis; import = import }) f h
-      bound i h false = f
-
-      offered : (t : Option (Item ModuleDefId ImportOrExternCrate)) → TypeIsThere maps t
-          → list_any (test_type missing) (written_items place.1 (taken module_def.ghosts.eq item_import.ghosts.eq scope.types globs.types place (type_candidate t import)) scope.types) ≡ false
-      offered None h = f
-      offered (Some i) h = bound i h (takes module_def.ghosts.eq item_import.ghosts.eq (has_place globs.types place) (item_at scope.types place.1) (record {
-        item = record { def = i.def; vis = i.vis; import = import };
-        is_glob = is_glob import;
-      }))
-
-      go : (b : Bool) → list_any (test_type missing) (cond b (with_unresolved scope place.1) (written_scope place.1 (taken_candidates scope globs place items import) scope)).types ≡ false
-      go true = f
-      go false = offered items.types there
-
-  -- a module whose types stay as they are or name what is there
-  scope_named : (change : ScopeValue → ScopeValue) (m : ModuleValue) → (list_any (test_type missing) m.scope.types ≡ false → list_any (test_type missing) (change m.scope).types ≡ false)
-      → any_reference_in missing m ≡ false → any_reference_in missing (with_module_scope change m) ≡ false
-  scope_named change m types f =
-      let p = test_of missing (option_map named.Module m.parent) in
-      let c = list_any (test_child missing) m.children in
-      let t = list_any (test_type missing) m.scope.types in
-      neither p (c || list_any (test_type missing) (change m.scope).types) (not_first p (c || t) f)
-      (neither c (list_any (test_type missing) (change m.scope).types) (not_first c t (not_second p (c || t) f)) (types (not_second c t (not_second p (c || t) f))))
-
 module _ (finished : Maps) (map : Map) (at : ℕ) where
   -- what was there stays there where the scope of a module changes
   pub Extends-scope : (change : ScopeValue → ScopeValue) → Extends (overlay finished map) (overlay finished (with_scope map at change))
@@ -132,9 +97,9 @@ module _ (finished : Maps) (map : Map) (at : ℕ) where
       (λ k e. kept (λ (o : Option ModuleValue). is_some o) map.modules at (with_module_scope change) (λ m. refl) k ∙ e)
       (λ e t. t)
 
-  -- a change of the names of one module, after which they are of what is there
-  HasNoDanglingReference-scope : (change : ScopeValue → ScopeValue)
-      → ((m : ModuleValue) → any_reference_in (is_missing (overlay finished map)) m ≡ false → any_reference_in (is_missing (overlay finished map)) (with_module_scope change m) ≡ false)
+  -- a change of the scope of one module, after which it refers only to what is there
+  pub HasNoDanglingReference-scope : (change : ScopeValue → ScopeValue)
+      → ((scope : ScopeValue) → any_reference_in_scope (is_missing (overlay finished map)) scope ≡ false → any_reference_in_scope (is_missing (overlay finished map)) (change scope) ≡ false)
       → HasNoDanglingReference (overlay finished map) map → HasNoDanglingReference (overlay finished (with_scope map at change)) (with_scope map at change)
   HasNoDanglingReference-scope change keeps f =
       let new : Map = with_scope map at change in
@@ -145,7 +110,9 @@ module _ (finished : Maps) (map : Map) (at : ℕ) where
         outside = f.outside;
         root = subst (λ (n : ℕ). 0 < n) (sym (length-changed map.modules at (with_module_scope change))) f.root;
         in_order = in_order;
-        modules = none_changed (any_reference_in (is_missing (overlay finished map))) (with_module_scope change) keeps map.modules at f.modules;
+        variants = f.variants;
+        modules = none_changed (any_reference_in (is_missing (overlay finished map))) (with_module_scope change)
+            (λ m g. module_scope_fails (is_missing (overlay finished map)) change m (keeps m.scope) g) map.modules at f.modules;
         prelude = f.prelude;
         dependencies = f.dependencies;
       })
@@ -164,20 +131,11 @@ module _ (finished : Maps) (map : Map) (at : ℕ) where
       → HasNoDanglingReference (overlay finished map) map → HasNoDanglingReference (overlay finished (pushed map globs at name items import)) (pushed map globs at name items import)
   HasNoDanglingReference-pushed globs name items import there f =
       HasNoDanglingReference-scope (pushed_scope globs (place_at map.id at name) items import)
-      (λ m g. scope_named (overlay finished map) (pushed_scope globs (place_at map.id at name) items import) m
-      (types_pushed (overlay finished map) globs (place_at map.id at name) items import m.scope there) g) f
+      (λ scope g. pushed_fails (is_missing (overlay finished map)) globs (place_at map.id at name) items import scope there g) f
 
   -- a declaration that is listed
   pub HasNoDanglingReference-listed : (d : Declaration) → HasNoDanglingReference (overlay finished map) map → HasNoDanglingReference (overlay finished (with_scope map at (listed d))) (with_scope map at (listed d))
-  HasNoDanglingReference-listed d f = HasNoDanglingReference-scope (listed d) (λ m g. scope_named (overlay finished map) (listed d) m (types d m.scope) g) f
-    where
-      types : (d : Declaration) (scope : ScopeValue) → list_any (test_type (is_missing (overlay finished map))) scope.types ≡ false → list_any (test_type (is_missing (overlay finished map))) (listed d scope).types ≡ false
-      types (declaration.Def def) scope h = h
-      types (declaration.Use use_) scope h = h
-      types (declaration.ExternCrate extern_crate) scope h = h
-      types (declaration.Impl imp is_trait_impl) scope h = h
-      types (declaration.ExternBlock extern_block) scope h = h
-      types (declaration.UnnamedConst konst) scope h = h
+  HasNoDanglingReference-listed d f = HasNoDanglingReference-scope (listed d) (λ scope g. listed_fails (is_missing (overlay finished map)) d scope g) f
 
 -- ---- one more module
 
@@ -244,30 +202,23 @@ module _ (finished : Maps) (map : Map) (at : ℕ) (here : at < length map.module
       (λ k e. still_some older made k (kept (λ (o : Option ModuleValue). is_some o) map.modules at (with_child name (new_id map)) (λ m. refl) k ∙ e))
       (λ e t. t)
 
-  abbrev no_parent : ModuleValue → Bool
-  no_parent m = test_of (is_missing (overlay finished grown)) (option_map named.Module m.parent)
+  abbrev missing : Reference → Bool
+  missing n = is_missing (overlay finished grown) n
 
-  abbrev no_child : List (List ℕ × ModuleId) → Bool
-  no_child children = list_any (test_child (is_missing (overlay finished grown))) children
-
-  abbrev no_type : ModuleValue → Bool
-  no_type m = list_any (test_type (is_missing (overlay finished grown))) m.scope.types
-
-  child_named : (m : ModuleValue) → any_reference_in (is_missing (overlay finished grown)) m ≡ false → any_reference_in (is_missing (overlay finished grown)) (with_child name (new_id map) m) ≡ false
-  child_named m f = go (is_some (at_name m.children name))
+  child_named : (m : ModuleValue) → any_reference_in missing m ≡ false → any_reference_in missing (with_child name (new_id map) m) ≡ false
+  child_named m f =
+      let parts = module_parts missing m f in
+      module_whole missing (with_child name (new_id map) m)
+      (record { parent = parts.parent; visibility = parts.visibility; children = go (is_some (at_name m.children name)) parts.children; scope = parts.scope })
     where
-      go : (b : Bool) → (no_parent m || (no_child (cond b m.children (with_name m.children name (new_id map))) || no_type m)) ≡ false
-      go true = f
-      go false =
-          neither (no_parent m) (no_child (with_name m.children name (new_id map)) || no_type m) (not_first (no_parent m) (no_child m.children || no_type m) f)
-          (neither (no_child (with_name m.children name (new_id map))) (no_type m)
-          (none_inserted (λ (x : ModuleId). is_missing (overlay finished grown) (named.Module x)) (slice_cmp nat_cmp) m.children name (new_id map)
-          (not_first (no_child m.children) (no_type m) (not_second (no_parent m) (no_child m.children || no_type m) f)) new_there)
-          (not_second (no_child m.children) (no_type m) (not_second (no_parent m) (no_child m.children || no_type m) f)))
+      go : (b : Bool) → list_any (test_child missing) m.children ≡ false → list_any (test_child missing) (cond b m.children (with_name m.children name (new_id map))) ≡ false
+      go true g = g
+      go false g = none_inserted (λ (x : ModuleId). missing (named.Module x)) (slice_cmp nat_cmp) m.children name (new_id map) g new_there
 
   -- a module that is made inside another
-  pub HasNoDanglingReference-made : HasNoDanglingReference (overlay finished map) map → HasNoDanglingReference (overlay finished grown) grown
-  HasNoDanglingReference-made f =
+  pub HasNoDanglingReference-made : VisibilityIsThere (overlay finished map) visibility → HasNoDanglingReference (overlay finished map) map
+      → HasNoDanglingReference (overlay finished grown) grown
+  HasNoDanglingReference-made seen f =
       let more = HasNoDanglingReference-more (overlay finished map) (overlay finished grown) Extends-made map f in
       record {
         own_crate = more.own_crate;
@@ -275,9 +226,15 @@ module _ (finished : Maps) (map : Map) (at : ℕ) (here : at < length map.module
         outside = more.outside;
         root = longer older made;
         in_order = in_order;
-        modules = none_more (any_reference_in (is_missing (overlay finished grown))) older made
-            (none_changed (any_reference_in (is_missing (overlay finished grown))) (with_child name (new_id map)) child_named map.modules at more.modules)
-            (neither (is_missing (overlay finished grown) (named.Module (numbered map.id at))) false above_there refl);
+        variants = more.variants;
+        modules = none_more (any_reference_in missing) older made
+            (none_changed (any_reference_in missing) (with_child name (new_id map)) child_named map.modules at more.modules)
+            (module_whole missing made (record {
+              parent = above_there;
+              visibility = of_less (is_missing (overlay finished map)) missing (none_missing (overlay finished map) (overlay finished grown) Extends-made) (visibility_reference visibility) seen;
+              children = refl;
+              scope = refl;
+            }));
         prelude = more.prelude;
         dependencies = more.dependencies;
       }
@@ -318,10 +275,79 @@ HasNoDanglingReference-prelude finished map prelude there f =
       outside = f.outside;
       root = f.root;
       in_order = f.in_order;
+      variants = f.variants;
       modules = f.modules;
       prelude = there;
       dependencies = f.dependencies;
     })
+
+-- ---- enums
+
+module _ {K V : Type 0} (test : K → Bool) where
+  there_or : (b : Bool) (v : V) (o : Option V) → is_some o ≡ true → is_some (cond b (Some v) o) ≡ true
+  there_or true v o h = refl
+  there_or false v o h = h
+
+  there_with : (b : Bool) (v w : V) (o : Option V) → is_some (cond b (Some v) o) ≡ true → is_some (cond b (Some w) o) ≡ true
+  there_with true v w o h = refl
+  there_with false v w o h = h
+
+  there_later : (b : Bool) (v : V) (o p : Option V) → (is_some o ≡ true → is_some p ≡ true) → is_some (cond b (Some v) o) ≡ true → is_some (cond b (Some v) p) ≡ true
+  there_later true v o p f h = refl
+  there_later false v o p f h = f h
+
+  still_inserted : (cmp : K → K → Ordering) (es : List (K × V)) (k : K) (v : V) → is_some (lookup test es) ≡ true → is_some (lookup test (insert_entry cmp es k v)) ≡ true
+  still_inserted cmp [] k v h = absurd (true≢false (sym h))
+  still_inserted cmp (e ∷ es) k v h = go (cmp k e.0) (still_inserted cmp es k v)
+    where
+      go : (o : Ordering) → (is_some (lookup test es) ≡ true → is_some (lookup test (insert_entry cmp es k v)) ≡ true)
+          → is_some (lookup test (match_ordering o ((k, v) ∷ e ∷ es) ((e.0, v) ∷ es) (e ∷ insert_entry cmp es k v))) ≡ true
+      go Less below = there_or (test k) v (lookup test (e ∷ es)) h
+      go Equal below = there_with (test e.0) e.1 v (lookup test es) h
+      go Greater below = there_later (test e.0) e.1 (lookup test es) (lookup test (insert_entry cmp es k v)) below h
+
+both : (a b : Bool) → a ≡ true → b ≡ true → (a && b) ≡ true
+both a b p q = ap (λ x. x && b) p ∙ q
+
+-- variants that are those of an enum
+module _ (finished : Maps) (map : Map) (id : EnumId) (variants : Variants) where
+  abbrev with_variants : Map
+  with_variants = with_enum map id variants
+
+  pub Extends-enum : Extends (overlay finished map) (overlay finished with_variants)
+  Extends-enum = Extends-grown finished map with_variants refl (λ k t. t) (λ e t. still_inserted (is_at (enum_order.ghosts.cmp e)) enum_order.ghosts.cmp map.enums id variants t)
+
+  abbrev has_own : EnumId × Variants → Bool
+  has_own e = are_variants_of e.0 e.1
+
+  own_variants : (es : List (EnumId × Variants)) → are_variants_of id variants ≡ true → list_all has_own es ≡ true → list_all has_own (insert_entry enum_order.ghosts.cmp es id variants) ≡ true
+  own_variants [] own all = both (are_variants_of id variants) true own refl
+  own_variants (e ∷ es) own all =
+      let later : list_all has_own es ≡ true = second_so (has_own e) (list_all has_own es) all in
+      go (enum_order.ghosts.cmp id e.0) refl later (own_variants es own later)
+    where
+      go : (o : Ordering) → enum_order.ghosts.cmp id e.0 ≡ o → list_all has_own es ≡ true → list_all has_own (insert_entry enum_order.ghosts.cmp es id variants) ≡ true
+          → list_all has_own (match_ordering o ((id, variants) ∷ e ∷ es) ((e.0, variants) ∷ es) (e ∷ insert_entry enum_order.ghosts.cmp es id variants)) ≡ true
+      go Less s later below = both (are_variants_of id variants) (list_all has_own (e ∷ es)) own all
+      go Equal s later below =
+          let same : id ≡ e.0 = exact_enum id e.0 (sym (enum_ties id e.0) ∙ ap is_eq s) in
+          both (are_variants_of e.0 variants) (list_all has_own es) (ap (λ (x : EnumId). are_variants_of x variants) (sym same) ∙ own) later
+      go Greater s later below = both (has_own e) (list_all has_own (insert_entry enum_order.ghosts.cmp es id variants)) (first_so (has_own e) (list_all has_own es) all) below
+
+  pub HasNoDanglingReference-enum : are_variants_of id variants ≡ true → HasNoDanglingReference (overlay finished map) map → HasNoDanglingReference (overlay finished with_variants) with_variants
+  HasNoDanglingReference-enum own f =
+      let more = HasNoDanglingReference-more (overlay finished map) (overlay finished with_variants) Extends-enum map f in
+      record {
+        own_crate = more.own_crate;
+        held = more.held;
+        outside = more.outside;
+        root = more.root;
+        in_order = more.in_order;
+        variants = own_variants map.enums own more.variants;
+        modules = more.modules;
+        prelude = more.prelude;
+        dependencies = more.dependencies;
+      }
 
 -- ---- beside finished maps
 

@@ -13,22 +13,28 @@ use Rattle.std.proofs.lemmas.Option.{slice_get-map}
 use mathlib.Core.Bool.{true≢false}
 use Rattle.hir_base.specs.declared.ast_id.BlockId.{BlockId}
 use Rattle.hir_base.specs.declared.ids.Crate.{Crate}
+use Rattle.hir_base.specs.declared.ids.EnumId.{EnumId}
 use Rattle.hir_base.specs.declared.ids.MapId.{MapId}
-use Rattle.hir_base.specs.declared.ids.ModuleDefId.{ModuleDefId}
 use Rattle.hir_base.specs.declared.ids.ModuleId.{ModuleId}
 use Rattle.hir_scope.specs.ModuleTree.{same_crate}
-use Rattle.hir_scope.specs.declared.imports.ImportOrExternCrate.{ImportOrExternCrate}
-use Rattle.hir_scope.specs.PerNs.{Item}
 use Rattle.hir_def_map.specs.Inner.OverlayLaws.{same_id, exact_crate, frame_holders}
 use Rattle.hir_def_map.specs.Ancestors.{ends_from, ends_within, leads_to_root, number_in, own_frame, parent_number, frames_of}
-use Rattle.hir_def_map.specs.Closed.{AreThere, IsClosed, MapIsThere, ModuleIsThere, TypeIsThere}
+use Rattle.hir_def_map.specs.Closed.{AreThere, IsClosed, MapIsThere, ModuleIsThere}
 use Rattle.hir_def_map.specs.WellFormed.{HasNoDanglingReference, HasNoDanglingExtern, Extends, AreWellFormed, is_held_outside}
-use Rattle.hir_def_map.specs.References.{is_missing, is_there, reference_to, any_reference_in, prelude_reference, test_child, test_crate, test_extern, test_of, test_type, all_below, has_its_parents, is_parent_in, each_leads_to_root, is_well_formed, is_holder_for, any_own_crate, any_reference}
+use Rattle.hir_def_map.specs.References.{are_variants_of, is_missing, is_there, any_reference_in, prelude_reference, test_crate, test_extern, test_of, all_below, has_its_parents, is_parent_in, each_leads_to_root, is_well_formed, is_holder_for, any_own_crate, any_reference}
+use Rattle.hir_def_map.specs.Scoping.Segments.{variant_in}
 use Rattle.hir_def_map.specs.Scoping.Start.{is_dependency}
-use Rattle.hir_def_map.specs.State.{Local, Map, ModuleValue, crate_map, parent_of, module_at, parent_at, IsBefore, IsInOrder, entry_of, root_of}
+use Rattle.hir_def_map.specs.State.{Local, Map, ModuleValue, Variants, at_name, crate_map, variants_at, parent_of, module_at, parent_at, IsBefore, IsInOrder, entry_of, root_of}
 use Rattle.hir_def_map.specs.Overlay.{Maps, overlay, Placed, entry_in, holders_of, holders_under, map_in, module_in, parent_in, placed_in}
 use Rattle.hir_def_map.specs.declared.world.reference.Reference.{Reference}
-use Rattle.hir_def_map.proofs.NoneOf.{neither, none_of_less, not_first, not_second, none_at, none_found}
+use Rattle.hir_def_map.specs.declared.nameres.enum_variants.EnumVariant.{EnumVariant}
+use Rattle.hir_def_map.proofs.EnumIds.{exact_enum}
+use Rattle.hir_def_map.proofs.Fails.{of_less}
+use Rattle.hir_def_map.proofs.Referred.{entry_fails, module_less, module_parts}
+use Rattle.hir_def_map.proofs.NoneOf.{all_found, neither, none_of_less, not_first, not_second, none_at}
+use Rattle.hir_base.specs.contracts.ids.EnumIdOrd.TheImpl as enum_order
+use Rattle.hir_base.specs.contracts.ids.EnumIdOrd.TheImpl.Laws.{matches_eq-law as enum_ties}
+use Rattle.hir_base.specs.contracts.ids.EnumIdPartialEq.TheImpl as enum_id
 use Rattle.hir_base.specs.contracts.ids.MapIdPartialEq.TheImpl as map_id
 use Rattle.hir_def_map.specs.declared.world.reference.Reference.TheVariants as named
 
@@ -41,20 +47,10 @@ module _ (one other : Maps) (more : Extends one other) where
   none_missing n e = still_there (is_there one n) (is_there other n) (more n) e
 
   of_none : (o : Option Reference) → test_of (is_missing one) o ≡ false → test_of (is_missing other) o ≡ false
-  of_none None e = refl
-  of_none (Some n) e = none_missing n e
+  of_none o e = of_less (is_missing one) (is_missing other) none_missing o e
 
   in_module : (m : ModuleValue) → any_reference_in (is_missing one) m ≡ false → any_reference_in (is_missing other) m ≡ false
-  in_module m e =
-      let p = test_of (is_missing one) (option_map named.Module m.parent) in
-      let c = list_any (test_child (is_missing one)) m.children in
-      let t = list_any (test_type (is_missing one)) m.scope.types in
-      let rest : (c || t) ≡ false = not_second p (c || t) e in
-      neither (test_of (is_missing other) (option_map named.Module m.parent)) (list_any (test_child (is_missing other)) m.children || list_any (test_type (is_missing other)) m.scope.types)
-      (of_none (option_map named.Module m.parent) (not_first p (c || t) e))
-      (neither (list_any (test_child (is_missing other)) m.children) (list_any (test_type (is_missing other)) m.scope.types)
-      (none_of_less (test_child (is_missing one)) (test_child (is_missing other)) (λ x f. none_missing (named.Module x.1) f) m.children (not_first c t rest))
-      (none_of_less (test_type (is_missing one)) (test_type (is_missing other)) (λ x f. of_none (reference_to x.1.def) f) m.scope.types (not_second c t rest)))
+  in_module m e = module_less (is_missing one) (is_missing other) none_missing m e
 
   own_crate : (id : MapId) → any_own_crate (is_missing one) id ≡ false → any_own_crate (is_missing other) id ≡ false
   own_crate id e = go (is_some id.block) e
@@ -79,6 +75,7 @@ module _ (one other : Maps) (more : Extends one other) where
     outside = f.outside;
     root = f.root;
     in_order = f.in_order;
+    variants = f.variants;
     modules = none_of_less (any_reference_in (is_missing one)) (any_reference_in (is_missing other)) in_module map.modules f.modules;
     prelude = of_none (prelude_reference map.prelude) f.prelude;
     dependencies = none_of_less (test_crate (is_missing one)) (test_crate (is_missing other)) (λ c g. none_missing (named.Map (crate_map c)) g) map.crate_data.dependencies f.dependencies;
@@ -186,7 +183,7 @@ complete finished map local f begins =
     (neither d o f.dependencies f.own_crate)))) in
     let held : is_holder_for finished map.id map.holder ≡ true = held_before finished map map.holder f.outside f.held in
     let leads : each_leads_to_root map ≡ true = all_lead map f.in_order (length map.modules) (omega arith) in
-    rw (leads, parents_inside map f.in_order, held, nothing_missing) refl
+    rw (leads, parents_inside map f.in_order, f.variants, held, nothing_missing) refl
 
 module _ (maps : Maps) (whole : AreWellFormed maps) where
   abbrev missing : Reference → Bool
@@ -214,22 +211,36 @@ module _ (maps : Maps) (whole : AreWellFormed maps) where
     where
       go : (o : Option ModuleValue) → module_in maps m ≡ o → parent_of o ≡ Some p → ModuleIsThere maps p
       go None s f = absurd cc
-      go (Some v) s f =
-          let named_parent : test_of missing (option_map named.Module v.parent) ≡ false = not_first (test_of missing (option_map named.Module v.parent)) (list_any (test_child missing) v.children || list_any (test_type missing) v.scope.types) (names_of m v s) in
-          is_in (named.Module p) (ap (λ (x : Option ModuleId). test_of missing (option_map named.Module x)) (sym f) ∙ named_parent)
+      go (Some v) s f = is_in (named.Module p) (ap (λ (x : Option ModuleId). test_of missing (option_map named.Module x)) (sym f) ∙ (module_parts missing v (names_of m v s)).parent)
 
-  closed_types : (m : ModuleId) (name : List ℕ) → AreThere maps (entry_in maps m name)
-  closed_types m name = go (module_in maps m) refl
+  closed_names : (m : ModuleId) (name : List ℕ) → AreThere maps (entry_in maps m name)
+  closed_names m name = entry_fails missing (module_in maps m) (names_of m) name
+
+  -- a variant is that of its enum
+  own_variant : (vs : Variants) (id : EnumId) (name : List ℕ) (variant : EnumVariant) → are_variants_of id vs ≡ true → at_name vs name ≡ Some variant → variant.id.parent ≡ id
+  own_variant vs id name variant all e =
+      exact_enum variant.id.parent id (all_found (λ (v : EnumVariant). enum_id.ghosts.eq v.id.parent id) (is_at (slice_cmp nat_cmp name)) vs variant all e)
+
+  closed_variants : (id : EnumId) (name : List ℕ) (variant : EnumVariant) → variant_in maps id name ≡ Some variant → variant.id.parent ≡ id
+  closed_variants id name variant e = go (maps id.loc.container.map) refl e
     where
-      found : (v : ModuleValue) → any_reference_in missing v ≡ false → (t : Option (Item ModuleDefId ImportOrExternCrate)) → lookup (is_at (slice_cmp nat_cmp name)) v.scope.types ≡ t → TypeIsThere maps t
-      found v f None e = tt
-      found v f (Some i) e = none_found (λ (x : Item ModuleDefId ImportOrExternCrate). test_of missing (reference_to x.def)) (is_at (slice_cmp nat_cmp name)) v.scope.types i
-          (not_second (list_any (test_child missing) v.children) (list_any (test_type missing) v.scope.types)
-          (not_second (test_of missing (option_map named.Module v.parent)) (list_any (test_child missing) v.children || list_any (test_type missing) v.scope.types) f)) e
+      here : (x : EnumId × Variants) (xs : List (EnumId × Variants)) (b : Bool) → is_at (enum_order.ghosts.cmp id) x.0 ≡ b → are_variants_of x.0 x.1 ≡ true
+          → (option_and_then (λ (vs : Variants). at_name vs name) (lookup (is_at (enum_order.ghosts.cmp id)) xs) ≡ Some variant → variant.id.parent ≡ id)
+          → option_and_then (λ (vs : Variants). at_name vs name) (cond b (Some x.1) (lookup (is_at (enum_order.ghosts.cmp id)) xs)) ≡ Some variant → variant.id.parent ≡ id
+      here x xs true s own below g = own_variant x.1 x.0 name variant own g ∙ sym (exact_enum id x.0 (sym (enum_ties id x.0) ∙ s))
+      here x xs false s own below g = below g
 
-      go : (o : Option ModuleValue) → module_in maps m ≡ o → AreThere maps (entry_of o name)
-      go None s = tt
-      go (Some v) s = found v (names_of m v s) (lookup (is_at (slice_cmp nat_cmp name)) v.scope.types) refl
+      of_enum : (es : List (EnumId × Variants)) → list_all (λ (x : EnumId × Variants). are_variants_of x.0 x.1) es ≡ true
+          → option_and_then (λ (vs : Variants). at_name vs name) (lookup (is_at (enum_order.ghosts.cmp id)) es) ≡ Some variant → variant.id.parent ≡ id
+      of_enum [] all f = absurd cc
+      of_enum (x ∷ xs) all f =
+          let others = list_all (λ (y : EnumId × Variants). are_variants_of y.0 y.1) xs in
+          here x xs (is_at (enum_order.ghosts.cmp id) x.0) refl (first_so (are_variants_of x.0 x.1) others all) (λ g. of_enum xs (second_so (are_variants_of x.0 x.1) others all) g) f
+
+      go : (o : Option Placed) → maps id.loc.container.map ≡ o
+          → option_and_then (λ (vs : Variants). at_name vs name) (option_and_then (λ (placed : Placed). variants_at placed.map id) o) ≡ Some variant → variant.id.parent ≡ id
+      go None s f = absurd cc
+      go (Some placed) s f = of_enum placed.map.enums (whole id.loc.container.map placed s).names.variants f
 
   listed_there : (cs : List Crate) → list_any (test_crate missing) cs ≡ false → (c : Crate) → list_any (same_crate c) cs ≡ true → MapIsThere maps (crate_map c)
   listed_there [] f c e = absurd (true≢false (sym e))
@@ -251,7 +262,8 @@ module _ (maps : Maps) (whole : AreWellFormed maps) where
     dependencies = λ id c e. depends id c (maps id) refl e;
     parents = closed_parents;
     holders = λ m. subst (All (ModuleIsThere maps)) (sym (frame_holders (maps m.map))) (held (holders_of (maps m.map)) m.map (maps m.map) refl refl);
-    types = closed_types;
+    names = closed_names;
+    variants = closed_variants;
   }
     where
       root_there : (id : MapId) (o : Option Placed) → maps id ≡ o → is_some (maps id) ≡ true → ModuleIsThere maps (root_of id)

@@ -4,7 +4,6 @@ pub mod Steps
 pub mod Holders
 -- what a path reads
 pub mod SameAbove
-pub mod Fails
 pub mod Changed
 pub mod Growing
 pub mod InScopes
