@@ -1,73 +1,38 @@
 -- Finished maps name nothing in a map that isn't among them.
 use Rattle.std.proofs.Common.{◌≡◌, ◌∙◌, ap, sym, subst, refl, ℕ, List, [], ◌∷◌, Bool, true, false, ◌&&◌, ◌||◌, cond, Option, None, Some}
-use Rattle.std.specs.BTreeMap.{BTreeMap, get, is_at}
-use Rattle.std.specs.Cmp.Lexicographic.{slice_cmp}
+use Rattle.std.specs.BTreeMap.{BTreeMap, get}
 use Rattle.std.specs.Cmp.{second_so}
 use Rattle.std.specs.List.{All, list_any}
-use Rattle.std.specs.Map.{lookup}
 use Rattle.std.specs.Option.{option_and_then, option_copied, option_map}
-use Rattle.std.specs.Ordering.{nat_cmp}
 use Rattle.std.specs.Prelude.{is_some, not}
 use Rattle.std.proofs.lemmas.List.Elements.{All-cons, All-nil}
 use mathlib.Core.Bool.{true≢false}
 use Rattle.hir_base.specs.declared.ids.Crate.{Crate}
 use Rattle.hir_base.specs.declared.ids.MapId.{MapId}
-use Rattle.hir_base.specs.declared.ids.ModuleDefId.{ModuleDefId}
 use Rattle.hir_base.specs.declared.ids.ModuleId.{ModuleId}
 use Rattle.hir_base.specs.declared.ids.UseId.{UseId}
 use Rattle.hir_base.specs.contracts.ids.MapIdOrd.TheImpl as map_order
 use Rattle.hir_base.specs.contracts.ids.MapIdPartialEq.TheImpl as map_id
-use Rattle.hir_scope.specs.PerNs.{Item}
-use Rattle.hir_scope.specs.declared.imports.ImportOrExternCrate.{ImportOrExternCrate}
 use Rattle.hir_def_map.specs.Inner.OverlayLaws.{exact_map}
 use Rattle.hir_def_map.specs.Inner.PartLaws.{among-only}
 use Rattle.hir_def_map.specs.Ancestors.{frame_of, frames_of, holders_in, holders_of_frame}
-use Rattle.hir_def_map.specs.References.{any_reference, any_reference_besides, any_reference_in, each_leads_to_root, has_its_parents, is_holder_for, is_missing, is_well_formed, prelude_reference, reference_to, test_child, test_of, test_type}
-use Rattle.hir_def_map.specs.State.{ModuleValue, entry_of, module_at, parent_of}
-use Rattle.hir_def_map.specs.Overlay.{Maps, Placed, entry_in, map_in, overlay, parent_in, placed_in}
+use Rattle.hir_def_map.specs.References.{any_reference, any_reference_besides, any_reference_in, each_leads_to_root, has_its_parents, has_its_variants, is_holder_for, is_missing, is_well_formed, prelude_reference, test_of}
+use Rattle.hir_def_map.specs.State.{ModuleValue, module_at}
+use Rattle.hir_def_map.specs.Overlay.{Maps, Placed, map_in, module_in, overlay, placed_in}
 use Rattle.hir_def_map.specs.Scoping.Slots.{is_in, prelude_module_of}
 use Rattle.hir_def_map.specs.World.{IsChecked, finished_in, placed_of}
 use Rattle.hir_def_map.specs.WorldParts.{among, limited_to, part_of}
 use Rattle.hir_def_map.specs.declared.world.finished.Finished.{Finished}
 use Rattle.hir_def_map.specs.declared.world.reference.Reference.{Reference}
 use Rattle.hir_def_map.specs.declared.world.reference.Reference.TheVariants as named
-use Rattle.hir_def_map.proofs.NoneOf.{none_at, none_found, not_first, not_second}
+use Rattle.hir_def_map.proofs.NoneOf.{none_at, not_first, not_second}
+use Rattle.hir_def_map.proofs.Referred.{module_less}
 use Rattle.hir_def_map_laws.proofs.Whole.{elsewhere}
-use Rattle.hir_def_map_laws.specs.ReadLaw.{Fails, FailsAtType, KeepApart, PartsKeepApart, SomeMapsKeepApart, WorldsKeepApart, is_named_in}
+use Rattle.hir_def_map_laws.specs.ReadLaw.{KeepApart, PartsKeepApart, SomeMapsKeepApart, WorldsKeepApart, is_named_in}
 
 -- ---- references of a map in which a test holds nowhere
 
 module _ (own : MapId) (test : Reference → Bool) (weaker : (n : Reference) → test n ≡ false → is_named_in own n ≡ false) where
-  of_one : (o : Option Reference) → test_of test o ≡ false → test_of (is_named_in own) o ≡ false
-  of_one None e = refl
-  of_one (Some n) e = weaker n e
-
-  -- what a module is in
-  parent_apart : (o : Option ModuleValue) → ((m : ModuleValue) → o ≡ Some m → any_reference_in test m ≡ false) → (p : ModuleId) → parent_of o ≡ Some p → is_in own p ≡ false
-  parent_apart None names p e = absurd cc
-  parent_apart (Some m) names p e = go m.parent (not_first (test_of test (option_map named.Module m.parent)) (list_any (test_child test) m.children || list_any (test_type test) m.scope.types) (names m refl)) e
-    where
-      go : (o : Option ModuleId) → test_of test (option_map named.Module o) ≡ false → o ≡ Some p → is_in own p ≡ false
-      go None f g = absurd cc
-      go (Some q) f g = let same : q ≡ p = cc in subst (λ (x : ModuleId). is_in own x ≡ false) same (weaker (named.Module q) f)
-
-  -- what its names stand for
-  types_apart : (o : Option ModuleValue) → ((m : ModuleValue) → o ≡ Some m → any_reference_in test m ≡ false) → (name : List ℕ) → Fails (is_named_in own) (entry_of o name)
-  types_apart None names name = tt
-  types_apart (Some m) names name =
-      go (lookup (is_at (slice_cmp nat_cmp name)) m.scope.types) refl
-    where
-      none : list_any (test_type test) m.scope.types ≡ false
-      none =
-          not_second (list_any (test_child test) m.children) (list_any (test_type test) m.scope.types)
-          (not_second (test_of test (option_map named.Module m.parent)) (list_any (test_child test) m.children || list_any (test_type test) m.scope.types) (names m refl))
-
-      go : (o : Option (Item ModuleDefId ImportOrExternCrate)) → lookup (is_at (slice_cmp nat_cmp name)) m.scope.types ≡ o → FailsAtType (is_named_in own) o
-      go None e = tt
-      go (Some item) e =
-          of_one (reference_to item.def)
-          (none_found (λ (x : Item ModuleDefId ImportOrExternCrate). test_of test (reference_to x.def)) (is_at (slice_cmp nat_cmp name)) m.scope.types item none e)
-
   prelude_apart : (o : Option (ModuleId × Option UseId)) → test_of test (prelude_reference o) ≡ false → (p : ModuleId) → option_map (λ x. x.0) o ≡ Some p → is_in own p ≡ false
   prelude_apart None f p e = absurd cc
   prelude_apart (Some prelude) f p e = let same : prelude.0 ≡ p = cc in subst (λ (m : ModuleId). is_in own m ≡ false) same (weaker (named.Module prelude.0) f)
@@ -104,10 +69,12 @@ module _ (maps : BTreeMap MapId Finished) (own : MapId) (checked : IsChecked map
     none_missing =
         let held = is_holder_for world placed.map.id placed.map.holder in
         let names = not (any_reference missing placed.map placed.local) in
+        let variants = has_its_variants placed.map in
         no (any_reference missing placed.map placed.local)
         (second_so held names
-        (second_so (has_its_parents placed.map) (held && names)
-        (second_so (each_leads_to_root placed.map) (has_its_parents placed.map && (held && names)) whole)))
+        (second_so variants (held && names)
+        (second_so (has_its_parents placed.map) (variants && (held && names))
+        (second_so (each_leads_to_root placed.map) (has_its_parents placed.map && (variants && (held && names))) whole))))
       where
         no : (b : Bool) → not b ≡ true → b ≡ false
         no true e = absurd (true≢false (sym e))
@@ -130,11 +97,8 @@ module _ (maps : BTreeMap MapId Finished) (own : MapId) (checked : IsChecked map
     module_names at m e =
         none_at (any_reference_in missing) placed.map.modules (not_first (list_any (any_reference_in missing) placed.map.modules) (any_reference_besides missing placed.map placed.local) none_missing) at m e
 
-    map_types : (at : ℕ) (name : List ℕ) → Fails (is_named_in own) (entry_of (module_at placed.map at) name)
-    map_types at name = types_apart own missing apart (module_at placed.map at) (module_names at) name
-
-    map_parents : (at : ℕ) (p : ModuleId) → parent_of (module_at placed.map at) ≡ Some p → is_in own p ≡ false
-    map_parents at p e = parent_apart own missing apart (module_at placed.map at) (module_names at) p e
+    map_modules : (at : ℕ) (m : ModuleValue) → module_at placed.map at ≡ Some m → any_reference_in (is_named_in own) m ≡ false
+    map_modules at m e = module_less missing (is_named_in own) apart m (module_names at m e)
 
     map_prelude : (p : ModuleId) → option_map (λ x. x.0) placed.map.prelude ≡ Some p → is_in own p ≡ false
     map_prelude p e =
@@ -143,19 +107,12 @@ module _ (maps : BTreeMap MapId Finished) (own : MapId) (checked : IsChecked map
         (not_second (list_any (any_reference_in missing) placed.map.modules) (any_reference_besides missing placed.map placed.local) none_missing))
         p e
 
-  types : (m : ModuleId) (name : List ℕ) → Fails (is_named_in own) (entry_in world m name)
-  types m name = go (world m.map) refl
+  modules : (m : ModuleId) (value : ModuleValue) → module_in world m ≡ Some value → any_reference_in (is_named_in own) value ≡ false
+  modules m value e = go (world m.map) refl e
     where
-      go : (o : Option Placed) → world m.map ≡ o → Fails (is_named_in own) (entry_of (option_and_then (λ (placed : Placed). module_at placed.map m.index) o) name)
-      go None s = tt
-      go (Some placed) s = map_types m.map placed s m.index name
-
-  parents : (m p : ModuleId) → parent_in world m ≡ Some p → is_in own p ≡ false
-  parents m p e = go (world m.map) refl e
-    where
-      go : (o : Option Placed) → world m.map ≡ o → parent_of (option_and_then (λ (placed : Placed). module_at placed.map m.index) o) ≡ Some p → is_in own p ≡ false
+      go : (o : Option Placed) → world m.map ≡ o → option_and_then (λ (placed : Placed). module_at placed.map m.index) o ≡ Some value → any_reference_in (is_named_in own) value ≡ false
       go None s f = absurd cc
-      go (Some placed) s f = map_parents m.map placed s m.index p f
+      go (Some placed) s f = map_modules m.map placed s m.index value f
 
   preludes : (id : MapId) (p : ModuleId) → prelude_module_of (map_in world id) ≡ Some p → is_in own p ≡ false
   preludes id p e = go (world id) refl e
@@ -182,7 +139,7 @@ module _ (maps : BTreeMap MapId Finished) (own : MapId) (checked : IsChecked map
       All-cons (λ (x : ModuleId). is_in own x ≡ false) h hs (holder_apart h leads.1) (holders hs h.map leads.2)
 
   pub KeepApart-world : KeepApart (finished_in maps) own
-  KeepApart-world = record { absent = absent; types = types; parents = parents; holders = λ m. holders (holders_in world m) m.map refl; preludes = preludes }
+  KeepApart-world = record { absent = absent; modules = modules; holders = λ m. holders (holders_in world m) m.map refl; preludes = preludes }
 
 -- ---- fewer maps
 
@@ -194,21 +151,12 @@ module _ (fewer finished : Maps) (own : MapId) (less : (id : MapId) (placed : Pl
       go None s = s
       go (Some placed) s = let both : None ≡ Some placed = sym apart.absent ∙ less own placed s in absurd cc
 
-  fewer_types : (m : ModuleId) (name : List ℕ) → Fails (is_named_in own) (entry_in fewer m name)
-  fewer_types m name = go (fewer m.map) refl
+  fewer_modules : (m : ModuleId) (value : ModuleValue) → module_in fewer m ≡ Some value → any_reference_in (is_named_in own) value ≡ false
+  fewer_modules m value e = go (fewer m.map) refl e
     where
-      go : (o : Option Placed) → fewer m.map ≡ o → Fails (is_named_in own) (entry_of (option_and_then (λ (x : Placed). module_at x.map m.index) o) name)
-      go None s = tt
-      go (Some placed) s =
-          subst (λ (o : Option Placed). Fails (is_named_in own) (entry_of (option_and_then (λ (x : Placed). module_at x.map m.index) o) name)) (less m.map placed s) (apart.types m name)
-
-  fewer_parents : (m p : ModuleId) → parent_in fewer m ≡ Some p → is_in own p ≡ false
-  fewer_parents m p e = go (fewer m.map) refl e
-    where
-      go : (o : Option Placed) → fewer m.map ≡ o → parent_of (option_and_then (λ (placed : Placed). module_at placed.map m.index) o) ≡ Some p → is_in own p ≡ false
+      go : (o : Option Placed) → fewer m.map ≡ o → option_and_then (λ (placed : Placed). module_at placed.map m.index) o ≡ Some value → any_reference_in (is_named_in own) value ≡ false
       go None s f = absurd cc
-      go (Some placed) s f =
-          apart.parents m p (ap (λ (o : Option Placed). parent_of (option_and_then (λ (x : Placed). module_at x.map m.index) o)) (less m.map placed s) ∙ f)
+      go (Some placed) s f = apart.modules m value (ap (option_and_then (λ (x : Placed). module_at x.map m.index)) (less m.map placed s) ∙ f)
 
   fewer_holders : (m : ModuleId) → All (λ (h : ModuleId). is_in own h ≡ false) (holders_in fewer m)
   unfolding frames_of
@@ -228,7 +176,7 @@ module _ (fewer finished : Maps) (own : MapId) (less : (id : MapId) (placed : Pl
           apart.preludes id p (ap (λ (o : Option Placed). prelude_module_of (option_map (λ (x : Placed). x.map) o)) (less id placed s) ∙ f)
 
   KeepApart-fewer : KeepApart fewer own
-  KeepApart-fewer = record { absent = fewer_absent; types = fewer_types; parents = fewer_parents; holders = fewer_holders; preludes = fewer_preludes }
+  KeepApart-fewer = record { absent = fewer_absent; modules = fewer_modules; holders = fewer_holders; preludes = fewer_preludes }
 
 -- ---- the laws
 

@@ -24,7 +24,9 @@ use Rattle.hir_def_map.specs.State.{Map, ModuleValue, Variants, at_name, entry_a
 use Rattle.hir_def_map.specs.Overlay.{Maps, Placed, overlay, entry_in, holders_of, holders_or, holders_under, map_in, module_in, parent_in, placed_in}
 use Rattle.hir_def_map.specs.declared.world.reference.Reference.{Reference}
 use Rattle.hir_def_map.specs.declared.world.reference.Reference.TheVariants as named
-use Rattle.hir_def_map_laws.specs.ReadLaw.{Fails, KeepApart, is_named_in}
+use Rattle.hir_def_map.specs.References.{any_reference_in, test_of, Fails}
+use Rattle.hir_def_map.proofs.Referred.{entry_fails, module_parts}
+use Rattle.hir_def_map_laws.specs.ReadLaw.{KeepApart, is_named_in}
 use Rattle.hir_def_map.specs.Scoping.Slots.{is_in, prelude_module_of}
 
 pub either-false : {P : Type 0} (b : Bool) → b ≡ true → b ≡ false → P
@@ -216,7 +218,11 @@ module _ (t : Change) where
       go false e = ap parent_of (same_module_out m e)
 
   parent_out : (m p : AnyModule) → Out m → parent_in old m ≡ Some p → Out p
-  parent_out m p out e = t.apart.parents m p (sym (ap parent_of (module_out m out)) ∙ e)
+  parent_out m p out e = go (module_in finished m) (t.apart.modules m) (sym (ap parent_of (module_out m out)) ∙ e)
+    where
+      go : (o : Option ModuleValue) → ((v : ModuleValue) → o ≡ Some v → any_reference_in (is_named_in own) v ≡ false) → parent_of o ≡ Some p → Out p
+      go None names f = absurd cc
+      go (Some v) names f = ap (λ (x : Option AnyModule). test_of (is_named_in own) (option_map named.Module x)) (sym f) ∙ (module_parts (is_named_in own) v (names v refl)).parent
 
   parent_here : (m p : AnyModule) → Here m → parent_in old m ≡ Some p → Here p
   parent_here m p here e = go (is_in own m) refl
@@ -300,7 +306,7 @@ module _ (t : Change) where
   legacy_out m name out = ap (λ (o : Option ModuleValue). legacy_of o name) (same_module_out m out)
 
   pub names_out : (m : AnyModule) (name : List ℕ) → Out m → Fails (is_named_in own) (entry_in old m name)
-  names_out m name out = subst (Fails (is_named_in own)) (sym (ap (λ (o : Option ModuleValue). entry_of o name) (module_out m out))) (t.apart.types m name)
+  names_out m name out = subst (Fails (is_named_in own)) (sym (ap (λ (o : Option ModuleValue). entry_of o name) (module_out m out))) (entry_fails (is_named_in own) (module_in finished m) (t.apart.modules m) name)
 
   -- ---- names in the map
 

@@ -8,7 +8,7 @@ use Rattle.hir_def_map.specs.Overlay.{Maps}
 use Rattle.hir_def_map.specs.declared.world.reference.Reference.{Reference}
 use Rattle.hir_def_map.specs.declared.world.reference.Reference.TheVariants as named
 use Rattle.hir_def_map_laws.proofs.Changed.{Change, has_others}
-use Rattle.hir_def_map_laws.proofs.Fails.{Fails-weaker}
+use Rattle.hir_def_map.proofs.Fails.{Fails-weaker}
 use Rattle.hir_def_map_laws.proofs.SameAbove.{before_at, same_numbers_above, same_parent_at}
 use Rattle.hir_def_map_laws.specs.ReadLaw.{Grows, StandsBeside, has_no_variants}
 

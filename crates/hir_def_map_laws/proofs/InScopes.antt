@@ -16,7 +16,7 @@ use Rattle.hir_def_map.specs.declared.world.reference.Reference.TheVariants as n
 use Rattle.hir_def_map.proofs.Grown.{frame_of-changed}
 use Rattle.hir_def_map.proofs.WellFormed.{parent_listed}
 use Rattle.hir_def_map_laws.proofs.Changed.{Change, has_others}
-use Rattle.hir_def_map_laws.proofs.Fails.{Fails-nowhere}
+use Rattle.hir_def_map.proofs.Fails.{Fails-nowhere}
 use Rattle.hir_def_map_laws.specs.ReadLaw.{ChangedModulesDifferInScopes, CrateMapsBeginOutside, CratesAreOutside, DiffersInScopes, KeepApart}
 
 and-no : (b : Bool) → (b && false) ≡ false

@@ -10,6 +10,7 @@ pub mod InScopes
 pub mod ReadOutside
 pub mod ReadLaw
 pub mod Whole
+pub mod Updates
 pub mod Apart
 pub mod SlotChanges
 pub mod SlotLists

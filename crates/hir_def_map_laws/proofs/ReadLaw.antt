@@ -2,7 +2,7 @@
 use Rattle.std.proofs.Common.{◌≡◌, ◌∙◌, ap, sym, subst, refl, ℕ, ◌+◌, List, [], ◌∷◌, Bool, true, false, ◌&&◌, cond, Option, None, Some}
 use Rattle.std.specs.Cmp.{unsigned_Decides}
 use Rattle.std.specs.List.{All}
-use Rattle.std.specs.Prelude.{is_some, option_and_then}
+use Rattle.std.specs.Prelude.{is_some, option_and_then, option_map}
 use Rattle.std.proofs.lemmas.List.Elements.{All-head, All-tail}
 use Rattle.hir_base.specs.ModPath.{Path}
 use Rattle.hir_base.specs.declared.ast_id.BlockId.{BlockId}
@@ -21,10 +21,11 @@ use Rattle.hir_scope.specs.ModuleTree.{same_block, same_crate}
 use Rattle.hir_scope.specs.PerNs.{Item, or_of}
 use Rattle.hir_scope.specs.Visibility.{is_visible}
 use Rattle.hir_scope.specs.declared.imports.ImportOrExternCrate.{ImportOrExternCrate}
+use Rattle.hir_scope.specs.declared.imports.ImportOrExternCrate.TheVariants as ways
 use Rattle.hir_scope.specs.declared.per_ns.PerNs.{PerNs}
 use Rattle.hir_def_map.specs.Inner.OverlayLaws.{same_id}
 use Rattle.hir_def_map.specs.Ancestors.{above_in, holders_in}
-use Rattle.hir_def_map.specs.References.{reference_to, test_of}
+use Rattle.hir_def_map.specs.References.{reference_to, test_of, test_visibility, Fails, FailsAtItem}
 use Rattle.hir_def_map.specs.Scoping.Asking.{Asking}
 use Rattle.hir_def_map.specs.Scoping.Blocks.{from_blocks, inherited}
 use Rattle.hir_def_map.specs.Scoping.FirstSegment.{builtin_name, extern_bound, extern_name, legacy_bound, legacy_of, macro_use_bound, macro_use_name, macro_use_of, name_in_crate_root_or_extern_prelude, name_in_module, of_style, prelude_name, shadow_before, unless_block_root, with_builtin}
@@ -39,11 +40,12 @@ use Rattle.hir_def_map.specs.declared.world.reference.Reference.TheVariants as n
 use Rattle.hir_def_map_laws.proofs.Agreement.{bound-in, bound_in}
 use Rattle.hir_def_map_laws.proofs.Growing.{grown}
 use Rattle.hir_def_map_laws.proofs.InScopes.{crates_outside, in_scopes}
-use Rattle.hir_def_map_laws.proofs.Fails.{Fails-in_module, Fails-in_root, Fails-keep, Fails-weaker}
+use Rattle.hir_def_map.proofs.Fails.{Fails-in_module, Fails-in_root, Fails-keep, Fails-nothing, Fails-public, Fails-weaker}
+use Rattle.hir_def_map.proofs.NoneOf.{not_first}
 use Rattle.hir_def_map_laws.proofs.Changed.{Change, Here, IsBelow, Out, either-false, entry_here, entry_out, has_other_variants, here_out, holders_out, is_own, legacy_here, legacy_out, names_here, names_out, nearest_here, new, new_map, old, old_map, own, same_2015, same_climb, same_holders, same_nearest, same_prelude_module, same_reach, same_seen, variant_here, variant_out}
 use Rattle.hir_def_map_laws.proofs.Holders.{start-of_crate}
-use Rattle.hir_def_map_laws.proofs.ReadOutside.{Outside, SameFirst, inherited_out, rest_out, through_out}
-use Rattle.hir_def_map_laws.specs.ReadLaw.{AgreeAt, BeginsOutside, Fails, FailsAtType, IsReadAlike, ReadsDecide, SameInModule, SameInPreludes, ScopesReadAlike, is_named_in, with_crates}
+use Rattle.hir_def_map_laws.proofs.ReadOutside.{Outside, SameFirst, bound_outside, inherited_out, rest_out, through_out}
+use Rattle.hir_def_map_laws.specs.ReadLaw.{AgreeAt, BeginsOutside, IsReadAlike, ReadsDecide, SameInModule, SameInPreludes, ScopesReadAlike, is_named_in, with_crates}
 use Rattle.hir_def_map.specs.declared.nameres.path_resolution.slots.Slot.{Slot}
 use Rattle.hir_def_map.specs.declared.nameres.path_resolution.slots.Slot.TheVariants.{Module as of_module, Preludes as of_preludes}
 use Rattle.hir_def_map.specs.Scoping.Slots.{further_slots, is_in, kept_in, module_among, module_by, prelude_module_of, reads, slots_after, slots_from_crates, slots_from_module, slots_from_root, slots_of, with_prelude_slot, with_slot}
@@ -121,7 +123,7 @@ module _ (t : Change) (asking : Asking) (local : Local) (begins : BeginsOutside 
         × (further_slots (new t) (own t) from (s ∷ ss) (cond b (Some m) None) ≡ further_slots (old t) (own t) from (s ∷ ss) (cond b (Some m) None))
     module_alike m false e agree =
         let outside : through_module after (new t) from s m ≡ through_module before (old t) from s m =
-        through_out t before after (λ f q h o. rest_out t ss (i + 1) f h q o) from from_here ss i s (module_bound m).types e in
+        through_out t before after (λ f q h o. rest_out t ss (i + 1) f h q o) from from_here ss i s (module_bound m).types (bound_outside t m e).types in
         (outside, refl)
     module_alike m true e agree =
         let here : SameInModule t.one t.other m.index s = first_agrees (of_module m.index s) (slots_after (old t) (own t) from ss (seen (old t) from m s)) agree in
@@ -137,12 +139,13 @@ module _ (t : Change) (asking : Asking) (local : Local) (begins : BeginsOutside 
           ap (λ (xs : List Slot). of_module m.index s ∷ xs) (ap (slots_after (new t) (own t) from ss) same ∙ next.slots),
         )
 
-    type_alike : (o : Option (Item ModuleDefId ImportOrExternCrate)) → FailsAtType (has_other_variants t) o
+    type_alike : (o : Option (Item ModuleDefId ImportOrExternCrate)) → FailsAtItem (has_other_variants t) o
         → Agree (further_slots (old t) (own t) from (s ∷ ss) (module_among (own t) o))
         → (through_type after (new t) from ss i s o ≡ through_type before (old t) from ss i s o)
         × (further_slots (new t) (own t) from (s ∷ ss) (module_among (own t) o) ≡ further_slots (old t) (own t) from (s ∷ ss) (module_among (own t) o))
     type_alike None fails agree = (refl, refl)
-    type_alike (Some item) fails agree = go item.def fails agree
+    type_alike (Some item) fails agree =
+        go item.def (not_first (test_of (has_other_variants t) (reference_to item.def)) (test_visibility (has_other_variants t) item.vis) fails) agree
       where
         enum_alike : (id : EnumId) (b : Bool) → map_id.ghosts.eq id.loc.container.map (own t) ≡ b → (c : Bool) → t.changes id ≡ c → (b && c) ≡ false
             → through_adt (new t) ss i s item (adts.EnumId id) ≡ through_adt (old t) ss i s item (adts.EnumId id)
@@ -172,7 +175,7 @@ module _ (t : Change) (asking : Asking) (local : Local) (begins : BeginsOutside 
   rest_alike : (ss : List (List ℕ)) (i : ℕ) (p : PerNs) → Known p → Agree (slots_after (old t) (own t) from ss p) → Alike ss i p
   rest_alike [] i p k agree = record { answers = refl; slots = refl }
   rest_alike (s ∷ ss) i p k agree =
-      let both = type_alike ss i s (λ q l a. rest_alike ss (i + 1) q l a) p.types k agree in
+      let both = type_alike ss i s (λ q l a. rest_alike ss (i + 1) q l a) p.types k.types agree in
       record { answers = both.0; slots = both.1 }
 
   -- ---- a first segment
@@ -197,15 +200,18 @@ module _ (t : Change) (asking : Asking) (local : Local) (begins : BeginsOutside 
   look_prelude (Some m) name slots agree = let found : Looked m name slots = look m name slots agree in (found.entries, found.left)
 
   known_bound : (o : Option AnyModule) (name : List ℕ) → Known (bound_in (λ m. entry_in (old t) m name) o)
-  known_bound None name = tt
+  known_bound None name = Fails-nothing (has_other_variants t)
   known_bound (Some m) name = known m name
 
   known_extern : (name : List ℕ) → Known (extern_name asking.local name)
   known_extern name = go (at_name asking.local name)
     where
       go : (o : Option (AnyModule × Option ExternCrateId)) → Known (extern_bound o)
-      go None = tt
-      go (Some entry) = refl
+      go None = Fails-nothing (has_other_variants t)
+      go (Some entry) = Fails-public (has_other_variants t) (ModuleId entry.0) (option_map ways.ExternCrate entry.1) refl
+
+  known_module : (m : AnyModule) → Known (module_bound m)
+  known_module m = Fails-public (has_other_variants t) (ModuleId m) None refl
 
   abbrev prelude_before : Option AnyModule
   prelude_before = prelude_module_of (map_in (old t) from.map)
@@ -290,7 +296,7 @@ module _ (t : Change) (asking : Asking) (local : Local) (begins : BeginsOutside 
       → (super_from (new t) from segs o ≡ super_from (old t) from segs o) × (slots_under (new t) segs o ≡ slots_under (old t) segs o)
   super_alike segs None agree = (refl, no_slots (new t) segs ∙ sym (no_slots (old t) segs))
   super_alike segs (Some m) agree =
-      let next : Alike segs 0 (module_bound m) = rest_alike segs 0 (module_bound m) refl agree in
+      let next : Alike segs 0 (module_bound m) = rest_alike segs 0 (module_bound m) (known_module m) agree in
       (on (same_block m.map.block from.map.block) refl next.answers, next.slots)
     where
       elsewhere : same_block m.map.block from.map.block ≡ false → Out t m
@@ -304,15 +310,15 @@ module _ (t : Change) (asking : Asking) (local : Local) (begins : BeginsOutside 
           → cond b (rest (new t) from segs 0 (module_bound m)) (settled_in_block m (rest (new t) m segs 0 (module_bound m)))
           ≡ cond b (rest (old t) from segs 0 (module_bound m)) (settled_in_block m (rest (old t) m segs 0 (module_bound m)))
       on true e same = same
-      on false e same = ap (settled_in_block m) (rest_out t segs 0 m (here_out t m (elsewhere e)) (module_bound m) (elsewhere e))
+      on false e same = ap (settled_in_block m) (rest_out t segs 0 m (here_out t m (elsewhere e)) (module_bound m) (bound_outside t m (elsewhere e)))
 
   start_alike : (kind : PathKind) (segs : List (List ℕ)) → Agree (slots_of (old t) asking (own t) from kind segs)
       → (from_start (new t) asked from kind segs ≡ from_start (old t) asking from kind segs)
       × (slots_of (new t) asked (own t) from kind segs ≡ slots_of (old t) asking (own t) from kind segs)
   start_alike kinds.Crate segs agree =
-      let next : Alike segs 0 (module_bound (crate_root from.map.krate)) = rest_alike segs 0 (module_bound (crate_root from.map.krate)) refl agree in (next.answers, next.slots)
+      let next : Alike segs 0 (module_bound (crate_root from.map.krate)) = rest_alike segs 0 (module_bound (crate_root from.map.krate)) (known_module (crate_root from.map.krate)) agree in (next.answers, next.slots)
   start_alike (kinds.DollarCrate c) segs agree =
-      let next : Alike segs 0 (module_bound (crate_root c)) = rest_alike segs 0 (module_bound (crate_root c)) refl agree in
+      let next : Alike segs 0 (module_bound (crate_root c)) = rest_alike segs 0 (module_bound (crate_root c)) (known_module (crate_root c)) agree in
       (λ i. cond (same_reach t from c i) (next.answers i) (unresolved No), next.slots)
   start_alike (kinds.Super n) segs agree =
       let near : AnyModule = nearest_non_block_module (old t) from in

@@ -1,6 +1,7 @@
 -- Paths through finished maps, beside a map that changes.
 use Rattle.std.proofs.Common.{◌≡◌, ◌∙◌, ap, sym, subst, refl, ℕ, ◌+◌, List, [], ◌∷◌, Bool, true, false, ◌&&◌, cond, Option, None, Some}
 use Rattle.std.specs.List.{All}
+use Rattle.std.specs.Option.{option_map}
 use Rattle.std.specs.Prelude.{is_some, not}
 use Rattle.std.proofs.lemmas.List.Elements.{All-head, All-tail}
 use Rattle.hir_base.specs.declared.ast_id.BlockId.{BlockId}
@@ -17,9 +18,10 @@ use Rattle.hir_scope.specs.ModuleTree.{same_block, same_crate}
 use Rattle.hir_scope.specs.PerNs.{Item, or_of}
 use Rattle.hir_scope.specs.Visibility.{is_visible}
 use Rattle.hir_scope.specs.declared.imports.ImportOrExternCrate.{ImportOrExternCrate}
+use Rattle.hir_scope.specs.declared.imports.ImportOrExternCrate.TheVariants as ways
 use Rattle.hir_scope.specs.declared.per_ns.PerNs.{PerNs}
 use Rattle.hir_def_map.specs.Ancestors.{above_in, holders_in}
-use Rattle.hir_def_map.specs.References.{reference_to, test_of}
+use Rattle.hir_def_map.specs.References.{reference_to, test_of, test_visibility, Fails, FailsAtItem}
 use Rattle.hir_def_map.specs.Scoping.Asking.{Asking}
 use Rattle.hir_def_map.specs.Scoping.Blocks.{in_preludes, inherited, joined, with_preludes}
 use Rattle.hir_def_map.specs.Scoping.FirstSegment.{builtin_name, extern_bound, extern_name, is_block_root, legacy_bound, macro_use_bound, macro_use_name, macro_use_of, name_in_crate_root_or_extern_prelude, name_in_module, name_in_preludes, of_style, prelude_name, shadow_before, unless_block_root, with_builtin}
@@ -30,9 +32,10 @@ use Rattle.hir_def_map.specs.Overlay.{entry_in, map_in}
 use Rattle.hir_def_map.specs.declared.nameres.path_resolution.ReachedFixedPoint.TheVariants.{No}
 use Rattle.hir_def_map.specs.declared.nameres.path_resolution.ResolvePathResult.{ResolvePathResult}
 use Rattle.hir_def_map_laws.proofs.Agreement.{bound-in, bound_in}
-use Rattle.hir_def_map_laws.proofs.Fails.{Fails-in_module, Fails-in_preludes, Fails-in_root, Fails-keep}
+use Rattle.hir_def_map.proofs.Fails.{Fails-in_module, Fails-in_preludes, Fails-in_root, Fails-keep, Fails-nothing, Fails-public}
+use Rattle.hir_def_map.proofs.NoneOf.{not_first}
 use Rattle.hir_def_map_laws.proofs.Changed.{Change, Here, Out, climb_out, entry_out, here_out, is_own, legacy_out, map_in-out, names_out, nearest_out, new, old, own, prelude_out, same_2015, same_climb, same_nearest, same_prelude_module, same_reach, same_seen, variant_out}
-use Rattle.hir_def_map_laws.specs.ReadLaw.{BeginsOutside, Fails, FailsAtType, SameInPreludes, is_named_in, with_crates}
+use Rattle.hir_def_map_laws.specs.ReadLaw.{BeginsOutside, SameInPreludes, is_named_in, with_crates}
 use Rattle.hir_def_map.specs.Scoping.Slots.{is_in, prelude_module_of}
 
 module _ (t : Change) where
@@ -44,14 +47,19 @@ module _ (t : Change) where
   seen_outside from at name out =
       Fails-keep (is_named_in (own t)) (λ v. is_visible (above_in (old t)) (holders_in (old t)) v from) (entry_in (old t) at name) (names_out t at name out)
 
+  -- a module that lies in another map
+  pub bound_outside : (m : AnyModule) → Out t m → Outside (module_bound m)
+  bound_outside m out = Fails-public (is_named_in (own t)) (ModuleId m) None out
+
   -- ---- further segments
 
   -- a segment after what lies in another map
   pub through_out : (further changed : AnyModule → PerNs → ResolvePathResult) → ((from : AnyModule) (p : PerNs) → Here t from → Outside p → changed from p ≡ further from p)
-      → (from : AnyModule) → Here t from → (others : List (List ℕ)) (i : ℕ) (segment : List ℕ) (o : Option (Item ModuleDefId ImportOrExternCrate)) → FailsAtType (is_named_in (own t)) o
+      → (from : AnyModule) → Here t from → (others : List (List ℕ)) (i : ℕ) (segment : List ℕ) (o : Option (Item ModuleDefId ImportOrExternCrate)) → FailsAtItem (is_named_in (own t)) o
       → through_type changed (new t) from others i segment o ≡ through_type further (old t) from others i segment o
   through_out further changed same from here others i segment None outside = refl
-  through_out further changed same from here others i segment (Some item) outside = go item.def outside
+  through_out further changed same from here others i segment (Some item) outside =
+      go item.def (not_first (test_of (is_named_in (own t)) (reference_to item.def)) (test_visibility (is_named_in (own t)) item.vis) outside)
     where
       inside : (m : AnyModule) → Out t m → changed from (seen (new t) from m segment) ≡ further from (seen (old t) from m segment)
       inside m out =
@@ -89,14 +97,14 @@ module _ (t : Change) where
   pub rest_out : (ss : List (List ℕ)) (i : ℕ) (from : AnyModule) → Here t from → (p : PerNs) → Outside p → rest (new t) from ss i p ≡ rest (old t) from ss i p
   rest_out [] i from here p outside = refl
   rest_out (s ∷ ss) i from here p outside =
-      through_out (λ f q. rest (old t) f ss (i + 1) q) (λ f q. rest (new t) f ss (i + 1) q) (λ f q h o. rest_out ss (i + 1) f h q o) from here ss i s p.types outside
+      through_out (λ f q. rest (old t) f ss (i + 1) q) (λ f q. rest (new t) f ss (i + 1) q) (λ f q h o. rest_out ss (i + 1) f h q o) from here ss i s p.types outside.types
 
   -- ---- preludes
 
   -- the prelude module of another map, if it has one, lies in another map
   prelude_name_by : (at : AnyModule) (name : List ℕ) → Out t at → (o : Option AnyModule) → prelude_module_of (map_in (old t) at.map) ≡ o
       → (bound_in (λ m. entry_in (new t) m name) o ≡ bound_in (λ m. entry_in (old t) m name) o) × Outside (bound_in (λ m. entry_in (old t) m name) o)
-  prelude_name_by at name out None e = (refl, tt)
+  prelude_name_by at name out None e = (refl, Fails-nothing (is_named_in (own t)))
   prelude_name_by at name out (Some p) e =
       let out_too : Out t p = prelude_out t at.map out p e in (entry_out t p name out_too, names_out t p name out_too)
 
@@ -140,8 +148,9 @@ module _ (t : Change) where
       externs_out name = go (at_name asking.local name) refl
         where
           go : (o : Option (AnyModule × Option ExternCrateId)) → at_name asking.local name ≡ o → Outside (extern_bound o)
-          go None e = tt
-          go (Some entry) e = ap (λ (o : Option BlockId). is_some o && is_in (own t) entry.0) (sym in_block) ∙ begins name entry e
+          go None e = Fails-nothing (is_named_in (own t))
+          go (Some entry) e =
+              Fails-public (is_named_in (own t)) (ModuleId entry.0) (option_map ways.ExternCrate entry.1) (ap (λ (o : Option BlockId). is_some o && is_in (own t) entry.0) (sym in_block) ∙ begins name entry e)
 
       module _ (h : AnyModule) (out : Out t h) where
         here : Here t h
@@ -198,13 +207,13 @@ module _ (t : Change) where
             let outside : Out t m = climbed m refl in
             λ i.
             cond (same_block m.map.block h.map.block)
-            (rest_out segs 0 h here (module_bound m) outside i)
-            (settled_in_block m (rest_out segs 0 m (here_out t m outside) (module_bound m) outside i))
+            (rest_out segs 0 h here (module_bound m) (bound_outside m outside) i)
+            (settled_in_block m (rest_out segs 0 m (here_out t m outside) (module_bound m) (bound_outside m outside) i))
 
         pub start_out : (kind : PathKind) (segs : List (List ℕ)) → SameFirst kind segs → from_start (new t) asked h kind segs ≡ from_start (old t) asking h kind segs
-        start_out kinds.Crate segs same = rest_out segs 0 h here (module_bound (crate_root h.map.krate)) (crates_out (crate_root h.map.krate) refl)
+        start_out kinds.Crate segs same = rest_out segs 0 h here (module_bound (crate_root h.map.krate)) (bound_outside (crate_root h.map.krate) (crates_out (crate_root h.map.krate) refl))
         start_out (kinds.DollarCrate c) segs same = λ i.
-            cond (same_reach t h c i) (rest_out segs 0 h here (module_bound (crate_root c)) (crates_out (crate_root c) refl) i) (unresolved No)
+            cond (same_reach t h c i) (rest_out segs 0 h here (module_bound (crate_root c)) (bound_outside (crate_root c) (crates_out (crate_root c) refl)) i) (unresolved No)
         start_out (kinds.Super n) segs same =
             let near : AnyModule = nearest_non_block_module (old t) h in
             let near_out : Out t near = nearest_out t h out in

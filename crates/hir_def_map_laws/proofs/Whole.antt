@@ -12,14 +12,16 @@ use Rattle.hir_def_map.specs.Inner.OverlayLaws.{exact_map, same_id}
 use Rattle.hir_def_map.specs.Ancestors.{holders_in}
 use Rattle.hir_def_map.specs.Closed.{AreThere, ModuleIsThere}
 use Rattle.hir_def_map.specs.WellFormed.{AreWellFormed, HasNoDanglingReference}
-use Rattle.hir_def_map.specs.References.{is_missing, is_there, map_of_reference, prelude_reference, test_of}
-use Rattle.hir_def_map.specs.State.{Map, entry_at, entry_of, module_at, numbered, variants_at}
-use Rattle.hir_def_map.specs.Overlay.{Maps, Placed, overlay, entry_in, placed_in}
+use Rattle.hir_def_map.specs.References.{any_reference_in, is_missing, is_there, map_of_reference, prelude_reference, test_of}
+use Rattle.hir_def_map.specs.State.{Map, ModuleValue, entry_at, entry_of, module_at, numbered, variants_at}
+use Rattle.hir_def_map.specs.Overlay.{Maps, Placed, overlay, entry_in, module_in, placed_in}
 use Rattle.hir_def_map.specs.declared.world.reference.Reference.{Reference}
 use Rattle.hir_def_map.specs.declared.world.reference.Reference.TheVariants as named
 use Rattle.hir_def_map.proofs.WellFormed.{IsClosed-well_formed}
 use Rattle.hir_def_map.proofs.StaysWellFormed.{IsClosed-overlay}
-use Rattle.hir_def_map_laws.proofs.Fails.{Fails-weaker}
+use Rattle.hir_def_map.proofs.Fails.{Fails-weaker}
+use Rattle.hir_def_map.proofs.NoneOf.{none_at}
+use Rattle.hir_def_map.proofs.Referred.{module_less}
 use Rattle.hir_def_map_laws.specs.ReadLaw.{KeepApart, StandsBeside, has_no_variants, is_named_in}
 use Rattle.hir_def_map.specs.Scoping.Slots.{is_in, prelude_module_of}
 
@@ -53,13 +55,21 @@ module _ (finished : Maps) (own : MapId) (absent : finished own ≡ None) where
       go None f g = absurd cc
       go (Some prelude) f g = let same : prelude.0 ≡ p = cc in subst (λ (m : ModuleId). is_in own m ≡ false) same (elsewhere (named.Module prelude.0) f)
 
+  modules_apart : AreWellFormed finished → (m : ModuleId) (value : ModuleValue) → module_in finished m ≡ Some value → any_reference_in (is_named_in own) value ≡ false
+  modules_apart whole m value e = go (finished m.map) refl e
+    where
+      go : (o : Option Placed) → finished m.map ≡ o → option_and_then (λ (placed : Placed). module_at placed.map m.index) o ≡ Some value → any_reference_in (is_named_in own) value ≡ false
+      go None s f = absurd cc
+      go (Some placed) s f =
+          module_less (is_missing finished) (is_named_in own) elsewhere value
+          (none_at (any_reference_in (is_missing finished)) placed.map.modules (whole m.map placed s).names.modules m.index value f)
+
   pub KeepApart-whole : AreWellFormed finished → KeepApart finished own
   KeepApart-whole whole =
       let closed = IsClosed-well_formed finished whole in
       record {
         absent = absent;
-        types = λ m name. Fails-weaker (is_missing finished) (is_named_in own) elsewhere (entry_in finished m name) (closed.types m name);
-        parents = λ m p e. there_apart p (closed.parents m p e);
+        modules = modules_apart whole;
         holders = λ m. All-weaker (ModuleIsThere finished) (λ (h : ModuleId). is_in own h ≡ false) there_apart (holders_in finished m) (closed.holders m);
         preludes = λ id p e. prelude_apart (finished id) (λ placed f. (whole id placed f).names.prelude) p e;
       }
@@ -86,5 +96,5 @@ module _ (finished : Maps) (map : Map) (whole : AreWellFormed finished) (absent 
         apart = KeepApart-whole finished map.id absent whole;
         in_order = names.in_order;
         enums = λ at name. Fails-weaker (is_missing (overlay finished map)) (has_no_variants map) has_variants (entry_at map at name)
-            (subst (AreThere (overlay finished map)) (entry_own at name) (closed.types (numbered map.id at) name));
+            (subst (AreThere (overlay finished map)) (entry_own at name) (closed.names (numbered map.id at) name));
       }
