@@ -330,7 +330,7 @@ module _ (finished : Maps) (map : Map) (id : EnumId) (variants : Variants) where
           → list_all has_own (match_ordering o ((id, variants) ∷ e ∷ es) ((e.0, variants) ∷ es) (e ∷ insert_entry enum_order.ghosts.cmp es id variants)) ≡ true
       go Less s later below = both (are_variants_of id variants) (list_all has_own (e ∷ es)) own all
       go Equal s later below =
-          let same : id ≡ e.0 = exact_enum id e.0 (sym (enum_ties id e.0) ∙ ap is_eq s) in
+          let same : id ≡ e.0 = exact_enum id e.0 (enum_ties id e.0 ∙ ap is_eq s) in
           both (are_variants_of e.0 variants) (list_all has_own es) (ap (λ (x : EnumId). are_variants_of x variants) (sym same) ∙ own) later
       go Greater s later below = both (has_own e) (list_all has_own (insert_entry enum_order.ghosts.cmp es id variants)) (first_so (has_own e) (list_all has_own es) all) below
 

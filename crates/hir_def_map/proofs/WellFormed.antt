@@ -227,7 +227,7 @@ module _ (maps : Maps) (whole : AreWellFormed maps) where
       here : (x : EnumId × Variants) (xs : List (EnumId × Variants)) (b : Bool) → is_at (enum_order.ghosts.cmp id) x.0 ≡ b → are_variants_of x.0 x.1 ≡ true
           → (option_and_then (λ (vs : Variants). at_name vs name) (lookup (is_at (enum_order.ghosts.cmp id)) xs) ≡ Some variant → variant.id.parent ≡ id)
           → option_and_then (λ (vs : Variants). at_name vs name) (cond b (Some x.1) (lookup (is_at (enum_order.ghosts.cmp id)) xs)) ≡ Some variant → variant.id.parent ≡ id
-      here x xs true s own below g = own_variant x.1 x.0 name variant own g ∙ sym (exact_enum id x.0 (sym (enum_ties id x.0) ∙ s))
+      here x xs true s own below g = own_variant x.1 x.0 name variant own g ∙ sym (exact_enum id x.0 (enum_ties id x.0 ∙ s))
       here x xs false s own below g = below g
 
       of_enum : (es : List (EnumId × Variants)) → list_all (λ (x : EnumId × Variants). are_variants_of x.0 x.1) es ≡ true
