@@ -1,5 +1,5 @@
 -- Updates of what a name stands for, by what is there.
-use Rattle.std.proofs.Common.{◌≡◌, ℕ, false, List, Option}
+use Rattle.std.proofs.Common.{◌≡◌, ℕ, Bool, false, List, Option}
 use Rattle.hir_base.specs.declared.ids.ModuleDefId.{ModuleDefId}
 use Rattle.hir_base.specs.declared.ids.TraitId.{TraitId}
 use Rattle.hir_base.specs.declared.macro_kind.MacroId.{MacroId}
