@@ -1,6 +1,7 @@
 -- What do macros stand for, where are they in textual scope, and which macros of other crates does a crate use?
 use Rattle.std.specs.Prelude.{ℕ, Bool, true, false, ◌&&◌, not, is_none, List, [], ◌∷◌, ◌++◌, codes, Option, None, Some, cond}
 use Rattle.std.specs.List.{list_any}
+use Rattle.std.specs.Option.{option_and_then}
 use Rattle.hir_base.specs.declared.ids.Crate.{Crate}
 use Rattle.hir_base.specs.declared.ids.ExternCrateId.{ExternCrateId}
 use Rattle.hir_base.specs.declared.ids.ModuleDefId.TheVariants as definitions
@@ -20,8 +21,8 @@ use Rattle.hir_scope.specs.PerNs.{Item, macros_only}
 use Rattle.hir_scope.specs.Scope.{ScopeValue}
 use Rattle.hir_scope.specs.declared.imports.ImportOrExternCrate.{ImportOrExternCrate}
 use Rattle.hir_scope.specs.declared.visibility.Visibility.{Visibility}
-use Rattle.hir_def_map.specs.Overlay.{Maps, module_in}
-use Rattle.hir_def_map.specs.State.{Map, ModuleValue, crate_root, module_at, with_macro_use, with_scope}
+use Rattle.hir_def_map.specs.Overlay.{Maps, map_in}
+use Rattle.hir_def_map.specs.State.{Map, crate_map, scope_at, with_macro_use, with_scope}
 use Rattle.hir_import_resolution.specs.Visibilities.{is_public}
 use Rattle.hir_def_collector.specs.declared.collector.declaration.Declaration.{Declaration}
 use Rattle.hir_def_collector.specs.declared.source_database.Dependency.{Dependency}
@@ -35,8 +36,8 @@ abbrev pub macro_declaration : List ℕ → MacroId → Visibility → Declarati
 macro_declaration name makro vis = record { name = name; def = definitions.MacroId makro; items = macros_only makro vis None }
 
 -- whether `macro_rules` binds its macro at the root of the map too, as a public one
-abbrev pub is_exported : Head → Bool
-is_exported head = says (codes "macro_export") head.attributes.attributes
+abbrev pub is_exported : Collected → Bool
+is_exported attributes = says (codes "macro_export") attributes.attributes
 
 -- ---- textual scope
 
@@ -44,13 +45,13 @@ is_exported head = says (codes "macro_export") head.attributes.attributes
 abbrev pub is_macro_use : Collected → Bool
 is_macro_use attributes = says (codes "macro_use") attributes.attributes
 
--- the macros in textual scope in a module, where it is there
-abbrev pub textual_of : Option ModuleValue → List TextualMacro
-textual_of None = []
-textual_of (Some m) = m.scope.legacy_macros
+-- the macros in textual scope in a scope, where it is there
+abbrev pub textual_in : Option ScopeValue → List TextualMacro
+textual_in None = []
+textual_in (Some s) = s.legacy_macros
 
 abbrev pub textual_at : Map → ℕ → List TextualMacro
-textual_at m home = textual_of (module_at m home)
+textual_at m home = textual_in (scope_at m home)
 
 -- the map with one macro more in textual scope in a module, the last of its name
 abbrev pub with_textual_macro : Map → ℕ → List ℕ → MacroId → Map
@@ -62,29 +63,24 @@ with_textual_scope m home macros = with_scope m home (λ (s : ScopeValue). recor
 
 -- ---- macros of other crates
 
+-- a macro of a name, if it is public
+abbrev pub public_one : List ℕ → Item MacroId ImportOrExternCrate → List (List ℕ × MacroId)
+public_one name i = cond (is_public i.vis) ((name, i.def) ∷ []) []
+
 -- the public ones among macros by name
 abbrev pub public_among : List (List ℕ × Item MacroId ImportOrExternCrate) → List (List ℕ × MacroId)
 public_among [] = []
-public_among (e ∷ es) = cond (is_public e.1.vis) ((e.0, e.1.def) ∷ public_among es) (public_among es)
+public_among (e ∷ es) = public_one e.0 e.1 ++ public_among es
 
--- the macro of a name, if there is one that is public
+-- the same of one that there may be
 abbrev pub public_named : List ℕ → Option (Item MacroId ImportOrExternCrate) → List (List ℕ × MacroId)
 public_named name None = []
-public_named name (Some i) = cond (is_public i.vis) ((name, i.def) ∷ []) []
+public_named name (Some i) = public_one name i
 
--- the public ones of these names
+-- those of these names
 abbrev pub public_at : List (List ℕ × Item MacroId ImportOrExternCrate) → List (List ℕ) → List (List ℕ × MacroId)
 public_at macros [] = []
 public_at macros (name ∷ names) = public_named name (item_at macros name) ++ public_at macros names
-
--- the macros that the root of a crate binds, where the crate is there
-abbrev pub macros_of : Option ModuleValue → List (List ℕ × Item MacroId ImportOrExternCrate)
-macros_of None = []
-macros_of (Some m) = m.scope.macros
-
-abbrev pub root_macros : Maps → Option Crate → List (List ℕ × Item MacroId ImportOrExternCrate)
-root_macros finished None = []
-root_macros finished (Some krate) = macros_of (module_in finished (crate_root krate))
 
 -- whether an attribute lists names
 abbrev pub lists_names : Option Input → Bool
@@ -102,20 +98,31 @@ wants_all attributes = list_any (λ (a : Numbered). is_keyed (codes "macro_use")
 abbrev pub wanted_among : List Numbered → List (List ℕ × Item MacroId ImportOrExternCrate) → List (List ℕ × MacroId)
 wanted_among attributes macros = cond (wants_all attributes) (public_among macros) (public_at macros (listed_under (codes "macro_use") attributes))
 
--- the crate that an `extern crate` names, if it is another one
-abbrev pub other_crate : List Dependency → ExternCrateName → Option Crate
-other_crate dependencies SelfCrate = None
-other_crate dependencies (Name name) = dependency_named dependencies name
+-- what the root of a crate binds, where its map is there
+abbrev pub root_scope : Maps → Crate → Option ScopeValue
+root_scope finished krate = option_and_then (λ (m : Map). scope_at m 0) (map_in finished (crate_map krate))
+
+-- the same of the crate that an `extern crate` names, if it is another one
+abbrev pub other_scope : Maps → List Dependency → ExternCrateName → Option ScopeValue
+other_scope finished dependencies SelfCrate = None
+other_scope finished dependencies (Name name) = option_and_then (root_scope finished) (dependency_named dependencies name)
+
+abbrev pub wanted_in : List Numbered → Option ScopeValue → List (List ℕ × MacroId)
+wanted_in attributes None = []
+wanted_in attributes (Some s) = wanted_among attributes s.macros
 
 -- the macros that an `extern crate` brings into the macro-use prelude; none in a block's map
 abbrev pub macros_brought : Maps → Map → List Dependency → Head → ExternCrateName → List (List ℕ × MacroId)
-macros_brought finished m dependencies head name =
-    cond (is_none m.id.block) (wanted_among head.attributes.attributes (root_macros finished (other_crate dependencies name))) []
+macros_brought finished m dependencies head name = cond (is_none m.id.block) (wanted_in head.attributes.attributes (other_scope finished dependencies name)) []
 
--- the macros that come with a prelude module: those of its crate, if that is another one
+abbrev pub public_in : Option ScopeValue → List (List ℕ × MacroId)
+public_in None = []
+public_in (Some s) = public_among s.macros
+
+-- the macros that come with a prelude module: the public ones of its crate, if that is another one
 abbrev pub macros_beside : Maps → Crate → Option (ModuleId × Option UseId) → List (List ℕ × MacroId)
 macros_beside finished own None = []
-macros_beside finished own (Some found) = cond (same_crate found.0.map.krate own) [] (public_among (root_macros finished (Some found.0.map.krate)))
+macros_beside finished own (Some found) = cond (same_crate found.0.map.krate own) [] (public_in (root_scope finished found.0.map.krate))
 
 -- the map with macros in its macro-use prelude, each in place of an earlier one of its name
 abbrev pub with_macros_used : Map → List (List ℕ × MacroId) → Option ExternCrateId → Map

@@ -43,6 +43,7 @@ use Rattle.hir_def_collector.specs.Items.{file_origin, own_visibility}
 use Rattle.hir_def_collector.specs.Macros.{is_macro_use, textual_at, with_textual_scope}
 use Rattle.hir_def_collector.specs.Reports.{IsUnconfigured}
 use Rattle.hir_def_collector.specs.State.{Core, State, Task, Visit, visits, counted, joined, visits_over, with_map}
+use Rattle.hir_def_collector.specs.Changes.{Change, perform}
 use Rattle.hir_def_collector.specs.Steps.{Sees, Step, Steps, closing, inside_file, keys_read, module_declaration, with_declaration, with_keys}
 use Rattle.hir_def_collector.specs.Derivation.{IsSpent}
 
@@ -63,6 +64,10 @@ pub record IsHeld (tables : TablesValue) (w : Workspace) (krate : Crate) (tree :
 -- one step over the workspace handles the visit, and these tasks come next
 pub record Handles (env : Environment) (finished : Maps) (old new : Core) (v : Visit) (inside : List Task) : Type 0 where
   pub step : (rest : List Task) → Step env finished (joined old (visits v ∷ rest)) (joined new (inside ++ rest))
+
+-- these changes are made, whatever is still to be done
+pub record Makes (changes : List Change) (old new : Core) : Type 0 where
+  pub is : (rest : List Task) → joined new rest ≡ perform (joined old rest) changes
 
 -- steps do what is to be done, one task after another
 pub record Walks (env : Environment) (finished : Maps) (old new : Core) (tasks : List Task) : Type 0 where

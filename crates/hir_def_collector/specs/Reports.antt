@@ -50,9 +50,9 @@ is_unimplemented expanders.BuiltinAttr = false
 is_unimplemented expanders.BuiltinDerive = false
 is_unimplemented expanders.Unimplemented = true
 
--- the diagnostics of a node in a module that defines a macro with this expander
-abbrev pub macro_reports : ModuleId → AstId → MacroExpander → List DefDiagnostic
-macro_reports at node expander = cond (is_unimplemented expander) (record { in_module = at; kind = kinds.UnimplementedBuiltinMacro node } ∷ []) []
+-- nothing can expand the macro that a node in a module defines
+abbrev pub unimplemented_macro : ModuleId → AstId → DefDiagnostic
+unimplemented_macro at node = record { in_module = at; kind = kinds.UnimplementedBuiltinMacro node }
 
 -- ---- imports that are left over
 

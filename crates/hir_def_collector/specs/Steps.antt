@@ -7,6 +7,7 @@ use Rattle.hir_base.specs.declared.ids.AdtId.TheVariants as adts
 use Rattle.hir_base.specs.declared.ids.EnumId.{EnumId}
 use Rattle.hir_base.specs.declared.ids.ExternCrateId.{ExternCrateId}
 use Rattle.hir_base.specs.declared.ids.ModuleDefId.TheVariants as definitions
+use Rattle.hir_base.specs.declared.ids.ModuleId.{ModuleId}
 use Rattle.hir_base.specs.declared.macro_kind.MacroExpander.{MacroExpander}
 use Rattle.hir_base.specs.declared.macro_kind.MacroId.{MacroId}
 use Rattle.hir_item_tree.specs.Collected.{is_enabled}
@@ -36,7 +37,7 @@ use Rattle.hir_def_collector.specs.declared.source_database.Key.{Key}
 use Rattle.hir_def_collector.specs.declared.source_database.Key.TheVariants as keys
 use Rattle.hir_def_collector.specs.Keys.{Environment, of_variants, look}
 use Rattle.hir_def_collector.specs.ModuleFiles.{IsNumbered, IsSearch, ModuleFile, Reading, Search, file_readings, file_tree, module_file, path_attribute, tried_in}
-use Rattle.hir_def_collector.specs.Reports.{IsUnconfigured, IsUnresolvedModule, macro_reports}
+use Rattle.hir_def_collector.specs.Reports.{IsUnconfigured, IsUnresolvedModule, is_unimplemented, unimplemented_macro}
 use Rattle.hir_def_collector.specs.State.{Visit, Task, visits, closes, State, import_state, visits_over, ticked}
 use Rattle.hir_def_collector.specs.ItemIds.{const_id, enum_id, impl_id, extern_block_id, extern_crate_id, macro_def_id, macro_rules_id, module_id, node_of, use_id}
 use Rattle.hir_def_collector.specs.Items.{declaration_of, declared_module, file_origin, inline_origin, is_passed_over, own_visibility, type_declaration, bound_in}
@@ -257,11 +258,11 @@ making finished s site head name origin next =
 
 -- the changes that bind a macro at the root of the map too, if it is exported
 abbrev pub exporting : Head → List ℕ → MacroId → List Change
-exporting head name makro = cond (is_exported head) (declaring 0 (macro_declaration name makro visibilities.Public)) []
+exporting head name makro = cond (is_exported head.attributes) (declaring 0 (macro_declaration name makro visibilities.Public)) []
 
--- the changes that report what a node defines that is a macro which nothing can expand
-abbrev pub reporting : Map → Site → AstId → MacroExpander → List Change
-reporting m site node expander = list_map tells (macro_reports (module_id m site.home) node expander)
+-- the changes that report a macro that a node in a module defines and nothing can expand
+abbrev pub reporting : ModuleId → AstId → MacroExpander → List Change
+reporting at node expander = cond (is_unimplemented expander) (tells (unimplemented_macro at node) ∷ []) []
 
 abbrev pub acts : Maps → State → Rule → List Change
 acts finished s (drops_item v report rest) = goes_on rest ∷ tells report ∷ []
@@ -292,12 +293,12 @@ acts finished s (reaches_crate site head name alias rest) =
 acts finished s (defines_rules site head name expander helpers rest) =
     let makro : MacroId = macro_rules_id s.core.map site head.id expander in
     let node : AstId = node_of site.tree nodes.MacroRules head.id in
-    goes_on rest ∷ defines node makro ∷ adds_textual site.home name makro ∷ exporting head name makro ++ reporting s.core.map site node expander
+    goes_on rest ∷ defines node makro ∷ adds_textual site.home name makro ∷ exporting head name makro ++ reporting (module_id s.core.map site.home) node expander
 acts finished s (defines_macro site head name expander helpers rest) =
     let makro : MacroId = macro_def_id s.core.map site head.id expander in
     let node : AstId = node_of site.tree nodes.MacroDef head.id in
     goes_on rest ∷ defines node makro
-    ∷ declaring site.home (macro_declaration name makro (own_visibility finished s.core.local s.core.map site head)) ++ reporting s.core.map site node expander
+    ∷ declaring site.home (macro_declaration name makro (own_visibility finished s.core.local s.core.map site head)) ++ reporting (module_id s.core.map site.home) node expander
 acts finished s (closes_module parent child rest) = goes_on rest ∷ takes_textual parent child ∷ []
 acts finished s (passes_over site head l rest) = goes_on rest ∷ []
 acts finished s (resolves_imports rule) = list_map changes_imports (import_acts finished (import_state s) rule)
