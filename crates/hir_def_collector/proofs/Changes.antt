@@ -7,8 +7,9 @@ use Rattle.hir_import_resolution.specs.State.{ImportState}
 use Rattle.hir_def_collector.specs.declared.source_database.Key.{Key}
 use Rattle.hir_def_collector.specs.Keys.{Environment}
 use Rattle.hir_def_collector.specs.State.{State, import_state}
-use Rattle.hir_def_collector.specs.Changes.{Change, lists, makes, gives_variants, begins_paths, reaches, changes_imports, tells, goes_on, act, perform}
+use Rattle.hir_def_collector.specs.Changes.{Change, lists, makes, gives_variants, begins_paths, reaches, changes_imports, adds_textual, takes_textual, defines, uses_macros, tells, goes_on, act, perform}
 use Rattle.hir_def_collector.specs.Steps.{Step, Steps, none, more, acts, asking, keys_read, reads, with_keys}
+use Rattle.hir_def_collector.proofs.MacroEdits.{crate_data_used, id_used}
 use Rattle.hir_def_collector.proofs.ImportEdits.{count_after, crate_data_edited, edit_of, id_edited, map_after}
 
 -- ---- what no change alters
@@ -44,8 +45,12 @@ Keeps-act s (changes_imports c) =
       dependencies = refl;
       asked = refl;
     }
+Keeps-act s (adds_textual home name makro) = record { count = refl; id = refl; crate_data = refl; dependencies = refl; asked = refl }
+Keeps-act s (takes_textual home from) = record { count = refl; id = refl; crate_data = refl; dependencies = refl; asked = refl }
+Keeps-act s (defines node makro) = record { count = refl; id = refl; crate_data = refl; dependencies = refl; asked = refl }
+Keeps-act s (uses_macros macros by) = record { count = refl; id = id_used s.core.map macros by; crate_data = crate_data_used s.core.map macros by; dependencies = refl; asked = refl }
 Keeps-act s (tells d) = record { count = refl; id = refl; crate_data = refl; dependencies = refl; asked = refl }
-Keeps-act s (goes_on visits) = record { count = refl; id = refl; crate_data = refl; dependencies = refl; asked = refl }
+Keeps-act s (goes_on tasks) = record { count = refl; id = refl; crate_data = refl; dependencies = refl; asked = refl }
 
 Keeps-perform : (cs : List Change) (s : State) → Keeps s (perform s cs)
 Keeps-perform [] s = record { count = refl; id = refl; crate_data = refl; dependencies = refl; asked = refl }
@@ -67,6 +72,16 @@ pub all_fine : (Fine : State → Change → Type 0) → ((s : State) (c : Import
     → AllFine Fine s (list_map changes_imports cs)
 all_fine Fine fine [] s = tt
 all_fine Fine fine (c ∷ cs) s = (fine s c, all_fine Fine fine cs (act s (changes_imports c)))
+
+-- ---- changes one after another
+
+pub perform-append : (cs ds : List Change) (s : State) → perform s (cs ++ ds) ≡ perform (perform s cs) ds
+perform-append [] ds s = refl
+perform-append (c ∷ cs) ds s = perform-append cs ds (act s c)
+
+pub fine-append : (Fine : State → Change → Type 0) (cs ds : List Change) (s : State) → AllFine Fine s cs → AllFine Fine (perform s cs) ds → AllFine Fine s (cs ++ ds)
+fine-append Fine [] ds s f g = g
+fine-append Fine (c ∷ cs) ds s f g = (f.0, fine-append Fine cs ds (act s c) f.1 g)
 
 -- ---- steps
 

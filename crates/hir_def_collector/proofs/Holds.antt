@@ -22,7 +22,7 @@ use Rattle.hir_def_collector.specs.declared.collector.site.Site.{Site}
 use Rattle.hir_tables.specs.Tables.{TablesValue}
 use Rattle.hir_def_collector.specs.Workspace.{Workspace}
 use Rattle.hir_def_collector.specs.Keys.{Environment}
-use Rattle.hir_def_collector.specs.State.{State, import_state, visits}
+use Rattle.hir_def_collector.specs.State.{State, import_state, visits_over}
 use Rattle.hir_def_collector.specs.Start.{Beginning, start_of, root_site, root_tree, tree_visits}
 use Rattle.hir_def_collector.specs.Changes.{Change, lists, makes, gives_variants, begins_paths, reaches, changes_imports, tells, goes_on, act, on_map}
 use Rattle.hir_def_collector.specs.Steps.{Rule, drops_item, passes_over, declares_item, declares_enum, lists_constant, lists_impl, opens_module, opens_file, drops_file, misses_file, enters_block, reaches_imports, reaches_crate, resolves_imports, May, acts, asking, Step, Steps, none, more}
@@ -256,7 +256,7 @@ Holds-Steps (more old new before step) p h = Holds-Step step (in_range-Steps bef
 
 -- ---- the start
 
-in_range-visits : (n : ℕ) (site : Site) (forest : KeptForest) → site.home < n → VisitsBelow n (visits site forest)
+in_range-visits : (n : ℕ) (site : Site) (forest : KeptForest) → site.home < n → VisitsBelow n (visits_over site forest)
 in_range-visits n site no_items h = tt
 in_range-visits n site (item i is) h = (h, in_range-visits n site is h)
 

@@ -1,6 +1,7 @@
 pub mod Lists
 pub mod Entries
 pub mod ImportEdits
+pub mod MacroEdits
 pub mod Made
 pub mod ImportSteps
 pub mod Resolved

@@ -156,13 +156,13 @@ stays_there finished old new same grows m e =
 -- ---- lists
 
 module _ (t : SourceTest) where
-  site_visits : (s : Site) → t.holder s.tree.file s.tree.block ≡ false → (is : KeptForest) → list_any (on_site t) (visits s is) ≡ false
+  site_visits : (s : Site) → t.holder s.tree.file s.tree.block ≡ false → (is : KeptForest) → list_any (on_site t) (visits_over s is) ≡ false
   site_visits s f no_items = refl
-  site_visits s f (item i is) = neither (t.holder s.tree.file s.tree.block) (list_any (on_site t) (visits s is)) f (site_visits s f is)
+  site_visits s f (item i is) = neither (t.holder s.tree.file s.tree.block) (list_any (on_site t) (visits_over s is)) f (site_visits s f is)
 
-  next_visits : (vs : List Visit) (v : Visit) (rest : List Visit) → list_any (on_site t) vs ≡ false → vs ≡ v ∷ rest → (t.holder v.site.tree.file v.site.tree.block ≡ false) × (list_any (on_site t) rest ≡ false)
+  next_visits : (vs : List Task) (v : Visit) (rest : List Task) → list_any (on_site t) vs ≡ false → vs ≡ v ∷ rest → (t.holder v.site.tree.file v.site.tree.block ≡ false) × (list_any (on_site t) rest ≡ false)
   next_visits vs v rest f e =
-      let both : list_any (on_site t) (v ∷ rest) ≡ false = subst (λ (xs : List Visit). list_any (on_site t) xs ≡ false) e f in
+      let both : list_any (on_site t) (v ∷ rest) ≡ false = subst (λ (xs : List Task). list_any (on_site t) xs ≡ false) e f in
       (not_first (on_site t v) (list_any (on_site t) rest) both, not_second (on_site t v) (list_any (on_site t) rest) both)
 
   use_imports : (m : Map) (s : Site) (head : Head) → t.holder s.tree.file s.tree.block ≡ false → (is : List Import) → list_any (on_reached t) (list_map (reached_import s.home (use_id m s head.id) head.visibility) is) ≡ false
@@ -459,13 +459,13 @@ module _ (t : SourceTest) where
           (written at low raw) (all_written at low rest)
 
       -- the next item is of a module of the map, in a file of which the test doesn't hold
-      low : (v : Visit) (rest : List Visit) → s.agenda ≡ v ∷ rest → v.site.home < length s.core.map.modules
+      low : (v : Visit) (rest : List Task) → s.agenda ≡ v ∷ rest → v.site.home < length s.core.map.modules
       low v rest e = next_home s inside v rest e
 
-      file : (v : Visit) (rest : List Visit) → s.agenda ≡ v ∷ rest → t.holder v.site.tree.file v.site.tree.block ≡ false
+      file : (v : Visit) (rest : List Task) → s.agenda ≡ v ∷ rest → t.holder v.site.tree.file v.site.tree.block ≡ false
       file v rest e = (next_visits s.agenda v rest f.visits e).0
 
-      left : (v : Visit) (rest : List Visit) → s.agenda ≡ v ∷ rest → list_any (on_site t) rest ≡ false
+      left : (v : Visit) (rest : List Task) → s.agenda ≡ v ∷ rest → list_any (on_site t) rest ≡ false
       left v rest e = (next_visits s.agenda v rest f.visits e).1
 
       declares : (v : Visit) (d : Declaration) → v.site.home < length s.core.map.modules → t.holder v.site.tree.file v.site.tree.block ≡ false → declaration_of finished s.core.local s.core.map v ≡ Some d → HoldsOfNone t d.items
@@ -632,16 +632,16 @@ module _ (t : SourceTest) where
       bare_type def vis g h = ((type_of def vis g h, refl), tt)
 
       -- where a module is made, the item that declares it and what comes next are clear of the test
-      making_none : (site : Site) (head : Head) (name : List ℕ) (origin : ModuleOrigin) (next : List Visit) → site.home < length s.core.map.modules → on_origin t origin ≡ false
+      making_none : (site : Site) (head : Head) (name : List ℕ) (origin : ModuleOrigin) (next : List Task) → site.home < length s.core.map.modules → on_origin t origin ≡ false
           → list_any (on_site t) next ≡ false → AllFine BringsNone s (making finished s site head name origin next)
       making_none site head name origin next below own clear =
           (own, (clear, (tt, (bare_type (definitions.ModuleId (new_id s.core.map)) (own_visibility finished s.core.local s.core.map site head) refl (written site.home below head.visibility), tt))))
 
-      inside_none : (site : Site) (dir : Option Directory) (items : KeptForest) (rest : List Visit) → t.holder site.tree.file site.tree.block ≡ false → list_any (on_site t) rest ≡ false
+      inside_none : (site : Site) (dir : Option Directory) (items : KeptForest) (rest : List Task) → t.holder site.tree.file site.tree.block ≡ false → list_any (on_site t) rest ≡ false
           → list_any (on_site t) (visits_inside s.core.map site dir items ++ rest) ≡ false
       inside_none site None items rest own clear = clear
       inside_none site (Some dir) items rest own clear =
-          none_joined (on_site t) (visits (inside_module s.core.map site dir) items) rest (site_visits (inside_module s.core.map site dir) own items) clear
+          none_joined (on_site t) (visits_over (inside_module s.core.map site dir) items) rest (site_visits (inside_module s.core.map site dir) own items) clear
 
       -- the sources that a rule reads are clear of it too
       brings_none : (r : Rule) → May finished s r → ((key : TreeKey) → Contains (keys_read (reads s r)) (keys.Tree key) → t.holder key.id.file key.id.block ≡ false)
@@ -664,8 +664,8 @@ module _ (t : SourceTest) where
           let m : Map = s.core.map in
           let own : t.holder within.tree.file within.tree.block ≡ false =
           read (file_key m.id.krate m.crate_data.edition f.id) (found_read m.id.krate m.crate_data.edition search.absent search.found f may.found) in
-          making_none site head name (file_origin site.tree head.id m.crate_data.edition f) (visits within f.tree.items ++ rest) (low _ rest may.looks.here.next) (file _ rest may.looks.here.next)
-          (none_joined (on_site t) (visits within f.tree.items) rest (site_visits within own f.tree.items) (left _ rest may.looks.here.next))
+          making_none site head name (file_origin site.tree head.id m.crate_data.edition f) (visits_over within f.tree.items ++ rest) (low _ rest may.looks.here.next) (file _ rest may.looks.here.next)
+          (none_joined (on_site t) (visits_over within f.tree.items) rest (site_visits within own f.tree.items) (left _ rest may.looks.here.next))
       brings_none (drops_file site head name search report rest) may read = (left _ rest may.looks.here.next, (tt, tt))
       brings_none (misses_file site head name search report rest) may read = (
         file _ rest may.looks.here.next,
@@ -683,7 +683,7 @@ module _ (t : SourceTest) where
       )
       brings_none (enters_block site head items rest) may read =
           let within : Site = inside_block s.core.map site head in
-          (none_joined (on_site t) (visits within items) rest (site_visits within (file _ rest may.next) items) (left _ rest may.next), (tt, tt))
+          (none_joined (on_site t) (visits_over within items) rest (site_visits within (file _ rest may.next) items) (left _ rest may.next), (tt, tt))
       brings_none (reaches_imports site head tree rest) may read = (left _ rest may.next, (use_imports s.core.map site head (file _ rest may.next) (imports_of tree), (tt, tt)))
       brings_none (reaches_crate site head name alias rest) may read =
           let own : t.holder site.tree.file site.tree.block ≡ false = file _ rest may.next in
@@ -737,7 +737,7 @@ module _ (t : SourceTest) where
         edges = refl;
       }
     where
-      go : (b : Bool) (is : KeptForest) → list_any (on_site t) (if b then visits (root_site from.tree) is else []) ≡ false
+      go : (b : Bool) (is : KeptForest) → list_any (on_site t) (if b then visits_over (root_site from.tree) is else []) ≡ false
       go true is = site_visits (root_site from.tree) written is
       go false is = refl
 

@@ -22,7 +22,7 @@ use Rattle.hir_def_map.specs.declared.nameres.diagnostics.DefDiagnosticKind.TheV
 use Rattle.hir_def_collector.specs.ItemIds.{module_id, node_of}
 use Rattle.hir_def_collector.specs.Workspace.{Workspace}
 use Rattle.hir_def_collector.specs.Keys.{environment}
-use Rattle.hir_def_collector.specs.Moves.{GoesInside, Handles, IsHeld, IsOfFile, IsWithin, OnceGrown, Walks, WalksTooFar, visits_of}
+use Rattle.hir_def_collector.specs.Moves.{GoesInside, Handles, IsHeld, IsOfFile, IsWithin, OnceGrown, Walks, WalksTooFar, tasks_of}
 use Rattle.hir_def_collector.specs.State.{Visit, visits}
 use Rattle.hir_def_collector.specs.Steps.{none, visit}
 use Rattle.hir_def_collector.specs.TreeReads.{head_of, visits_at, above}
@@ -162,7 +162,7 @@ walk_item-returns-in_err-inside-clause-many g t c = λ far_off grown k.
     visits_one tree site n h (kind_content item) c.requires.there
     (subst (λ (t : Tree). IfSome (slice_get (all_items t.items) n) (λ i. h ≡ item_head i)) c.tree.ensures.value c.head_at-head.ensures.value)
     (subst (λ (t : Tree). IfSome (slice_get (all_items t.items) n) (λ i. item_of (all_items t.items) (item_head i) (kind_content item) ≡ i)) c.tree-2.ensures.value c.index-item.ensures.value) in
-    subst (λ (vs : List Visit). WalksTooFar (environment grown w) part c.args.run.now vs) (sym is) (c.in_err-inside.ensures.many (search rules) grown k (all_items tree.items))
+    subst (λ (vs : List Task). WalksTooFar (environment grown w) part c.args.run.now vs) (sym is) (c.in_err-inside.ensures.many (search rules) grown k (all_items tree.items))
 
 pub walk_item-walk_all-requires : goal.walk_item-walk_all-requires
 walk_item-walk_all-requires g t c =
@@ -228,7 +228,7 @@ walk_item-returns-in_err-walk_all-in-Held-clause-many g t c = λ far_off grown k
     let goes : IsWithin (length mid.map.modules) site inner × (ns ≡ held_numbers (kind_content item)) =
     subst (λ (o : Inside). GoesInside now w c.args.run.now.map.id.krate (length mid.map.modules) site (held_numbers (kind_content item)) o) c.in-Held.is c.in_ok-inside.ensures.within in
     let first : Handles (environment grown w) part c.args.run.now mid (visit site (item_of (all_items tree.items) h (kind_content item))) (visits_at tree inner ns) =
-    subst (λ (o : Inside). Handles (environment grown w) part c.args.run.now mid (visit site (item_of (all_items tree.items) h (kind_content item))) (visits_of (all_items tree.items) o)) c.in-Held.is
+    subst (λ (o : Inside). Handles (environment grown w) part c.args.run.now mid (visit site (item_of (all_items tree.items) h (kind_content item))) (tasks_of (all_items tree.items) o)) c.in-Held.is
     (c.in_ok-inside.ensures.ok grown (KeepsTables-trans now c.walk_all.new.locations grown c.in_err-walk_all-in-Held.ensures.kept k) (all_items tree.items)) in
     let later : OnceGrown c.walk_all.new.locations w (λ env. WalksTooFar env part mid (visits_at tree inner ns)) =
     subst (λ (v : Workspace). OnceGrown c.walk_all.new.locations v (λ env. WalksTooFar env part mid (visits_at tree inner ns))) c.in_ok-inside.ensures.same (c.in_err-walk_all-in-Held.ensures.many (search rules)) in
@@ -256,7 +256,7 @@ walk_item-returns-in_ok-walk_all-in-Held-clause-ok g t c = λ grown k.
     let goes : IsWithin (length mid.map.modules) site inner × (ns ≡ held_numbers (kind_content item)) =
     subst (λ (o : Inside). GoesInside now w c.args.run.now.map.id.krate (length mid.map.modules) site (held_numbers (kind_content item)) o) c.in-Held.is c.in_ok-inside.ensures.within in
     let first : Handles (environment grown w) part c.args.run.now mid (visit site (item_of (all_items tree.items) h (kind_content item))) (visits_at tree inner ns) =
-    subst (λ (o : Inside). Handles (environment grown w) part c.args.run.now mid (visit site (item_of (all_items tree.items) h (kind_content item))) (visits_of (all_items tree.items) o)) c.in-Held.is
+    subst (λ (o : Inside). Handles (environment grown w) part c.args.run.now mid (visit site (item_of (all_items tree.items) h (kind_content item))) (tasks_of (all_items tree.items) o)) c.in-Held.is
     (c.in_ok-inside.ensures.ok grown (KeepsTables-trans now c.walk_all.new.locations grown c.in_ok-walk_all-in-Held.ensures.kept k) (all_items tree.items)) in
     let later : OnceGrown c.walk_all.new.locations w (λ env. Walks env part mid c.walk_all.new.run (visits_at tree inner ns)) =
     subst (λ (v : Workspace). OnceGrown c.walk_all.new.locations v (λ env. Walks env part mid c.walk_all.new.run (visits_at tree inner ns))) c.in_ok-inside.ensures.same c.in_ok-walk_all-in-Held.ensures.ok in
@@ -291,16 +291,16 @@ walk_item-returns-in_err-walk_all-in-File-clause-many g t c = λ far_off grown k
     let source = c.in-File.source.value in
     let goes : IsOfFile now w c.args.run.now.map.id.krate (length mid.map.modules) site inner source =
     subst (λ (o : Inside). GoesInside now w c.args.run.now.map.id.krate (length mid.map.modules) site (held_numbers (kind_content item)) o) c.in-File.is c.in_ok-inside.ensures.within in
-    let first : Handles (environment grown w) part c.args.run.now mid (visit site (item_of (all_items tree.items) h (kind_content item))) (visits inner source.tree.items) =
-    subst (λ (o : Inside). Handles (environment grown w) part c.args.run.now mid (visit site (item_of (all_items tree.items) h (kind_content item))) (visits_of (all_items tree.items) o)) c.in-File.is
+    let first : Handles (environment grown w) part c.args.run.now mid (visit site (item_of (all_items tree.items) h (kind_content item))) (visits_over inner source.tree.items) =
+    subst (λ (o : Inside). Handles (environment grown w) part c.args.run.now mid (visit site (item_of (all_items tree.items) h (kind_content item))) (tasks_of (all_items tree.items) o)) c.in-File.is
     (c.in_ok-inside.ensures.ok grown (KeepsTables-trans now c.walk_all-in-File.new.locations grown c.in_err-walk_all-in-File.ensures.kept k) (all_items tree.items)) in
-    let items_same : visits_at c.deref-in-File.result.now.tree inner (numbers_of c.top_level_items-ids.result.now) ≡ visits inner source.tree.items =
+    let items_same : visits_at c.deref-in-File.result.now.tree inner (numbers_of c.top_level_items-ids.result.now) ≡ visits_over inner source.tree.items =
     ap (λ (s : SourceTreeValue). visits_at s.tree inner (numbers_of c.top_level_items-ids.result.now)) c.deref-in-File.ensures
-    ∙ ap (visits inner) (subst (λ (t : Tree). items_at (all_items t.items) (numbers_of c.top_level_items-ids.result.now) ≡ t.items) (c.tree-in-File.ensures.value ∙ ap (λ (s : SourceTreeValue). s.tree) c.deref.ensures) c.top_level_items-ids.ensures.value) in
-    let later : OnceGrown c.walk_all-in-File.new.locations w (λ env. WalksTooFar env part mid (visits inner source.tree.items)) =
-    subst (λ (vs : List Visit). OnceGrown c.walk_all-in-File.new.locations w (λ env. WalksTooFar env part mid vs)) items_same
+    ∙ ap (visits_over inner) (subst (λ (t : Tree). items_at (all_items t.items) (numbers_of c.top_level_items-ids.result.now) ≡ t.items) (c.tree-in-File.ensures.value ∙ ap (λ (s : SourceTreeValue). s.tree) c.deref.ensures) c.top_level_items-ids.ensures.value) in
+    let later : OnceGrown c.walk_all-in-File.new.locations w (λ env. WalksTooFar env part mid (visits_over inner source.tree.items)) =
+    subst (λ (vs : List Task). OnceGrown c.walk_all-in-File.new.locations w (λ env. WalksTooFar env part mid vs)) items_same
     (subst (λ (v : Workspace). OnceGrown c.walk_all-in-File.new.locations v (λ env. WalksTooFar env part mid (visits_at c.deref-in-File.result.now.tree inner (numbers_of c.top_level_items-ids.result.now)))) c.in_ok-inside.ensures.same (c.in_err-walk_all-in-File.ensures.many (search rules))) in
-    WalksTooFar-inside c.args.run.now mid _ (visits_at tree site (n ∷ [])) (visits inner source.tree.items) is first (later grown k)
+    WalksTooFar-inside c.args.run.now mid _ (visits_at tree site (n ∷ [])) (visits_over inner source.tree.items) is first (later grown k)
 
 pub walk_item-returns-in_ok-walk_all-in-File-clause-ok : goal.walk_item-returns-in_ok-walk_all-in-File-clause-ok
 walk_item-returns-in_ok-walk_all-in-File-clause-ok g t c = λ grown k.
@@ -323,16 +323,16 @@ walk_item-returns-in_ok-walk_all-in-File-clause-ok g t c = λ grown k.
     let source = c.in-File.source.value in
     let goes : IsOfFile now w c.args.run.now.map.id.krate (length mid.map.modules) site inner source =
     subst (λ (o : Inside). GoesInside now w c.args.run.now.map.id.krate (length mid.map.modules) site (held_numbers (kind_content item)) o) c.in-File.is c.in_ok-inside.ensures.within in
-    let first : Handles (environment grown w) part c.args.run.now mid (visit site (item_of (all_items tree.items) h (kind_content item))) (visits inner source.tree.items) =
-    subst (λ (o : Inside). Handles (environment grown w) part c.args.run.now mid (visit site (item_of (all_items tree.items) h (kind_content item))) (visits_of (all_items tree.items) o)) c.in-File.is
+    let first : Handles (environment grown w) part c.args.run.now mid (visit site (item_of (all_items tree.items) h (kind_content item))) (visits_over inner source.tree.items) =
+    subst (λ (o : Inside). Handles (environment grown w) part c.args.run.now mid (visit site (item_of (all_items tree.items) h (kind_content item))) (tasks_of (all_items tree.items) o)) c.in-File.is
     (c.in_ok-inside.ensures.ok grown (KeepsTables-trans now c.walk_all-in-File.new.locations grown c.in_ok-walk_all-in-File.ensures.kept k) (all_items tree.items)) in
-    let items_same : visits_at c.deref-in-File.result.now.tree inner (numbers_of c.top_level_items-ids.result.now) ≡ visits inner source.tree.items =
+    let items_same : visits_at c.deref-in-File.result.now.tree inner (numbers_of c.top_level_items-ids.result.now) ≡ visits_over inner source.tree.items =
     ap (λ (s : SourceTreeValue). visits_at s.tree inner (numbers_of c.top_level_items-ids.result.now)) c.deref-in-File.ensures
-    ∙ ap (visits inner) (subst (λ (t : Tree). items_at (all_items t.items) (numbers_of c.top_level_items-ids.result.now) ≡ t.items) (c.tree-in-File.ensures.value ∙ ap (λ (s : SourceTreeValue). s.tree) c.deref.ensures) c.top_level_items-ids.ensures.value) in
-    let later : OnceGrown c.walk_all-in-File.new.locations w (λ env. Walks env part mid c.walk_all-in-File.new.run (visits inner source.tree.items)) =
-    subst (λ (vs : List Visit). OnceGrown c.walk_all-in-File.new.locations w (λ env. Walks env part mid c.walk_all-in-File.new.run vs)) items_same
+    ∙ ap (visits_over inner) (subst (λ (t : Tree). items_at (all_items t.items) (numbers_of c.top_level_items-ids.result.now) ≡ t.items) (c.tree-in-File.ensures.value ∙ ap (λ (s : SourceTreeValue). s.tree) c.deref.ensures) c.top_level_items-ids.ensures.value) in
+    let later : OnceGrown c.walk_all-in-File.new.locations w (λ env. Walks env part mid c.walk_all-in-File.new.run (visits_over inner source.tree.items)) =
+    subst (λ (vs : List Task). OnceGrown c.walk_all-in-File.new.locations w (λ env. Walks env part mid c.walk_all-in-File.new.run vs)) items_same
     (subst (λ (v : Workspace). OnceGrown c.walk_all-in-File.new.locations v (λ env. Walks env part mid c.walk_all-in-File.new.run (visits_at c.deref-in-File.result.now.tree inner (numbers_of c.top_level_items-ids.result.now)))) c.in_ok-inside.ensures.same c.in_ok-walk_all-in-File.ensures.ok) in
-    Walks-first c.args.run.now mid c.walk_all-in-File.new.run _ (visits_at tree site (n ∷ [])) (visits inner source.tree.items) is first (later grown k)
+    Walks-first c.args.run.now mid c.walk_all-in-File.new.run _ (visits_at tree site (n ∷ [])) (visits_over inner source.tree.items) is first (later grown k)
 
 pub walk_item-walk_all-requires-in-File : goal.walk_item-walk_all-requires-in-File
 walk_item-walk_all-requires-in-File g t c =
@@ -380,6 +380,6 @@ walk_item-returns-in-Nothing-clause-ok g t c = λ grown k.
     (subst (λ (t : Tree). IfSome (slice_get (all_items t.items) n) (λ i. h ≡ item_head i)) c.tree.ensures.value c.head_at-head.ensures.value)
     (subst (λ (t : Tree). IfSome (slice_get (all_items t.items) n) (λ i. item_of (all_items t.items) (item_head i) (kind_content item) ≡ i)) c.tree-2.ensures.value c.index-item.ensures.value) in
     let first : Handles (environment grown w) part c.args.run.now c.visit_item.new.run (visit site (item_of (all_items tree.items) h (kind_content item))) [] =
-    subst (λ (o : Inside). Handles (environment grown w) part c.args.run.now c.visit_item.new.run (visit site (item_of (all_items tree.items) h (kind_content item))) (visits_of (all_items tree.items) o)) c.in-Nothing.is
+    subst (λ (o : Inside). Handles (environment grown w) part c.args.run.now c.visit_item.new.run (visit site (item_of (all_items tree.items) h (kind_content item))) (tasks_of (all_items tree.items) o)) c.in-Nothing.is
     (c.in_ok-inside.ensures.ok grown k (all_items tree.items)) in
     Walks-first c.args.run.now c.visit_item.new.run c.visit_item.new.run _ (visits_at tree site (n ∷ [])) [] is first (record { steps = λ rest. none })

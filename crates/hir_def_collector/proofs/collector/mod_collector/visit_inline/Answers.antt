@@ -27,7 +27,7 @@ returns-clause-ok c = λ env items.
     ∙ sym c.in_ok-dir.ensures.value ∙ c.in-Some.is in
     inline_opened env (part_of c.args.world) c.args.site.now (head_of c.args.head) c.args.name.now (items_at items (numbers_of c.args.ids.now)) c.args.run.now c.open.new.run _ c.requires.enabled
     (search rules)
-    (ap (λ (home : ℕ). visits (record { home = home; tree = c.args.site.now.tree; extern_block = None; dir = c.in-Some.dir; level = c.args.site.now.level }) (items_at items (numbers_of c.args.ids.now))) c.in_ok-home.ensures.made
+    (ap (λ (home : ℕ). visits_over (record { home = home; tree = c.args.site.now.tree; extern_block = None; dir = c.in-Some.dir; level = c.args.site.now.level }) (items_at items (numbers_of c.args.ids.now))) c.in_ok-home.ensures.made
     ∙ ap (λ (o : Option Directory). visits_inside c.args.run.now.map c.args.site.now o (items_at items (numbers_of c.args.ids.now))) (sym some))
 
 pub returns-clause-within : goal.returns-clause-within
