@@ -30,6 +30,7 @@ pub mod WholeEnums
 pub mod WholeEdits
 pub mod Whole
 pub mod SourcedEdits
+pub mod SourcedMacros
 pub mod Sourced
 pub mod Numbers
 pub mod Meaning

@@ -22,14 +22,15 @@ use Rattle.hir_import_resolution.specs.State.{nothing_brought}
 use Rattle.hir_def_collector.specs.declared.collector.declaration.Declaration.{Declaration}
 use Rattle.hir_def_collector.specs.declared.collector.site.Site.{Site}
 use Rattle.hir_def_collector.specs.declared.source_database.Key.TheVariants as keys
-use Rattle.hir_def_collector.specs.Changes.{act, changes_imports, perform, tells}
+use Rattle.hir_def_collector.specs.Changes.{Change, act, changes_imports, perform, tells}
 use Rattle.hir_def_collector.specs.Enums.{variants_of}
 use Rattle.hir_def_collector.specs.ItemIds.{enum_id, module_id}
 use Rattle.hir_def_collector.specs.Items.{bound_in, declaration_of, own_visibility}
 use Rattle.hir_def_collector.specs.Keys.{Environment, look, of_variants}
-use Rattle.hir_def_collector.specs.Moves.{begun, opened}
+use Rattle.hir_def_collector.specs.Moves.{Makes, begun, opened}
+use Rattle.hir_def_collector.proofs.Changes.{perform-append}
 use Rattle.hir_def_collector.specs.State.{Core, State, Task, Visit, visits, counted, joined, ticked, with_asked, with_map}
-use Rattle.hir_def_collector.specs.Steps.{Rule, May, Numbered, reads, Sees, after, declares_enum, declares_item, enum_declaration, making, module_declaration, visit, with_declaration, Step}
+use Rattle.hir_def_collector.specs.Steps.{Rule, May, Numbered, declaring, reads, Sees, after, declares_enum, declares_item, enum_declaration, making, module_declaration, visit, with_declaration, Step}
 
 pub made : {env : Environment} {finished : Maps} {old new : State} (r : Rule) → May finished old r → Sees env finished (reads old r) → Numbered env.tables r → new ≡ after finished old r → Step env finished old new
 made r may sees numbered is = record { rule = r; may = may; sees = sees; numbered = numbered; is = is }
@@ -67,6 +68,15 @@ act-declared c agenda home name items = λ i. record {
   agenda = agenda;
   globs = record { names = globs_after-none c.map home name items None refl i; edges = []; brought = none_brought home name items i };
 }
+
+-- so a definition that is listed and bound
+pub binds : (c : Core) (home : ℕ) (d : Declaration) (agenda : List Task) → joined (with_map c (with_declaration c.map home d)) agenda ≡ perform (joined c agenda) (declaring home d)
+binds c home d agenda = sym (act-declared (with_map c (with_declared c.map home d.def)) agenda home d.name d.items)
+
+-- changes that are made one after another, where a step ends
+pub makes_both : (cs ds : List Change) (c d e : Core) → Makes cs c d → Makes ds d e → (rest : List Task) → joined (counted e) rest ≡ ticked (perform (joined c rest) (cs ++ ds))
+makes_both cs ds c d e first then_ rest =
+    ap ticked (then_.is rest ∙ ap (λ (s : State). perform s ds) (first.is rest) ∙ sym (perform-append cs ds (joined c rest)))
 
 module _ {env : Environment} {finished : Maps} where
   -- an item that declares something

@@ -53,11 +53,11 @@ module _ (env : Environment) (finished : Maps) (s : State) (site : Site) (rest :
   pub goes_next : (i : KeptItem) → s.agenda ≡ visits (visit site i) ∷ rest → is_enabled (item_head i).attributes ≡ true → is_outline i ≡ false → Goes env finished s
   goes_next i next on single = by_item i (record { next = next; enabled = on }) single
 
-  -- a module that is to be closed
-  pub goes_closing : (parent child : ℕ) → s.agenda ≡ closes parent child ∷ rest → Goes env finished s
-  goes_closing parent child next = goes (closes_module parent child rest) next tt tt
-
   -- one that a condition leaves out
   pub goes_off : (i : KeptItem) (condition : Cfg) (report : DefDiagnostic) → s.agenda ≡ visits (visit site i) ∷ rest → (item_head i).attributes.disabled ≡ Some condition
       → IsUnconfigured (module_id s.core.map site.home) (node_of site.tree (item_kind i) (item_head i).id) condition s.core.options report → Goes env finished s
   goes_off i condition report next off reported = goes (drops_item (visit site i) report rest) (record { next = next; condition = condition; disabled = off; reported = reported }) tt tt
+
+-- a module that is to be closed
+pub goes_closing : (env : Environment) (finished : Maps) (s : State) (rest : List Task) (parent child : ℕ) → s.agenda ≡ closes parent child ∷ rest → Goes env finished s
+goes_closing env finished s rest parent child next = goes (closes_module parent child rest) next tt tt

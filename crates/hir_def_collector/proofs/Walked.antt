@@ -22,10 +22,11 @@ use Rattle.hir_item_tree.specs.declared.rows.ModItemId.{ModItemId}
 use Rattle.hir_def_map.specs.Overlay.{Maps}
 use Rattle.hir_def_collector.specs.declared.collector.site.Site.{Site}
 use Rattle.hir_def_collector.specs.Keys.{Environment, absent_source, environment}
-use Rattle.hir_def_collector.specs.State.{Task, Visit, visits, State, Core, at_rest, joined, visits_over, counted}
+use Rattle.hir_def_collector.specs.State.{Task, Visit, visits, closes, State, Core, at_rest, joined, visits_over, counted, with_map}
 use Rattle.hir_def_collector.specs.Items.{is_passed_over}
 use Rattle.hir_def_collector.specs.Start.{tree_visits}
-use Rattle.hir_def_collector.specs.Steps.{Steps, none, drops_item, passes_over, visit}
+use Rattle.hir_def_collector.specs.Steps.{Steps, none, closes_module, closing, drops_item, passes_over, visit}
+use Rattle.hir_def_collector.specs.Macros.{textual_at, with_textual_scope}
 use Rattle.hir_def_collector.specs.TreeReads.{visits_at, above}
 use Rattle.hir_def_collector.specs.Reports.{IsUnconfigured}
 use Rattle.hir_def_collector.specs.ItemIds.{module_id, node_of}
@@ -35,7 +36,7 @@ use Rattle.hir_def_collector.proofs.Lists.{drop_at, get_there}
 use Rattle.hir_def_collector.proofs.Moves.{Steps-append, Steps-one, Steps-first, spent_after}
 use Rattle.hir_def_collector.proofs.Made.{Goes, made}
 use Rattle.hir_def_collector.proofs.Grows.{Grows-Step, Grows-Steps}
-use Rattle.hir_def_collector.proofs.Progress.{goes_next, goes_off, is_outline}
+use Rattle.hir_def_collector.proofs.Progress.{goes_closing, goes_next, goes_off, is_outline}
 
 -- nothing is anywhere
 abbrev pub nowhere : Environment
@@ -241,6 +242,18 @@ pub dropped : {env : Environment} {finished : Maps} (site : Site) (i : KeptItem)
 dropped {env} {finished} site i condition old new off drops = record {
   steps = λ rest.
       Steps-one (made (drops_item (visit site i) drops.report rest) (record { next = refl; condition = condition; disabled = off; reported = drops.is_such }) tt tt (rw drops.is refl));
+}
+
+-- a module that is closed
+pub closed : {env : Environment} {finished : Maps} (parent child : ℕ) (old new : Core) → new ≡ counted (with_map old (with_textual_scope old.map parent (textual_at old.map child)))
+    → Walks env finished old new (closing true parent child)
+closed {env} {finished} parent child old new is = record { steps = λ rest. Steps-one (made (closes_module parent child rest) refl tt tt (rw is refl)) }
+
+pub closed_far : {env : Environment} {finished : Maps} (parent child : ℕ) (old : Core) → IsFull old.count old.map → WalksTooFar env finished old (closing true parent child)
+closed_far {env} {finished} parent child old full = record {
+  spent = λ rest.
+      let goes : Goes env finished (joined old (closes parent child ∷ rest)) = goes_closing env finished (joined old (closes parent child ∷ rest)) rest parent child refl in
+      record { at = joined old (closes parent child ∷ rest); steps = none; stuck = counted_out goes.next goes.step full };
 }
 
 -- what an item is that a tree lends

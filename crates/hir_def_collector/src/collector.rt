@@ -45,6 +45,7 @@ pub mod mod_resolution;
 mod preludes;
 pub mod site;
 mod sources;
+mod textual;
 
 use crate::source_database::{Config, Dependency, SourceDatabase};
 use collected::Collected;

@@ -19,6 +19,7 @@ ghost use Rattle.hir_def_collector.specs.Moves.{AreUntaken, begun};
 use crate::collector::macro_use::{root_scope, use_prelude_macros, use_wanted};
 use crate::collector::preludes::prelude;
 use crate::collector::site::{ItemHead, Site};
+use crate::collector::textual;
 use crate::collector::{CollectError, STEP_LIMIT, Start};
 use crate::source_database::{Dependency, Key};
 use hir_base::ast_id::{AstId, EditionedFileId, FileId, HirFileId};
@@ -47,7 +48,6 @@ use hir_scope::glob_imports::PerNsGlobImports;
 use hir_scope::item_scope::ItemScope;
 use hir_scope::per_ns::PerNs;
 use hir_scope::visibility::Visibility;
-use hir_textual_scope::TextualScope;
 use std::alloc::{AllocError, Global};
 use std::marker::Model;
 
@@ -222,17 +222,8 @@ impl DefCollector {
         requires in_range { home < length self.old.map.modules }
         ensures ok { OnOk result (self.new ≡ with_map self.old (with_textual_macro self.old.map home name makro)) }
     {
-        self.map.scope_mut(home).define_legacy_macro(name, makro)
-    }
-
-    /// The macros in textual scope in a module; nothing is copied.
-    fn textual_scope(&self, home: u32) -> Result<TextualScope, AllocError>
-        ensures value { IfOk result (λ macros. macros ≡ textual_at self.now.map home) }
-    {
-        match self.map.scope(home) {
-            Some(scope) => scope.textual_scope().clone(),
-            None => Ok(TextualScope::new(self.allocator())),
-        }
+        textual::define(&mut self.map, home, name, makro)?;
+        Ok(())
     }
 
     /// Lets a module take over the macros that are in textual scope in another.
@@ -240,8 +231,7 @@ impl DefCollector {
         requires in_range { home < length self.old.map.modules }
         ensures ok { OnOk result (self.new ≡ with_map self.old (with_textual_scope self.old.map home (textual_at self.old.map from))) }
     {
-        let macros = self.textual_scope(from)?;
-        self.map.scope_mut(home).set_textual_scope(macros);
+        textual::take(self.allocator(), &mut self.map, home, from)?;
         Ok(())
     }
 
@@ -410,7 +400,8 @@ impl DefCollector {
             return Ok(());
         };
         let attrs = head.attrs.attrs.as_slice();
-        use_wanted(self.allocator(), &mut self.map, scope, attrs, by)
+        use_wanted(self.allocator(), &mut self.map, scope, attrs, by)?;
+        Ok(())
     }
 
     /// Lets paths begin with the name of an `extern crate` of the crate's root module.
