@@ -16,7 +16,9 @@ use Rattle.hir_tables.proofs.Growth.{source_of-kept}
 use Rattle.hir_def_map.specs.State.{Map}
 use Rattle.hir_def_map.specs.Overlay.{Maps}
 use Rattle.hir_def_map.specs.declared.nameres.diagnostics.DefDiagnostic.{DefDiagnostic}
+use Rattle.hir_scope.specs.PerNs.{macros_only}
 use Rattle.hir_scope.specs.declared.visibility.Visibility.TheVariants as visibilities
+use Rattle.hir_import_resolution.specs.Changes.{pushes}
 use Rattle.hir_import_resolution.specs.Rules.{acts as import_acts}
 use Rattle.hir_def_collector.specs.declared.collector.site.Site.{Site}
 use Rattle.hir_def_collector.specs.declared.source_database.Key.{Key}
@@ -24,13 +26,13 @@ use Rattle.hir_def_collector.specs.declared.source_database.Key.TheVariants as k
 use Rattle.hir_def_collector.specs.Workspace.{Workspace, seen_of, transitive_dependencies_in}
 use Rattle.hir_def_collector.specs.Keys.{HasMeaning, enum_key, environment, map_key, map_keys, of_tree, of_variants, source_under}
 use Rattle.hir_def_collector.specs.ItemIds.{macro_rules_id}
-use Rattle.hir_def_collector.specs.Macros.{is_exported, is_macro_use, macro_declaration}
+use Rattle.hir_def_collector.specs.Macros.{is_exported, is_macro_use}
 use Rattle.hir_def_collector.specs.ModuleFiles.{tried_in}
 use Rattle.hir_def_collector.specs.Reports.{is_unimplemented}
 use Rattle.hir_def_collector.specs.State.{State, Task, Visit, visits, closes, import_state, visits_over}
 use Rattle.hir_def_collector.specs.Start.{Beginning, begin_of, krate_of, read_by, root_key, root_site, root_tree, start_of, tree_visits}
 use Rattle.hir_def_collector.specs.Changes.{Change, lists, makes, gives_variants, begins_paths, reaches, changes_imports, adds_textual, takes_textual, defines, uses_macros, tells, goes_on, act}
-use Rattle.hir_def_collector.specs.Steps.{Rule, drops_item, passes_over, defines_rules, defines_macro, closes_module, closing, declaring, exporting, declares_item, declares_enum, lists_constant, lists_impl, opens_module, opens_file, drops_file, misses_file, enters_block, reaches_imports, reaches_crate, resolves_imports, May, Numbered, acts, asking, inside_block, inside_file, inside_module, keys_read, path_of, reads, visits_inside, Step, Steps, none, more}
+use Rattle.hir_def_collector.specs.Steps.{Rule, drops_item, passes_over, defines_rules, defines_macro, closes_module, closing, exporting, declares_item, declares_enum, lists_constant, lists_impl, opens_module, opens_file, drops_file, misses_file, enters_block, reaches_imports, reaches_crate, resolves_imports, May, Numbered, acts, asking, inside_block, inside_file, inside_module, keys_read, path_of, reads, visits_inside, Step, Steps, none, more}
 use Rattle.hir_def_collector.specs.Growth.{AnswersStand, AskedKeysHaveMeaning, LooksStand}
 use Rattle.hir_def_collector.proofs.Asked.{mapped_from}
 use Rattle.hir_def_collector.proofs.Asks.{only}
@@ -127,8 +129,8 @@ module _ (tables : TablesValue) where
     left : AreMeant tables rest
     left = (meant_next s.agenda v rest p.visits next).1
 
-  exported_meant : (exported : Bool) (name : List ℕ) (makro : MacroId) (s : State) → AllFine GoesOnMeant s (cond exported (declaring 0 (macro_declaration name makro visibilities.Public)) [])
-  exported_meant true name makro s = (tt, (tt, tt))
+  exported_meant : (exported : Bool) (name : List ℕ) (makro : MacroId) (s : State) → AllFine GoesOnMeant s (cond exported (changes_imports (pushes 0 (Some name) (macros_only makro visibilities.Public None) None) ∷ []) [])
+  exported_meant true name makro s = (tt, tt)
   exported_meant false name makro s = tt
 
   reported_meant : (unimplemented : Bool) (d : DefDiagnostic) (s : State) → AllFine GoesOnMeant s (cond unimplemented (tells d ∷ []) [])

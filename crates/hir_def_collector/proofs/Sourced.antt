@@ -90,12 +90,12 @@ use Rattle.hir_import_resolution.specs.Visibilities.{is_public, lesser_in, visib
 use Rattle.hir_def_collector.specs.ItemIds.{enum_id, macro_def_id, macro_rules_id, module_id, use_id}
 use Rattle.hir_def_collector.specs.Items.{constructor_of, declaration_of, declared_by, declared_by_leaf, declared_struct, declared_type, file_origin, inline_origin, meet_of, own_visibility}
 use Rattle.hir_def_collector.specs.Preludes.{extern_prelude, joins, prelude_of, with_dependency, with_prelude_module}
-use Rattle.hir_def_collector.specs.Macros.{is_exported, is_macro_use, macro_declaration, macros_beside, textual_at}
+use Rattle.hir_def_collector.specs.Macros.{is_exported, is_macro_use, macros_beside, textual_at}
 use Rattle.hir_def_collector.specs.Sources.{IsClearOf}
 use Rattle.hir_def_collector.specs.Start.{Beginning, begin_of, krate_of, origin_of, read_by, root_key, root_map, root_site, root_tree, start_data, start_of, tree_key}
 use Rattle.hir_def_collector.specs.State.{State, Task, Visit, visits, closes, import_state, visits_over}
 use Rattle.hir_def_collector.specs.Changes.{Change, lists, makes, gives_variants, begins_paths, reaches, changes_imports, adds_textual, takes_textual, defines, uses_macros, tells, goes_on, act, on_map}
-use Rattle.hir_def_collector.specs.Steps.{Rule, drops_item, passes_over, defines_rules, defines_macro, closes_module, closing, declaring, exporting, visits_in_file, declares_item, declares_enum, lists_constant, lists_impl, opens_module, opens_file, drops_file, misses_file, enters_block, reaches_imports, reaches_crate, resolves_imports, May, acts, asking, keys_read, making, path_of, reads, visits_inside, Step, Steps, none, more, inside_block, inside_file, inside_module}
+use Rattle.hir_def_collector.specs.Steps.{Rule, drops_item, passes_over, defines_rules, defines_macro, closes_module, closing, exporting, visits_in_file, declares_item, declares_enum, lists_constant, lists_impl, opens_module, opens_file, drops_file, misses_file, enters_block, reaches_imports, reaches_crate, resolves_imports, May, acts, asking, keys_read, making, path_of, reads, visits_inside, Step, Steps, none, more, inside_block, inside_file, inside_module}
 use Rattle.hir_def_collector.specs.Whole.{StandsOnWhole}
 use Rattle.hir_def_collector.specs.Workspace.{Workspace, dependencies_in, transitive_dependencies_in}
 use Rattle.hir_tables.specs.Tables.{TablesValue}
@@ -678,8 +678,8 @@ module _ (t : SourceTest) where
           → (HoldsOfNone t (macros_only makro vis None) × (on_some (on_import t) (pushing None) ≡ false)) × Unit {0}
       bare_macro makro vis g h = ((record { types = refl; values = refl; macros = bare (on_macro t makro) (on_visibility t vis) g h }, refl), tt)
 
-      exported_none : (exported : Bool) (name : List ℕ) (makro : MacroId) (at : State) → on_macro t makro ≡ false → AllFine BringsNone at (cond exported (declaring 0 (macro_declaration name makro visibilities.Public)) [])
-      exported_none true name makro at own = (tt, (bare_macro makro visibilities.Public own refl, tt))
+      exported_none : (exported : Bool) (name : List ℕ) (makro : MacroId) (at : State) → on_macro t makro ≡ false → AllFine BringsNone at (cond exported (changes_imports (pushes 0 (Some name) (macros_only makro visibilities.Public None) None) ∷ []) [])
+      exported_none true name makro at own = (bare_macro makro visibilities.Public own refl, tt)
       exported_none false name makro at own = tt
 
       reported_none : (unimplemented : Bool) (d : DefDiagnostic) (at : State) → AllFine BringsNone at (cond unimplemented (tells d ∷ []) [])
@@ -732,7 +732,7 @@ module _ (t : SourceTest) where
       brings_none (reaches_imports site head tree rest) may read = (left _ rest may.next, (use_imports s.core.map site head (file _ rest may.next) (imports_of tree), (tt, tt)))
       brings_none (reaches_crate site head name alias rest) may read =
           let own : t.holder site.tree.file site.tree.block ≡ false = file _ rest may.next in
-          (left _ rest may.next, (own, ((brought_macros_clear t finished nowhere s.core.map s.core.dependencies head name, own), (neither (t.holder site.tree.file site.tree.block) false own refl, (tt, tt)))))
+          (left _ rest may.next, (own, ((brought_macros_clear t finished nowhere s.core.map s.core.dependencies site head name, own), (neither (t.holder site.tree.file site.tree.block) false own refl, (tt, tt)))))
       brings_none (defines_rules site head name expander helpers rest) may read =
           let own : t.holder site.tree.file site.tree.block ≡ false = file _ rest may.next in
           (left _ rest may.next, (tt, (own,

@@ -35,7 +35,7 @@ use Rattle.hir_scope.specs.declared.item_in_ns.ItemInNs.TheVariants as in_ns
 use Rattle.hir_textual_scope.specs.Macros.{with_macro}
 use Rattle.hir_textual_scope.specs.declared.textual_scope.TextualMacro.{TextualMacro}
 use Rattle.hir_scope.specs.Scope.{ScopeValue}
-use Rattle.hir_scope.specs.PerNs.{Item, keep_item, with_constructor}
+use Rattle.hir_scope.specs.PerNs.{Item, keep_item, macros_only, with_constructor}
 use Rattle.hir_scope.specs.declared.per_ns.PerNs.{PerNs}
 use Rattle.hir_scope.specs.declared.visibility.Visibility.{Visibility}
 use Rattle.hir_scope.specs.declared.visibility.Visibility.TheVariants as visibilities
@@ -90,12 +90,12 @@ use Rattle.hir_import_resolution.specs.Rules.{Rule as ImportRule, May as MayImpo
 use Rattle.hir_import_resolution.specs.State.{ImportState, scopes_of}
 use Rattle.hir_def_collector.specs.Imports.{crate_import, crate_named, dependency_named, extern_by, reached_import}
 use Rattle.hir_def_collector.specs.Changes.{Change, lists, makes, gives_variants, begins_paths, reaches, changes_imports, adds_textual, takes_textual, defines, uses_macros, tells, goes_on, act, on_map}
-use Rattle.hir_def_collector.specs.Macros.{is_exported, macro_declaration, macros_beside, macros_brought, textual_at, with_macros_used}
+use Rattle.hir_def_collector.specs.Macros.{is_exported, macros_beside, macros_brought, textual_at, with_macros_used}
 use Rattle.hir_def_collector.specs.Moves.{begun}
 use Rattle.hir_def_collector.specs.Preludes.{by_prelude, extern_prelude, joins, module_by, module_named, module_of, prelude_of, prelude_path, with_dependency}
 use Rattle.hir_def_collector.specs.Reports.{is_unimplemented, leftover_diagnostics}
 use Rattle.hir_def_collector.specs.Start.{Beginning, begin_of, krate_of, origin_of, read_by, root_map, root_tree, start_data, start_of}
-use Rattle.hir_def_collector.specs.Steps.{Rule, drops_item, passes_over, defines_rules, defines_macro, closes_module, declaring, exporting, declares_item, declares_enum, lists_constant, lists_impl, opens_module, opens_file, drops_file, misses_file, enters_block, reaches_imports, reaches_crate, resolves_imports, May, acts, asking, Step, Steps, none, more}
+use Rattle.hir_def_collector.specs.Steps.{Rule, drops_item, passes_over, defines_rules, defines_macro, closes_module, exporting, declares_item, declares_enum, lists_constant, lists_impl, opens_module, opens_file, drops_file, misses_file, enters_block, reaches_imports, reaches_crate, resolves_imports, May, acts, asking, Step, Steps, none, more}
 use Rattle.hir_def_collector.specs.Derivation.{CollectedValue, Ends}
 use Rattle.hir_def_collector.specs.Whole.{StandsOnWhole}
 use Rattle.hir_def_collector.proofs.Lists.{none_joined}
@@ -376,8 +376,8 @@ names-act finished s (goes_on vs) f fine = record { apart = f.apart; names = f.n
 
 -- a macro that is exported, and what is reported of one, names nothing
 exported_there : (finished : Maps) (exported : Bool) (name : List ℕ) (makro : MacroId) (s : State)
-    → AllFine (BringsWhatIsThere finished) s (cond exported (declaring 0 (macro_declaration name makro visibilities.Public)) [])
-exported_there finished true name makro s = (tt, (tt, tt))
+    → AllFine (BringsWhatIsThere finished) s (cond exported (changes_imports (pushes 0 (Some name) (macros_only makro visibilities.Public None) None) ∷ []) [])
+exported_there finished true name makro s = (tt, tt)
 exported_there finished false name makro s = tt
 
 reported_there : (finished : Maps) (unimplemented : Bool) (d : DefDiagnostic) (s : State) → AllFine (BringsWhatIsThere finished) s (cond unimplemented (tells d ∷ []) [])
@@ -592,7 +592,7 @@ module _ (paths : PathsLeadToWhatIsThere) (finished : Maps) (whole : AreWellForm
     brings_what_is_there (reaches_crate site head name alias rest) may =
         let r : ImportDirective = crate_import here s.core.dependencies site head name alias in
         let there : test_import (is_missing (overlay finished here)) r ≡ false = crate_there name in
-        let macros : List (List ℕ × MacroId) = macros_brought finished here s.core.dependencies head name in
+        let macros : List (List ℕ × MacroId) = macros_brought finished here s.core.dependencies site head name in
         let by : Option ExternCrateId = Some (extern_crate_id here site head.id) in
         let stays : test_import (is_missing (overlay finished (with_macros_used here macros by))) r ≡ false =
         still_there (overlay finished here) (overlay finished (with_macros_used here macros by)) (Extends-used finished here macros by) (root_named (crate_of r.source)) there in

@@ -25,6 +25,7 @@ use Rattle.hir_def_map.specs.declared.nameres.origin.ModuleOrigin.{ModuleOrigin}
 use Rattle.hir_mod_dir.specs.Directory.{Directory}
 use Rattle.hir_mod_dir.specs.ModuleFiles.{candidates_of, inline_directory}
 use Rattle.hir_mod_dir.specs.declared.candidate.Candidate.{Candidate}
+use Rattle.hir_scope.specs.PerNs.{macros_only}
 use Rattle.hir_scope.specs.declared.visibility.Visibility.{Visibility}
 use Rattle.hir_scope.specs.declared.visibility.Visibility.TheVariants as visibilities
 use Rattle.hir_tables.specs.Tables.{TablesValue}
@@ -258,7 +259,7 @@ making finished s site head name origin next =
 
 -- the changes that bind a macro at the root of the map too, if it is exported
 abbrev pub exporting : Head → List ℕ → MacroId → List Change
-exporting head name makro = cond (is_exported head.attributes) (declaring 0 (macro_declaration name makro visibilities.Public)) []
+exporting head name makro = cond (is_exported head.attributes) (changes_imports (pushes 0 (Some name) (macros_only makro visibilities.Public None) None) ∷ []) []
 
 -- the changes that report a macro that a node in a module defines and nothing can expand
 abbrev pub reporting : ModuleId → AstId → MacroExpander → List Change
@@ -289,7 +290,7 @@ acts finished s (reaches_imports site head tree rest) =
 acts finished s (reaches_crate site head name alias rest) =
     let r : ImportDirective = crate_import s.core.map s.core.dependencies site head name alias in
     let id : ExternCrateId = extern_crate_id s.core.map site head.id in
-    goes_on rest ∷ begins_paths r ∷ uses_macros (macros_brought finished s.core.map s.core.dependencies head name) (Some id) ∷ reaches (r ∷ []) ∷ lists site.home (listings.ExternCrate id) ∷ []
+    goes_on rest ∷ begins_paths r ∷ uses_macros (macros_brought finished s.core.map s.core.dependencies site head name) (Some id) ∷ reaches (r ∷ []) ∷ lists site.home (listings.ExternCrate id) ∷ []
 acts finished s (defines_rules site head name expander helpers rest) =
     let makro : MacroId = macro_rules_id s.core.map site head.id expander in
     let node : AstId = node_of site.tree nodes.MacroRules head.id in

@@ -111,12 +111,8 @@ fn export(
     if !is_exported(head.attrs) {
         return Ok(());
     }
-    let declaration = Declaration {
-        name: name.clone()?,
-        def: ModuleDefId::MacroId(makro),
-        items: PerNs::macros(makro, Visibility::Public, None),
-    };
-    bind(run, 0, declaration)
+    let items = PerNs::macros(makro, Visibility::Public, None);
+    run.bind(0, name.clone()?, items)
 }
 
 /// Defines the macro of a `macro_rules` item, which is in textual scope behind it.
