@@ -9,7 +9,6 @@ use Rattle.hir_def_collector.specs.Keys.{Environment}
 use Rattle.hir_def_collector.specs.State.{State, import_state}
 use Rattle.hir_def_collector.specs.Changes.{Change, lists, makes, gives_variants, begins_paths, reaches, changes_imports, adds_textual, takes_textual, defines, uses_macros, tells, goes_on, act, perform}
 use Rattle.hir_def_collector.specs.Steps.{Step, Steps, none, more, acts, asking, keys_read, reads, with_keys}
-use Rattle.hir_def_collector.proofs.MacroEdits.{crate_data_used, id_used}
 use Rattle.hir_def_collector.proofs.ImportEdits.{count_after, crate_data_edited, edit_of, id_edited, map_after}
 
 -- ---- what no change alters
@@ -48,7 +47,7 @@ Keeps-act s (changes_imports c) =
 Keeps-act s (adds_textual home name makro) = record { count = refl; id = refl; crate_data = refl; dependencies = refl; asked = refl }
 Keeps-act s (takes_textual home from) = record { count = refl; id = refl; crate_data = refl; dependencies = refl; asked = refl }
 Keeps-act s (defines node makro) = record { count = refl; id = refl; crate_data = refl; dependencies = refl; asked = refl }
-Keeps-act s (uses_macros macros by) = record { count = refl; id = id_used s.core.map macros by; crate_data = crate_data_used s.core.map macros by; dependencies = refl; asked = refl }
+Keeps-act s (uses_macros macros by) = record { count = refl; id = refl; crate_data = refl; dependencies = refl; asked = refl }
 Keeps-act s (tells d) = record { count = refl; id = refl; crate_data = refl; dependencies = refl; asked = refl }
 Keeps-act s (goes_on tasks) = record { count = refl; id = refl; crate_data = refl; dependencies = refl; asked = refl }
 

@@ -12,7 +12,7 @@ use Rattle.hir_textual_scope.specs.declared.textual_scope.TextualMacro.{TextualM
 use Rattle.hir_scope.specs.Scope.{ScopeValue, binding_of}
 use Rattle.hir_scope.specs.declared.per_ns.PerNs.{PerNs}
 use Rattle.hir_scope.specs.declared.visibility.Visibility.{Visibility}
-use Rattle.hir_def_map.specs.State.{Map, Variants, changed_at, entry_at, module_at, new_id, new_module, no_globs, numbered, with_child, with_declared, with_enum, with_extern_block, with_macro_use, with_module, with_module_scope, with_scope}
+use Rattle.hir_def_map.specs.State.{Map, Variants, changed_at, entry_at, module_at, new_id, new_module, no_globs, numbered, with_child, with_declared, with_enum, with_extern_block, with_module, with_module_scope, with_scope}
 use Rattle.hir_def_map.specs.Overlay.{Maps}
 use Rattle.hir_def_map.specs.Declaration.{listed}
 use Rattle.hir_def_map.proofs.Grown.{entry_at-with_module, length-changed}
@@ -117,12 +117,8 @@ Grows-textual m home change = Grows-scope m home _ (keeps-textual change)
 Grows-defined : (m : Map) (node : AstId) (makro : MacroId) → Grows m (with_macro_def m node makro)
 Grows-defined m node makro = let same : Grows m m = Grows-same m in record { longer = same.longer; kept = same.kept; listed = same.listed }
 
-Grows-macro_use : (m : Map) (name : List ℕ) (makro : MacroId) (by : Option ExternCrateId) → Grows m (with_macro_use m name makro by)
-Grows-macro_use m name makro by = let same : Grows m m = Grows-same m in record { longer = same.longer; kept = same.kept; listed = same.listed }
-
-pub Grows-used : (m : Map) (macros : List (List ℕ × MacroId)) (by : Option ExternCrateId) → Grows m (with_macros_used m macros by)
-Grows-used m [] by = Grows-same m
-Grows-used m (e ∷ es) by = Grows-trans (Grows-macro_use m e.0 e.1 by) (Grows-used (with_macro_use m e.0 e.1 by) es by)
+Grows-used : (m : Map) (macros : List (List ℕ × MacroId)) (by : Option ExternCrateId) → Grows m (with_macros_used m macros by)
+Grows-used m macros by = let same : Grows m m = Grows-same m in record { longer = same.longer; kept = same.kept; listed = same.listed }
 
 -- ---- changes
 

@@ -21,15 +21,15 @@ use Rattle.hir_import_resolution.specs.Rules.{acts as import_acts}
 use Rattle.hir_def_collector.specs.declared.collector.site.Site.{Site}
 use Rattle.hir_def_collector.specs.Keys.{Environment}
 use Rattle.hir_def_collector.specs.State.{State, Task, Visit, visits, closes, import_state, visits_over}
-use Rattle.hir_def_collector.specs.ItemIds.{extern_crate_id, macro_rules_id, use_id}
+use Rattle.hir_def_collector.specs.ItemIds.{macro_rules_id, use_id}
 use Rattle.hir_def_collector.specs.Imports.{reached_import}
-use Rattle.hir_def_collector.specs.Macros.{is_exported, is_macro_use, macros_brought, with_macros_used}
+use Rattle.hir_def_collector.specs.Macros.{is_exported, is_macro_use}
 use Rattle.hir_def_collector.specs.Moves.{begun}
 use Rattle.hir_def_collector.specs.Reports.{is_unimplemented}
 use Rattle.hir_def_collector.specs.Changes.{Change, lists, makes, gives_variants, begins_paths, reaches, changes_imports, adds_textual, takes_textual, defines, uses_macros, tells, goes_on, act, on_map}
 use Rattle.hir_def_collector.specs.Steps.{Rule, drops_item, passes_over, defines_rules, defines_macro, closes_module, closing, exporting, declares_item, declares_enum, lists_constant, lists_impl, opens_module, opens_file, drops_file, misses_file, enters_block, reaches_imports, reaches_crate, resolves_imports, May, acts, asking, inside_block, inside_file, inside_module, path_of, visits_inside, Step, Steps, none, more}
 use Rattle.hir_def_collector.proofs.Changes.{AllFine, all_fine, fine-append, perform_keeps}
-use Rattle.hir_def_collector.proofs.Grows.{Grows, Grows-act, Grows-used}
+use Rattle.hir_def_collector.proofs.Grows.{Grows, Grows-act}
 use Rattle.hir_def_collector.proofs.ImportEdits.{imports_after}
 
 -- each visit is of a module that is there
@@ -194,10 +194,7 @@ stays_in_range finished s (reaches_imports site head tree rest) may p =
     let below = imports_of_use (length s.core.map.modules) site.home (next_home s p _ rest may.next) (use_id s.core.map site head.id) head.visibility (imports_of tree) in
     (left s p _ rest may.next, (below, (tt, tt)))
 stays_in_range finished s (reaches_crate site head name alias rest) may p =
-    let longer : length s.core.map.modules ≤ length (with_macros_used s.core.map (macros_brought finished s.core.map s.core.dependencies site head name) (Some (extern_crate_id s.core.map site head.id))).modules =
-    (Grows-used s.core.map (macros_brought finished s.core.map s.core.dependencies site head name) (Some (extern_crate_id s.core.map site head.id))).longer in
-    let here : site.home < length s.core.map.modules = next_home s p _ rest may.next in
-    (left s p _ rest may.next, (tt, (tt, ((omega arith, tt), (tt, tt)))))
+    (left s p _ rest may.next, (tt, (tt, ((next_home s p _ rest may.next, tt), (tt, tt)))))
 stays_in_range finished s (defines_rules site head name expander helpers rest) may p =
     (left s p _ rest may.next, (tt, (tt,
     fine-append StaysInRange (exporting head name (macro_rules_id s.core.map site head.id expander)) _ _ (exported_in_range (is_exported head.attributes) name _ _) (reported_in_range (is_unimplemented expander) _ _))))

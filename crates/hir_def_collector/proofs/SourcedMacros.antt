@@ -25,13 +25,13 @@ use Rattle.hir_scope.specs.declared.imports.ImportOrExternCrate.{ImportOrExternC
 use Rattle.hir_def_map.specs.Overlay.{Maps, Placed}
 use Rattle.hir_def_map.specs.References.{crate_map}
 use Rattle.hir_def_map.specs.Sources.{HoldsNowhere, HoldsNowhereIn, SourceTest, on_extern, on_import, on_legacy_in, on_macro, on_macro_item, on_macro_use, on_macros_in, on_some, on_values, on_visibility}
-use Rattle.hir_def_map.specs.State.{Map, ModuleValue, module_at, scope_at, with_macro_use, with_scope}
+use Rattle.hir_def_map.specs.State.{Map, ModuleValue, module_at, scope_at, with_name, with_scope}
 use Rattle.hir_def_map.proofs.NoneOf.{neither, none_at, none_found, none_inserted, not_first, not_second}
 use Rattle.hir_def_map.proofs.StaysSourced.{HoldsNowhereIn-scope}
 use Rattle.hir_import_resolution.specs.Visibilities.{is_public}
 use Rattle.hir_def_collector.specs.CrateTop.{listed_under}
 use Rattle.hir_def_collector.specs.Imports.{dependency_named}
-use Rattle.hir_def_collector.specs.Macros.{macros_beside, macros_brought, other_scope, public_among, public_at, public_in, public_named, public_one, root_scope, textual_at, textual_in, wanted_among, wanted_in, wants_all, with_macros_used}
+use Rattle.hir_def_collector.specs.Macros.{macros_beside, macros_brought, other_scope, public_among, public_at, public_in, public_named, public_one, root_scope, textual_at, textual_in, wanted_among, wanted_in, wants_all, with_macros_used, with_used}
 use Rattle.hir_def_collector.specs.declared.collector.site.Site.{Site}
 use Rattle.hir_def_collector.specs.declared.source_database.Dependency.{Dependency}
 use Rattle.hir_def_collector.proofs.Lists.{none_joined}
@@ -68,20 +68,25 @@ module _ (t : SourceTest) where
 
   -- ---- macros that are used
 
+  prelude_clear : (prelude : List (List ℕ × (MacroId × Option ExternCrateId))) (macros : List (List ℕ × MacroId)) (by : Option ExternCrateId) → on_values (on_macro t) macros ≡ false → on_extern t by ≡ false
+      → on_values (on_macro_use t) prelude ≡ false → on_values (on_macro_use t) (with_used prelude macros by) ≡ false
+  prelude_clear prelude [] by clear own f = f
+  prelude_clear prelude (e ∷ es) by clear own f =
+      prelude_clear (with_name prelude e.0 (e.1, by)) es by (not_second (on_macro t e.1) (on_values (on_macro t) es) clear) own
+      (none_inserted (on_macro_use t) (slice_cmp nat_cmp) prelude e.0 (e.1, by) f
+      (neither (on_macro t e.1) (on_extern t by) (not_first (on_macro t e.1) (on_values (on_macro t) es) clear) own))
+
   pub used_clear : (m : Map) (macros : List (List ℕ × MacroId)) (by : Option ExternCrateId) → on_values (on_macro t) macros ≡ false → on_extern t by ≡ false → HoldsNowhereIn t m
       → HoldsNowhereIn t (with_macros_used m macros by)
-  used_clear m [] by clear own f = f
-  used_clear m (e ∷ es) by clear own f =
-      used_clear (with_macro_use m e.0 e.1 by) es by (not_second (on_macro t e.1) (on_values (on_macro t) es) clear) own (record {
-        origins = f.origins;
-        types = f.types;
-        values = f.values;
-        macros = f.macros;
-        legacy = f.legacy;
-        enums = f.enums;
-        macro_use = none_inserted (on_macro_use t) (slice_cmp nat_cmp) m.macro_use_prelude e.0 (e.1, by) f.macro_use
-            (neither (on_macro t e.1) (on_extern t by) (not_first (on_macro t e.1) (on_values (on_macro t) es) clear) own);
-      })
+  used_clear m macros by clear own f = record {
+    origins = f.origins;
+    types = f.types;
+    values = f.values;
+    macros = f.macros;
+    legacy = f.legacy;
+    enums = f.enums;
+    macro_use = prelude_clear m.macro_use_prelude macros by clear own f.macro_use;
+  }
 
   one_clear : (name : List ℕ) (i : Item MacroId ImportOrExternCrate) → on_macro_item t i ≡ false → on_values (on_macro t) (public_one name i) ≡ false
   one_clear name i f = go (is_public i.vis)

@@ -90,7 +90,7 @@ use Rattle.hir_import_resolution.specs.Rules.{Rule as ImportRule, May as MayImpo
 use Rattle.hir_import_resolution.specs.State.{ImportState, scopes_of}
 use Rattle.hir_def_collector.specs.Imports.{crate_import, crate_named, dependency_named, extern_by, reached_import}
 use Rattle.hir_def_collector.specs.Changes.{Change, lists, makes, gives_variants, begins_paths, reaches, changes_imports, adds_textual, takes_textual, defines, uses_macros, tells, goes_on, act, on_map}
-use Rattle.hir_def_collector.specs.Macros.{is_exported, macros_beside, macros_brought, textual_at, with_macros_used}
+use Rattle.hir_def_collector.specs.Macros.{is_exported, macros_beside, macros_brought, textual_at, with_macros_used, with_used}
 use Rattle.hir_def_collector.specs.Moves.{begun}
 use Rattle.hir_def_collector.specs.Preludes.{by_prelude, extern_prelude, joins, module_by, module_named, module_of, prelude_of, prelude_path, with_dependency}
 use Rattle.hir_def_collector.specs.Reports.{is_unimplemented, leftover_diagnostics}
@@ -103,7 +103,6 @@ use Rattle.hir_def_collector.proofs.Changes.{AllFine, fine-append, perform_keeps
 use Rattle.hir_def_collector.proofs.InRange.{IsInRange, import_at, in_range-Steps, next_home}
 use Rattle.hir_def_collector.proofs.Holds.{in_range-start}
 use Rattle.hir_def_collector.proofs.ImportEdits.{Edit, copy_at, copy_where, edit, edit_of, edited, follow_at, follow_where, imports_after, local_after, map_after}
-use Rattle.hir_def_collector.proofs.MacroEdits.{id_used, same_but_used}
 use Rattle.hir_def_collector.proofs.WholeEdits.{DefIsThere, EditIsThere, EditsWhatIsThere, names-edit, names-scope}
 use Rattle.hir_def_collector.proofs.WholeEnums.{Extends-enum, NamesOnly-enum, enum_there}
 
@@ -290,15 +289,11 @@ NamesOnly-reported : (finished : Maps) (m : Map) (ds : List DefDiagnostic) → H
 NamesOnly-reported finished m ds = NamesOnly-beside finished m m.macro_ids m.macro_use_prelude ds
 
 Extends-used : (finished : Maps) (m : Map) (macros : List (List ℕ × MacroId)) (by : Option ExternCrateId) → Extends (overlay finished m) (overlay finished (with_macros_used m macros by))
-Extends-used finished m macros by =
-    subst (λ (x : Map). Extends (overlay finished m) (overlay finished x)) (sym (same_but_used m macros by))
-    (Extends-beside finished m m.macro_ids (with_macros_used m macros by).macro_use_prelude m.diagnostics)
+Extends-used finished m macros by = Extends-beside finished m m.macro_ids (with_used m.macro_use_prelude macros by) m.diagnostics
 
 NamesOnly-used : (finished : Maps) (m : Map) (macros : List (List ℕ × MacroId)) (by : Option ExternCrateId) → HasNoDanglingReference (overlay finished m) m
     → HasNoDanglingReference (overlay finished (with_macros_used m macros by)) (with_macros_used m macros by)
-NamesOnly-used finished m macros by f =
-    subst (λ (x : Map). HasNoDanglingReference (overlay finished x) x) (sym (same_but_used m macros by))
-    (NamesOnly-beside finished m m.macro_ids (with_macros_used m macros by).macro_use_prelude m.diagnostics f)
+NamesOnly-used finished m macros by f = NamesOnly-beside finished m m.macro_ids (with_used m.macro_use_prelude macros by) m.diagnostics f
 
 -- paths may begin with a crate that is there
 extern_there : (finished : Maps) (m : Map) (local : Local) (source : ImportSource) (name : Option (List ℕ)) → HasNoDanglingExtern (overlay finished m) local
@@ -369,7 +364,7 @@ names-act finished s (defines node makro) f fine =
     with_larger finished s _ refl (Extends-beside finished s.core.map (with_macro_def s.core.map node makro).macro_ids s.core.map.macro_use_prelude s.core.map.diagnostics)
     (NamesOnly-beside finished s.core.map (with_macro_def s.core.map node makro).macro_ids s.core.map.macro_use_prelude s.core.map.diagnostics f.names) f
 names-act finished s (uses_macros macros by) f fine =
-    with_larger finished s _ (id_used s.core.map macros by) (Extends-used finished s.core.map macros by) (NamesOnly-used finished s.core.map macros by f.names) f
+    with_larger finished s _ refl (Extends-used finished s.core.map macros by) (NamesOnly-used finished s.core.map macros by f.names) f
 names-act finished s (tells d) f fine =
     with_larger finished s _ refl (Extends-reported finished s.core.map (s.core.map.diagnostics ++ d ∷ [])) (NamesOnly-reported finished s.core.map (s.core.map.diagnostics ++ d ∷ []) f.names) f
 names-act finished s (goes_on vs) f fine = record { apart = f.apart; names = f.names; begins = f.begins; crates = f.crates; dependencies = f.dependencies }
@@ -703,7 +698,7 @@ module _ (paths : PathsLeadToWhatIsThere) (finished : Maps) (whole : AreWellForm
       let two_there : HasNoDanglingExtern (overlay finished two) local =
       HasNoDanglingExtern-more (overlay finished one) (overlay finished two) (Extends-grown finished one two refl (λ k e. e) (λ e t. t)) local local_there in
       record {
-        apart = ap finished (id_used two macros None) ∙ stands.apart;
+        apart = stands.apart;
         names = NamesOnly-used finished two macros None (HasNoDanglingReference-prelude finished one prelude (prelude_there one local stands.apart names local_there) names);
         begins = HasNoDanglingExtern-more (overlay finished two) (overlay finished (with_macros_used two macros None)) (Extends-used finished two macros None) local two_there;
         crates = refl;

@@ -22,7 +22,7 @@ use Rattle.hir_scope.specs.Scope.{ScopeValue}
 use Rattle.hir_scope.specs.declared.imports.ImportOrExternCrate.{ImportOrExternCrate}
 use Rattle.hir_scope.specs.declared.visibility.Visibility.{Visibility}
 use Rattle.hir_def_map.specs.Overlay.{Maps, map_in}
-use Rattle.hir_def_map.specs.State.{Map, crate_map, scope_at, with_macro_use, with_scope}
+use Rattle.hir_def_map.specs.State.{Map, crate_map, scope_at, with_name, with_scope}
 use Rattle.hir_import_resolution.specs.Visibilities.{is_public}
 use Rattle.hir_def_collector.specs.declared.collector.declaration.Declaration.{Declaration}
 use Rattle.hir_def_collector.specs.declared.collector.site.Site.{Site}
@@ -126,7 +126,11 @@ abbrev pub macros_beside : Maps → Crate → Option (ModuleId × Option UseId) 
 macros_beside finished own None = []
 macros_beside finished own (Some found) = cond (same_crate found.0.map.krate own) [] (public_in (root_scope finished found.0.map.krate))
 
--- the map with macros in its macro-use prelude, each in place of an earlier one of its name
+-- a macro-use prelude with more macros, each in place of an earlier one of its name
+abbrev pub with_used : List (List ℕ × (MacroId × Option ExternCrateId)) → List (List ℕ × MacroId) → Option ExternCrateId → List (List ℕ × (MacroId × Option ExternCrateId))
+with_used prelude [] by = prelude
+with_used prelude (e ∷ es) by = with_used (with_name prelude e.0 (e.1, by)) es by
+
+-- the map with more macros in its macro-use prelude
 abbrev pub with_macros_used : Map → List (List ℕ × MacroId) → Option ExternCrateId → Map
-with_macros_used m [] by = m
-with_macros_used m (e ∷ es) by = with_macros_used (with_macro_use m e.0 e.1 by) es by
+with_macros_used m macros by = record m { macro_use_prelude = with_used m.macro_use_prelude macros by }
