@@ -1,7 +1,6 @@
 -- What is to be visited, and each import, is of a module that is there.
-use Rattle.std.proofs.Common.{◌≡◌, ℕ, zero, suc, ◌+◌, ◌<◌, ◌≤◌, Bool, true, false, ◌||◌, cond, List, [], ◌∷◌, ◌++◌, length, map as list_map, slice_get, Option, None, Some, refl, sym, subst, arith, append_assoc}
+use Rattle.std.proofs.Common.{◌≡◌, ℕ, zero, suc, ◌+◌, ◌<◌, ◌≤◌, Bool, true, false, ◌||◌, List, [], ◌∷◌, ◌++◌, length, map as list_map, slice_get, Option, None, Some, refl, sym, subst, arith, append_assoc}
 use Rattle.hir_base.specs.declared.ids.UseId.{UseId}
-use Rattle.hir_base.specs.declared.macro_kind.MacroId.{MacroId}
 use Rattle.hir_item_tree.specs.KeptForest.{Head, KeptForest, no_items, item}
 use Rattle.hir_item_tree.specs.Imports.{imports_of}
 use Rattle.hir_use_tree.specs.declared.imports.Import.{Import}
@@ -10,11 +9,7 @@ use Rattle.hir_mod_dir.specs.Directory.{Directory}
 use Rattle.hir_mod_dir.specs.ModuleFiles.{inline_directory}
 use Rattle.hir_def_map.specs.State.{Map, ModuleValue, with_module}
 use Rattle.hir_def_map.specs.Overlay.{Maps}
-use Rattle.hir_def_map.specs.declared.nameres.diagnostics.DefDiagnostic.{DefDiagnostic}
 use Rattle.hir_def_map.proofs.Grown.{length-changed}
-use Rattle.hir_scope.specs.PerNs.{macros_only}
-use Rattle.hir_scope.specs.declared.visibility.Visibility.TheVariants as visibilities
-use Rattle.hir_import_resolution.specs.Changes.{pushes}
 use Rattle.hir_def_map.proofs.StaysWellFormed.{length-made}
 use Rattle.hir_import_resolution.specs.declared.directive.ImportDirective.{ImportDirective}
 use Rattle.hir_import_resolution.specs.Rules.{acts as import_acts}
@@ -23,12 +18,11 @@ use Rattle.hir_def_collector.specs.Keys.{Environment}
 use Rattle.hir_def_collector.specs.State.{State, Task, Visit, visits, closes, import_state, visits_over}
 use Rattle.hir_def_collector.specs.ItemIds.{macro_rules_id, use_id}
 use Rattle.hir_def_collector.specs.Imports.{reached_import}
-use Rattle.hir_def_collector.specs.Macros.{is_exported, is_macro_use}
+use Rattle.hir_def_collector.specs.Macros.{is_macro_use}
 use Rattle.hir_def_collector.specs.Moves.{begun}
-use Rattle.hir_def_collector.specs.Reports.{is_unimplemented}
 use Rattle.hir_def_collector.specs.Changes.{Change, lists, makes, gives_variants, begins_paths, reaches, changes_imports, adds_textual, takes_textual, defines, uses_macros, tells, goes_on, act, on_map}
-use Rattle.hir_def_collector.specs.Steps.{Rule, drops_item, passes_over, defines_rules, defines_macro, closes_module, closing, exporting, declares_item, declares_enum, lists_constant, lists_impl, opens_module, opens_file, drops_file, misses_file, enters_block, reaches_imports, reaches_crate, resolves_imports, May, acts, asking, inside_block, inside_file, inside_module, path_of, visits_inside, Step, Steps, none, more}
-use Rattle.hir_def_collector.proofs.Changes.{AllFine, all_fine, fine-append, perform_keeps}
+use Rattle.hir_def_collector.specs.Steps.{Rule, drops_item, passes_over, defines_rules, defines_macro, closes_module, closing, declares_item, declares_enum, lists_constant, lists_impl, opens_module, opens_file, drops_file, misses_file, enters_block, reaches_imports, reaches_crate, resolves_imports, May, acts, asking, inside_block, inside_file, inside_module, path_of, visits_inside, Step, Steps, none, more}
+use Rattle.hir_def_collector.proofs.Changes.{AllFine, all_fine, fine_macro, fine_reporting, perform_keeps}
 use Rattle.hir_def_collector.proofs.Grows.{Grows, Grows-act}
 use Rattle.hir_def_collector.proofs.ImportEdits.{imports_after}
 
@@ -163,15 +157,6 @@ module _ (s : State) (p : IsInRange s) (v : Visit) (rest : List Task) (next : s.
   left : VisitsBelow (length s.core.map.modules) rest
   left = (next_below (length s.core.map.modules) s.agenda v rest p.visits next).1
 
--- what a macro binds besides, and what is reported of it, keeps all in range
-exported_in_range : (exported : Bool) (name : List ℕ) (makro : MacroId) (s : State) → AllFine StaysInRange s (cond exported (changes_imports (pushes 0 (Some name) (macros_only makro visibilities.Public None) None) ∷ []) [])
-exported_in_range true name makro s = (tt, tt)
-exported_in_range false name makro s = tt
-
-reported_in_range : (unimplemented : Bool) (d : DefDiagnostic) (s : State) → AllFine StaysInRange s (cond unimplemented (tells d ∷ []) [])
-reported_in_range true d s = (tt, tt)
-reported_in_range false d s = tt
-
 stays_in_range : (finished : Maps) (s : State) (r : Rule) → May finished s r → IsInRange s → AllFine StaysInRange (asking s r) (acts finished s r)
 stays_in_range finished s (drops_item v report rest) may p = (left s p v rest may.next, (tt, tt))
 stays_in_range finished s (declares_item v d rest) may p = (left s p v rest may.here.next, (tt, (tt, tt)))
@@ -196,10 +181,9 @@ stays_in_range finished s (reaches_imports site head tree rest) may p =
 stays_in_range finished s (reaches_crate site head name alias rest) may p =
     (left s p _ rest may.next, (tt, (tt, ((next_home s p _ rest may.next, tt), (tt, tt)))))
 stays_in_range finished s (defines_rules site head name expander helpers rest) may p =
-    (left s p _ rest may.next, (tt, (tt,
-    fine-append StaysInRange (exporting head name (macro_rules_id s.core.map site head.id expander)) _ _ (exported_in_range (is_exported head.attributes) name _ _) (reported_in_range (is_unimplemented expander) _ _))))
+    (left s p _ rest may.next, (tt, (tt, fine_macro StaysInRange _ _ expander (λ t. tt) head name (macro_rules_id s.core.map site head.id expander) (λ t. tt) _)))
 stays_in_range finished s (defines_macro site head name expander helpers rest) may p =
-    (left s p _ rest may.next, (tt, (tt, (tt, reported_in_range (is_unimplemented expander) _ _))))
+    (left s p _ rest may.next, (tt, (tt, (tt, fine_reporting StaysInRange _ _ expander (λ t. tt) _))))
 stays_in_range finished s (closes_module parent child rest) may p = (subst (VisitsBelow (length s.core.map.modules)) may p.visits, (tt, tt))
 stays_in_range finished s (passes_over site head l rest) may p = (left s p _ rest may.here.next, tt)
 stays_in_range finished s (resolves_imports rule) may p = all_fine StaysInRange (λ t c. tt) (import_acts finished (import_state s) rule) s

@@ -1,9 +1,8 @@
 -- The numbers in a run's keys mean something, and what is seen at them stays as tables grow.
-use Rattle.std.proofs.Common.{◌≡◌, ◌<◌, ℕ, Bool, true, false, ◌||◌, cond, List, [], ◌∷◌, ◌++◌, length, Option, Some, None, inl, inr, refl, sym, ap, subst, arith, append_assoc, Contains}
+use Rattle.std.proofs.Common.{◌≡◌, ◌<◌, ℕ, Bool, true, false, ◌||◌, List, [], ◌∷◌, ◌++◌, length, Option, Some, None, inl, inr, refl, sym, ap, subst, arith, append_assoc, Contains}
 use Rattle.std.specs.Prelude.{IsSome}
 use Rattle.std.proofs.lemmas.List.Elements.{Contains-append_cases}
 use Rattle.hir_base.specs.declared.ids.Crate.{Crate}
-use Rattle.hir_base.specs.declared.macro_kind.MacroId.{MacroId}
 use Rattle.hir_item_tree.specs.Collected.{is_enabled}
 use Rattle.hir_item_tree.specs.KeptForest.{Head, KeptForest, no_items, item}
 use Rattle.hir_item_tree.specs.SourceTree.{variants_of}
@@ -15,10 +14,6 @@ use Rattle.hir_tables.specs.Tables.{TablesValue, KeepsTables, source_of}
 use Rattle.hir_tables.proofs.Growth.{source_of-kept}
 use Rattle.hir_def_map.specs.State.{Map}
 use Rattle.hir_def_map.specs.Overlay.{Maps}
-use Rattle.hir_def_map.specs.declared.nameres.diagnostics.DefDiagnostic.{DefDiagnostic}
-use Rattle.hir_scope.specs.PerNs.{macros_only}
-use Rattle.hir_scope.specs.declared.visibility.Visibility.TheVariants as visibilities
-use Rattle.hir_import_resolution.specs.Changes.{pushes}
 use Rattle.hir_import_resolution.specs.Rules.{acts as import_acts}
 use Rattle.hir_def_collector.specs.declared.collector.site.Site.{Site}
 use Rattle.hir_def_collector.specs.declared.source_database.Key.{Key}
@@ -26,17 +21,16 @@ use Rattle.hir_def_collector.specs.declared.source_database.Key.TheVariants as k
 use Rattle.hir_def_collector.specs.Workspace.{Workspace, seen_of, transitive_dependencies_in}
 use Rattle.hir_def_collector.specs.Keys.{HasMeaning, enum_key, environment, map_key, map_keys, of_tree, of_variants, source_under}
 use Rattle.hir_def_collector.specs.ItemIds.{macro_rules_id}
-use Rattle.hir_def_collector.specs.Macros.{is_exported, is_macro_use}
+use Rattle.hir_def_collector.specs.Macros.{is_macro_use}
 use Rattle.hir_def_collector.specs.ModuleFiles.{tried_in}
-use Rattle.hir_def_collector.specs.Reports.{is_unimplemented}
 use Rattle.hir_def_collector.specs.State.{State, Task, Visit, visits, closes, import_state, visits_over}
 use Rattle.hir_def_collector.specs.Start.{Beginning, begin_of, krate_of, read_by, root_key, root_site, root_tree, start_of, tree_visits}
 use Rattle.hir_def_collector.specs.Changes.{Change, lists, makes, gives_variants, begins_paths, reaches, changes_imports, adds_textual, takes_textual, defines, uses_macros, tells, goes_on, act}
-use Rattle.hir_def_collector.specs.Steps.{Rule, drops_item, passes_over, defines_rules, defines_macro, closes_module, closing, exporting, declares_item, declares_enum, lists_constant, lists_impl, opens_module, opens_file, drops_file, misses_file, enters_block, reaches_imports, reaches_crate, resolves_imports, May, Numbered, acts, asking, inside_block, inside_file, inside_module, keys_read, path_of, reads, visits_inside, Step, Steps, none, more}
+use Rattle.hir_def_collector.specs.Steps.{Rule, drops_item, passes_over, defines_rules, defines_macro, closes_module, closing, declares_item, declares_enum, lists_constant, lists_impl, opens_module, opens_file, drops_file, misses_file, enters_block, reaches_imports, reaches_crate, resolves_imports, May, Numbered, acts, asking, inside_block, inside_file, inside_module, keys_read, path_of, reads, visits_inside, Step, Steps, none, more}
 use Rattle.hir_def_collector.specs.Growth.{AnswersStand, AskedKeysHaveMeaning, LooksStand}
 use Rattle.hir_def_collector.proofs.Asked.{mapped_from}
 use Rattle.hir_def_collector.proofs.Asks.{only}
-use Rattle.hir_def_collector.proofs.Changes.{AllFine, all_fine, asked-Step, fine-append, perform_keeps}
+use Rattle.hir_def_collector.proofs.Changes.{AllFine, all_fine, asked-Step, fine_macro, fine_reporting, perform_keeps}
 use Rattle.hir_def_collector.proofs.Derived.{ends_alike, rested}
 use Rattle.hir_def_collector.proofs.ModuleFiles.{found_meant, readings_meant}
 
@@ -129,14 +123,6 @@ module _ (tables : TablesValue) where
     left : AreMeant tables rest
     left = (meant_next s.agenda v rest p.visits next).1
 
-  exported_meant : (exported : Bool) (name : List ℕ) (makro : MacroId) (s : State) → AllFine GoesOnMeant s (cond exported (changes_imports (pushes 0 (Some name) (macros_only makro visibilities.Public None) None) ∷ []) [])
-  exported_meant true name makro s = (tt, tt)
-  exported_meant false name makro s = tt
-
-  reported_meant : (unimplemented : Bool) (d : DefDiagnostic) (s : State) → AllFine GoesOnMeant s (cond unimplemented (tells d ∷ []) [])
-  reported_meant true d s = (tt, tt)
-  reported_meant false d s = tt
-
   goes_on_meant : (finished : Maps) (s : State) (r : Rule) → May finished s r → Numbered tables r → VisitsMeant tables s → AllFine GoesOnMeant (asking s r) (acts finished s r)
   goes_on_meant finished s (drops_item v report rest) may numbered p = (left s p v rest may.next, (tt, tt))
   goes_on_meant finished s (declares_item v d rest) may numbered p = (left s p v rest may.here.next, (tt, (tt, tt)))
@@ -157,9 +143,8 @@ module _ (tables : TablesValue) where
   goes_on_meant finished s (reaches_imports site head t rest) may numbered p = (left s p _ rest may.next, (tt, (tt, tt)))
   goes_on_meant finished s (reaches_crate site head name alias rest) may numbered p = (left s p _ rest may.next, (tt, (tt, (tt, (tt, tt)))))
   goes_on_meant finished s (defines_rules site head name expander helpers rest) may numbered p =
-      (left s p _ rest may.next, (tt, (tt,
-      fine-append GoesOnMeant (exporting head name (macro_rules_id s.core.map site head.id expander)) _ _ (exported_meant (is_exported head.attributes) name _ _) (reported_meant (is_unimplemented expander) _ _))))
-  goes_on_meant finished s (defines_macro site head name expander helpers rest) may numbered p = (left s p _ rest may.next, (tt, (tt, (tt, reported_meant (is_unimplemented expander) _ _))))
+      (left s p _ rest may.next, (tt, (tt, fine_macro GoesOnMeant _ _ expander (λ t. tt) head name (macro_rules_id s.core.map site head.id expander) (λ t. tt) _)))
+  goes_on_meant finished s (defines_macro site head name expander helpers rest) may numbered p = (left s p _ rest may.next, (tt, (tt, (tt, fine_reporting GoesOnMeant _ _ expander (λ t. tt) _))))
   goes_on_meant finished s (closes_module parent child rest) may numbered p = (subst (AreMeant tables) may p.visits, (tt, tt))
   goes_on_meant finished s (passes_over site head l rest) may numbered p = (left s p _ rest may.here.next, tt)
   goes_on_meant finished s (resolves_imports rule) may numbered p = all_fine GoesOnMeant (λ t c. tt) (import_acts finished (import_state s) rule) s

@@ -90,25 +90,25 @@ use Rattle.hir_import_resolution.specs.Visibilities.{is_public, lesser_in, visib
 use Rattle.hir_def_collector.specs.ItemIds.{enum_id, macro_def_id, macro_rules_id, module_id, use_id}
 use Rattle.hir_def_collector.specs.Items.{constructor_of, declaration_of, declared_by, declared_by_leaf, declared_struct, declared_type, file_origin, inline_origin, meet_of, own_visibility}
 use Rattle.hir_def_collector.specs.Preludes.{extern_prelude, joins, prelude_of, with_dependency, with_prelude_module}
-use Rattle.hir_def_collector.specs.Macros.{is_exported, is_macro_use, macros_beside, textual_at}
+use Rattle.hir_def_collector.specs.Macros.{is_macro_use, macros_beside, textual_at}
 use Rattle.hir_def_collector.specs.Sources.{IsClearOf}
 use Rattle.hir_def_collector.specs.Start.{Beginning, begin_of, krate_of, origin_of, read_by, root_key, root_map, root_site, root_tree, start_data, start_of, tree_key}
 use Rattle.hir_def_collector.specs.State.{State, Task, Visit, visits, closes, import_state, visits_over}
 use Rattle.hir_def_collector.specs.Changes.{Change, lists, makes, gives_variants, begins_paths, reaches, changes_imports, adds_textual, takes_textual, defines, uses_macros, tells, goes_on, act, on_map}
-use Rattle.hir_def_collector.specs.Steps.{Rule, drops_item, passes_over, defines_rules, defines_macro, closes_module, closing, exporting, visits_in_file, declares_item, declares_enum, lists_constant, lists_impl, opens_module, opens_file, drops_file, misses_file, enters_block, reaches_imports, reaches_crate, resolves_imports, May, acts, asking, keys_read, making, path_of, reads, visits_inside, Step, Steps, none, more, inside_block, inside_file, inside_module}
+use Rattle.hir_def_collector.specs.Steps.{Rule, drops_item, passes_over, defines_rules, defines_macro, closes_module, closing, visits_in_file, declares_item, declares_enum, lists_constant, lists_impl, opens_module, opens_file, drops_file, misses_file, enters_block, reaches_imports, reaches_crate, resolves_imports, May, acts, asking, keys_read, making, path_of, reads, visits_inside, Step, Steps, none, more, inside_block, inside_file, inside_module}
 use Rattle.hir_def_collector.specs.Whole.{StandsOnWhole}
 use Rattle.hir_def_collector.specs.Workspace.{Workspace, dependencies_in, transitive_dependencies_in}
 use Rattle.hir_tables.specs.Tables.{TablesValue}
 use Rattle.hir_def_collector.specs.Keys.{Environment, environment, map_keys}
 use Rattle.hir_def_collector.specs.ModuleFiles.{file_key}
-use Rattle.hir_def_collector.specs.Reports.{is_unimplemented, leftover_diagnostics}
+use Rattle.hir_def_collector.specs.Reports.{leftover_diagnostics}
 use Rattle.hir_def_collector.specs.declared.source_database.Key.{Key}
 use Rattle.hir_def_collector.specs.declared.source_database.Key.TheVariants as keys
 use Rattle.hir_def_collector.proofs.Asks.{still_asked, still_asked-Step}
 use Rattle.hir_def_collector.proofs.Grows.{Grows, Grows-Step, Grows-same}
 use Rattle.hir_def_collector.proofs.ModuleFiles.{found_read}
 use Rattle.hir_def_collector.proofs.Lists.{none_joined}
-use Rattle.hir_def_collector.proofs.Changes.{AllFine, asked-Step, fine-append, id-Step, perform_keeps}
+use Rattle.hir_def_collector.proofs.Changes.{AllFine, asked-Step, fine_macro, fine_reporting, id-Step, perform_keeps}
 use Rattle.hir_def_collector.proofs.InRange.{IsInRange, import_at, in_range-Steps, next_home}
 use Rattle.hir_def_collector.proofs.Holds.{in_range-start}
 use Rattle.hir_def_collector.proofs.ImportEdits.{copy_at, copy_where, edit_of, follow_at, follow_where, imports_after, local_after, map_after}
@@ -678,14 +678,6 @@ module _ (t : SourceTest) where
           → (HoldsOfNone t (macros_only makro vis None) × (on_some (on_import t) (pushing None) ≡ false)) × Unit {0}
       bare_macro makro vis g h = ((record { types = refl; values = refl; macros = bare (on_macro t makro) (on_visibility t vis) g h }, refl), tt)
 
-      exported_none : (exported : Bool) (name : List ℕ) (makro : MacroId) (at : State) → on_macro t makro ≡ false → AllFine BringsNone at (cond exported (changes_imports (pushes 0 (Some name) (macros_only makro visibilities.Public None) None) ∷ []) [])
-      exported_none true name makro at own = (bare_macro makro visibilities.Public own refl, tt)
-      exported_none false name makro at own = tt
-
-      reported_none : (unimplemented : Bool) (d : DefDiagnostic) (at : State) → AllFine BringsNone at (cond unimplemented (tells d ∷ []) [])
-      reported_none true d at = (tt, tt)
-      reported_none false d at = tt
-
       -- the sources that a rule reads are clear of it too
       brings_none : (r : Rule) → May finished s r → ((key : TreeKey) → Contains (keys_read (reads s r)) (keys.Tree key) → t.holder key.id.file key.id.block ≡ false)
           → AllFine BringsNone (asking s r) (acts finished s r)
@@ -735,12 +727,12 @@ module _ (t : SourceTest) where
           (left _ rest may.next, (own, ((brought_macros_clear t finished nowhere s.core.map s.core.dependencies site head name, own), (neither (t.holder site.tree.file site.tree.block) false own refl, (tt, tt)))))
       brings_none (defines_rules site head name expander helpers rest) may read =
           let own : t.holder site.tree.file site.tree.block ≡ false = file _ rest may.next in
-          (left _ rest may.next, (tt, (own,
-          fine-append BringsNone (exporting head name (macro_rules_id s.core.map site head.id expander)) _ _ (exported_none (is_exported head.attributes) name _ _ own) (reported_none (is_unimplemented expander) _ _))))
+          let makro : MacroId = macro_rules_id s.core.map site head.id expander in
+          (left _ rest may.next, (tt, (own, fine_macro BringsNone _ _ expander (λ at. tt) head name makro (λ at. bare_macro makro visibilities.Public own refl) _)))
       brings_none (defines_macro site head name expander helpers rest) may read =
           let own : t.holder site.tree.file site.tree.block ≡ false = file _ rest may.next in
           let makro : MacroId = macro_def_id s.core.map site head.id expander in
-          (left _ rest may.next, (tt, (tt, (bare_macro makro (own_visibility finished s.core.local s.core.map site head) own (written site.home (low _ rest may.next) head.visibility), reported_none (is_unimplemented expander) _ _))))
+          (left _ rest may.next, (tt, (tt, (bare_macro makro (own_visibility finished s.core.local s.core.map site head) own (written site.home (low _ rest may.next) head.visibility), fine_reporting BringsNone _ _ expander (λ at. tt) _))))
       brings_none (closes_module parent child rest) may read =
           (subst (λ (ts : List Task). list_any (on_site t) ts ≡ false) may f.visits, (tt, tt))
       brings_none (passes_over site head l rest) may read = (left _ rest may.here.next, tt)

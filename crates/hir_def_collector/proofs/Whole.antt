@@ -35,7 +35,7 @@ use Rattle.hir_scope.specs.declared.item_in_ns.ItemInNs.TheVariants as in_ns
 use Rattle.hir_textual_scope.specs.Macros.{with_macro}
 use Rattle.hir_textual_scope.specs.declared.textual_scope.TextualMacro.{TextualMacro}
 use Rattle.hir_scope.specs.Scope.{ScopeValue}
-use Rattle.hir_scope.specs.PerNs.{Item, keep_item, macros_only, with_constructor}
+use Rattle.hir_scope.specs.PerNs.{Item, keep_item, with_constructor}
 use Rattle.hir_scope.specs.declared.per_ns.PerNs.{PerNs}
 use Rattle.hir_scope.specs.declared.visibility.Visibility.{Visibility}
 use Rattle.hir_scope.specs.declared.visibility.Visibility.TheVariants as visibilities
@@ -90,16 +90,16 @@ use Rattle.hir_import_resolution.specs.Rules.{Rule as ImportRule, May as MayImpo
 use Rattle.hir_import_resolution.specs.State.{ImportState, scopes_of}
 use Rattle.hir_def_collector.specs.Imports.{crate_import, crate_named, dependency_named, extern_by, reached_import}
 use Rattle.hir_def_collector.specs.Changes.{Change, lists, makes, gives_variants, begins_paths, reaches, changes_imports, adds_textual, takes_textual, defines, uses_macros, tells, goes_on, act, on_map}
-use Rattle.hir_def_collector.specs.Macros.{is_exported, macros_beside, macros_brought, textual_at, with_macros_used, with_used}
+use Rattle.hir_def_collector.specs.Macros.{macros_beside, macros_brought, textual_at, with_macros_used, with_used}
 use Rattle.hir_def_collector.specs.Moves.{begun}
 use Rattle.hir_def_collector.specs.Preludes.{by_prelude, extern_prelude, joins, module_by, module_named, module_of, prelude_of, prelude_path, with_dependency}
-use Rattle.hir_def_collector.specs.Reports.{is_unimplemented, leftover_diagnostics}
+use Rattle.hir_def_collector.specs.Reports.{leftover_diagnostics}
 use Rattle.hir_def_collector.specs.Start.{Beginning, begin_of, krate_of, origin_of, read_by, root_map, root_tree, start_data, start_of}
-use Rattle.hir_def_collector.specs.Steps.{Rule, drops_item, passes_over, defines_rules, defines_macro, closes_module, exporting, declares_item, declares_enum, lists_constant, lists_impl, opens_module, opens_file, drops_file, misses_file, enters_block, reaches_imports, reaches_crate, resolves_imports, May, acts, asking, Step, Steps, none, more}
+use Rattle.hir_def_collector.specs.Steps.{Rule, drops_item, passes_over, defines_rules, defines_macro, closes_module, declares_item, declares_enum, lists_constant, lists_impl, opens_module, opens_file, drops_file, misses_file, enters_block, reaches_imports, reaches_crate, resolves_imports, May, acts, asking, Step, Steps, none, more}
 use Rattle.hir_def_collector.specs.Derivation.{CollectedValue, Ends}
 use Rattle.hir_def_collector.specs.Whole.{StandsOnWhole}
 use Rattle.hir_def_collector.proofs.Lists.{none_joined}
-use Rattle.hir_def_collector.proofs.Changes.{AllFine, fine-append, perform_keeps}
+use Rattle.hir_def_collector.proofs.Changes.{AllFine, fine_macro, fine_reporting, perform_keeps}
 use Rattle.hir_def_collector.proofs.InRange.{IsInRange, import_at, in_range-Steps, next_home}
 use Rattle.hir_def_collector.proofs.Holds.{in_range-start}
 use Rattle.hir_def_collector.proofs.ImportEdits.{Edit, copy_at, copy_where, edit, edit_of, edited, follow_at, follow_where, imports_after, local_after, map_after}
@@ -369,16 +369,6 @@ names-act finished s (tells d) f fine =
     with_larger finished s _ refl (Extends-reported finished s.core.map (s.core.map.diagnostics ++ d ∷ [])) (NamesOnly-reported finished s.core.map (s.core.map.diagnostics ++ d ∷ []) f.names) f
 names-act finished s (goes_on vs) f fine = record { apart = f.apart; names = f.names; begins = f.begins; crates = f.crates; dependencies = f.dependencies }
 
--- a macro that is exported, and what is reported of one, names nothing
-exported_there : (finished : Maps) (exported : Bool) (name : List ℕ) (makro : MacroId) (s : State)
-    → AllFine (BringsWhatIsThere finished) s (cond exported (changes_imports (pushes 0 (Some name) (macros_only makro visibilities.Public None) None) ∷ []) [])
-exported_there finished true name makro s = (tt, tt)
-exported_there finished false name makro s = tt
-
-reported_there : (finished : Maps) (unimplemented : Bool) (d : DefDiagnostic) (s : State) → AllFine (BringsWhatIsThere finished) s (cond unimplemented (tells d ∷ []) [])
-reported_there finished true d s = (tt, tt)
-reported_there finished false d s = tt
-
 -- ---- rules
 
 module _ (paths : PathsLeadToWhatIsThere) (finished : Maps) (whole : AreWellFormed finished) where
@@ -593,9 +583,8 @@ module _ (paths : PathsLeadToWhatIsThere) (finished : Maps) (whole : AreWellForm
         still_there (overlay finished here) (overlay finished (with_macros_used here macros by)) (Extends-used finished here macros by) (root_named (crate_of r.source)) there in
         (tt, (there, (tt, (neither (test_import (is_missing (overlay finished (with_macros_used here macros by))) r) false stays refl, (tt, tt)))))
     brings_what_is_there (defines_rules site head name expander helpers rest) may =
-        (tt, (tt, (tt,
-        fine-append (BringsWhatIsThere finished) (exporting head name (macro_rules_id here site head.id expander)) _ _ (exported_there finished (is_exported head.attributes) name _ _) (reported_there finished (is_unimplemented expander) _ _))))
-    brings_what_is_there (defines_macro site head name expander helpers rest) may = (tt, (tt, (tt, (tt, reported_there finished (is_unimplemented expander) _ _))))
+        (tt, (tt, (tt, fine_macro (BringsWhatIsThere finished) _ _ expander (λ t. tt) head name (macro_rules_id here site head.id expander) (λ t. tt) _)))
+    brings_what_is_there (defines_macro site head name expander helpers rest) may = (tt, (tt, (tt, (tt, fine_reporting (BringsWhatIsThere finished) _ _ expander (λ t. tt) _))))
     brings_what_is_there (closes_module parent child rest) may = (tt, (tt, tt))
     brings_what_is_there (passes_over site head l rest) may = (tt, tt)
     brings_what_is_there (resolves_imports rule) may = imports_bring rule may
