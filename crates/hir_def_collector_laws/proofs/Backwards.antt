@@ -2,11 +2,13 @@
 use Rattle.std.proofs.Common.{◌≡◌, ◌∙◌, ◌<◌, ℕ, List, [], ◌∷◌, ◌++◌, length, ◌||◌, Bool, true, false, Option, None, Some, map as list_map, refl, sym, ap, subst, Contains, append-nil}
 use Rattle.hir_base.specs.Cfg.{Cfg}
 use Rattle.hir_base.specs.declared.edition.Edition.{Edition}
+use Rattle.hir_base.specs.declared.ast_id.AstKind.TheVariants as nodes
 use Rattle.hir_base.specs.declared.ids.AdtId.TheVariants as adts
 use Rattle.hir_base.specs.declared.ids.Crate.{Crate}
 use Rattle.hir_base.specs.declared.ids.MapId.{MapId}
 use Rattle.hir_base.specs.declared.ids.ModuleDefId.{ModuleDefId}
 use Rattle.hir_base.specs.declared.ids.ModuleDefId.TheVariants as definitions
+use Rattle.hir_base.specs.declared.macro_kind.MacroId.{MacroId}
 use Rattle.hir_item_tree.specs.Collected.{Collected, is_enabled, is_enabled_by}
 use Rattle.hir_item_tree.specs.ItemTree.{Tree}
 use Rattle.hir_item_tree.specs.Kinds.{item_head}
@@ -29,12 +31,13 @@ use Rattle.hir_def_collector.specs.Causes.{declarations_of}
 use Rattle.hir_def_collector.specs.Changes.{Change, act, changes_imports, goes_on, makes, perform, takes_textual, tells}
 use Rattle.hir_def_collector.specs.Derivation.{CollectedValue}
 use Rattle.hir_def_collector.specs.Items.{declaration_of, declared_by, declared_by_leaf, file_origin, inline_origin, is_passed_over, own_visibility}
-use Rattle.hir_def_collector.specs.ItemIds.{enum_id}
+use Rattle.hir_def_collector.specs.ItemIds.{enum_id, macro_def_id, macro_rules_id, module_id, node_of}
 use Rattle.hir_def_collector.specs.Keys.{environment, tree_at}
+use Rattle.hir_def_collector.specs.Macros.{is_macro_use}
 use Rattle.hir_def_collector.specs.ModuleFiles.{IsNumbered, ModuleFile, Search, file_key, file_readings, file_tree, module_file, tried_in}
 use Rattle.hir_def_collector.specs.Start.{Beginning}
 use Rattle.hir_def_collector.specs.State.{State, Task, Visit, visits, closes, import_state, visits_over}
-use Rattle.hir_def_collector.specs.Steps.{Rule, drops_item, passes_over, defines_rules, defines_macro, closes_module, closing, declares_item, declares_enum, lists_constant, lists_impl, opens_module, opens_file, drops_file, misses_file, enters_block, reaches_imports, reaches_crate, resolves_imports, Drops, LooksFor, May, Numbered, Opens, Sees, acts, after, asking, declaring, inside_block, inside_file, inside_module, keys_read, module_declaration, path_of, reads, search_readings, visit, visits_inside}
+use Rattle.hir_def_collector.specs.Steps.{Rule, drops_item, passes_over, defines_rules, defines_macro, closes_module, closing, declares_item, declares_enum, lists_constant, lists_impl, opens_module, opens_file, drops_file, misses_file, enters_block, reaches_imports, reaches_crate, resolves_imports, Drops, LooksFor, May, Numbered, Opens, Sees, acts, after, asking, declaring, inside_block, inside_file, inside_module, keys_read, module_declaration, path_of, reads, search_readings, visit, visits_in_file, visits_inside}
 use Rattle.hir_def_collector.specs.Workspace.{Workspace}
 use Rattle.hir_def_collector.proofs.InRange.{IsInRange, VisitsBelow, next_below}
 use Rattle.hir_def_collector.proofs.ModuleFiles.{found_read}
