@@ -12,7 +12,9 @@ use Rattle.hir_base.specs.declared.ast_id.BlockId.{BlockId}
 use Rattle.hir_base.specs.declared.ast_id.HirFileId.{HirFileId}
 use Rattle.hir_base.specs.declared.ast_id.SyntaxId.{SyntaxId}
 use Rattle.hir_base.specs.declared.cfg.CfgAtom.{CfgAtom}
+use Rattle.hir_base.specs.declared.ids.MacroId.{MacroId}
 use Rattle.hir_base.specs.declared.ids.MapId.{MapId}
+use Rattle.hir_base.specs.declared.macro_kind.MacroExpander.{MacroExpander}
 use Rattle.hir_item_tree.specs.Collected.{is_enabled}
 use Rattle.hir_item_tree.specs.Imports.{imports_of}
 use Rattle.hir_item_tree.specs.KeptForest.{Head, KeptForest, item, no_items}
@@ -22,19 +24,22 @@ use Rattle.hir_use_tree.specs.declared.imports.Import.{Import}
 use Rattle.hir_mod_dir.specs.Directory.{Directory}
 use Rattle.hir_mod_dir.specs.ModuleFiles.{inline_directory}
 use Rattle.hir_tables.specs.Tables.{TablesValue}
+use Rattle.hir_scope.specs.PerNs.{macros_only}
+use Rattle.hir_scope.specs.declared.visibility.Visibility.TheVariants as visibilities
 use Rattle.hir_def_map.proofs.NoneOf.{neither, not_first, not_second}
 use Rattle.hir_def_map.specs.Diagnostics.{diagnostic_view, node_of as node_about}
 use Rattle.hir_def_map.specs.Overlay.{Maps}
 use Rattle.hir_def_map.specs.State.{Map, numbered}
 use Rattle.hir_def_map.specs.declared.nameres.diagnostics.DefDiagnostic.{DefDiagnostic}
 use Rattle.hir_def_map.specs.declared.nameres.diagnostics.DefDiagnosticKind.TheVariants as kinds
+use Rattle.hir_import_resolution.specs.Changes.{pushes}
 use Rattle.hir_import_resolution.specs.Directives.{TakenValue, is_untaken}
 use Rattle.hir_import_resolution.specs.Rules.{acts as import_acts}
 use Rattle.hir_import_resolution.specs.State.{ImportState}
 use Rattle.hir_import_resolution.specs.declared.directive.ImportDirective.{ImportDirective}
 use Rattle.hir_import_resolution.specs.declared.directive.ImportSource.{ImportSource}
 use Rattle.hir_import_resolution.specs.declared.directive.ImportSource.TheVariants as sources
-use Rattle.hir_def_collector.specs.Changes.{Change, lists, makes, gives_variants, begins_paths, reaches, changes_imports, tells, goes_on, act, perform}
+use Rattle.hir_def_collector.specs.Changes.{Change, adds_textual, takes_textual, defines, uses_macros, lists, makes, gives_variants, begins_paths, reaches, changes_imports, tells, goes_on, act, perform}
 use Rattle.hir_def_collector.specs.Derivation.{CollectedValue, Ends}
 use Rattle.hir_def_collector.specs.Imports.{reached_import}
 use Rattle.hir_def_collector.specs.ItemIds.{macro_def_id, macro_rules_id, module_id, node_of, use_id}
