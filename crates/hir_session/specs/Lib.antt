@@ -1,5 +1,9 @@
 pub mod Crates
 pub mod Files
+pub mod Entries
+pub mod SourceTable
+pub mod SourceEdits
+pub mod SourceNumbers
 pub mod Inputs
 pub mod SourceTrees
 pub mod Askers
@@ -7,12 +11,13 @@ pub mod Kept
 pub mod KeptCodes
 pub mod SessionState
 pub mod SourceCodes
+pub mod TableCodes
 pub mod CrateCodes
 pub mod InputCodes
 pub mod Codes
 pub mod Spread
 pub mod Marks
-pub mod EditedFiles
+pub mod EditedSources
 pub mod Invalidated
 pub mod Due
 pub mod Nesting

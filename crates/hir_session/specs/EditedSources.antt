@@ -1,42 +1,67 @@
 -- How does the code find what an edit touches? No public clause speaks of this.
-use Rattle.std.specs.Prelude.{◌≡◌, ◌⊎◌, ℕ, ◌<◌, Bool, false, List, [], ◌∷◌, ◌++◌, Option, Some, None, Contains, nat_eq, if◌then◌else◌}
-use Rattle.std.specs.Cmp.Lexicographic.{pointwise}
-use Rattle.hir_base.specs.declared.ast_id.FileId.{FileId}
+use Rattle.std.specs.Prelude.{◌≡◌, ◌⊎◌, ℕ, Bool, false, ◌||◌, is_some, List, [], ◌∷◌, ◌++◌, Option, Some, None, Contains, if◌then◌else◌}
+use Rattle.hir_base.specs.declared.ast_id.AstKind.TheVariants.{MacroDef, MacroRules}
 use Rattle.hir_base.specs.declared.ids.Crate.{Crate}
 use Rattle.hir_base.specs.declared.ids.MapId.{MapId}
+use Rattle.hir_base.specs.declared.macro_kind.MacroId.{MacroId}
+use Rattle.hir_base.specs.declared.macro_kind.MacroId.TheVariants.{Macro2Id, MacroRulesId, ProcMacroId}
 use Rattle.hir_def_map.specs.Overlay.{no_maps}
 use Rattle.hir_def_collector.specs.Workspace.{Workspace, seen_of}
-use Rattle.hir_def_collector.specs.Keys.{AgreeOn, Look, enum_tree, look, of_map, of_tree, of_variants}
+use Rattle.hir_def_collector.specs.Keys.{AgreeOn, Look, input_of, of_input, of_map, of_text, of_tree, of_variants, text_of}
 use Rattle.hir_def_collector.specs.declared.source_database.Key.{Key}
-use Rattle.hir_def_collector.specs.declared.source_database.Key.TheVariants.{Tree, Variants, Map}
+use Rattle.hir_def_collector.specs.declared.source_database.Key.TheVariants.{Tree, Variants, Text, Input, Expansion, Map}
 use Rattle.hir_item_tree.specs.SourceTree.{SourceTreeValue, variants_of}
-use Rattle.hir_session.specs.Files.{path_in}
+use Rattle.hir_item_tree.specs.SyntaxIds.{node_id}
+use Rattle.hir_item_tree.specs.declared.tree_id.TreeKey.{TreeKey}
+use Rattle.hir_session.specs.contracts.source_number.SourceNumberPartialEq.TheImpl as number_eq
+use Rattle.hir_session.specs.declared.source_number.SourceNumber.{SourceNumber}
+use Rattle.hir_session.specs.declared.source_number.SourceNumber.TheVariants as numbers
+use Rattle.hir_session.specs.SourceNumbers.{key_tree, number_of}
 use Rattle.hir_session.specs.Kept.{Resolutions, kept_in}
 use Rattle.hir_session.specs.SessionState.{Resolution}
-use Rattle.hir_tables.specs.Interning.{IsOnce}
-use Rattle.hir_tables.specs.Tables.{TablesValue, file_at}
+use Rattle.hir_tables.specs.Tables.{TablesValue}
 use Rattle.hir_session.specs.Marks.{IsAltered}
 
--- whether the text is this path
-abbrev pub is_path : List ℕ → Option (List ℕ) → Bool
-is_path path None = false
-is_path path (Some other) = pointwise nat_eq other path
+-- whether the number is this one
+abbrev pub is_number : SourceNumber → Option SourceNumber → Bool
+is_number number None = false
+is_number number (Some other) = number_eq.ghosts.eq other number
 
--- the number is that of the file at the path, and of no other
-pub record IsNumberOf (tables : TablesValue) (path : List ℕ) (number : FileId) : Type 0 where
-  pub means : file_at tables number ≡ Some path
-  pub once : IsOnce tables.files
+-- the crate under which something is asked for of the source with the number, if its tree is that source's
+abbrev pub under : TablesValue → SourceNumber → Option TreeKey → Option Crate
+under tables number None = None
+under tables number (Some key) = if is_number number (number_of tables key.id) then Some key.krate else None
 
--- the crate under which a key asks for the file at the path, if it does
-abbrev pub asked_under : TablesValue → List ℕ → Key → Option Crate
-asked_under tables path (Tree key) = if is_path path (path_in tables key.id) then Some key.krate else None
-asked_under tables path (Variants id) = if is_path path (path_in tables (enum_tree id)) then Some id.loc.container.map.krate else None
-asked_under tables path (Map id) = None
+-- the crate under which a key asks for the source, if it does
+abbrev pub asked_under : TablesValue → SourceNumber → Key → Option Crate
+asked_under tables number key = under tables number (key_tree key)
+
+-- whether a key asks for what stands beside the items of the expansion with the number
+abbrev pub asks_beside : SourceNumber → Key → Bool
+asks_beside number (Tree key) = false
+asks_beside number (Variants id) = false
+asks_beside number (Text id) = false
+asks_beside number (Input krate ast) = false
+asks_beside number (Expansion id) = number_eq.ghosts.eq (numbers.Expansion id) number
+asks_beside number (Map id) = false
+
+-- whether a key asks for something of the source
+abbrev pub asks_of : TablesValue → SourceNumber → Key → Bool
+asks_of tables number key = asks_beside number key || is_some (asked_under tables number key)
+
+-- the text of a macro that a source defines
+abbrev pub text_in : SourceTreeValue → MacroId → Option (List ℕ)
+text_in t (Macro2Id id) = text_of t (node_id MacroDef id.loc.id)
+text_in t (MacroRulesId id) = text_of t (node_id MacroRules id.loc.id)
+text_in t (ProcMacroId id) = None
 
 -- what is seen at a key that asks for a source, of what the source has
 abbrev pub seen_at : SourceTreeValue → Key → Look
 seen_at t (Tree key) = of_tree (seen_of t)
 seen_at t (Variants id) = of_variants (variants_of t id.loc.id)
+seen_at t (Text id) = of_text (text_in t id)
+seen_at t (Input krate ast) = of_input (input_of t (node_id ast.kind ast.id))
+seen_at t (Expansion id) = of_map None
 seen_at t (Map id) = of_map None
 
 -- one of the keys is altered
