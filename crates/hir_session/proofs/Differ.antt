@@ -25,7 +25,8 @@ use Rattle.hir_wire.specs.declared.command.MacroStyle.{MacroStyle}
 use Rattle.hir_wire.specs.declared.reply.Status.TheVariants as status
 use Rattle.hir_session.specs.declared.error.QueryError.{QueryError}
 use Rattle.hir_session.specs.Crates.{CrateValue, transitive_in, follows_in, id_of}
-use Rattle.hir_session.specs.Files.{Files}
+use Rattle.hir_session.specs.SourceEdits.{edit_of, edited}
+use Rattle.hir_session.specs.SourceTable.{SourceTable}
 use Rattle.hir_session.specs.SessionState.{SessionState, Resolution, workspace_of, dependencies_of, finished_of, follows, read_of, kept_of, is_marked, IsCurrent, IsSound}
 use Rattle.hir_crate_graph.specs.Dependencies.{DependsOn}
 use Rattle.hir_crate_graph.specs.Dependencies.DependsOn.{directly, through}
@@ -35,7 +36,7 @@ use Rattle.hir_session.specs.Marks.{IsAltered, IsTouched}
 use Rattle.hir_session.specs.Marks.IsTouched.{before, asked_for}
 use Rattle.hir_session.specs.Due.{IsBehind, IsAskedBehind}
 use Rattle.hir_session.specs.Due.IsBehind.{itself, next}
-use Rattle.hir_session.specs.Changes.{Becomes, Applies, Resolves, edited_files, with_files}
+use Rattle.hir_session.specs.Changes.{Becomes, Applies, Resolves, with_sources}
 use Rattle.hir_session.specs.Status.{map_of, module_below, module_in_kept, status_of}
 use Rattle.hir_session.specs.Answers.{answer_by, answer_from, answer_of}
 use Rattle.hir_session.specs.Histories.{History, WasAltered, DifferOnlyWhereAltered}
@@ -64,7 +65,7 @@ pub record IsClosed (s : SessionState) : Type 0 where
   pub closed : (k d : MapId) → is_marked s k ≡ false → Contains (follows s k) d → is_marked s d ≡ false
 
 -- so it is after an edit
-pub closed_after : {old new : SessionState} {files : Files} → Becomes old files new → IsClosed new
+pub closed_after : {old new : SessionState} {sources : SourceTable} → Becomes old sources new → IsClosed new
 closed_after {old} {new} is = record {
   closed = λ k d off among. on_bool (is_marked new d)
       (λ on. clash (is.all k (depends k d (subst (λ (cs : List CrateValue). Contains (follows_in cs k) d) is.crates among) (is.only d on))) off)
@@ -87,14 +88,14 @@ what_marked w same (depends j d among sp) behind =
     what_marked w same sp (next j d behind (subst (λ (cs : List CrateValue). Contains (follows_in cs j) d) same.crates among))
 
 -- the workspace that an accepted edit leaves is the edited one
-workspace-becomes : {old new : SessionState} {files : Files} → Becomes old files new → workspace_of new ≡ workspace_of (with_files old files)
-workspace-becomes is = rw (is.crates, is.files_are) refl
+workspace-becomes : {old new : SessionState} {sources : SourceTable} → Becomes old sources new → workspace_of new ≡ workspace_of (with_sources old sources)
+workspace-becomes is = rw (is.crates, is.sources_are) refl
 
 -- an edit leaves all that is behind the crate as it was, or alters a key that was asked for there
 pub same_after_edit : {from mid to : SessionState} {k : MapId} (e : EditValue) → IsSame from mid k → Applies mid e to
     → IsSame from to k ⊎ ((key : Key) × IsAskedBehind from k key × IsAltered mid.tables (workspace_of mid) (workspace_of to) key)
 same_after_edit {from} {mid} {to} {k} e same is = on_bool (is_marked to k)
-    (λ on. let hit = what_marked (workspace_of (with_files mid (edited_files mid e))) same (is.only k on) itself in
+    (λ on. let hit = what_marked (workspace_of (with_sources mid (edited mid.sources (edit_of e)))) same (is.only k on) itself in
     inr (hit.0, hit.1, λ h. hit.2 (subst (λ (w : Workspace). look mid.tables w no_maps hit.0 ≡ look mid.tables (workspace_of mid) no_maps hit.0) (workspace-becomes is) h)))
     (λ still.
     let off = λ (j : MapId) (behind : IsBehind from k j). unmarked_still (is.crates ∙ same.crates) (closed_after is) still behind in

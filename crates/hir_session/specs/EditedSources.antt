@@ -1,7 +1,6 @@
 -- How does the code find what an edit touches? No public clause speaks of this.
-use Rattle.std.specs.Prelude.{◌≡◌, ◌⊎◌, ℕ, Bool, false, ◌||◌, is_some, List, [], ◌∷◌, ◌++◌, Option, Some, None, Contains, if◌then◌else◌}
+use Rattle.std.specs.Prelude.{◌≡◌, ◌⊎◌, ℕ, List, [], ◌∷◌, ◌++◌, Option, Some, None, Contains}
 use Rattle.hir_base.specs.declared.ast_id.AstKind.TheVariants.{MacroDef, MacroRules}
-use Rattle.hir_base.specs.declared.ids.Crate.{Crate}
 use Rattle.hir_base.specs.declared.ids.MapId.{MapId}
 use Rattle.hir_base.specs.declared.macro_kind.MacroId.{MacroId}
 use Rattle.hir_base.specs.declared.macro_kind.MacroId.TheVariants.{Macro2Id, MacroRulesId, ProcMacroId}
@@ -12,42 +11,10 @@ use Rattle.hir_def_collector.specs.declared.source_database.Key.{Key}
 use Rattle.hir_def_collector.specs.declared.source_database.Key.TheVariants.{Tree, Variants, Text, Input, Expansion, Map}
 use Rattle.hir_item_tree.specs.SourceTree.{SourceTreeValue, variants_of}
 use Rattle.hir_item_tree.specs.SyntaxIds.{node_id}
-use Rattle.hir_item_tree.specs.declared.tree_id.TreeKey.{TreeKey}
-use Rattle.hir_session.specs.contracts.source_number.SourceNumberPartialEq.TheImpl as number_eq
-use Rattle.hir_session.specs.declared.source_number.SourceNumber.{SourceNumber}
-use Rattle.hir_session.specs.declared.source_number.SourceNumber.TheVariants as numbers
-use Rattle.hir_session.specs.SourceNumbers.{key_tree, number_of}
 use Rattle.hir_session.specs.Kept.{Resolutions, kept_in}
 use Rattle.hir_session.specs.SessionState.{Resolution}
 use Rattle.hir_tables.specs.Tables.{TablesValue}
 use Rattle.hir_session.specs.Marks.{IsAltered}
-
--- whether the number is this one
-abbrev pub is_number : SourceNumber → Option SourceNumber → Bool
-is_number number None = false
-is_number number (Some other) = number_eq.ghosts.eq other number
-
--- the crate under which something is asked for of the source with the number, if its tree is that source's
-abbrev pub under : TablesValue → SourceNumber → Option TreeKey → Option Crate
-under tables number None = None
-under tables number (Some key) = if is_number number (number_of tables key.id) then Some key.krate else None
-
--- the crate under which a key asks for the source, if it does
-abbrev pub asked_under : TablesValue → SourceNumber → Key → Option Crate
-asked_under tables number key = under tables number (key_tree key)
-
--- whether a key asks for what stands beside the items of the expansion with the number
-abbrev pub asks_beside : SourceNumber → Key → Bool
-asks_beside number (Tree key) = false
-asks_beside number (Variants id) = false
-asks_beside number (Text id) = false
-asks_beside number (Input krate ast) = false
-asks_beside number (Expansion id) = number_eq.ghosts.eq (numbers.Expansion id) number
-asks_beside number (Map id) = false
-
--- whether a key asks for something of the source
-abbrev pub asks_of : TablesValue → SourceNumber → Key → Bool
-asks_of tables number key = asks_beside number key || is_some (asked_under tables number key)
 
 -- the text of a macro that a source defines
 abbrev pub text_in : SourceTreeValue → MacroId → Option (List ℕ)
@@ -55,7 +22,7 @@ text_in t (Macro2Id id) = text_of t (node_id MacroDef id.loc.id)
 text_in t (MacroRulesId id) = text_of t (node_id MacroRules id.loc.id)
 text_in t (ProcMacroId id) = None
 
--- what is seen at a key that asks for a source, of what the source has
+-- what is seen at a key that asks for something of a source's, of what the source has
 abbrev pub seen_at : SourceTreeValue → Key → Look
 seen_at t (Tree key) = of_tree (seen_of t)
 seen_at t (Variants id) = of_variants (variants_of t id.loc.id)

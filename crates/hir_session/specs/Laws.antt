@@ -1,6 +1,5 @@
 -- What holds of all that a session does?
-use Rattle.std.specs.Prelude.{◌≡◌, ◌≢◌, ℕ, true, List, Option, Some, None, Contains, option_map}
-use Rattle.std.specs.Option.{option_and_then}
+use Rattle.std.specs.Prelude.{◌≡◌, ◌≢◌, ℕ, true, List, Option, Some, None, Contains}
 use Rattle.hir_base.specs.ModPath.{Path}
 use Rattle.hir_base.specs.Place.{PlaceValue}
 use Rattle.hir_base.specs.declared.ast_id.EntryId.{EntryId}
@@ -8,22 +7,21 @@ use Rattle.hir_base.specs.declared.ids.MapId.{MapId}
 use Rattle.hir_item_tree.specs.BodyTexts.{source_without_bodies}
 use Rattle.hir_item_tree.specs.Source.{SourceValue}
 use Rattle.hir_item_tree.specs.declared.tree_id.TreeKey.{TreeKey}
-use Rattle.hir_tables.specs.SourcePlaces.{ExpansionValue, SourcePlaceValue, file, expansion}
+use Rattle.hir_tables.specs.SourcePlaces.{ExpansionValue, SourcePlaceValue, file}
 use Rattle.hir_tables.specs.Tables as numbers
-use Rattle.hir_tables.specs.Tables.{TablesValue, source_of}
-use Rattle.hir_def_collector.specs.Keys.{enum_tree, node_tree}
+use Rattle.hir_tables.specs.Tables.{source_of}
 use Rattle.hir_def_collector.specs.declared.source_database.Key.{Key}
-use Rattle.hir_def_collector.specs.declared.source_database.Key.TheVariants.{Tree, Variants, Text, Input, Expansion, Map}
+use Rattle.hir_def_collector.specs.declared.source_database.Key.TheVariants.{Tree, Expansion}
 use Rattle.hir_wire.specs.Edits.{EditValue, EntryValue, set_file, remove_file, set_expansion, remove_expansion}
 use Rattle.hir_wire.specs.declared.command.Shadow.{Shadow}
 use Rattle.hir_wire.specs.declared.command.MacroStyle.{MacroStyle}
 use Rattle.hir_session.specs.Answers.{answer_of}
 use Rattle.hir_session.specs.Entries.{entry_at}
 use Rattle.hir_session.specs.Files.{file_at}
+use Rattle.hir_session.specs.KeySources.{key_place}
 use Rattle.hir_session.specs.SessionState.{SessionState, Resolution, kept_of, is_marked, IsSound}
 use Rattle.hir_session.specs.Changes.{Applies}
 use Rattle.hir_session.specs.SourceEdits.{edit_of, place_of}
-use Rattle.hir_session.specs.SourceNumbers.{macro_source}
 pub use Rattle.hir_session.specs.Histories.{History, WasAltered, DifferOnlyWhereAltered}
 
 -- each query has the same answer in both
@@ -90,15 +88,6 @@ RemoveAbsentExpansionMarksNothing = (old new : SessionState) (key : ExpansionVal
 abbrev pub RemoveAbsentExpansionLeavesAnswers : Type 0
 RemoveAbsentExpansionLeavesAnswers = (old new : SessionState) (key : ExpansionValue) → IsSound old
     → entry_at old.sources.entries key ≡ None → Applies old (remove_expansion key) new → AnswersAlike old new
-
--- where the source stands for which a key asks, if it asks for one
-abbrev pub key_place : TablesValue → Key → Option SourcePlaceValue
-key_place tables (Tree key) = source_of tables key.id
-key_place tables (Variants id) = source_of tables (enum_tree id)
-key_place tables (Text id) = option_and_then (λ (key : TreeKey). source_of tables key.id) (macro_source id)
-key_place tables (Input krate ast) = source_of tables (node_tree ast)
-key_place tables (Expansion id) = option_map expansion (numbers.entry_at tables id)
-key_place tables (Map id) = None
 
 -- no run of which something is kept asked for the source at the place
 pub record IsUnasked (s : SessionState) (place : SourcePlaceValue) : Type 0 where

@@ -3,6 +3,7 @@ pub mod Files
 pub mod Entries
 pub mod SourceTable
 pub mod SourceEdits
+pub mod KeySources
 pub mod SourceNumbers
 pub mod Inputs
 pub mod SourceTrees

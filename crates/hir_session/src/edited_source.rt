@@ -6,10 +6,8 @@ ghost use Rattle.hir_session.specs.SourceNumbers.{IsNumberOf};
 use crate::inputs::Inputs;
 use crate::seen_entry::is_same_look;
 use crate::source_edit::SourceEdit;
-use crate::source_number::{SourceNumber, key_tree, number_of};
-use hir_base::ids::Crate;
+use crate::source_number::{SourceNumber, asked_number};
 use hir_def_collector::source_database::Key;
-use hir_item_tree::tree_id::TreeId;
 use hir_tables::Tables;
 
 /// An edit of a source that has a number, and what was handed in before it.
@@ -23,47 +21,20 @@ pub struct EditedSource<'a> {
 }
 
 impl<'a> EditedSource<'a> {
-    ghost use Rattle.hir_session.specs.EditedSources.{asked_under, asks_beside, is_number};
     ghost use Rattle.hir_session.specs.SourceEdits.{IsSeenAlike};
-    ghost use Rattle.hir_session.specs.SourceNumbers.{number_of as number_in};
+    ghost use Rattle.hir_session.specs.SourceNumbers.{asks};
 
-    /// Whether a tree is of the source.
-    fn has(&self, id: TreeId) -> bool
-        ensures value { result ≡ is_number self.now.number (number_in self.now.tables.now id) }
+    /// Whether a key asks for the source.
+    pub fn asks(&self, key: Key) -> bool
+        ensures value { result ≡ asks self.now.tables.now self.now.number key }
     {
-        match number_of(self.tables, id) {
+        match asked_number(self.tables, key) {
             Some(number) => number == self.number,
             None => false,
         }
     }
 
-    /// The crate under which a key asks for what the source has, if it does.
-    pub fn asked_under(&self, key: Key) -> Option<Crate>
-        ensures value { result ≡ asked_under self.now.tables.now self.now.number key }
-    {
-        match key_tree(key) {
-            Some(tree) => {
-                if self.has(tree.id) {
-                    Some(tree.krate)
-                } else {
-                    None
-                }
-            }
-            None => None,
-        }
-    }
-
-    /// Whether a key asks for what stands beside the items of the expansion.
-    pub fn asks_beside(&self, key: Key) -> bool
-        ensures value { result ≡ asks_beside self.now.number key }
-    {
-        match key {
-            Key::Expansion(id) => SourceNumber::Expansion(id) == self.number,
-            Key::Tree(_) | Key::Variants(_) | Key::Text(_) | Key::Input(_, _) | Key::Map(_) => false,
-        }
-    }
-
-    /// Whether that stays what it is, which a file has nothing of.
+    /// Whether what stands beside the items of an expansion stays what it is; a file has nothing of that.
     pub fn leaves_beside(&self) -> bool
         ensures exact { IsTrue result ↔ IsSeenAlike self.now.inputs.now.sources (edit_value self.now.edit) }
     {

@@ -2,21 +2,20 @@
 //!
 //! A run notes what it asked for: what sources have under crates, and what stands beside their trees. An edit changes one
 //! source. Where that has no number no run asked for it, and nothing is compared. Else the keys of each place that may have
-//! asked for it are gone through: if one of them does, what the source has under the place's crate is made of the new one,
-//! compared at each such key with what it had, and then kept in its place.
+//! asked for it are gone through: if one of them does, what the source has under the key's crate is made of the new one, once
+//! for each crate, compared at each such key with what it had, and then kept in its place.
 //!
 //! The one difficulty: a place is invalidated exactly where something that it asked for became another. Equal trees don't say
 //! so: an absent source isn't an empty one, the variants of an enum, the text of a macro and the input of a call stand beside
 //! the tree, and the error of an expansion beside its source.
 ghost use Rattle.std.specs.Prelude.{◌≡◌, ◌≢◌, ◌↔◌, [], true, false, IsTrue, IfOk, OnOk, option_map};
-ghost use Rattle.std.specs.List.{list_any};
 ghost use Rattle.hir_item_tree.specs.SyntaxIds.{node_id};
 ghost use Rattle.hir_def_map.specs.Overlay.{no_maps};
 ghost use Rattle.hir_def_collector.specs.Keys.{AgreeOn, input_of, look, text_of};
 ghost use Rattle.hir_session.specs.Askers.{AreNoted};
-ghost use Rattle.hir_session.specs.EditedSources.{asks_of, seen_at, text_in, AreHit, AreJudged, HasAltered, IsJudged, IsNoted};
+ghost use Rattle.hir_session.specs.EditedSources.{seen_at, text_in, AreHit, AreJudged, HasAltered, IsJudged, IsNoted};
 ghost use Rattle.hir_session.specs.Inputs.{workspace_after, workspace_by};
-ghost use Rattle.hir_session.specs.Invalidated.{IsChange, HasTreesOf};
+ghost use Rattle.hir_session.specs.Invalidated.{AreChanges, IsChange, HasTreesOf};
 ghost use Rattle.hir_session.specs.Kept.{kept_in};
 ghost use Rattle.hir_session.specs.Marks.{IsAltered};
 ghost use Rattle.hir_session.specs.SourceEdits.{edit_value};
@@ -26,7 +25,7 @@ use crate::edited_source::EditedSource;
 use crate::inputs::Inputs;
 use crate::kept::Kept;
 use crate::source_edit::SourceEdit;
-use crate::source_number::number_at;
+use crate::source_number::{key_tree, number_at};
 use crate::source_trees::CrateTrees;
 use hir_base::ast_id::{AstKind, SyntaxId};
 use hir_base::ids::{Crate, MapId};
@@ -48,28 +47,45 @@ pub struct Invalidation {
     pub trees: CrateTrees,
 }
 
-/// What the edited source has under a crate, before and after the edit.
+/// What the edited source has under crates, before and after the edit.
 #[derive(Drop)]
-struct Change {
-    krate: Crate,
-    old: Rc<SourceTree>,
-    new: Rc<SourceTree>,
+struct Changes {
+    before: CrateTrees,
+    after: CrateTrees,
 }
 
+/// The same under one crate.
+#[derive(Drop)]
+struct Change {
+    before: Rc<SourceTree>,
+    after: Rc<SourceTree>,
+}
+
+/// How the source changes under a crate: as it was found, or made now.
 fn change_under(
     alloc: Global,
     source: &EditedSource<'_>,
+    changes: &mut Changes,
     krate: Crate,
 ) -> Result<Change, AllocError>
-    ensures change { IfOk result (IsChange source.now.inputs.now (edit_value source.now.edit)) }
-    ensures under { IfOk result (λ c. c.krate ≡ krate) }
+    requires changes { AreChanges source.now.inputs.now (edit_value source.now.edit) changes.old }
+    ensures change { IfOk result (IsChange source.now.inputs.now (edit_value source.now.edit) krate) }
+    ensures changes { OnOk result (AreChanges source.now.inputs.now (edit_value source.now.edit) changes.new) }
 {
+    if let (Some(before), Some(after)) = (changes.before.get(&krate), changes.after.get(&krate)) {
+        return Ok(Change {
+            before: before.clone()?,
+            after: after.clone()?,
+        });
+    }
     let edit = source.edit;
-    let old = source.inputs.tree(alloc, krate, edit.place())?;
-    let new = source
+    let before = source.inputs.tree(alloc, krate, edit.place())?;
+    let after = source
         .inputs
         .tree_with(alloc, krate, edit.place(), edit.source())?;
-    Ok(Change { krate, old, new })
+    changes.before.insert(krate, before.clone()?)?;
+    changes.after.insert(krate, after.clone()?)?;
+    Ok(Change { before, after })
 }
 
 fn is_same_str(one: Option<&str>, other: Option<&str>) -> bool
@@ -111,101 +127,82 @@ fn has_same_input(one: &SourceTree, other: &SourceTree, kind: AstKind, id: Synta
 
 /// Whether a key that asks for the source under the crate sees another after the edit.
 fn sees_another(change: &Change, key: Key) -> bool
-    ensures same { result ≡ false → seen_at change.now.new.value key ≡ seen_at change.now.old.value key }
-    ensures other { result ≡ true → seen_at change.now.new.value key ≢ seen_at change.now.old.value key }
+    ensures same { result ≡ false → seen_at change.now.after.value key ≡ seen_at change.now.before.value key }
+    ensures other { result ≡ true → seen_at change.now.after.value key ≢ seen_at change.now.before.value key }
 {
     match key {
-        Key::Tree(_) => !change.new.has_same_tree(&change.old),
-        Key::Variants(id) => !change.new.has_same_variants(&change.old, id.loc.id),
-        Key::Text(id) => !has_same_macro(&change.new, &change.old, id),
-        Key::Input(_, ast) => !has_same_input(&change.new, &change.old, ast.kind, ast.id),
+        Key::Tree(_) => !change.after.has_same_tree(&change.before),
+        Key::Variants(id) => !change.after.has_same_variants(&change.before, id.loc.id),
+        Key::Text(id) => !has_same_macro(&change.after, &change.before, id),
+        Key::Input(_, ast) => !has_same_input(&change.after, &change.before, ast.kind, ast.id),
         Key::Expansion(_) | Key::Map(_) => false,
     }
 }
 
-/// Whether a key is altered by the edit, which changes the source so under one crate.
+/// Whether a key is altered by the edit.
 fn is_altered(
     alloc: Global,
     source: &EditedSource<'_>,
-    change: &Change,
+    changes: &mut Changes,
     key: Key,
 ) -> Result<bool, AllocError>
-    requires change { IsChange source.now.inputs.now (edit_value source.now.edit) change.now }
+    requires changes { AreChanges source.now.inputs.now (edit_value source.now.edit) changes.old }
     ensures same { IfOk result (λ altered. altered ≡ false
         → look source.now.tables.now (workspace_after source.now.inputs.now (edit_value source.now.edit)) no_maps key
         ≡ look source.now.tables.now (workspace_by source.now.inputs.now) no_maps key) }
     ensures other { IfOk result (λ altered. altered ≡ true
         → IsAltered source.now.tables.now (workspace_by source.now.inputs.now) (workspace_after source.now.inputs.now (edit_value source.now.edit)) key) }
+    ensures changes { OnOk result (AreChanges source.now.inputs.now (edit_value source.now.edit) changes.new) }
 {
-    if source.asks_beside(key) {
-        return Ok(!source.leaves_beside());
-    }
-    let Some(krate) = source.asked_under(key) else {
+    if !source.asks(key) {
         return Ok(false);
-    };
-    if krate == change.krate {
-        return Ok(sees_another(change, key));
     }
-    let other = change_under(alloc, source, krate)?;
-    Ok(sees_another(&other, key))
+    let Some(tree) = key_tree(key) else {
+        return Ok(!source.leaves_beside());
+    };
+    let change = change_under(alloc, source, changes, tree.krate)?;
+    Ok(sees_another(&change, key))
 }
 
 /// Whether one of the keys is altered.
 fn is_any_altered(
     alloc: Global,
     source: &EditedSource<'_>,
-    change: &Change,
+    changes: &mut Changes,
     keys: &[Key],
 ) -> Result<bool, AllocError>
-    requires change { IsChange source.now.inputs.now (edit_value source.now.edit) change.now }
+    requires changes { AreChanges source.now.inputs.now (edit_value source.now.edit) changes.old }
     ensures none { IfOk result (λ altered. altered ≡ false → AgreeOn source.now.tables.now keys.now (workspace_by source.now.inputs.now) no_maps
         (workspace_after source.now.inputs.now (edit_value source.now.edit)) no_maps) }
     ensures some { IfOk result (λ altered. altered ≡ true → HasAltered source.now.tables.now (workspace_by source.now.inputs.now)
         (workspace_after source.now.inputs.now (edit_value source.now.edit)) keys.now) }
+    ensures changes { OnOk result (AreChanges source.now.inputs.now (edit_value source.now.edit) changes.new) }
 {
     for key in keys {
-        if is_altered(alloc, source, change, *key)? {
+        if is_altered(alloc, source, changes, *key)? {
             return Ok(true);
         }
     }
     Ok(false)
 }
 
-/// Whether one of the keys asks for the source.
-fn asks_for(source: &EditedSource<'_>, keys: &[Key]) -> bool
-    ensures value { result ≡ list_any (asks_of source.now.tables.now source.now.number) keys.now }
-{
-    for key in keys {
-        if source.asks_beside(*key) || source.asked_under(*key).is_some() {
-            return true;
-        }
-    }
-    false
-}
-
-/// Adds the place with these keys to those that are hit, if one of the keys is altered, and what the source then has under
-/// the place's crate, if one asks for it.
+/// Adds the place with these keys to those that are hit, if one of the keys is altered.
 fn note(
     alloc: Global,
     source: &EditedSource<'_>,
     keys: &[Key],
     id: MapId,
     hits: &mut Vec<MapId>,
-    trees: &mut CrateTrees,
+    changes: &mut Changes,
 ) -> Result<(), AllocError>
+    requires changes { AreChanges source.now.inputs.now (edit_value source.now.edit) changes.old }
     ensures noted { OnOk result (IsNoted source.now.tables.now (workspace_by source.now.inputs.now)
         (workspace_after source.now.inputs.now (edit_value source.now.edit)) keys.now id hits.old.items hits.new.items) }
-    ensures trees { HasTreesOf source.now.inputs.now (edit_value source.now.edit) trees.old
-        → OnOk result (HasTreesOf source.now.inputs.now (edit_value source.now.edit) trees.new) }
+    ensures changes { OnOk result (AreChanges source.now.inputs.now (edit_value source.now.edit) changes.new) }
 {
-    if !asks_for(source, keys) {
-        return Ok(());
-    }
-    let change = change_under(alloc, source, id.krate)?;
-    if is_any_altered(alloc, source, &change, keys)? {
+    if is_any_altered(alloc, source, changes, keys)? {
         hits.push(id)?;
     }
-    trees.insert(change.krate, change.new)?;
     Ok(())
 }
 
@@ -216,12 +213,12 @@ fn judge(
     kept: &Kept,
     id: MapId,
     hits: &mut Vec<MapId>,
-    trees: &mut CrateTrees,
+    changes: &mut Changes,
 ) -> Result<(), AllocError>
+    requires changes { AreChanges source.now.inputs.now (edit_value source.now.edit) changes.old }
     ensures judged { OnOk result (IsJudged source.now.tables.now (workspace_by source.now.inputs.now)
         (workspace_after source.now.inputs.now (edit_value source.now.edit)) (kept_in kept.now id) id hits.old.items hits.new.items) }
-    ensures trees { HasTreesOf source.now.inputs.now (edit_value source.now.edit) trees.old
-        → OnOk result (HasTreesOf source.now.inputs.now (edit_value source.now.edit) trees.new) }
+    ensures changes { OnOk result (AreChanges source.now.inputs.now (edit_value source.now.edit) changes.new) }
 {
     let Some(found) = kept.get(id) else {
         return Ok(());
@@ -229,7 +226,7 @@ fn judge(
     let Some(asked) = found.asked else {
         return Ok(());
     };
-    note(alloc, source, asked.own(), id, hits, trees)
+    note(alloc, source, asked.own(), id, hits, changes)
 }
 
 /// What an edit leads to that nothing is known to ask for.
@@ -255,11 +252,17 @@ fn invalidated_among(
     ensures trees { IfOk result (λ found. HasTreesOf source.now.inputs.now (edit_value source.now.edit) found.trees) }
 {
     let mut hits = Vec::new(alloc);
-    let mut trees = BTreeMap::new(alloc);
+    let mut changes = Changes {
+        before: BTreeMap::new(alloc),
+        after: BTreeMap::new(alloc),
+    };
     for id in askers {
-        judge(alloc, source, kept, *id, &mut hits, &mut trees)?;
+        judge(alloc, source, kept, *id, &mut hits, &mut changes)?;
     }
-    Ok(Invalidation { hits, trees })
+    Ok(Invalidation {
+        hits,
+        trees: changes.after,
+    })
 }
 
 /// What an edit of a source that has a number leads to.

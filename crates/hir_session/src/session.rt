@@ -19,15 +19,13 @@ ghost use Rattle.hir_wire.specs.CommandValue.{crate_input_view};
 ghost use Rattle.hir_tables.specs.SourcePlaces.{expansion_value};
 ghost use Rattle.hir_wire.specs.Edits.{edit_view, entry_view};
 ghost use Rattle.hir_session.specs.Beginning.{Begins};
-ghost use Rattle.hir_session.specs.EditedSources.{AreHit};
 ghost use Rattle.hir_item_tree.specs.Source.{source_view};
-ghost use Rattle.hir_session.specs.SourceEdits.{edit_value, edited, of_expansion, of_file, place_of, source_by};
-ghost use Rattle.hir_session.specs.SourceTrees.{AreTreesOf};
+ghost use Rattle.hir_session.specs.SourceEdits.{edited, of_expansion, of_file};
 ghost use Rattle.hir_session.specs.Crates.{id_of};
 ghost use Rattle.hir_session.specs.SessionState.{SessionState, Resolution, workspace_of, finished_of, beginning_of, is_marked, IsResolutionOf, IsSound};
 ghost use Rattle.hir_session.specs.Due.{root_place, Grows, Resolved, HasOverlongRun};
 ghost use Rattle.hir_session.specs.Refusals.{first_out_of_order, verdict_of_new, IsNewMemory, verdict_of_apply, verdict_of_expansion, verdict_of_source, IsEditMemory};
-ghost use Rattle.hir_session.specs.Changes.{Becomes, Applies, Refreshes, RefreshesPartly, with_sources};
+ghost use Rattle.hir_session.specs.Changes.{Becomes, Applies, Refreshes, RefreshesPartly};
 
 mod queries;
 
@@ -133,22 +131,6 @@ impl Session {
         Ok(session)
     }
 
-    /// What an edit leads to.
-    fn touched(&self, alloc: Global, edit: SourceEdit<'_>) -> Result<Invalidation, AllocError>
-        ensures hit { IfOk result (λ found. AreHit self.now.tables (workspace_of self.now)
-            (workspace_of (with_sources self.now (edited self.now.sources (edit_value edit.entry)))) self.now.kept found.hits.items) }
-        ensures trees { IfOk result (λ found. AreTreesOf self.now.crates (place_of (edit_value edit.entry)) (source_by (edit_value edit.entry)) found.trees) }
-    {
-        invalidated(
-            alloc,
-            &self.inputs,
-            &self.tables,
-            &self.kept,
-            &self.askers,
-            edit,
-        )
-    }
-
     /// Sets a checked file, and drops what is kept of what that touches.
     fn keep_file(&mut self, alloc: Global, file: FilePath, source: Source) -> Result<(), AllocError>
         ensures ok { OnOk result (Becomes self.old (edited self.old.sources (of_file file (Some (source_view source)))) self.new) }
@@ -158,7 +140,14 @@ impl Session {
             path: &file,
             new: Some(&source),
         };
-        let Invalidation { hits, trees } = self.touched(alloc, edit)?;
+        let Invalidation { hits, trees } = invalidated(
+            alloc,
+            &self.inputs,
+            &self.tables,
+            &self.kept,
+            &self.askers,
+            edit,
+        )?;
         self.inputs.set_file(file, source, trees)?;
         self.kept.forget(&hits);
         Ok(())
@@ -173,7 +162,14 @@ impl Session {
             path: file,
             new: None,
         };
-        let Invalidation { hits, trees } = self.touched(alloc, edit)?;
+        let Invalidation { hits, trees } = invalidated(
+            alloc,
+            &self.inputs,
+            &self.tables,
+            &self.kept,
+            &self.askers,
+            edit,
+        )?;
         self.inputs.remove_file(file, trees);
         self.kept.forget(&hits);
         Ok(())
@@ -193,7 +189,14 @@ impl Session {
             key: &key,
             new: Some(&entry),
         };
-        let Invalidation { hits, trees: _ } = self.touched(alloc, edit)?;
+        let Invalidation { hits, trees: _ } = invalidated(
+            alloc,
+            &self.inputs,
+            &self.tables,
+            &self.kept,
+            &self.askers,
+            edit,
+        )?;
         self.inputs.set_expansion(key, entry)?;
         self.kept.forget(&hits);
         Ok(())
@@ -205,7 +208,14 @@ impl Session {
         ensures err { OnErr result (self.new ≡ self.old) }
     {
         let edit = SourceEdit::Expansion { key, new: None };
-        let Invalidation { hits, trees: _ } = self.touched(alloc, edit)?;
+        let Invalidation { hits, trees: _ } = invalidated(
+            alloc,
+            &self.inputs,
+            &self.tables,
+            &self.kept,
+            &self.askers,
+            edit,
+        )?;
         self.inputs.remove_expansion(key);
         self.kept.forget(&hits);
         Ok(())

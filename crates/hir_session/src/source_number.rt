@@ -4,7 +4,8 @@ ghost use Rattle.hir_tables.specs.SourcePlaces.{source_value};
 ghost use Rattle.hir_tables.specs.Tables.{HasEachOnce};
 ghost use Rattle.hir_def_collector.specs.Keys.{macro_key};
 ghost use Rattle.hir_session.specs.declared.source_number.SourceNumber.{SourceNumber as Number};
-ghost use Rattle.hir_session.specs.SourceNumbers.{asked_number, key_tree, macro_source, number_of, place_at};
+ghost use Rattle.hir_session.specs.KeySources.{key_tree, macro_source};
+ghost use Rattle.hir_session.specs.SourceNumbers.{asked_number, number_under, place_at};
 
 use hir_base::ast_id::{BlockId, EntryId, FileId, HirFileId};
 use hir_base::ids::Crate;
@@ -22,8 +23,8 @@ pub enum SourceNumber {
 }
 
 /// The number of a tree's source.
-pub fn number_of(tables: &Tables, id: TreeId) -> Option<SourceNumber>
-    ensures value { result ≡ number_of tables.now id }
+fn number_of(tables: &Tables, id: TreeId) -> Option<SourceNumber>
+    ensures value { result ≡ number_under tables.now id.file id.block }
 {
     if let Some(block) = id.block {
         return Some(SourceNumber::Block(block));
