@@ -153,45 +153,45 @@ on_option : {A X : Type 0} (o : Option X) → (o ≡ None → A) → ((x : X) �
 on_option None f g = f refl
 on_option (Some x) f g = g x refl
 
--- what a query is answered over these crates, this table of files and what is kept
-abbrev answer_over : (place : PlaceValue) (path : Path) (shadow : Shadow) (style : Option MacroStyle) → List CrateValue → List (List ℕ) → Maps → Option Resolution → Result Answer QueryError
-answer_over place path shadow style crates files read kept =
+-- what a query is answered over these crates, these tables and what is kept
+abbrev answer_over : (place : PlaceValue) (path : Path) (shadow : Shadow) (style : Option MacroStyle) → List CrateValue → TablesValue → Maps → Option Resolution → Result Answer QueryError
+answer_over place path shadow style crates tables read kept =
     answer_by
     (if nat_lt place.krate.0 (length crates) then
     (if is_none kept then status.Stale else (if is_some (module_in_kept kept place.elements) then status.Current else status.Unknown)) else
     status.Unknown)
-    (answer_from files read kept (module_in_kept kept place.elements) path shadow style)
+    (answer_from tables read kept (module_in_kept kept place.elements) path shadow style)
 
 module _ {from to : SessionState} (place : PlaceValue) (path : Path) (shadow : Shadow) (style : Option MacroStyle) (sound : IsSound from) (same : IsSame from to (map_of place)) where
-  -- but for the table of files a query has the same answer
-  over_files : answer_of to place path shadow style ≡ answer_over place path shadow style from.crates to.tables.files (read_of from (map_of place)) (kept_of from (map_of place))
-  over_files = λ i. answer_over place path shadow style (same.crates i) to.tables.files (same_read place.krate.0 sound same i) (same.kept (map_of place) itself i)
+  -- but for the tables a query has the same answer
+  over_tables : answer_of to place path shadow style ≡ answer_over place path shadow style from.crates to.tables (read_of from (map_of place)) (kept_of from (map_of place))
+  over_tables = λ i. answer_over place path shadow style (same.crates i) to.tables (same_read place.krate.0 sound same i) (same.kept (map_of place) itself i)
 
   -- where the tables are the same it has the same answer
   pub alike_answer : to.tables ≡ from.tables → answer_of to place path shadow style ≡ answer_of from place path shadow style
-  alike_answer tables = over_files ∙ ap (λ (t : TablesValue). answer_over place path shadow style from.crates t.files (read_of from (map_of place)) (kept_of from (map_of place))) tables
+  alike_answer tables = over_tables ∙ ap (λ (t : TablesValue). answer_over place path shadow style from.crates t (read_of from (map_of place)) (kept_of from (map_of place))) tables
 
   module _ (runs : RunsBindFromSources) (answers : PathsAnswerFromSources) (leads : PathsLeadToWhatIsThere) (off : is_marked from (map_of place) ≡ false) where
     abbrev now : IsCurrent from (map_of place)
     now = sound.current (map_of place) off
 
     found_answer : (o : Option ModuleId) → module_below now.found.map (root_of now.found.map.id) place.elements ≡ o
-        → answer_from to.tables.files (read_of from (map_of place)) (Some now.found) o path shadow style ≡ answer_from from.tables.files (read_of from (map_of place)) (Some now.found) o path shadow style
+        → answer_from to.tables (read_of from (map_of place)) (Some now.found) o path shadow style ≡ answer_from from.tables (read_of from (map_of place)) (Some now.found) o path shadow style
     found_answer None s = refl
     found_answer (Some m) s = ap (λ (a : Answer). Ok a)
-        (kept_answer from.tables.files to.tables.files same.tables.files (overlay (read_of from (map_of place)) now.found.map) now.found.local m path shadow style
+        (kept_answer from.tables to.tables same.tables (overlay (read_of from (map_of place)) now.found.map) now.found.local m path shadow style
         (whole runs answers leads from sound place.krate.0 off place.elements m path shadow style s))
 
-    kept_answer_from : answer_from to.tables.files (read_of from (map_of place)) (kept_of from (map_of place)) (module_in_kept (kept_of from (map_of place)) place.elements) path shadow style
-        ≡ answer_from from.tables.files (read_of from (map_of place)) (kept_of from (map_of place)) (module_in_kept (kept_of from (map_of place)) place.elements) path shadow style
+    kept_answer_from : answer_from to.tables (read_of from (map_of place)) (kept_of from (map_of place)) (module_in_kept (kept_of from (map_of place)) place.elements) path shadow style
+        ≡ answer_from from.tables (read_of from (map_of place)) (kept_of from (map_of place)) (module_in_kept (kept_of from (map_of place)) place.elements) path shadow style
     kept_answer_from = subst
-        (λ (o : Option Resolution). answer_from to.tables.files (read_of from (map_of place)) o (module_in_kept o place.elements) path shadow style
-        ≡ answer_from from.tables.files (read_of from (map_of place)) o (module_in_kept o place.elements) path shadow style) (sym now.is)
+        (λ (o : Option Resolution). answer_from to.tables (read_of from (map_of place)) o (module_in_kept o place.elements) path shadow style
+        ≡ answer_from from.tables (read_of from (map_of place)) o (module_in_kept o place.elements) path shadow style) (sym now.is)
         (found_answer (module_below now.found.map (root_of now.found.map.id) place.elements) refl)
 
     -- and so it has where they grew
     pub same_answer : answer_of to place path shadow style ≡ answer_of from place path shadow style
-    same_answer = over_files ∙ ap (answer_by (status_of from place)) kept_answer_from
+    same_answer = over_tables ∙ ap (answer_by (status_of from place)) kept_answer_from
 
 pub differ_only : RunsBindFromSources → PathsAnswerFromSources → PathsLeadToWhatIsThere → DifferOnlyWhereAltered
 differ_only runs answers leads from to place path shadow style sound off h = elim (same_or_altered sound off h) [

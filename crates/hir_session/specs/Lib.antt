@@ -27,6 +27,7 @@ pub mod Refusals
 pub mod Beginning
 pub mod Changes
 pub mod Status
+pub mod SourceCalls
 pub mod SourceItems
 pub mod Answers
 pub mod LeavesOut
