@@ -20,6 +20,7 @@ pub mod Lookups
 pub mod Expansions
 pub mod SourceLemmas
 pub mod TreeLemmas
+pub mod CallLemmas
 pub mod NumberLemmas
 pub mod Asking
 pub mod Changing
