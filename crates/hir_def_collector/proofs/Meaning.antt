@@ -2,15 +2,20 @@
 use Rattle.std.proofs.Common.{◌≡◌, ◌<◌, ℕ, Bool, true, false, ◌||◌, List, [], ◌∷◌, ◌++◌, length, Option, Some, None, inl, inr, refl, sym, ap, subst, arith, append_assoc, Contains}
 use Rattle.std.specs.Prelude.{IsSome}
 use Rattle.std.proofs.lemmas.List.Elements.{Contains-append_cases}
+use Rattle.hir_base.specs.declared.ast_id.AstKind.TheVariants.{MacroDef, MacroRules}
+use Rattle.hir_base.specs.declared.ast_id.EntryId.{EntryId}
 use Rattle.hir_base.specs.declared.ids.Crate.{Crate}
+use Rattle.hir_base.specs.declared.macro_kind.MacroId.{MacroId}
+use Rattle.hir_base.specs.declared.macro_kind.MacroId.TheVariants as macros
 use Rattle.hir_item_tree.specs.Collected.{is_enabled}
 use Rattle.hir_item_tree.specs.KeptForest.{Head, KeptForest, no_items, item}
 use Rattle.hir_item_tree.specs.SourceTree.{variants_of}
+use Rattle.hir_item_tree.specs.SyntaxIds.{node_id}
 use Rattle.hir_mod_dir.specs.Directory.{Directory}
 use Rattle.hir_mod_dir.specs.ModuleFiles.{inline_directory}
 use Rattle.hir_item_tree.specs.declared.tree_id.TreeId.{TreeId}
-use Rattle.hir_tables.specs.SourcePlaces.{SourcePlaceValue}
-use Rattle.hir_tables.specs.Tables.{TablesValue, KeepsTables, source_of}
+use Rattle.hir_tables.specs.SourcePlaces.{ExpansionValue, SourcePlaceValue}
+use Rattle.hir_tables.specs.Tables.{TablesValue, KeepsTables, entry_at, source_of}
 use Rattle.hir_tables.proofs.Growth.{source_of-kept}
 use Rattle.hir_def_map.specs.State.{Map}
 use Rattle.hir_def_map.specs.Overlay.{Maps}
@@ -19,9 +24,9 @@ use Rattle.hir_def_collector.specs.declared.collector.site.Site.{Site}
 use Rattle.hir_def_collector.specs.declared.source_database.Key.{Key}
 use Rattle.hir_def_collector.specs.declared.source_database.Key.TheVariants as keys
 use Rattle.hir_def_collector.specs.Workspace.{Workspace, seen_of, transitive_dependencies_in}
-use Rattle.hir_def_collector.specs.Keys.{HasMeaning, enum_key, environment, map_key, map_keys, of_tree, of_variants, source_under}
 use Rattle.hir_def_collector.specs.ItemIds.{macro_rules_id}
 use Rattle.hir_def_collector.specs.Macros.{is_macro_use}
+use Rattle.hir_def_collector.specs.Keys.{HasMeaning, IsMeant, entry_under, enum_key, environment, input_of, macro_tree, map_key, map_keys, node_tree, of_entry, of_input, of_text, of_tree, of_variants, source_under, text_at, text_of}
 use Rattle.hir_def_collector.specs.ModuleFiles.{tried_in}
 use Rattle.hir_def_collector.specs.State.{State, Task, Visit, visits, closes, import_state, visits_over}
 use Rattle.hir_def_collector.specs.Start.{Beginning, begin_of, krate_of, read_by, root_key, root_site, root_tree, start_of, tree_visits}
@@ -36,17 +41,31 @@ use Rattle.hir_def_collector.proofs.ModuleFiles.{found_meant, readings_meant}
 
 -- ---- looks
 
-kept_place : (o p : Option SourcePlaceValue) → IsSome o → ((place : SourcePlaceValue) → o ≡ Some place → p ≡ Some place) → p ≡ o
-kept_place None p there stays = absurd (let no : ⊥ = cc in no)
-kept_place (Some place) p there stays = stays place refl
+kept_value : {A : Type 0} (o p : Option A) → IsSome o → ((a : A) → o ≡ Some a → p ≡ Some a) → p ≡ o
+kept_value None p there stays = absurd (let no : ⊥ = cc in no)
+kept_value (Some a) p there stays = stays a refl
 
 source_stays : (tables grown : TablesValue) (id : TreeId) → KeepsTables tables grown → IsSome (source_of tables id) → source_of grown id ≡ source_of tables id
-source_stays tables grown id kept there = kept_place (source_of tables id) (source_of grown id) there (λ place e. source_of-kept tables grown id place kept e)
+source_stays tables grown id kept there = kept_value (source_of tables id) (source_of grown id) there (λ place e. source_of-kept tables grown id place kept e)
+
+text_stays : (tables grown : TablesValue) (w : Workspace) (id : MacroId) → KeepsTables tables grown → IsMeant tables id → text_at grown w id ≡ text_at tables w id
+text_stays tables grown w (macros.Macro2Id id) kept there =
+    ap (λ (o : Option SourcePlaceValue). text_of (source_under w id.loc.container.map.krate o) (node_id MacroDef id.loc.id)) (source_stays tables grown (macro_tree id.loc) kept there)
+text_stays tables grown w (macros.MacroRulesId id) kept there =
+    ap (λ (o : Option SourcePlaceValue). text_of (source_under w id.loc.container.map.krate o) (node_id MacroRules id.loc.id)) (source_stays tables grown (macro_tree id.loc) kept there)
+text_stays tables grown w (macros.ProcMacroId id) kept there = refl
+
+entry_stays : (tables grown : TablesValue) (id : EntryId) → KeepsTables tables grown → IsSome (entry_at tables id) → entry_at grown id ≡ entry_at tables id
+entry_stays tables grown id kept there = kept_value (entry_at tables id) (entry_at grown id) there (λ key e. kept.entries id.0 key e)
 
 pub looks_stand : LooksStand
 looks_stand tables grown w finished (keys.Tree key) kept there = ap (λ (o : Option SourcePlaceValue). of_tree (seen_of (source_under w key.krate o))) (source_stays tables grown key.id kept there)
 looks_stand tables grown w finished (keys.Variants id) kept there =
     ap (λ (o : Option SourcePlaceValue). of_variants (variants_of (source_under w (enum_key id).krate o) id.loc.id)) (source_stays tables grown (enum_key id).id kept there)
+looks_stand tables grown w finished (keys.Text id) kept there = ap (λ (o : Option (List ℕ)). of_text o) (text_stays tables grown w id kept there)
+looks_stand tables grown w finished (keys.Input krate ast) kept there =
+    ap (λ (o : Option SourcePlaceValue). of_input (input_of (source_under w krate o) (node_id ast.kind ast.id))) (source_stays tables grown (node_tree ast) kept there)
+looks_stand tables grown w finished (keys.Expansion id) kept there = ap (λ (o : Option ExpansionValue). of_entry (entry_under w o)) (entry_stays tables grown id kept there)
 looks_stand tables grown w finished (keys.Map id) kept there = refl
 
 -- ---- the numbers of the trees of what is visited mean something

@@ -1,42 +1,34 @@
 -- How does the code find what an edit touches? No public clause speaks of this.
-use Rattle.std.specs.Prelude.{◌≡◌, ◌⊎◌, ℕ, ◌<◌, Bool, false, List, [], ◌∷◌, ◌++◌, Option, Some, None, Contains, nat_eq, if◌then◌else◌}
-use Rattle.std.specs.Cmp.Lexicographic.{pointwise}
-use Rattle.hir_base.specs.declared.ast_id.FileId.{FileId}
-use Rattle.hir_base.specs.declared.ids.Crate.{Crate}
+use Rattle.std.specs.Prelude.{◌≡◌, ◌⊎◌, ℕ, List, [], ◌∷◌, ◌++◌, Option, Some, None, Contains}
+use Rattle.hir_base.specs.declared.ast_id.AstKind.TheVariants.{MacroDef, MacroRules}
 use Rattle.hir_base.specs.declared.ids.MapId.{MapId}
+use Rattle.hir_base.specs.declared.macro_kind.MacroId.{MacroId}
+use Rattle.hir_base.specs.declared.macro_kind.MacroId.TheVariants.{Macro2Id, MacroRulesId, ProcMacroId}
 use Rattle.hir_def_map.specs.Overlay.{no_maps}
 use Rattle.hir_def_collector.specs.Workspace.{Workspace, seen_of}
-use Rattle.hir_def_collector.specs.Keys.{AgreeOn, Look, enum_tree, look, of_map, of_tree, of_variants}
+use Rattle.hir_def_collector.specs.Keys.{AgreeOn, Look, input_of, of_input, of_map, of_text, of_tree, of_variants, text_of}
 use Rattle.hir_def_collector.specs.declared.source_database.Key.{Key}
-use Rattle.hir_def_collector.specs.declared.source_database.Key.TheVariants.{Tree, Variants, Map}
+use Rattle.hir_def_collector.specs.declared.source_database.Key.TheVariants.{Tree, Variants, Text, Input, Expansion, Map}
 use Rattle.hir_item_tree.specs.SourceTree.{SourceTreeValue, variants_of}
-use Rattle.hir_session.specs.Files.{path_in}
+use Rattle.hir_item_tree.specs.SyntaxIds.{node_id}
 use Rattle.hir_session.specs.Kept.{Resolutions, kept_in}
 use Rattle.hir_session.specs.SessionState.{Resolution}
-use Rattle.hir_tables.specs.Interning.{IsOnce}
-use Rattle.hir_tables.specs.Tables.{TablesValue, file_at}
+use Rattle.hir_tables.specs.Tables.{TablesValue}
 use Rattle.hir_session.specs.Marks.{IsAltered}
 
--- whether the text is this path
-abbrev pub is_path : List ℕ → Option (List ℕ) → Bool
-is_path path None = false
-is_path path (Some other) = pointwise nat_eq other path
+-- the text of a macro that a source defines
+abbrev pub text_in : SourceTreeValue → MacroId → Option (List ℕ)
+text_in t (Macro2Id id) = text_of t (node_id MacroDef id.loc.id)
+text_in t (MacroRulesId id) = text_of t (node_id MacroRules id.loc.id)
+text_in t (ProcMacroId id) = None
 
--- the number is that of the file at the path, and of no other
-pub record IsNumberOf (tables : TablesValue) (path : List ℕ) (number : FileId) : Type 0 where
-  pub means : file_at tables number ≡ Some path
-  pub once : IsOnce tables.files
-
--- the crate under which a key asks for the file at the path, if it does
-abbrev pub asked_under : TablesValue → List ℕ → Key → Option Crate
-asked_under tables path (Tree key) = if is_path path (path_in tables key.id) then Some key.krate else None
-asked_under tables path (Variants id) = if is_path path (path_in tables (enum_tree id)) then Some id.loc.container.map.krate else None
-asked_under tables path (Map id) = None
-
--- what is seen at a key that asks for a source, of what the source has
+-- what is seen at a key that asks for something of a source's, of what the source has
 abbrev pub seen_at : SourceTreeValue → Key → Look
 seen_at t (Tree key) = of_tree (seen_of t)
 seen_at t (Variants id) = of_variants (variants_of t id.loc.id)
+seen_at t (Text id) = of_text (text_in t id)
+seen_at t (Input krate ast) = of_input (input_of t (node_id ast.kind ast.id))
+seen_at t (Expansion id) = of_map None
 seen_at t (Map id) = of_map None
 
 -- one of the keys is altered
