@@ -48,6 +48,9 @@ same_look : (env other : Environment) (before finished maps : Maps) (key : Key)
     → look other.tables other.workspace finished key ≡ look env.tables env.workspace before key → look other.tables other.workspace maps key ≡ look env.tables env.workspace maps key
 same_look env other before finished maps (keys.Tree tree) e = e
 same_look env other before finished maps (keys.Variants id) e = e
+same_look env other before finished maps (keys.Text id) e = e
+same_look env other before finished maps (keys.Input krate ast) e = e
+same_look env other before finished maps (keys.Expansion id) e = e
 same_look env other before finished maps (keys.Map id) e = refl
 
 -- so a step is one over each that has the same at what was asked for, where its numbers mean the same

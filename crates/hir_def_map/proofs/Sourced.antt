@@ -6,7 +6,7 @@ use Rattle.std.specs.Option.{option_and_then, option_map}
 use Rattle.std.specs.Ordering.{nat_cmp}
 use Rattle.std.specs.BTreeMap.{is_at}
 use Rattle.std.specs.Cmp.Lexicographic.{pointwise, slice_cmp}
-use Rattle.std.specs.Prelude.{if◌then◌else◌, is_some, map as list_map, nat_eq, not, slice_get}
+use Rattle.std.specs.Prelude.{is_some, map as list_map, nat_eq, not, slice_get}
 use Rattle.hir_base.specs.declared.builtin_type.BuiltinType.{BuiltinType as AnyBuiltin}
 use Rattle.hir_base.specs.BuiltinType.{builtin_named}
 use Rattle.hir_base.specs.contracts.ids.EnumIdOrd.TheImpl as enum_order
@@ -151,14 +151,14 @@ module _ (t : SourceTest) where
   of_last : (name : List ℕ) (ms : List TextualMacro) (o : Option AnyMacro) → list_any (λ (x : TextualMacro). on_macro t x.makro) ms ≡ false → on_some (on_macro t) o ≡ false
       → on_some (on_macro t) (last_or o (macros_of ms name)) ≡ false
   of_last name [] o f g = g
-  of_last name (m ∷ ms) o f g = go (has_name name m)
+  of_last name (m ∷ ms) o f g =
+      let left : list_any (λ (x : TextualMacro). on_macro t x.makro) ms ≡ false = not_second (on_macro t m.makro) (list_any (λ (x : TextualMacro). on_macro t x.makro) ms) f in
+      go (has_name name m) (of_last name ms (Some m.makro) left (not_first (on_macro t m.makro) (list_any (λ (x : TextualMacro). on_macro t x.makro) ms) f)) (of_last name ms o left g)
     where
-      left : list_any (λ (x : TextualMacro). on_macro t x.makro) ms ≡ false
-      left = not_second (on_macro t m.makro) (list_any (λ (x : TextualMacro). on_macro t x.makro) ms) f
-
-      go : (b : Bool) → on_some (on_macro t) (last_or o (list_map (λ (x : TextualMacro). x.makro) (if b then m ∷ filter (has_name name) ms else filter (has_name name) ms))) ≡ false
-      go true = of_last name ms (Some m.makro) left (not_first (on_macro t m.makro) (list_any (λ (x : TextualMacro). on_macro t x.makro) ms) f)
-      go false = of_last name ms o left g
+      go : (b : Bool) → on_some (on_macro t) (last_or (Some m.makro) (macros_of ms name)) ≡ false → on_some (on_macro t) (last_or o (macros_of ms name)) ≡ false
+          → on_some (on_macro t) (last_or o (list_map (λ (x : TextualMacro). x.makro) (cond b (m ∷ filter (has_name name) ms) (filter (has_name name) ms)))) ≡ false
+      go true h k = h
+      go false h k = k
 
   module _ (maps : Maps) (nowhere : HoldsNowhere t maps) (asking : Asking) (externs : HoldsOfNoExtern t asking.local) where
     -- of what a module among the maps holds
