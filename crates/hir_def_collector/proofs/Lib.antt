@@ -26,9 +26,11 @@ pub mod Derived
 pub mod Walked
 pub mod Reached
 pub mod LastVariants
+pub mod Visible
 pub mod WholeEnums
 pub mod WholeEdits
 pub mod Whole
+pub mod Placed
 pub mod SourcedEdits
 pub mod SourcedMacros
 pub mod Sourced

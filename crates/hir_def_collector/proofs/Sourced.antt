@@ -49,7 +49,8 @@ use Rattle.hir_scope.specs.declared.visibility.Visibility.{Visibility}
 use Rattle.hir_scope.specs.declared.visibility.Visibility.TheVariants as visibilities
 use Rattle.hir_def_map.specs.Ancestors.{above_in}
 use Rattle.hir_def_map.specs.Macros.{with_macro_def}
-use Rattle.hir_def_map.specs.Closed.{AreThere, IsClosed, IsThere, ModuleIsThere, PathsLeadToWhatIsThere, TypeIsThere}
+use Rattle.hir_def_map.specs.References.{is_missing, reference_to, test_of, test_visibility, FailsAtItem}
+use Rattle.hir_def_map.specs.Closed.{AreThere, IsClosed, IsThere, ModuleIsThere, PathsLeadToWhatIsThere}
 use Rattle.hir_def_map.specs.WellFormed.{AreWellFormed}
 use Rattle.hir_def_map.proofs.NoneOf.{neither, none_at, none_inserted, none_inserted_last, not_first, not_second}
 use Rattle.hir_def_map.specs.Reaches.{by_import}
@@ -474,12 +475,12 @@ module _ (t : SourceTest) where
           by_def (definitions.BuiltinType x) g = refl
           by_def (definitions.MacroId x) g = refl
 
-          by_type : (o : Option (Item ModuleDefId ImportOrExternCrate)) → TypeIsThere maps o → on_visibility t (unwrap_or (type_seen false s.core.map.id e o) visibilities.Public) ≡ false
+          by_type : (o : Option (Item ModuleDefId ImportOrExternCrate)) → FailsAtItem (is_missing maps) o → on_visibility t (unwrap_or (type_seen false s.core.map.id e o) visibilities.Public) ≡ false
           by_type None g = refl
-          by_type (Some i) g = by_def i.def g
+          by_type (Some i) g = by_def i.def (not_first (test_of (is_missing maps) (reference_to i.def)) (test_visibility (is_missing maps) i.vis) g)
 
           by_stop : (o : Option ℕ) → on_visibility t (unwrap_or (path_seen false s.core.map.id e o answer.resolved_def) visibilities.Public) ≡ false
-          by_stop None = by_type answer.resolved_def.types there
+          by_stop None = by_type answer.resolved_def.types there.types
           by_stop (Some i) = refl
 
       all_written : (at : ℕ) → at < length s.core.map.modules → (rest : List RawVisibility) → list_any (on_visibility t) (list_map (visibility_in finished s.core.local s.core.map (module_id s.core.map at)) rest) ≡ false

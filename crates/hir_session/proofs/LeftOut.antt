@@ -29,10 +29,11 @@ use Rattle.hir_scope.specs.declared.imports.ImportOrGlob.TheVariants as value_im
 use Rattle.hir_scope.specs.PerNs.{Item}
 use Rattle.hir_scope.specs.declared.visibility.Visibility.{Visibility}
 use Rattle.hir_scope.specs.declared.visibility.Visibility.TheVariants as vis
-use Rattle.hir_def_map.specs.Closed.{AreThere, IsThere, ModuleIsThere, PathsLeadToWhatIsThere, TypeIsThere}
+use Rattle.hir_def_map.specs.Closed.{AreThere, IsThere, ModuleIsThere, PathsLeadToWhatIsThere}
 use Rattle.hir_def_map.specs.WellFormed.{AreWellFormed, HasNoDanglingReference}
 use Rattle.hir_def_map.specs.WorldParts.{unheld}
-use Rattle.hir_def_map.specs.References.{crate_map, is_missing, any_reference_in, test_child, test_of, test_type}
+use Rattle.hir_def_map.specs.References.{crate_map, is_missing, any_reference_in, reference_to, test_of, test_visibility, FailsAtItem}
+use Rattle.hir_def_map.proofs.Referred.{module_parts}
 use Rattle.hir_def_map.proofs.NoneOf.{none_at, none_found, not_first, not_second}
 use Rattle.hir_def_map.specs.Scoping.{resolution_of}
 use Rattle.hir_def_map.specs.Scoping.Asking.{Asking}
@@ -245,7 +246,7 @@ module _ (tables : TablesValue) (maps : Maps) where
     of_import : (d v i : Bool) → (d || (v || i)) ≡ false → i ≡ false
     of_import d v i f = not_second v i (not_second d (v || i) f)
 
-    types : (o : Option (Item ModuleDefId ImportOrExternCrate)) → on_some (on_type unsourced) o ≡ false → TypeIsThere maps o
+    types : (o : Option (Item ModuleDefId ImportOrExternCrate)) → on_some (on_type unsourced) o ≡ false → FailsAtItem (is_missing maps) o
         → is_some (option_and_then (answered_type tables maps) o) ≡ is_some o
     types None f there = refl
     types (Some i) f there =
@@ -253,7 +254,8 @@ module _ (tables : TablesValue) (maps : Maps) where
         let v = on_visibility unsourced i.vis in
         let by = on_some (on_import unsourced) i.import in
         all_there (definition_of tables maps i.def) (maybe_source (import_source tables) i.import) (visibility_source tables maps i.vis)
-        (def_there i.def (of_def d v by f) (λ m e. present (is_some (module_in maps m)) (subst (λ (x : ModuleDefId). IsThere maps x) e there)))
+        (def_there i.def (of_def d v by f)
+        (λ m e. present (is_some (module_in maps m)) (subst (λ (x : ModuleDefId). IsThere maps x) e (not_first (test_of (is_missing maps) (reference_to i.def)) (test_visibility (is_missing maps) i.vis) there))))
         (maybe_there (import_source tables) (on_import unsourced) import_there i.import (of_import d v by f))
         (visible i.vis (of_vis d v by f))
 
@@ -329,11 +331,9 @@ module _ (finished : Maps) (map : Map) (names : HasNoDanglingReference (overlay 
       go None s f = absurd cc
       go (Some v) s f =
           let missing = is_missing (overlay finished map) in
-          let rest = not_second (test_of missing (option_map named.Module v.parent)) (list_any (test_child missing) v.children || list_any (test_type missing) v.scope.types)
-          (none_at (any_reference_in missing) map.modules names.modules at v s) in
           present (is_some (module_in (overlay finished map) next))
           (none_found (λ (x : ModuleId). missing (named.Module x)) (is_at (slice_cmp nat_cmp name)) v.children next
-          (not_first (list_any (test_child missing) v.children) (list_any (test_type missing) v.scope.types) rest) f)
+          (module_parts missing v (none_at (any_reference_in missing) map.modules names.modules at v s)).children f)
 
   -- steps down from a module that is there lead to one
   below_there : (elements : List PlaceElement) (from at : ModuleId) → ModuleIsThere (overlay finished map) from → module_below map from elements ≡ Some at
@@ -395,7 +395,7 @@ whole runs answers leads s sound k off elements at path shadow style is =
     let none : HoldsOfNone test (resolution_of maps asking at path).resolved_def = answers test maps asking at path written.bound written.begun in
     let lead : AreThere maps (resolution_of maps asking at path).resolved_def = leads maps asking at path closed (LocalIsThere-begins maps r.local now.gives.begins) there in
     record {
-      types = types s.tables maps written.bound (resolution_of maps asking at path).resolved_def.types none.types lead;
+      types = types s.tables maps written.bound (resolution_of maps asking at path).resolved_def.types none.types lead.types;
       values = values s.tables maps written.bound (resolution_of maps asking at path).resolved_def.values none.values;
       macros = macros s.tables maps written.bound (resolution_of maps asking at path).resolved_def.macros none.macros;
     }
