@@ -56,7 +56,7 @@ module _ (finished : Maps) (map : Map) (id : EnumId) (variants : Variants) where
 -- ---- the variants that are listed are the enum's
 
 own_itself : (id : EnumId) → enum_id.ghosts.eq id id ≡ true
-own_itself id = sym (enum_ties id id) ∙ ap is_eq (tied_itself enum_total id)
+own_itself id = enum_ties id id ∙ ap is_eq (tied_itself enum_total id)
 
 all_inserted : {K V : Type 0} (p : V → Bool) (cmp : K → K → Ordering) (es : List (K × V)) (k : K) (v : V) → list_all (λ (e : K × V). p e.1) es ≡ true → p v ≡ true
     → list_all (λ (e : K × V). p e.1) (insert_entry cmp es k v) ≡ true
