@@ -1,9 +1,8 @@
 -- Macros that are clear of a test of sources leave a map clear of it.
-use Rattle.std.specs.Prelude.{◌≡◌, ◌==◌, ◌&&◌, ◌||◌, ℕ, Bool, true, false, List, [], ◌∷◌, ◌++◌, codes, is_none, Option, None, Some, cond, if◌then◌else◌, option_and_then, option_map}
+use Rattle.std.specs.Prelude.{◌≡◌, ◌||◌, ℕ, Bool, true, false, List, [], ◌∷◌, codes, is_none, Option, None, Some, cond, if◌then◌else◌, option_and_then, option_map}
 use Rattle.std.specs.BTreeMap.{is_at}
 use Rattle.std.specs.Cmp.Lexicographic.{slice_cmp}
 use Rattle.std.specs.List.{list_any}
-use Rattle.std.specs.Map.{lookup}
 use Rattle.std.specs.Ordering.{nat_cmp}
 use Rattle.std.proofs.Common.{refl}
 use Rattle.hir_base.specs.declared.ids.Crate.{Crate}
@@ -31,8 +30,7 @@ use Rattle.hir_def_map.proofs.StaysSourced.{HoldsNowhereIn-scope}
 use Rattle.hir_import_resolution.specs.Visibilities.{is_public}
 use Rattle.hir_def_collector.specs.CrateTop.{listed_under}
 use Rattle.hir_def_collector.specs.Imports.{dependency_named}
-use Rattle.hir_def_collector.specs.Macros.{macros_beside, macros_brought, other_scope, public_among, public_at, public_in, public_named, public_one, root_scope, textual_at, textual_in, wanted_among, wanted_in, wants_all, with_macros_used, with_used}
-use Rattle.hir_def_collector.specs.declared.collector.site.Site.{Site}
+use Rattle.hir_def_collector.specs.Macros.{macros_beside, macros_brought, other_scope, public_among, public_at, public_in, public_named, public_one, root_scope, textual_at, textual_in, wanted_in, wants_all, with_macros_used, with_used}
 use Rattle.hir_def_collector.specs.declared.source_database.Dependency.{Dependency}
 use Rattle.hir_def_collector.proofs.Lists.{none_joined}
 
@@ -44,13 +42,11 @@ module _ (t : SourceTest) where
 
   pub textual_more : (ms : List TextualMacro) (name : List ℕ) (makro : MacroId) → list_any on_textual ms ≡ false → on_macro t makro ≡ false → list_any on_textual (with_macro ms name makro) ≡ false
   textual_more [] name makro f g = neither (on_macro t makro) false g refl
-  textual_more (m ∷ ms) name makro f g = go (is_before name m.name)
+  textual_more (m ∷ ms) name makro f g = go (textual_more ms name makro (not_second (on_textual m) (list_any on_textual ms) f) g) (is_before name m.name)
     where
-      go : (b : Bool) → list_any on_textual (if b then record { name = name; makro = makro } ∷ m ∷ ms else m ∷ with_macro ms name makro) ≡ false
-      go true = neither (on_macro t makro) (list_any on_textual (m ∷ ms)) g f
-      go false =
-          neither (on_textual m) (list_any on_textual (with_macro ms name makro)) (not_first (on_textual m) (list_any on_textual ms) f)
-          (textual_more ms name makro (not_second (on_textual m) (list_any on_textual ms) f) g)
+      go : list_any on_textual (with_macro ms name makro) ≡ false → (b : Bool) → list_any on_textual (if b then record { name = name; makro = makro } ∷ m ∷ ms else m ∷ with_macro ms name makro) ≡ false
+      go behind true = neither (on_macro t makro) (list_any on_textual (m ∷ ms)) g f
+      go behind false = neither (on_textual m) (list_any on_textual (with_macro ms name makro)) (not_first (on_textual m) (list_any on_textual ms) f) behind
 
   -- a change of what is in textual scope in a module
   pub textual_changed : (m : Map) (home : ℕ) (change : List TextualMacro → List TextualMacro) → ((ms : List TextualMacro) → list_any on_textual ms ≡ false → list_any on_textual (change ms) ≡ false)
@@ -151,8 +147,8 @@ module _ (t : SourceTest) where
         go (Some krate) = root_clear krate
 
     -- what an `extern crate` brings, and what comes with a prelude module
-    pub brought_macros_clear : (m : Map) (ds : List Dependency) (s : Site) (head : Head) (name : ExternCrateName) → on_values (on_macro t) (macros_brought finished m ds s head name) ≡ false
-    brought_macros_clear m ds s head name = go ((s.home == 0) && is_none m.id.block)
+    pub brought_macros_clear : (m : Map) (ds : List Dependency) (head : Head) (name : ExternCrateName) → on_values (on_macro t) (macros_brought finished m ds head name) ≡ false
+    brought_macros_clear m ds head name = go (is_none m.id.block)
       where
         go : (b : Bool) → on_values (on_macro t) (cond b (wanted_in head.attributes.attributes (other_scope finished ds name)) []) ≡ false
         go true = wanted_clear head.attributes.attributes (other_scope finished ds name) (other_clear ds name)
