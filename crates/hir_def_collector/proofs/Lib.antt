@@ -1,6 +1,7 @@
 pub mod Lists
 pub mod Entries
 pub mod ImportEdits
+pub mod MacroEdits
 pub mod Made
 pub mod ImportSteps
 pub mod Resolved
@@ -25,10 +26,13 @@ pub mod Derived
 pub mod Walked
 pub mod Reached
 pub mod LastVariants
+pub mod Visible
 pub mod WholeEnums
 pub mod WholeEdits
 pub mod Whole
+pub mod Placed
 pub mod SourcedEdits
+pub mod SourcedMacros
 pub mod Sourced
 pub mod Numbers
 pub mod Meaning

@@ -6,6 +6,8 @@ use Rattle.std.proofs.Common.{ap, refl, subst, sym, ◌∙◌, arith}
 use Rattle.std.specs.Prelude.{nat_eq}
 use Rattle.std.specs.Str.{bytes_eq}
 use Rattle.std.specs.Cmp.Lexicographic.{pointwise}
+use Rattle.hir_base.specs.declared.ast_id.AstId.{AstId}
+use Rattle.hir_base.specs.declared.ast_id.AstKind.TheVariants as nodes
 use Rattle.hir_base.specs.declared.ids.AdtId.TheVariants as adts
 use Rattle.hir_base.specs.declared.ids.Crate.{Crate}
 use Rattle.hir_base.specs.declared.ids.EnumId.{EnumId}
@@ -31,7 +33,10 @@ use Rattle.hir_scope.specs.declared.imports.ImportId.{ImportId}
 use Rattle.hir_scope.specs.declared.imports.ImportOrGlob.{ImportOrGlob}
 use Rattle.hir_scope.specs.declared.item_in_ns.ItemInNs.{ItemInNs}
 use Rattle.hir_scope.specs.declared.item_in_ns.ItemInNs.TheVariants as in_ns
-use Rattle.hir_scope.specs.PerNs.{Item, keep_item, with_constructor}
+use Rattle.hir_textual_scope.specs.Macros.{with_macro}
+use Rattle.hir_textual_scope.specs.declared.textual_scope.TextualMacro.{TextualMacro}
+use Rattle.hir_scope.specs.Scope.{ScopeValue}
+use Rattle.hir_scope.specs.PerNs.{Item, keep_item, with_constructor, item_of, macros_only}
 use Rattle.hir_scope.specs.declared.per_ns.PerNs.{PerNs}
 use Rattle.hir_scope.specs.declared.visibility.Visibility.{Visibility}
 use Rattle.hir_scope.specs.declared.visibility.Visibility.TheVariants as visibilities
@@ -41,24 +46,33 @@ use Rattle.hir_def_map.specs.declared.nameres.diagnostics.DefDiagnostic.{DefDiag
 use Rattle.hir_def_map.specs.declared.nameres.origin.ModuleOrigin.{ModuleOrigin}
 use Rattle.hir_def_map.specs.declared.world.reference.Reference.{Reference}
 use Rattle.hir_def_map.specs.declared.world.reference.Reference.TheVariants as named
-use Rattle.hir_def_map.proofs.NoneOf.{neither, none_at, none_inserted_last, none_of_less, not_first, not_second}
+use Rattle.std.specs.Map.{lookup}
+use Rattle.hir_base.specs.contracts.ids.MapIdPartialEq.TheImpl as map_id
+use Rattle.hir_base.specs.contracts.ids.TraitIdPartialEq.TheImpl as trait_id
+use Rattle.hir_def_map.specs.Sources.{on_some}
+use Rattle.hir_def_map.proofs.Fails.{Fails-keep, Fails-nothing, Fails-public, Fails-weaker}
+use Rattle.hir_def_map.proofs.Referred.{module_parts, scope_parts}
+use Rattle.hir_def_map.proofs.NoneOf.{neither, none_at, none_inserted_last, none_of_less, not_first, not_second, none_found}
 use Rattle.hir_def_map.specs.Inner.OverlayLaws.{same_id}
-use Rattle.hir_def_map.specs.Closed.{AreThere, IsThere, PathsLeadToWhatIsThere, TypeIsThere}
+use Rattle.hir_def_map.specs.Closed.{AreThere, IsThere, IsClosed, PathsLeadToWhatIsThere, VisibilityIsThere}
 use Rattle.hir_def_map.specs.WellFormed.{AreWellFormed, HasNoDanglingExtern, Extends, HasNoDanglingReference}
 use Rattle.hir_def_map.proofs.WellFormed.{HasNoDanglingExtern-more, IsClosed-well_formed, HasNoDanglingReference-more, none_missing}
 use Rattle.hir_def_map.specs.Declaration.{listed}
-use Rattle.hir_def_map.specs.References.{crate_map, is_missing, reference_to, prelude_reference, test_crate, test_of}
+use Rattle.hir_def_map.specs.Macros.{with_macro_def}
+use Rattle.hir_def_map.specs.References.{crate_map, is_missing, reference_to, prelude_reference, test_crate, test_of, any_reference_in, are_variants_of, test_item, test_visibility, visibility_reference, FailsAtItem, FailsAtMacro}
 use Rattle.hir_def_map.specs.Reaches.{by_import}
 use Rattle.hir_def_map.specs.Scoping.{Resolution, resolution_of}
 use Rattle.hir_def_map.specs.Scoping.Segments.{variant_in}
 use Rattle.hir_def_map.specs.Scoping.Start.{crate_root}
 use Rattle.hir_def_map.specs.declared.nameres.enum_variants.EnumVariant.{EnumVariant}
-use Rattle.hir_def_map.specs.State.{CrateData, IsBefore, Local, Map, ModuleValue, Variants, entry_at, entry_of, module_at, new_id, new_module, numbered, root_of, with_declared, with_enum, with_extern, with_prelude, with_module, with_scope}
-use Rattle.hir_def_map.specs.Overlay.{Maps, Placed, entry_in, overlay, placed_in}
-use Rattle.hir_def_map.proofs.StaysWellFormed.{Extends-overlay, Extends-grown, Extends-made, Extends-scope, IsClosed-overlay, LocalIsThere-begins, HasNoDanglingReference-listed, HasNoDanglingReference-made, HasNoDanglingReference-prelude, module_there, new_there}
+use Rattle.hir_def_map.specs.State.{CrateData, IsBefore, Local, Map, ModuleValue, Variants, entry_at, entry_of, module_at, new_id, new_module, numbered, root_of, with_declared, with_enum, with_extern, with_prelude, with_module, with_scope, at_name, variants_at}
+use Rattle.hir_def_map.specs.Overlay.{Maps, Placed, entry_in, overlay, placed_in, module_in, variants_in}
+use Rattle.hir_def_map.proofs.StaysWellFormed.{Extends-overlay, Extends-grown, Extends-made, Extends-scope, IsClosed-overlay, LocalIsThere-begins, HasNoDanglingReference-listed, HasNoDanglingReference-made, HasNoDanglingReference-prelude, module_there, new_there, Extends-enum, HasNoDanglingReference-enum, HasNoDanglingReference-scope}
 use Rattle.hir_def_collector.specs.declared.collector.Start.{Start}
 use Rattle.hir_def_collector.specs.declared.collector.declaration.Declaration.{Declaration}
-use Rattle.hir_glob_imports.specs.Rules.{Rule as GlobRule, acts as glob_acts, copies_along, follows_along, raises_along}
+use Rattle.hir_glob_imports.specs.Moves.{brought_vis, shown as shown_along}
+use Rattle.hir_glob_imports.specs.declared.edge.Edge.{Edge}
+use Rattle.hir_glob_imports.specs.Rules.{Rule as GlobRule, acts as glob_acts, copies_along, follows_along, raises_along, May as MayAlong, brings, copies, follows, raises}
 use Rattle.hir_glob_imports.specs.declared.edge.Bound.{Bound}
 use Rattle.hir_glob_imports.specs.declared.edge.Key.{Key}
 use Rattle.hir_glob_imports.specs.declared.edge.Key.TheVariants.{Types, Values, Macros, Unnamed}
@@ -73,31 +87,35 @@ use Rattle.hir_def_collector.specs.declared.source_database.Dependency.{Dependen
 use Rattle.hir_def_collector.specs.Workspace.{Workspace, dependencies_in, transitive_dependencies_in}
 use Rattle.hir_tables.specs.Tables.{TablesValue}
 use Rattle.hir_def_collector.specs.Keys.{Environment, environment}
-use Rattle.hir_def_collector.specs.State.{State, Visit, import_state}
-use Rattle.hir_def_collector.specs.ItemIds.{enum_id, module_id, use_id}
-use Rattle.hir_def_collector.specs.Items.{constructor_of, declaration_of, declared_by, declared_by_leaf, declared_module, declared_struct, declared_type, file_origin, inline_origin, own_visibility}
-use Rattle.hir_import_resolution.specs.Visibilities.{visibility_in}
+use Rattle.hir_def_collector.specs.State.{State, Visit, import_state, Task, visits}
+use Rattle.hir_def_collector.specs.ItemIds.{enum_id, extern_crate_id, macro_rules_id, module_id, use_id, macro_def_id, node_of}
+use Rattle.hir_def_collector.specs.Items.{constructor_of, declaration_of, declared_by, declared_by_leaf, declared_module, declared_struct, declared_type, file_origin, inline_origin, own_visibility, declared_value}
+use Rattle.hir_import_resolution.specs.Visibilities.{visibility_in, greater_in, is_public}
 use Rattle.hir_def_collector.specs.Enums.{variants_of}
-use Rattle.hir_import_resolution.specs.Directives.{answer_by_kind, answer_by_source, answer_in, answer_to, brought, brought_type, is_of_extern_crate, is_one_name, kept_by_kind, kept_trait, kind_of, leaf_of, name_of, offered_by, open_items, visibility_of}
-use Rattle.hir_import_resolution.specs.Changes.{act as act_on_imports, along, keeps_trait, pushes}
-use Rattle.hir_import_resolution.specs.Names.{ScopesValue, bound_at, bound_by, bound_of, bound_trait, entries_of, is_foreign, items_by, traits_of, variant_items, view_of}
+use Rattle.hir_import_resolution.specs.Directives.{answer_by_kind, answer_by_source, answer_in, answer_to, brought, brought_type, is_of_extern_crate, is_one_name, kept_by_kind, kept_trait, kind_of, leaf_of, name_of, offered_by, open_items, visibility_of, edge_to, path_answer, target_among, target_at, target_by}
+use Rattle.hir_import_resolution.specs.Changes.{act as act_on_imports, along, keeps_trait, pushes, kept_vis, Change as ImportChange, records, takes}
+use Rattle.hir_import_resolution.specs.Names.{ScopesValue, bound_at, bound_by, bound_of, bound_trait, entries_of, is_foreign, items_by, traits_of, variant_items, view_of, is_open, open_vis, scope_table, trait_vis}
 use Rattle.hir_import_resolution.specs.Rules.{Rule as ImportRule, May as MayImport, acts as import_acts, goes_along, takes_glob, takes_import}
-use Rattle.hir_import_resolution.specs.State.{ImportState, scopes_of}
+use Rattle.hir_import_resolution.specs.State.{ImportState, scopes_of, glob_state}
 use Rattle.hir_def_collector.specs.Imports.{crate_import, crate_named, dependency_named, extern_by, reached_import}
-use Rattle.hir_def_collector.specs.Changes.{Change, lists, makes, gives_variants, begins_paths, reaches, changes_imports, tells, goes_on, act, on_map}
+use Rattle.hir_def_collector.specs.Changes.{Change, lists, makes, gives_variants, begins_paths, reaches, changes_imports, adds_textual, takes_textual, defines, uses_macros, tells, goes_on, act, on_map}
+use Rattle.hir_def_collector.specs.Macros.{macros_beside, macros_brought, textual_at, with_macros_used, with_used}
+use Rattle.hir_def_collector.specs.Moves.{begun}
 use Rattle.hir_def_collector.specs.Preludes.{by_prelude, extern_prelude, joins, module_by, module_named, module_of, prelude_of, prelude_path, with_dependency}
 use Rattle.hir_def_collector.specs.Reports.{leftover_diagnostics}
 use Rattle.hir_def_collector.specs.Start.{Beginning, begin_of, krate_of, origin_of, read_by, root_map, root_tree, start_data, start_of}
-use Rattle.hir_def_collector.specs.Steps.{Rule, drops_item, passes_over, declares_item, declares_enum, lists_constant, lists_impl, opens_module, opens_file, drops_file, misses_file, enters_block, reaches_imports, reaches_crate, resolves_imports, May, acts, asking, Step, Steps, none, more}
+use Rattle.hir_def_collector.specs.Steps.{Rule, drops_item, passes_over, defines_rules, defines_macro, closes_module, declares_item, declares_enum, lists_constant, lists_impl, opens_module, opens_file, drops_file, misses_file, enters_block, reaches_imports, reaches_crate, resolves_imports, May, acts, asking, Step, Steps, none, more}
 use Rattle.hir_def_collector.specs.Derivation.{CollectedValue, Ends}
 use Rattle.hir_def_collector.specs.Whole.{StandsOnWhole}
 use Rattle.hir_def_collector.proofs.Lists.{none_joined}
-use Rattle.hir_def_collector.proofs.Changes.{AllFine, perform_keeps}
+use Rattle.hir_def_collector.proofs.Changes.{AllFine, fine_macro, fine_reporting, perform_keeps}
 use Rattle.hir_def_collector.proofs.InRange.{IsInRange, import_at, in_range-Steps, next_home}
 use Rattle.hir_def_collector.proofs.Holds.{in_range-start}
 use Rattle.hir_def_collector.proofs.ImportEdits.{Edit, copy_at, copy_where, edit, edit_of, edited, follow_at, follow_where, imports_after, local_after, map_after}
+use Rattle.hir_def_collector.proofs.SourcedEdits.{shown_stands}
+use Rattle.hir_def_collector.proofs.Visible.{constructor_fails, greater, imported_fails, lesser_or, on_edge, recorded_fail, some_or, target_reference, visible_there}
 use Rattle.hir_def_collector.proofs.WholeEdits.{DefIsThere, EditIsThere, EditsWhatIsThere, names-edit}
-use Rattle.hir_def_collector.proofs.WholeEnums.{Extends-enum, NamesOnly-enum, enum_there}
+use Rattle.hir_def_collector.proofs.WholeEnums.{enum_there, own_variants}
 
 -- ---- where it stands
 
@@ -123,6 +141,8 @@ pub record NamesWhatIsThere (finished : Maps) (s : State) : Type 0 where
   pub crates : list_any (test_import (is_missing (overlay finished s.core.map))) s.core.reached ≡ false
   -- so are the maps of the crates on which the crate depends
   pub dependencies : list_any (λ (d : Dependency). test_crate (is_missing finished) d.krate) s.core.dependencies ≡ false
+  -- so is what globs lead out of, and the modules that may see what they bring
+  pub edges : list_any (on_edge (is_missing (overlay finished s.core.map))) s.globs.edges ≡ false
 
 -- ---- crates
 
@@ -136,6 +156,22 @@ still_there : (one other : Maps) → Extends one other → (o : Option Reference
 still_there one other grown None g = refl
 still_there one other grown (Some n) g = none_missing one other grown n g
 
+seen_still : (one other : Maps) → Extends one other → (vis : Visibility) → VisibilityIsThere one vis → VisibilityIsThere other vis
+seen_still one other grown vis g = still_there one other grown (visibility_reference vis) g
+
+items_still : (one other : Maps) → Extends one other → (items : PerNs) → AreThere one items → AreThere other items
+items_still one other grown items g = Fails-weaker (is_missing one) (is_missing other) (none_missing one other grown) items g
+
+edges_more : (one other : Maps) → Extends one other → (es : List Edge) → list_any (on_edge (is_missing one)) es ≡ false → list_any (on_edge (is_missing other)) es ≡ false
+edges_more one other grown es g = none_of_less (on_edge (is_missing one)) (on_edge (is_missing other)) each es g
+  where
+    each : (e : Edge) → on_edge (is_missing one) e ≡ false → on_edge (is_missing other) e ≡ false
+    each e h =
+        let from = test_of (is_missing one) (target_reference e.source) in
+        let seen = test_visibility (is_missing one) e.vis in
+        neither (test_of (is_missing other) (target_reference e.source)) (test_visibility (is_missing other) e.vis)
+        (still_there one other grown (target_reference e.source) (not_first from seen h)) (seen_still one other grown e.vis (not_second from seen h))
+
 -- a crate whose map is there has its root there
 root_stands : (finished : Maps) → AreWellFormed finished → (c : Crate) → test_crate (is_missing finished) c ≡ false → is_missing finished (named.Module (crate_root c)) ≡ false
 root_stands finished whole c g = ap not ((IsClosed-well_formed finished whole).roots (crate_map c) (shown (is_some (finished (crate_map c))) g))
@@ -146,93 +182,113 @@ root_stands finished whole c g = ap not ((IsClosed-well_formed finished whole).r
 
 -- ---- what items bind
 
--- what an item declares names no module and no enum, which are declared apart
-declares_nothing_named : (finished maps : Maps) (local : Local) (m : Map) (v : Visit) (d : Declaration) → declaration_of finished local m v ≡ Some d → AreThere maps d.items
-declares_nothing_named finished maps local m v d e = go v.item e
-  where
-    shown : (a : Declaration) → AreThere maps a.items → Some a ≡ Some d → AreThere maps d.items
-    shown a there f = let same : a ≡ d = cc in subst (λ (x : Declaration). AreThere maps x.items) same there
+-- a type, a value or a macro that is declared alone
+type_there : (maps : Maps) (def : ModuleDefId) (vis : Visibility) → test_of (is_missing maps) (reference_to def) ≡ false → VisibilityIsThere maps vis → AreThere maps (declared_type def vis)
+type_there maps def vis f g = record { types = neither (test_of (is_missing maps) (reference_to def)) (test_visibility (is_missing maps) vis) f g; values = tt; macros = tt }
 
-    structs : (def : ModuleDefId) → test_of (is_missing maps) (reference_to def) ≡ false → (vis : Visibility) (c : Option Visibility) → AreThere maps (declared_struct def vis c)
-    structs def unnamed vis None = unnamed
-    structs def unnamed vis (Some c) = unnamed
+value_there : (maps : Maps) (def : ModuleDefId) (vis : Visibility) → test_of (is_missing maps) (reference_to def) ≡ false → VisibilityIsThere maps vis → AreThere maps (declared_value def vis)
+value_there maps def vis f g = record { types = tt; values = neither (test_of (is_missing maps) (reference_to def)) (test_visibility (is_missing maps) vis) f g; macros = tt }
 
-    by_leaf : (h : Head) (l : Leaf) → declared_by_leaf finished local m v.site h l ≡ Some d → AreThere maps d.items
-    by_leaf h (import tree) f = absurd cc
-    by_leaf h (extern_crate name alias) f = absurd cc
-    by_leaf h (function name) f = shown _ tt f
-    by_leaf h (structure name shape fields) f = shown _ (structs _ refl (own_visibility finished local m v.site h) (constructor_of finished m (own_visibility finished local m v.site h) shape (list_map (visibility_in finished local m (module_id m v.site.home)) fields))) f
-    by_leaf h (union_structure name fields) f = shown _ refl f
-    by_leaf h (enumeration name) f = absurd cc
-    by_leaf h (constant None) f = absurd cc
-    by_leaf h (constant (Some name)) f = shown _ tt f
-    by_leaf h (static_item name) f = shown _ tt f
-    by_leaf h (trait_item name) f = shown _ refl f
-    by_leaf h (implementation of_trait) f = absurd cc
-    by_leaf h (type_alias name) f = shown _ refl f
-    by_leaf h (outline_module name) f = absurd cc
-    by_leaf h (macro_call path) f = absurd cc
-    by_leaf h (macro_rules name expander helpers) f = absurd cc
-    by_leaf h (macro_def name expander helpers) f = absurd cc
+macro_there : (maps : Maps) (def : MacroId) (vis : Visibility) → VisibilityIsThere maps vis → AreThere maps (macros_only def vis None)
+macro_there maps def vis g = record { types = tt; values = tt; macros = g }
 
-    go : (i : KeptItem) → declared_by finished local m v.site i ≡ Some d → AreThere maps d.items
-    go (leaf h l) f = by_leaf h l f
-    go (holder h k items) f = absurd cc
+-- what an item declares names no module and no enum, which are declared apart, and is seen by what is there
+module _ (finished maps : Maps) (local : Local) (m : Map) (v : Visit) (d : Declaration) (seen : (raw : RawVisibility) → VisibilityIsThere maps (visibility_in finished local m (module_id m v.site.home) raw)) where
+  shown : (a : Declaration) → AreThere maps a.items → Some a ≡ Some d → AreThere maps d.items
+  shown a there f = let same : a ≡ d = cc in subst (λ (x : Declaration). AreThere maps x.items) same there
+
+  own_seen : (h : Head) → VisibilityIsThere maps (own_visibility finished local m v.site h)
+  own_seen h = seen h.visibility
+
+  all_seen : (raws : List RawVisibility) → list_any (test_visibility (is_missing maps)) (list_map (visibility_in finished local m (module_id m v.site.home)) raws) ≡ false
+  all_seen [] = refl
+  all_seen (raw ∷ raws) =
+      neither (test_visibility (is_missing maps) (visibility_in finished local m (module_id m v.site.home) raw))
+      (list_any (test_visibility (is_missing maps)) (list_map (visibility_in finished local m (module_id m v.site.home)) raws)) (seen raw) (all_seen raws)
+
+  struct_there : (def : ModuleDefId) → test_of (is_missing maps) (reference_to def) ≡ false → (vis : Visibility) → VisibilityIsThere maps vis → (c : Option Visibility)
+      → on_some (test_visibility (is_missing maps)) c ≡ false → AreThere maps (declared_struct def vis c)
+  struct_there def f vis g None h = type_there maps def vis f g
+  struct_there def f vis g (Some c) h = record {
+    types = neither (test_of (is_missing maps) (reference_to def)) (test_visibility (is_missing maps) vis) f g;
+    values = neither (test_of (is_missing maps) (reference_to def)) (test_visibility (is_missing maps) c) f h;
+    macros = tt;
+  }
+
+  declared_leaf_there : (h : Head) (l : Leaf) → declared_by_leaf finished local m v.site h l ≡ Some d → AreThere maps d.items
+  declared_leaf_there h (import tree) f = absurd cc
+  declared_leaf_there h (extern_crate name alias) f = absurd cc
+  declared_leaf_there h (function name) f = shown _ (value_there maps _ (own_visibility finished local m v.site h) refl (own_seen h)) f
+  declared_leaf_there h (structure name shape fields) f =
+      let own : Visibility = own_visibility finished local m v.site h in
+      let seen_by = list_map (visibility_in finished local m (module_id m v.site.home)) fields in
+      shown _ (struct_there _ refl own (own_seen h) (constructor_of finished m own shape seen_by) (constructor_fails (is_missing maps) finished m own shape seen_by (own_seen h) (all_seen fields))) f
+  declared_leaf_there h (union_structure name fields) f = shown _ (type_there maps _ (own_visibility finished local m v.site h) refl (own_seen h)) f
+  declared_leaf_there h (enumeration name) f = absurd cc
+  declared_leaf_there h (constant None) f = absurd cc
+  declared_leaf_there h (constant (Some name)) f = shown _ (value_there maps _ (own_visibility finished local m v.site h) refl (own_seen h)) f
+  declared_leaf_there h (static_item name) f = shown _ (value_there maps _ (own_visibility finished local m v.site h) refl (own_seen h)) f
+  declared_leaf_there h (trait_item name) f = shown _ (type_there maps _ (own_visibility finished local m v.site h) refl (own_seen h)) f
+  declared_leaf_there h (implementation of_trait) f = absurd cc
+  declared_leaf_there h (type_alias name) f = shown _ (type_there maps _ (own_visibility finished local m v.site h) refl (own_seen h)) f
+  declared_leaf_there h (outline_module name) f = absurd cc
+  declared_leaf_there h (macro_call path) f = absurd cc
+  declared_leaf_there h (macro_rules name expander helpers) f = absurd cc
+  declared_leaf_there h (macro_def name expander helpers) f = absurd cc
+
+  declared_item_there : (i : KeptItem) → declared_by finished local m v.site i ≡ Some d → AreThere maps d.items
+  declared_item_there (leaf h l) f = declared_leaf_there h l f
+  declared_item_there (holder h k items) f = absurd cc
 
 -- what is offered of items that are there is there
 module _ (maps : Maps) where
   kept_there : (kind : ImportKind) (items : PerNs) → AreThere maps items → AreThere maps (kept_by_kind kind items)
   kept_there import_kinds.Plain items f = f
-  kept_there import_kinds.TypeOnly items f = f
+  kept_there import_kinds.TypeOnly items f = record { types = f.types; values = tt; macros = tt }
   kept_there import_kinds.Glob items f = f
 
-  test_there : (test : Visibility → Bool) (t : Option (Item ModuleDefId ImportOrExternCrate)) → TypeIsThere maps t → TypeIsThere maps (keep_item test t)
-  test_there test None f = tt
-  test_there test (Some i) f = go (test i.vis)
-    where
-      go : (b : Bool) → TypeIsThere maps (cond b (Some i) None)
-      go true = f
-      go false = tt
-
   open_there : (crossing : Bool) (items : PerNs) → AreThere maps items → AreThere maps (open_items crossing items)
-  open_there true items f = test_there _ items.types f
+  open_there true items f = Fails-keep (is_missing maps) is_public items f
   open_there false items f = f
-
-  brought_there : (finished : Maps) (m : Map) (own : Visibility) (alone : Bool) (t : Option (Item ModuleDefId ImportOrExternCrate)) → TypeIsThere maps t
-      → TypeIsThere maps (option_map (brought_type finished m own alone) t)
-  brought_there finished m own alone None f = tt
-  brought_there finished m own alone (Some i) f = go (alone && is_of_extern_crate i.import)
-    where
-      go : (b : Bool) → IsThere maps (cond b (record i { vis = own }) (brought finished m own i)).def
-      go true = f
-      go false = f
 
   answered_there : (kind : ImportKind) (answer : Resolution) → AreThere maps answer.resolved_def → AreThere maps (answer_by_kind kind answer).resolved_def
   answered_there import_kinds.Plain answer f = f
   answered_there import_kinds.TypeOnly answer f = f
-  answered_there import_kinds.Glob answer f = tt
+  answered_there import_kinds.Glob answer f = Fails-nothing (is_missing maps)
 
   sourced_there : (source : ImportSource) (answer : Resolution) → test_of (is_missing maps) (root_named (crate_of source)) ≡ false → AreThere maps answer.resolved_def
       → AreThere maps (answer_by_source source answer).resolved_def
   sourced_there (sources.Use id kind) answer g f = answered_there kind answer f
-  sourced_there (sources.ExternCrate id None) answer g f = tt
-  sourced_there (sources.ExternCrate id (Some c)) answer g f = g
+  sourced_there (sources.ExternCrate id None) answer g f = Fails-nothing (is_missing maps)
+  sourced_there (sources.ExternCrate id (Some c)) answer g f = Fails-public (is_missing maps) (definitions.ModuleId (crate_root c)) None g
 
--- a definition that stands somewhere is there
-abbrev BoundIsThere : Maps → Option Bound → Type 0
+-- a definition that stands somewhere is there, and so is the module that may see it
+abbrev pub BoundIsThere : Maps → Option Bound → Type 0
 BoundIsThere maps None = Unit {0}
-BoundIsThere maps (Some b) = DefIsThere maps b.def
+BoundIsThere maps (Some b) = DefIsThere maps b.def × VisibilityIsThere maps b.vis
+
+-- so it is of globs that are recorded
+abbrev EdgesAreThere : Maps → ImportChange → Type 0
+EdgesAreThere maps (pushes home name items source) = Unit {0}
+EdgesAreThere maps (keeps_trait finished home id vis by) = Unit {0}
+EdgesAreThere maps (takes i taken) = Unit {0}
+EdgesAreThere maps (records edges) = list_any (on_edge (is_missing maps)) edges ≡ false
+EdgesAreThere maps (along finished a) = Unit {0}
 
 -- ---- changes
 
 -- what a change brings is there
 abbrev BringsWhatIsThere : Maps → State → Change → Type 0
 BringsWhatIsThere finished s (lists home d) = Unit {0}
-BringsWhatIsThere finished s (makes home name origin visibility) = home < length s.core.map.modules
-BringsWhatIsThere finished s (gives_variants id variants) = Unit {0}
+BringsWhatIsThere finished s (makes home name origin visibility) = (home < length s.core.map.modules) × VisibilityIsThere (overlay finished s.core.map) visibility
+BringsWhatIsThere finished s (gives_variants id variants) = are_variants_of id variants ≡ true
 BringsWhatIsThere finished s (begins_paths r) = test_import (is_missing (overlay finished s.core.map)) r ≡ false
 BringsWhatIsThere finished s (reaches rs) = list_any (test_import (is_missing (overlay finished s.core.map))) rs ≡ false
-BringsWhatIsThere finished s (changes_imports c) = EditsWhatIsThere (overlay finished s.core.map) (edit_of (import_state s) c)
+BringsWhatIsThere finished s (changes_imports c) = EditsWhatIsThere (overlay finished s.core.map) (edit_of (import_state s) c) × EdgesAreThere (overlay finished s.core.map) c
+BringsWhatIsThere finished s (adds_textual home name makro) = Unit {0}
+BringsWhatIsThere finished s (takes_textual home from) = Unit {0}
+BringsWhatIsThere finished s (defines node makro) = Unit {0}
+BringsWhatIsThere finished s (uses_macros macros by) = Unit {0}
 BringsWhatIsThere finished s (tells d) = Unit {0}
 BringsWhatIsThere finished s (goes_on vs) = Unit {0}
 
@@ -247,25 +303,44 @@ with_larger finished s m same grown names f = record {
       none_of_less (test_import (is_missing (overlay finished s.core.map))) (test_import (is_missing (overlay finished m)))
       (λ r g. still_there (overlay finished s.core.map) (overlay finished m) grown (root_named (crate_of r.source)) g) s.core.reached f.crates;
   dependencies = f.dependencies;
+  edges = edges_more (overlay finished s.core.map) (overlay finished m) grown s.globs.edges f.edges;
 }
 
--- diagnostics name nothing
-Extends-reported : (finished : Maps) (m : Map) (ds : List DefDiagnostic) → Extends (overlay finished m) (overlay finished (record m { diagnostics = ds }))
-Extends-reported finished m ds = Extends-grown finished m (record m { diagnostics = ds }) refl (λ k e. e) (λ e t. t)
+-- diagnostics name nothing, nor do macros
+abbrev beside : Map → List (AstId × MacroId) → List (List ℕ × (MacroId × Option ExternCrateId)) → List DefDiagnostic → Map
+beside m ids used ds = record m { macro_ids = ids; macro_use_prelude = used; diagnostics = ds }
 
-NamesOnly-reported : (finished : Maps) (m : Map) (ds : List DefDiagnostic) → HasNoDanglingReference (overlay finished m) m → HasNoDanglingReference (overlay finished (record m { diagnostics = ds })) (record m { diagnostics = ds })
-NamesOnly-reported finished m ds f =
-    let new : Map = record m { diagnostics = ds } in
-    HasNoDanglingReference-more (overlay finished m) (overlay finished new) (Extends-reported finished m ds) new (record {
+Extends-beside : (finished : Maps) (m : Map) (ids : List (AstId × MacroId)) (used : List (List ℕ × (MacroId × Option ExternCrateId))) (ds : List DefDiagnostic) → Extends (overlay finished m) (overlay finished (beside m ids used ds))
+Extends-beside finished m ids used ds = Extends-grown finished m (beside m ids used ds) refl (λ k e. e) (λ e t. t)
+
+NamesOnly-beside : (finished : Maps) (m : Map) (ids : List (AstId × MacroId)) (used : List (List ℕ × (MacroId × Option ExternCrateId))) (ds : List DefDiagnostic)
+    → HasNoDanglingReference (overlay finished m) m → HasNoDanglingReference (overlay finished (beside m ids used ds)) (beside m ids used ds)
+NamesOnly-beside finished m ids used ds f =
+    let new : Map = beside m ids used ds in
+    HasNoDanglingReference-more (overlay finished m) (overlay finished new) (Extends-beside finished m ids used ds) new (record {
       own_crate = f.own_crate;
       held = f.held;
       outside = f.outside;
       root = f.root;
       in_order = f.in_order;
+      variants = f.variants;
       modules = f.modules;
       prelude = f.prelude;
       dependencies = f.dependencies;
     })
+
+Extends-reported : (finished : Maps) (m : Map) (ds : List DefDiagnostic) → Extends (overlay finished m) (overlay finished (record m { diagnostics = ds }))
+Extends-reported finished m ds = Extends-beside finished m m.macro_ids m.macro_use_prelude ds
+
+NamesOnly-reported : (finished : Maps) (m : Map) (ds : List DefDiagnostic) → HasNoDanglingReference (overlay finished m) m → HasNoDanglingReference (overlay finished (record m { diagnostics = ds })) (record m { diagnostics = ds })
+NamesOnly-reported finished m ds = NamesOnly-beside finished m m.macro_ids m.macro_use_prelude ds
+
+Extends-used : (finished : Maps) (m : Map) (macros : List (List ℕ × MacroId)) (by : Option ExternCrateId) → Extends (overlay finished m) (overlay finished (with_macros_used m macros by))
+Extends-used finished m macros by = Extends-beside finished m m.macro_ids (with_used m.macro_use_prelude macros by) m.diagnostics
+
+NamesOnly-used : (finished : Maps) (m : Map) (macros : List (List ℕ × MacroId)) (by : Option ExternCrateId) → HasNoDanglingReference (overlay finished m) m
+    → HasNoDanglingReference (overlay finished (with_macros_used m macros by)) (with_macros_used m macros by)
+NamesOnly-used finished m macros by f = NamesOnly-beside finished m m.macro_ids (with_used m.macro_use_prelude macros by) m.diagnostics f
 
 -- paths may begin with a crate that is there
 extern_there : (finished : Maps) (m : Map) (local : Local) (source : ImportSource) (name : Option (List ℕ)) → HasNoDanglingExtern (overlay finished m) local
@@ -280,19 +355,58 @@ begins_after : (finished : Maps) (m : Map) (b : Bool) (local other : Local) → 
 begins_after finished m true local other f g = f
 begins_after finished m false local other f g = g
 
+-- what was there stays there where a scope changes
+Extends-edited : (finished : Maps) (m : Map) (o : Option (ℕ × Edit)) → Extends (overlay finished m) (overlay finished (edited m o))
+Extends-edited finished m None = λ n there. there
+Extends-edited finished m (Some e) = Extends-scope finished m e.0 (edit (numbered m.id e.0) e.1)
+
+-- the globs that are recorded after a change
+edges_after : (maps : Maps) (i : ImportState) (c : ImportChange) → list_any (on_edge (is_missing maps)) i.edges ≡ false → EdgesAreThere maps c → list_any (on_edge (is_missing maps)) (act_on_imports i c).edges ≡ false
+edges_after maps i (pushes home None items source) f fine = f
+edges_after maps i (pushes home (Some name) items source) f fine = f
+edges_after maps i (keeps_trait finished home None vis by) f fine = f
+edges_after maps i (keeps_trait finished home (Some id) vis by) f fine = f
+edges_after maps i (takes n taken) f fine = f
+edges_after maps i (records edges) f fine = fine
+edges_after maps i (along finished (copies slot of vis by)) f fine = f
+edges_after maps i (along finished (brings slot by)) f fine = f
+edges_after maps i (along finished (follows slot of vis)) f fine = f
+edges_after maps i (along finished (raises slot vis)) f fine = f
+
+-- who may see a trait without a name
+trait_seen : (maps : Maps) (m : Map) → HasNoDanglingReference maps m → (at : ℕ) (id : TraitId) → on_some (test_visibility (is_missing maps)) (trait_vis (module_at m at) id) ≡ false
+trait_seen maps m f at id = go (module_at m at) refl
+  where
+    found : (v : ModuleValue) → any_reference_in (is_missing maps) v ≡ false → (o : Option (Item (Unit {0}) ImportId)) → lookup (trait_id.ghosts.eq id) v.scope.unnamed_traits ≡ o
+        → on_some (test_visibility (is_missing maps)) (option_map (λ (i : Item (Unit {0}) ImportId). i.vis) o) ≡ false
+    found v g None e = refl
+    found v g (Some i) e = none_found (λ (x : Item (Unit {0}) ImportId). test_visibility (is_missing maps) x.vis) (trait_id.ghosts.eq id) v.scope.unnamed_traits i
+        (scope_parts (is_missing maps) v.scope (module_parts (is_missing maps) v g).scope).traits e
+
+    go : (o : Option ModuleValue) → module_at m at ≡ o → on_some (test_visibility (is_missing maps)) (trait_vis o id) ≡ false
+    go None e = refl
+    go (Some v) e = found v (none_at (any_reference_in (is_missing maps)) m.modules f.modules at v e) (lookup (trait_id.ghosts.eq id) v.scope.unnamed_traits) refl
+
 -- a scope that names what is there
 names-edited : (finished : Maps) (s : State) (o : Option (ℕ × Edit)) → EditsWhatIsThere (overlay finished s.core.map) o → NamesWhatIsThere finished s → NamesWhatIsThere finished (on_map s (edited s.core.map o))
-names-edited finished s None fine f = record { apart = f.apart; names = f.names; begins = f.begins; crates = f.crates; dependencies = f.dependencies }
+names-edited finished s None fine f = record { apart = f.apart; names = f.names; begins = f.begins; crates = f.crates; dependencies = f.dependencies; edges = f.edges }
 names-edited finished s (Some e) fine f =
     with_larger finished s _ refl (Extends-scope finished s.core.map e.0 (edit (numbered s.core.map.id e.0) e.1)) (names-edit finished s.core.map e.0 e.1 fine f.names) f
+
+-- what is in textual scope is neither a module nor an enum
+names-textual : (finished : Maps) (s : State) (home : ℕ) (change : List TextualMacro → List TextualMacro) → NamesWhatIsThere finished s
+    → NamesWhatIsThere finished (on_map s (with_scope s.core.map home (λ (x : ScopeValue). record x { legacy_macros = change x.legacy_macros })))
+names-textual finished s home change f =
+    let edit_ : ScopeValue → ScopeValue = λ x. record x { legacy_macros = change x.legacy_macros } in
+    with_larger finished s _ refl (Extends-scope finished s.core.map home edit_) (HasNoDanglingReference-scope finished s.core.map home edit_ (λ x g. g) f.names) f
 
 names-act : (finished : Maps) (s : State) (c : Change) → NamesWhatIsThere finished s → BringsWhatIsThere finished s c → NamesWhatIsThere finished (act s c)
 names-act finished s (lists home d) f fine =
     with_larger finished s _ refl (Extends-scope finished s.core.map home (listed d)) (HasNoDanglingReference-listed finished s.core.map home d f.names) f
 names-act finished s (makes home name origin visibility) f fine =
-    with_larger finished s _ refl (Extends-made finished s.core.map home fine name origin visibility) (HasNoDanglingReference-made finished s.core.map home fine name origin visibility f.names) f
+    with_larger finished s _ refl (Extends-made finished s.core.map home fine.0 name origin visibility) (HasNoDanglingReference-made finished s.core.map home fine.0 name origin visibility fine.1 f.names) f
 names-act finished s (gives_variants id variants) f fine =
-    with_larger finished s _ refl (Extends-enum finished s.core.map id variants) (NamesOnly-enum finished s.core.map id variants f.names) f
+    with_larger finished s _ refl (Extends-enum finished s.core.map id variants) (HasNoDanglingReference-enum finished s.core.map id variants fine f.names) f
 names-act finished s (begins_paths r) f fine = record {
   apart = f.apart;
   names = f.names;
@@ -300,6 +414,7 @@ names-act finished s (begins_paths r) f fine = record {
       (extern_there finished s.core.map s.core.local r.source (name_of r) f.begins fine) f.begins;
   crates = f.crates;
   dependencies = f.dependencies;
+  edges = f.edges;
 }
 names-act finished s (reaches rs) f fine = record {
   apart = f.apart;
@@ -307,11 +422,13 @@ names-act finished s (reaches rs) f fine = record {
   begins = f.begins;
   crates = none_joined (test_import (is_missing (overlay finished s.core.map))) s.core.reached rs f.crates fine;
   dependencies = f.dependencies;
+  edges = f.edges;
 }
 names-act finished s (changes_imports c) f fine =
     let i : ImportState = import_state s in
     let m : Map = edited s.core.map (edit_of i c) in
-    let more : NamesWhatIsThere finished (on_map s m) = names-edited finished s (edit_of i c) fine f in
+    let more : NamesWhatIsThere finished (on_map s m) = names-edited finished s (edit_of i c) fine.0 f in
+    let grown : Extends (overlay finished s.core.map) (overlay finished m) = Extends-edited finished s.core.map (edit_of i c) in
     record {
       apart = ap (λ (x : Map). finished x.id) (map_after i c) ∙ more.apart;
       names = subst (λ (x : Map). HasNoDanglingReference (overlay finished x) x) (sym (map_after i c)) more.names;
@@ -322,10 +439,20 @@ names-act finished s (changes_imports c) f fine =
           subst (λ (rs : List ImportDirective). list_any (test_import (is_missing (overlay finished (act_on_imports i c).map))) rs ≡ false) (sym (imports_after i c))
           (subst (λ (x : Map). list_any (test_import (is_missing (overlay finished x))) s.core.reached ≡ false) (sym (map_after i c)) more.crates);
       dependencies = more.dependencies;
+      edges =
+          subst (λ (x : Map). list_any (on_edge (is_missing (overlay finished x))) (act_on_imports i c).edges ≡ false) (sym (map_after i c))
+          (edges_more (overlay finished s.core.map) (overlay finished m) grown (act_on_imports i c).edges (edges_after (overlay finished s.core.map) i c f.edges fine.1));
     }
+names-act finished s (adds_textual home name makro) f fine = names-textual finished s home (λ ms. with_macro ms name makro) f
+names-act finished s (takes_textual home from) f fine = names-textual finished s home (λ _. textual_at s.core.map from) f
+names-act finished s (defines node makro) f fine =
+    with_larger finished s _ refl (Extends-beside finished s.core.map (with_macro_def s.core.map node makro).macro_ids s.core.map.macro_use_prelude s.core.map.diagnostics)
+    (NamesOnly-beside finished s.core.map (with_macro_def s.core.map node makro).macro_ids s.core.map.macro_use_prelude s.core.map.diagnostics f.names) f
+names-act finished s (uses_macros macros by) f fine =
+    with_larger finished s _ refl (Extends-used finished s.core.map macros by) (NamesOnly-used finished s.core.map macros by f.names) f
 names-act finished s (tells d) f fine =
     with_larger finished s _ refl (Extends-reported finished s.core.map (s.core.map.diagnostics ++ d ∷ [])) (NamesOnly-reported finished s.core.map (s.core.map.diagnostics ++ d ∷ []) f.names) f
-names-act finished s (goes_on vs) f fine = record { apart = f.apart; names = f.names; begins = f.begins; crates = f.crates; dependencies = f.dependencies }
+names-act finished s (goes_on vs) f fine = record { apart = f.apart; names = f.names; begins = f.begins; crates = f.crates; dependencies = f.dependencies; edges = f.edges }
 
 -- ---- rules
 
@@ -337,27 +464,63 @@ module _ (paths : PathsLeadToWhatIsThere) (finished : Maps) (whole : AreWellForm
     abbrev count : ℕ
     count = length here.modules
 
+    abbrev maps_here : Maps
+    maps_here = overlay finished here
+
+    closed_here : IsClosed maps_here
+    closed_here = IsClosed-overlay finished here f.apart whole f.names
+
+    -- what is written in a module of the map names a module that is there
+    seen_at : (at : ℕ) → at < count → (raw : RawVisibility) → VisibilityIsThere maps_here (visibility_in finished s.core.local here (module_id here at) raw)
+    seen_at at low raw = visible_there paths finished here s.core.local closed_here (LocalIsThere-begins maps_here s.core.local f.begins) (module_id here at) (module_there finished here at low) raw
+
+    own_seen_at : (site : Site) (head : Head) → site.home < count → VisibilityIsThere maps_here (own_visibility finished s.core.local here site head)
+    own_seen_at site head low = seen_at site.home low head.visibility
+
+    -- an item that is listed
+    item_there : (v : Visit) (d : Declaration) → v.site.home < count → declaration_of finished s.core.local here v ≡ Some d → AreThere (overlay finished (with_declared here v.site.home d.def)) d.items
+    item_there v d low e =
+        items_still maps_here (overlay finished (with_declared here v.site.home d.def)) (Extends-scope finished here v.site.home (listed (listings.Def d.def))) d.items
+        (declared_item_there finished maps_here s.core.local here v d (seen_at v.site.home low) v.item e)
+
     -- an enum that has got its variants, and is listed
-    enumeration_there : (site : Site) (head : Head) (variants : Variants)
+    enumeration_there : (site : Site) (head : Head) (variants : Variants) → site.home < count
         → AreThere (overlay finished (with_declared (with_enum here (enum_id here site head.id) variants) site.home (definitions.AdtId (adts.EnumId (enum_id here site head.id)))))
         (declared_type (definitions.AdtId (adts.EnumId (enum_id here site head.id))) (own_visibility finished s.core.local here site head))
-    enumeration_there site head variants =
+    enumeration_there site head variants low =
         let id : EnumId = enum_id here site head.id in
+        let vis : Visibility = own_visibility finished s.core.local here site head in
         let one : Map = with_enum here id variants in
         let listing : Listing = listings.Def (definitions.AdtId (adts.EnumId id)) in
-        none_missing (overlay finished one) (overlay finished (with_scope one site.home (listed listing))) (Extends-scope finished one site.home (listed listing)) (named.Enum id)
-        (enum_there finished here id variants (same_id here.id))
+        items_still (overlay finished one) (overlay finished (with_scope one site.home (listed listing))) (Extends-scope finished one site.home (listed listing))
+        (declared_type (definitions.AdtId (adts.EnumId id)) vis)
+        (type_there (overlay finished one) (definitions.AdtId (adts.EnumId id)) vis (enum_there finished here id variants (same_id here.id))
+        (seen_still maps_here (overlay finished one) (Extends-enum finished here id variants) vis (own_seen_at site head low)))
 
     -- a module that was made, and is listed
     module_made_there : (site : Site) (head : Head) (name : List ℕ) (origin : ModuleOrigin) → site.home < count
-        → AreThere (overlay finished (with_declared (with_module here site.home name (new_module origin (own_visibility finished s.core.local here site head) (Some (module_id here site.home)))) site.home (definitions.ModuleId (new_id here))))
+        → AreThere (overlay finished (with_declared (begun here site.home name (new_module origin (own_visibility finished s.core.local here site head) (Some (module_id here site.home)))) site.home (definitions.ModuleId (new_id here))))
         (declared_module here (own_visibility finished s.core.local here site head))
     module_made_there site head name origin low =
         let vis : Visibility = own_visibility finished s.core.local here site head in
         let one : Map = with_module here site.home name (new_module origin vis (Some (module_id here site.home))) in
+        let two : Map = begun here site.home name (new_module origin vis (Some (module_id here site.home))) in
         let listing : Listing = listings.Def (definitions.ModuleId (new_id here)) in
-        none_missing (overlay finished one) (overlay finished (with_scope one site.home (listed listing))) (Extends-scope finished one site.home (listed listing)) (named.Module (new_id here))
-        (new_there finished here site.home low name origin vis)
+        items_still (overlay finished two) (overlay finished (with_scope two site.home (listed listing))) (Extends-scope finished two site.home (listed listing)) (declared_module here vis)
+        (items_still (overlay finished one) (overlay finished two) (Extends-scope finished one count _) (declared_module here vis)
+        (type_there (overlay finished one) (definitions.ModuleId (new_id here)) vis (new_there finished here site.home low name origin vis)
+        (seen_still maps_here (overlay finished one) (Extends-made finished here site.home low name origin vis) vis (own_seen_at site head low))))
+
+    -- a macro that is defined and listed
+    macro_made_there : (site : Site) (head : Head) (node : AstId) (makro : MacroId) → site.home < count
+        → AreThere (overlay finished (with_declared (with_macro_def here node makro) site.home (definitions.MacroId makro))) (macros_only makro (own_visibility finished s.core.local here site head) None)
+    macro_made_there site head node makro low =
+        let vis : Visibility = own_visibility finished s.core.local here site head in
+        let one : Map = with_macro_def here node makro in
+        let listing : Listing = listings.Def (definitions.MacroId makro) in
+        items_still (overlay finished one) (overlay finished (with_scope one site.home (listed listing))) (Extends-scope finished one site.home (listed listing)) (macros_only makro vis None)
+        (macro_there (overlay finished one) makro vis
+        (seen_still maps_here (overlay finished one) (Extends-beside finished here one.macro_ids here.macro_use_prelude here.diagnostics) vis (own_seen_at site head low)))
 
     -- the root of its own crate is there, and of each crate on which it depends
     own_there : is_missing (overlay finished here) (named.Module (crate_root here.id.krate)) ≡ false
@@ -392,7 +555,8 @@ module _ (paths : PathsLeadToWhatIsThere) (finished : Maps) (whole : AreWellForm
         let maps = overlay finished here in
         let answer : Resolution = answer_to finished s.core.local here r in
         let open_ : PerNs = open_items answer.prefix_info.differing_crate answer.resolved_def in
-        brought_there maps finished here (visibility_in finished s.core.local here (module_id here r.home) r.visibility) (is_one_name r.path) (kept_by_kind (kind_of r.source) open_).types
+        imported_fails (is_missing maps) finished here (visibility_in finished s.core.local here (module_id here r.home) r.visibility) (is_one_name r.path) (kept_by_kind (kind_of r.source) open_)
+        (seen_at r.home low r.visibility)
         (kept_there maps (kind_of r.source) open_
         (open_there maps answer.prefix_info.differing_crate answer.resolved_def
         (sourced_there maps r.source (answer_in finished s.core.local here (module_id here r.home) r.path) there (reached_there r low))))
@@ -403,28 +567,28 @@ module _ (paths : PathsLeadToWhatIsThere) (finished : Maps) (whole : AreWellForm
     names_here = scopes_of finished (import_state s)
 
     -- what stands at a key of names that stand for what is there
-    bound_by_there : (o : Option (Item ModuleDefId ImportOrExternCrate)) → TypeIsThere (overlay finished here) o → BoundIsThere (overlay finished here) (bound_by in_ns.Types o)
-    bound_by_there None g = tt
-    bound_by_there (Some i) g = g
+    item_bound : {I : Type 0} (in_namespace : ModuleDefId → ItemInNs) → ((def : ModuleDefId) → IsThere maps_here def → DefIsThere maps_here (in_namespace def)) → (o : Option (Item ModuleDefId I))
+        → FailsAtItem (is_missing maps_here) o → BoundIsThere maps_here (bound_by in_namespace o)
+    item_bound in_namespace there None g = tt
+    item_bound in_namespace there (Some i) g =
+        let def = test_of (is_missing maps_here) (reference_to i.def) in
+        let seen = test_visibility (is_missing maps_here) i.vis in
+        (there i.def (not_first def seen g), not_second def seen g)
 
-    value_there : (o : Option (Item ModuleDefId ImportOrGlob)) → BoundIsThere (overlay finished here) (bound_by in_ns.Values o)
-    value_there None = tt
-    value_there (Some i) = tt
+    macro_bound : (o : Option (Item MacroId ImportOrExternCrate)) → FailsAtMacro (is_missing maps_here) o → BoundIsThere maps_here (bound_by in_ns.Macros o)
+    macro_bound None g = tt
+    macro_bound (Some i) g = (tt, g)
 
-    macro_there : (o : Option (Item MacroId ImportOrExternCrate)) → BoundIsThere (overlay finished here) (bound_by in_ns.Macros o)
-    macro_there None = tt
-    macro_there (Some i) = tt
+    trait_bound : (id : TraitId) (o : Option Visibility) → on_some (test_visibility (is_missing maps_here)) o ≡ false → BoundIsThere maps_here (bound_trait id o)
+    trait_bound id None g = tt
+    trait_bound id (Some vis) g = (refl, g)
 
-    trait_there : (id : TraitId) (o : Option Visibility) → BoundIsThere (overlay finished here) (bound_trait id o)
-    trait_there id None = tt
-    trait_there id (Some vis) = refl
-
-    key_there : (entries : List ℕ → PerNs) (traits : TraitId → Option Visibility) → ((name : List ℕ) → AreThere (overlay finished here) (entries name)) → (key : Key)
-        → BoundIsThere (overlay finished here) (bound_at entries traits key)
-    key_there entries traits each (Types name) = bound_by_there (entries name).types (each name)
-    key_there entries traits each (Values name) = value_there (entries name).values
-    key_there entries traits each (Macros name) = macro_there (entries name).macros
-    key_there entries traits each (Unnamed id) = trait_there id (traits id)
+    key_there : (entries : List ℕ → PerNs) (traits : TraitId → Option Visibility) → ((name : List ℕ) → AreThere maps_here (entries name))
+        → ((id : TraitId) → on_some (test_visibility (is_missing maps_here)) (traits id) ≡ false) → (key : Key) → BoundIsThere maps_here (bound_at entries traits key)
+    key_there entries traits each seen (Types name) = item_bound in_ns.Types (λ def g. g) (entries name).types (each name).types
+    key_there entries traits each seen (Values name) = item_bound in_ns.Values (λ def g. g) (entries name).values (each name).values
+    key_there entries traits each seen (Macros name) = macro_bound (entries name).macros (each name).macros
+    key_there entries traits each seen (Unnamed id) = trait_bound id (traits id) (seen id)
 
     -- of a module of the map
     entry_own : (at : ℕ) (name : List ℕ) → entry_in (overlay finished here) (numbered here.id at) name ≡ entry_at here at name
@@ -432,63 +596,116 @@ module _ (paths : PathsLeadToWhatIsThere) (finished : Maps) (whole : AreWellForm
         ap (λ (b : Bool). entry_of (option_and_then (λ (placed : Placed). module_at placed.map at) (cond b (Some (placed_in finished here)) (finished here.id))) name) (same_id here.id)
 
     -- of one among the finished maps
-    more_there : (items : PerNs) → AreThere finished items → AreThere (overlay finished here) items
-    more_there items g = go items.types g
-      where
-        go : (o : Option (Item ModuleDefId ImportOrExternCrate)) → TypeIsThere finished o → TypeIsThere (overlay finished here) o
-        go None h = tt
-        go (Some i) h = still_there finished (overlay finished here) (Extends-overlay finished here f.apart) (reference_to i.def) h
+    more_there : (items : PerNs) → AreThere finished items → AreThere maps_here items
+    more_there items g = items_still finished maps_here (Extends-overlay finished here f.apart) items g
 
-    -- a variant is no module and no enum
-    variant_there : (o : Option EnumVariant) → AreThere (overlay finished here) (variant_items o)
-    variant_there None = tt
-    variant_there (Some v) = go (cond (has_constructor v.shape) (Some visibilities.Public) None)
+    -- a variant is that of an enum that is there
+    variant_there : (id : EnumId) (name : List ℕ) (o : Option EnumVariant) → variant_in maps_here id name ≡ o → AreThere maps_here (variant_items o)
+    variant_there id name None e = Fails-nothing (is_missing maps_here)
+    variant_there id name (Some v) e = go (has_constructor v.shape)
       where
-        go : (c : Option Visibility) → AreThere (overlay finished here) (with_constructor (definitions.EnumVariantId v.id) visibilities.Public c None)
-        go None = refl
-        go (Some vis) = refl
+        present : (o : Option Variants) → option_and_then (λ (vs : Variants). at_name vs name) o ≡ Some v → is_some o ≡ true
+        present None g = absurd cc
+        present (Some vs) g = refl
 
-    entries_there : (of : Target) (name : List ℕ) → AreThere (overlay finished here) (entries_of names_here of name)
-    entries_there (targets.Own at) name =
-        subst (AreThere (overlay finished here)) (entry_own at name) ((IsClosed-overlay finished here f.apart whole f.names).types (numbered here.id at) name)
+        own : is_missing maps_here (named.Enum v.id.parent) ≡ false
+        own = ap (λ (x : EnumId). is_missing maps_here (named.Enum x)) (closed_here.variants id name v e) ∙ ap not (present (variants_in maps_here id) e)
+
+        public : test_item (is_missing maps_here) (item_of {I = ImportOrExternCrate} (definitions.EnumVariantId v.id) visibilities.Public None) ≡ false
+        public = neither (is_missing maps_here (named.Enum v.id.parent)) false own refl
+
+        go : (b : Bool) → AreThere maps_here (with_constructor (definitions.EnumVariantId v.id) visibilities.Public (cond b (Some visibilities.Public) None) None)
+        go true = record { types = public; values = public; macros = tt }
+        go false = record { types = public; values = tt; macros = tt }
+
+    entries_there : (of : Target) (name : List ℕ) → AreThere maps_here (entries_of names_here of name)
+    entries_there (targets.Own at) name = subst (AreThere maps_here) (entry_own at name) (closed_here.names (numbered here.id at) name)
     entries_there (targets.Module m) name =
-        open_there (overlay finished here) (is_foreign here.id m) (entry_in finished m name) (more_there (entry_in finished m name) ((IsClosed-well_formed finished whole).types m name))
-    entries_there (targets.Enum id) name = variant_there (variant_in (overlay finished here) id name)
+        open_there maps_here (is_foreign here.id m) (entry_in finished m name) (more_there (entry_in finished m name) ((IsClosed-well_formed finished whole).names m name))
+    entries_there (targets.Enum id) name = variant_there id name (variant_in maps_here id name) refl
 
-    bound_there : (of : Target) (key : Key) → BoundIsThere (overlay finished here) (bound_of names_here of key)
-    bound_there of key = key_there (entries_of names_here of) (traits_of names_here of) (entries_there of) key
+    open_seen : (crossing : Bool) (o : Option Visibility) → on_some (test_visibility (is_missing maps_here)) o ≡ false → on_some (test_visibility (is_missing maps_here)) (open_vis crossing o) ≡ false
+    open_seen crossing None g = refl
+    open_seen crossing (Some vis) g = go (is_open crossing vis)
+      where
+        go : (b : Bool) → on_some (test_visibility (is_missing maps_here)) (cond b (Some vis) None) ≡ false
+        go true = g
+        go false = refl
 
-    items_there : (def : ItemInNs) (vis : Visibility) → DefIsThere (overlay finished here) def → AreThere (overlay finished here) (items_by def vis)
-    items_there (in_ns.Types def) vis g = g
-    items_there (in_ns.Values def) vis g = tt
-    items_there (in_ns.Macros def) vis g = tt
+    -- the traits without names of a finished map
+    trait_finished : (m : ModuleId) (id : TraitId) (o : Option Placed) → finished m.map ≡ o
+        → on_some (test_visibility (is_missing maps_here)) (trait_vis (option_and_then (λ (placed : Placed). module_at placed.map m.index) o) id) ≡ false
+    trait_finished m id None e = refl
+    trait_finished m id (Some placed) e =
+        trait_seen maps_here placed.map (HasNoDanglingReference-more finished maps_here (Extends-overlay finished here f.apart) placed.map (whole m.map placed e).names) m.index id
 
-    copied_there : (slot : Slot) (vis : Visibility) (by : GlobId) (o : Option Bound) → BoundIsThere (overlay finished here) o
+    traits_there : (of : Target) (id : TraitId) → on_some (test_visibility (is_missing maps_here)) (traits_of names_here of id) ≡ false
+    traits_there (targets.Own at) id = trait_seen maps_here here f.names at id
+    traits_there (targets.Module m) id = open_seen (is_foreign here.id m) (trait_vis (module_in finished m) id) (trait_finished m id (finished m.map) refl)
+    traits_there (targets.Enum e) id = refl
+
+    pub bound_there : (of : Target) (key : Key) → BoundIsThere maps_here (bound_of names_here of key)
+    bound_there of key = key_there (entries_of names_here of) (traits_of names_here of) (entries_there of) (traits_there of) key
+
+    bound_is_there : (of : Target) (key : Key) (b : Bound) → bound_of names_here of key ≡ Some b → DefIsThere maps_here b.def × VisibilityIsThere maps_here b.vis
+    bound_is_there of key b e = subst (BoundIsThere maps_here) e (bound_there of key)
+
+    items_there : (def : ItemInNs) (vis : Visibility) → DefIsThere maps_here def → VisibilityIsThere maps_here vis → AreThere maps_here (items_by def vis)
+    items_there (in_ns.Types def) vis g h = type_there maps_here def vis g h
+    items_there (in_ns.Values def) vis g h = value_there maps_here def vis g h
+    items_there (in_ns.Macros def) vis g h = macro_there maps_here def vis h
+
+    -- what an edge brings is seen by what is there
+    brought_seen : (j : ℕ) (e : Edge) (b : Bound) → slice_get s.globs.edges j ≡ Some e → VisibilityIsThere maps_here b.vis → VisibilityIsThere maps_here (brought_vis (view_of names_here) e b)
+    brought_seen j e b at g =
+        lesser_or (is_missing maps_here) finished here e.vis b.vis
+        (not_second (test_of (is_missing maps_here) (target_reference e.source)) (test_visibility (is_missing maps_here) e.vis) (none_at (on_edge (is_missing maps_here)) s.globs.edges f.edges j e at)) g
+
+    -- what the source of an edge shows
+    shown_there : (e : Edge) (key : Key) (b : Bound) → shown_along (view_of names_here) e key ≡ Some b → DefIsThere maps_here b.def × VisibilityIsThere maps_here b.vis
+    shown_there e key b g = bound_is_there e.source key b (shown_stands ((view_of names_here).sees e.importer) (bound_of names_here e.source key) b g)
+
+    -- the greater of what stands somewhere and what an edge brings
+    wider_seen : (a b vis : Visibility) → VisibilityIsThere maps_here a → VisibilityIsThere maps_here b → (view_of names_here).greater a b ≡ Some vis → VisibilityIsThere maps_here vis
+    wider_seen a b vis g h e = go ((view_of names_here).greater a b) e (greater (is_missing maps_here) finished here a b g h)
+      where
+        go : (o : Option Visibility) → o ≡ Some vis → on_some (test_visibility (is_missing maps_here)) o ≡ false → VisibilityIsThere maps_here vis
+        go None e k = absurd cc
+        go (Some x) e k = let same : x ≡ vis = cc in subst (VisibilityIsThere maps_here) same k
+
+    copied_there : (slot : Slot) (vis : Visibility) (by : GlobId) (o : Option Bound) → BoundIsThere (overlay finished here) o → VisibilityIsThere maps_here vis
         → EditsWhatIsThere (overlay finished here) (copy_where (import_state s) slot vis by o)
-    copied_there slot vis by None g = tt
-    copied_there slot vis by (Some b) g = go slot.key
+    copied_there slot vis by None g seen = tt
+    copied_there slot vis by (Some b) g seen = go slot.key
       where
         go : (key : Key) → EditIsThere (overlay finished here) (copy_at (import_state s) key vis by b)
-        go (Types name) = items_there b.def vis g
-        go (Values name) = items_there b.def vis g
-        go (Macros name) = items_there b.def vis g
-        go (Unnamed id) = tt
+        go (Types name) = items_there b.def vis g.0 seen
+        go (Values name) = items_there b.def vis g.0 seen
+        go (Macros name) = items_there b.def vis g.0 seen
+        go (Unnamed id) = seen
 
-    followed_there : (slot : Slot) (vis : Visibility) (o : Option Bound) → BoundIsThere (overlay finished here) o
+    followed_there : (slot : Slot) (vis : Visibility) (o : Option Bound) → BoundIsThere (overlay finished here) o → VisibilityIsThere maps_here vis
         → EditsWhatIsThere (overlay finished here) (follow_where (import_state s) slot vis o)
-    followed_there slot vis None g = tt
-    followed_there slot vis (Some b) g = go slot.key
+    followed_there slot vis None g seen = tt
+    followed_there slot vis (Some b) g seen = go slot.key
       where
         go : (key : Key) → EditIsThere (overlay finished here) (follow_at (import_state s) key vis b)
-        go (Types name) = g
-        go (Values name) = g
-        go (Macros name) = g
-        go (Unnamed id) = tt
+        go (Types name) = (g.0, seen)
+        go (Values name) = (g.0, seen)
+        go (Macros name) = (g.0, seen)
+        go (Unnamed id) = seen
 
-    globs_bring : (rule : GlobRule) → AllFine (BringsWhatIsThere finished) s (list_map changes_imports (list_map (along finished) (glob_acts (view_of names_here) rule)))
-    globs_bring (copies_along j e slot b) = (copied_there slot _ e.id (bound_of names_here e.source slot.key) (bound_there e.source slot.key), (tt, tt))
-    globs_bring (follows_along j e slot b) = (followed_there slot _ (bound_of names_here e.source slot.key) (bound_there e.source slot.key), (tt, tt))
-    globs_bring (raises_along j e slot vis) = (tt, tt)
+    globs_bring : (rule : GlobRule) → MayAlong scope_table (glob_state finished (import_state s)) rule
+        → AllFine (BringsWhatIsThere finished) s (list_map changes_imports (list_map (along finished) (glob_acts (view_of names_here) rule)))
+    globs_bring (copies_along j e slot b) may =
+        let seen = brought_seen j e b may.shows.recorded (shown_there e slot.key b may.shows.shown).1 in
+        ((copied_there slot (brought_vis (view_of names_here) e b) e.id (bound_of names_here e.source slot.key) (bound_there e.source slot.key) seen, tt), ((tt, tt), tt))
+    globs_bring (follows_along j e slot b) may =
+        let seen = brought_seen j e b may.shows.recorded (shown_there e slot.key b may.shows.shown).1 in
+        ((followed_there slot (brought_vis (view_of names_here) e b) (bound_of names_here e.source slot.key) (bound_there e.source slot.key) seen, tt), ((tt, tt), tt))
+    globs_bring (raises_along j e slot vis) may =
+        let seen = brought_seen j e may.b may.shows.recorded (shown_there e slot.key may.b may.shows.shown).1 in
+        ((wider_seen may.c.vis (brought_vis (view_of names_here) e may.b) vis (bound_is_there (targets.Own slot.at) slot.key may.c may.stands).1 seen may.greater, tt), tt)
 
     -- ---- what imports bring
 
@@ -497,52 +714,130 @@ module _ (paths : PathsLeadToWhatIsThere) (finished : Maps) (whole : AreWellForm
     push_there home None items source g = tt
     push_there home (Some name) items source g = g
 
-    keep_there : (i : ImportState) (maps : Maps) (home : ℕ) (o : Option TraitId) (vis : Visibility) (by : Option ImportId) → EditsWhatIsThere maps (edit_of i (keeps_trait finished home o vis by))
-    keep_there i maps home None vis by = tt
-    keep_there i maps home (Some id) vis by = tt
-
     abbrev once_pushed : ImportDirective → State
     once_pushed r = act s (changes_imports (pushes r.home (name_of r) (offered_by finished s.core.local here r) (Some r.source)))
 
+    -- a trait that is kept without a name
+    keep_there : (maps : Maps) (i : ImportState) → HasNoDanglingReference maps i.map → (home : ℕ) (o : Option TraitId) (vis : Visibility) (by : Option ImportId) → VisibilityIsThere maps vis
+        → EditsWhatIsThere maps (edit_of i (keeps_trait finished home o vis by))
+    keep_there maps i names home None vis by g = tt
+    keep_there maps i names home (Some id) vis by g = go (trait_vis (module_at i.map home) id) (trait_seen maps i.map names home id)
+      where
+        go : (o : Option Visibility) → on_some (test_visibility (is_missing maps)) o ≡ false → VisibilityIsThere maps (kept_vis finished i.map vis o)
+        go None h = g
+        go (Some old) h = some_or (is_missing maps) (greater_in finished i.map old vis) old (greater (is_missing maps) finished i.map old vis h g) h
+
+    -- what a path reaches for a glob
+    target_there : (o : Option (Item ModuleDefId ImportOrExternCrate)) → FailsAtItem (is_missing maps_here) o → (target : Target) → target_among here.id o ≡ Some target
+        → test_of (is_missing maps_here) (target_reference target) ≡ false
+    target_there None g target e = absurd cc
+    target_there (Some i) g target e = by_def i.def (not_first (test_of (is_missing maps_here) (reference_to i.def)) (test_visibility (is_missing maps_here) i.vis) g) e
+      where
+        is_target : (other : Target) → test_of (is_missing maps_here) (target_reference other) ≡ false → Some other ≡ Some target
+            → test_of (is_missing maps_here) (target_reference target) ≡ false
+        is_target other h k = let same : other ≡ target = cc in subst (λ (x : Target). test_of (is_missing maps_here) (target_reference x) ≡ false) same h
+
+        at : (m : ModuleId) (b : Bool) → is_missing maps_here (named.Module m) ≡ false → test_of (is_missing maps_here) (target_reference (cond b (targets.Own m.index) (targets.Module m))) ≡ false
+        at m true h = refl
+        at m false h = h
+
+        by_def : (d : ModuleDefId) → test_of (is_missing maps_here) (reference_to d) ≡ false → target_by here.id d ≡ Some target → test_of (is_missing maps_here) (target_reference target) ≡ false
+        by_def (definitions.ModuleId m) h k = is_target (target_at here.id m) (at m (map_id.ghosts.eq m.map here.id) h) k
+        by_def (definitions.AdtId (adts.EnumId id)) h k = is_target (targets.Enum id) h k
+        by_def (definitions.AdtId (adts.StructId id)) h k = absurd cc
+        by_def (definitions.AdtId (adts.UnionId id)) h k = absurd cc
+        by_def (definitions.FunctionId x) h k = absurd cc
+        by_def (definitions.EnumVariantId x) h k = absurd cc
+        by_def (definitions.ConstId x) h k = absurd cc
+        by_def (definitions.StaticId x) h k = absurd cc
+        by_def (definitions.TraitId x) h k = absurd cc
+        by_def (definitions.TypeAliasId x) h k = absurd cc
+        by_def (definitions.BuiltinType x) h k = absurd cc
+        by_def (definitions.MacroId x) h k = absurd cc
+
     imports_bring : (rule : ImportRule) → MayImport finished (import_state s) rule → AllFine (BringsWhatIsThere finished) s (list_map changes_imports (import_acts finished (import_state s) rule))
     imports_bring (takes_import i r t) may =
-        let there = none_at (test_import (is_missing (overlay finished here))) s.core.reached f.crates i r may.import in (
-          push_there r.home (name_of r) (offered_by finished s.core.local here r) (Some r.source) (offered_there r (import_at count s.core.reached i r inside.imports may.import) there),
-          (keep_there (import_state (once_pushed r)) (overlay finished (once_pushed r).core.map) r.home (kept_trait finished s.core.local here r) (visibility_of finished s.core.local here r) (leaf_of r.source), (tt, tt)),
+        let there = none_at (test_import (is_missing (overlay finished here))) s.core.reached f.crates i r may.import in
+        let low : r.home < count = import_at count s.core.reached i r inside.imports may.import in
+        let c : ImportChange = pushes r.home (name_of r) (offered_by finished s.core.local here r) (Some r.source) in
+        let pushed_there = push_there r.home (name_of r) (offered_by finished s.core.local here r) (Some r.source) (offered_there r low there) in
+        let then : NamesWhatIsThere finished (once_pushed r) = names-act finished s (changes_imports c) f (pushed_there, tt) in
+        let grown : Extends maps_here (overlay finished (once_pushed r).core.map) =
+        subst (λ (x : Map). Extends maps_here (overlay finished x)) (sym (map_after (import_state s) c)) (Extends-edited finished here (edit_of (import_state s) c)) in
+        let seen = seen_still maps_here (overlay finished (once_pushed r).core.map) grown (visibility_of finished s.core.local here r) (seen_at r.home low r.visibility) in (
+          (pushed_there, tt),
+          (
+            (keep_there (overlay finished (once_pushed r).core.map) (import_state (once_pushed r)) then.names r.home (kept_trait finished s.core.local here r) (visibility_of finished s.core.local here r) (leaf_of r.source) seen, tt),
+            ((tt, tt), tt),
+          ),
         )
-    imports_bring (takes_glob i r t by target edges) may = (tt, (tt, tt))
-    imports_bring (goes_along rule) may = globs_bring rule
+    imports_bring (takes_glob i r t by target edges) may =
+        let low : r.home < count = import_at count s.core.reached i r inside.imports may.import in
+        let edge : Edge = edge_to finished s.core.local here r by target in
+        let from = target_there (path_answer finished s.core.local here r).resolved_def.types (reached_there r low).types target may.reaches in
+        let clear : on_edge (is_missing maps_here) edge ≡ false =
+        neither (test_of (is_missing maps_here) (target_reference target)) (test_visibility (is_missing maps_here) edge.vis) from (seen_at r.home low r.visibility) in
+        ((tt, tt), ((tt, recorded_fail (is_missing maps_here) (view_of names_here) s.globs.edges edges edge (greater (is_missing maps_here) finished here) f.edges clear may.recorded), tt))
+    imports_bring (goes_along rule) may = globs_bring rule may
+
+    -- the next item is of a module of the map
+    low_next : (v : Visit) (rest : List Task) → s.agenda ≡ visits v ∷ rest → v.site.home < count
+    low_next v rest e = next_home s inside v rest e
+
+    public_macro : (maps : Maps) (makro : MacroId) → AreThere maps (macros_only makro visibilities.Public None)
+    public_macro maps makro = macro_there maps makro visibilities.Public refl
 
     brings_what_is_there : (r : Rule) → May finished s r → AllFine (BringsWhatIsThere finished) (asking s r) (acts finished s r)
     brings_what_is_there (drops_item v report rest) may = (tt, (tt, tt))
-    brings_what_is_there (passes_over site head l rest) may = (tt, tt)
     brings_what_is_there (declares_item v d rest) may =
-        (tt, (tt, (declares_nothing_named finished (overlay finished (with_declared here v.site.home d.def)) s.core.local here v d may.declares, tt)))
-    brings_what_is_there (declares_enum site head name found rest) may = (tt, (tt, (tt, (enumeration_there site head (variants_of (enum_id here site head.id) found), tt))))
+        (tt, (tt, ((item_there v d (low_next v rest may.here.next) may.declares, tt), tt)))
+    brings_what_is_there (declares_enum site head name found rest) may =
+        (tt, (own_variants (enum_id here site head.id) found, (tt, ((enumeration_there site head (variants_of (enum_id here site head.id) found) (low_next _ rest may.next), tt), tt))))
     brings_what_is_there (lists_constant site head rest) may = (tt, (tt, tt))
     brings_what_is_there (lists_impl site head of_trait rest) may = (tt, (tt, tt))
     brings_what_is_there (opens_module site head name items rest) may =
-        let low : site.home < count = next_home s inside _ rest may.next in (low, (tt, (tt, (module_made_there site head name (inline_origin site.tree head.id) low, tt))))
+        let low : site.home < count = next_home s inside _ rest may.next in ((low, own_seen_at site head low), (tt, (tt, (tt, ((module_made_there site head name (inline_origin site.tree head.id) low, tt), tt)))))
     brings_what_is_there (opens_file site head name search file rest) may =
         let low : site.home < count = next_home s inside _ rest may.looks.here.next in
-        (low, (tt, (tt, (module_made_there site head name (file_origin site.tree head.id here.crate_data.edition file) low, tt))))
+        ((low, own_seen_at site head low), (tt, (tt, (tt, ((module_made_there site head name (file_origin site.tree head.id here.crate_data.edition file) low, tt), tt)))))
     brings_what_is_there (drops_file site head name search report rest) may = (tt, (tt, tt))
     brings_what_is_there (misses_file site head name search report rest) may =
-        let low : site.home < count = next_home s inside _ rest may.looks.here.next in (low, (tt, (tt, (module_made_there site head name (inline_origin site.tree head.id) low, (tt, tt)))))
+        let low : site.home < count = next_home s inside _ rest may.looks.here.next in ((low, own_seen_at site head low), (tt, (tt, (tt, ((module_made_there site head name (inline_origin site.tree head.id) low, tt), (tt, tt))))))
     brings_what_is_there (enters_block site head items rest) may = (tt, (tt, tt))
     brings_what_is_there (reaches_imports site head tree rest) may =
         (tt, (uses_name_none (is_missing (overlay finished here)) site.home (use_id here site head.id) head.visibility (imports_of tree), (tt, tt)))
     brings_what_is_there (reaches_crate site head name alias rest) may =
-        let there : test_import (is_missing (overlay finished here)) (crate_import here s.core.dependencies site head name alias) ≡ false = crate_there name in
-        let alone = neither (test_import (is_missing (overlay finished here)) (crate_import here s.core.dependencies site head name alias)) false there refl in
-        (tt, (there, (alone, (tt, tt))))
+        let r : ImportDirective = crate_import here s.core.dependencies site head name alias in
+        let there : test_import (is_missing (overlay finished here)) r ≡ false = crate_there name in
+        let macros : List (List ℕ × MacroId) = macros_brought finished here s.core.dependencies head name in
+        let by : Option ExternCrateId = Some (extern_crate_id here site head.id) in
+        let stays : test_import (is_missing (overlay finished (with_macros_used here macros by))) r ≡ false =
+        still_there (overlay finished here) (overlay finished (with_macros_used here macros by)) (Extends-used finished here macros by) (root_named (crate_of r.source)) there in
+        (tt, (there, (tt, (neither (test_import (is_missing (overlay finished (with_macros_used here macros by))) r) false stays refl, (tt, tt)))))
+    brings_what_is_there (defines_rules site head name expander helpers rest) may =
+        (tt, (tt, (tt, fine_macro (BringsWhatIsThere finished) _ _ expander (λ t. tt) head name (macro_rules_id here site head.id expander) (λ t. (public_macro _ _, tt)) _)))
+    brings_what_is_there (defines_macro site head name expander helpers rest) may = (
+      tt,
+      (
+        tt,
+        (
+          tt,
+          (
+            (macro_made_there site head (node_of site.tree nodes.MacroDef head.id) (macro_def_id here site head.id expander) (low_next _ rest may.next), tt),
+            fine_reporting (BringsWhatIsThere finished) _ _ expander (λ t. tt) _,
+          ),
+        ),
+      ),
+    )
+    brings_what_is_there (closes_module parent child rest) may = (tt, (tt, tt))
+    brings_what_is_there (passes_over site head l rest) may = (tt, tt)
     brings_what_is_there (resolves_imports rule) may = imports_bring rule may
 
   names-Step : (env : Environment) (old new : State) → IsInRange old → NamesWhatIsThere finished old → Step env finished old new → NamesWhatIsThere finished new
   names-Step env old new inside f step =
-      let first : NamesWhatIsThere finished (asking old step.rule) = record { apart = f.apart; names = f.names; begins = f.begins; crates = f.crates; dependencies = f.dependencies } in
+      let first : NamesWhatIsThere finished (asking old step.rule) = record { apart = f.apart; names = f.names; begins = f.begins; crates = f.crates; dependencies = f.dependencies; edges = f.edges } in
       let done = perform_keeps (NamesWhatIsThere finished) (BringsWhatIsThere finished) (names-act finished) (acts finished old step.rule) (asking old step.rule) first (brings_what_is_there old inside f step.rule step.may) in
-      subst (NamesWhatIsThere finished) (sym step.is) (record { apart = done.apart; names = done.names; begins = done.begins; crates = done.crates; dependencies = done.dependencies })
+      subst (NamesWhatIsThere finished) (sym step.is) (record { apart = done.apart; names = done.names; begins = done.begins; crates = done.crates; dependencies = done.dependencies; edges = done.edges })
 
   -- steps lead from a state that names only what is there to such states
   pub steps_keep : (env : Environment) (from to : State) → IsInRange from → NamesWhatIsThere finished from → Steps env finished from to → NamesWhatIsThere finished to
@@ -563,6 +858,7 @@ module _ (finished : Maps) (crate_data : CrateData) (start : Start) where
     outside = refl;
     root = omega arith;
     in_order = λ at m e. first at m e;
+    variants = refl;
     modules = refl;
     prelude = refl;
     dependencies = none_of_less (test_crate (is_missing finished)) (test_crate (is_missing (overlay finished root)))
@@ -607,13 +903,13 @@ module _ (paths : PathsLeadToWhatIsThere) (finished : Maps) (whole : AreWellForm
     by_def by (definitions.BuiltinType x) g = refl
     by_def by (definitions.MacroId x) g = refl
 
-    by_type : (t : Option (Item ModuleDefId ImportOrExternCrate)) → TypeIsThere (overlay finished map) t → test_of (is_missing (overlay finished map)) (prelude_reference (module_of t)) ≡ false
+    by_type : (t : Option (Item ModuleDefId ImportOrExternCrate)) → FailsAtItem (is_missing (overlay finished map)) t → test_of (is_missing (overlay finished map)) (prelude_reference (module_of t)) ≡ false
     by_type None g = refl
-    by_type (Some i) g = by_def i.import i.def g
+    by_type (Some i) g = by_def i.import i.def (not_first (test_of (is_missing (overlay finished map)) (reference_to i.def)) (test_visibility (is_missing (overlay finished map)) i.vis) g)
 
     by_core : (b : Bool) → test_of (is_missing (overlay finished map)) (prelude_reference (cond b None (module_of answer.resolved_def.types))) ≡ false
     by_core true = refl
-    by_core false = by_type answer.resolved_def.types reached
+    by_core false = by_type answer.resolved_def.types reached.types
 
     prelude_there : test_of (is_missing (overlay finished map)) (prelude_reference (prelude_of finished map local)) ≡ false
     unfolding module_named
@@ -632,12 +928,16 @@ module _ (paths : PathsLeadToWhatIsThere) (finished : Maps) (whole : AreWellForm
       HasNoDanglingExtern-more finished (overlay finished one) (Extends-overlay finished one stands.apart) local (begins_there finished crate_data start whole [] refl (dependencies_in w krate) stands.direct) in
       let prelude = prelude_of finished one local in
       let two : Map = with_prelude one prelude in
+      let macros : List (List ℕ × MacroId) = macros_beside finished one.id.krate prelude in
+      let two_there : HasNoDanglingExtern (overlay finished two) local =
+      HasNoDanglingExtern-more (overlay finished one) (overlay finished two) (Extends-grown finished one two refl (λ k e. e) (λ e t. t)) local local_there in
       record {
         apart = stands.apart;
-        names = HasNoDanglingReference-prelude finished one prelude (prelude_there one local stands.apart names local_there) names;
-        begins = HasNoDanglingExtern-more (overlay finished one) (overlay finished two) (Extends-grown finished one two refl (λ k e. e) (λ e t. t)) local local_there;
+        names = NamesOnly-used finished two macros None (HasNoDanglingReference-prelude finished one prelude (prelude_there one local stands.apart names local_there) names);
+        begins = HasNoDanglingExtern-more (overlay finished two) (overlay finished (with_macros_used two macros None)) (Extends-used finished two macros None) local two_there;
         crates = refl;
         dependencies = stands.direct;
+        edges = refl;
       }
 
   -- it ends with a map that is complete beside what it read

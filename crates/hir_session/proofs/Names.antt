@@ -15,9 +15,11 @@ use Rattle.hir_def_map.specs.Inner.PartLaws.{among-only, among-there}
 use Rattle.hir_def_map.specs.Inner.OverlayLaws.{exact_map}
 use Rattle.hir_def_map.proofs.WellFormed.{complete, HasNoDanglingExtern-more, HasNoDanglingReference-more}
 use Rattle.hir_def_map.specs.WellFormed.{AreWellFormed, HasNoDanglingExtern, Extends, IsWellFormed, HasNoDanglingReference}
-use Rattle.hir_def_map.specs.References.{is_well_formed, is_missing, is_there, lies_in, map_of_reference, reference_to, any_reference_in, refers_to, any_own_crate, any_reference, prelude_reference, test_child, test_crate, test_extern, test_of, test_type}
-use Rattle.hir_def_map.proofs.NoneOf.{neither, none_of_less, not_first, not_second}
-use Rattle.hir_def_map.specs.State.{Local, Map, ModuleValue, crate_map, module_at, variants_at}
+use Rattle.hir_def_map.specs.References.{is_well_formed, is_missing, is_there, lies_in, map_of_reference, any_reference_in, refers_to, any_own_crate, any_reference, prelude_reference, test_crate, test_extern, test_of}
+use Rattle.hir_def_map.proofs.Fails.{of_less}
+use Rattle.hir_def_map.proofs.Referred.{module_less}
+use Rattle.hir_def_map.proofs.NoneOf.{neither, none_of_less}
+use Rattle.hir_def_map.specs.State.{Local, Map, crate_map, module_at, variants_at}
 use Rattle.hir_def_map.specs.Overlay.{Maps, Placed, overlay, holders_under, map_in, placed_in}
 use Rattle.hir_def_collector.specs.Derivation.{CollectedValue}
 use Rattle.hir_crate_graph.specs.CrateSet.{has_crate}
@@ -28,22 +30,6 @@ use Rattle.hir_session.proofs.Truth.{and_left, and_right, clash, on_bool}
 -- ---- a test that holds of nothing that a map names
 
 module _ (test other : Reference → Bool) (less : (n : Reference) → test n ≡ false → other n ≡ false) where
-  of_less : (o : Option Reference) → test_of test o ≡ false → test_of other o ≡ false
-  of_less None e = refl
-  of_less (Some n) e = less n e
-
-  in_module_less : (m : ModuleValue) → any_reference_in test m ≡ false → any_reference_in other m ≡ false
-  in_module_less m e =
-      let p = test_of test (option_map named.Module m.parent) in
-      let c = list_any (test_child test) m.children in
-      let t = list_any (test_type test) m.scope.types in
-      let rest : (c || t) ≡ false = not_second p (c || t) e in
-      neither (test_of other (option_map named.Module m.parent)) (list_any (test_child other) m.children || list_any (test_type other) m.scope.types)
-      (of_less (option_map named.Module m.parent) (not_first p (c || t) e))
-      (neither (list_any (test_child other) m.children) (list_any (test_type other) m.scope.types)
-      (none_of_less (test_child test) (test_child other) (λ x f. less (named.Module x.1) f) m.children (not_first c t rest))
-      (none_of_less (test_type test) (test_type other) (λ x f. of_less (reference_to x.1.def) f) m.scope.types (not_second c t rest)))
-
   -- a crate's map, of whose names the one test holds of none, names nothing of which the other holds
   names_less : (map : Map) (local : Local) → map.id.block ≡ None → map.holder ≡ None → list_any (any_reference_in test) map.modules ≡ false
       → test_of test (prelude_reference map.prelude) ≡ false → list_any (test_crate test) map.crate_data.dependencies ≡ false → list_any (test_extern test) local ≡ false
@@ -55,8 +41,8 @@ module _ (test other : Reference → Bool) (less : (n : Reference) → test n �
       let d = list_any (test_crate other) map.crate_data.dependencies in
       let o = any_own_crate other map.id in
       neither (list_any (any_reference_in other) map.modules) (p || (h || (e || (d || o))))
-      (none_of_less (any_reference_in test) (any_reference_in other) in_module_less map.modules modules)
-      (neither p (h || (e || (d || o))) (of_less (prelude_reference map.prelude) prelude)
+      (none_of_less (any_reference_in test) (any_reference_in other) (module_less test other less) map.modules modules)
+      (neither p (h || (e || (d || o))) (of_less test other less (prelude_reference map.prelude) prelude)
       (neither h (e || (d || o)) (ap (λ x. test_of other (option_map named.Module x)) no_holder)
       (neither e (d || o) (none_of_less (test_extern test) (test_extern other) (λ x f. less (named.Module x.1.0) f) local begins)
       (neither d o (none_of_less (test_crate test) (test_crate other) (λ x f. less (named.Map (crate_map x)) f) map.crate_data.dependencies dependencies)
