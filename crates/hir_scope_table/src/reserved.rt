@@ -4,7 +4,6 @@ ghost use Rattle.hir_scope_table.specs.Entries.{with_some_entry};
 ghost use Rattle.hir_scope_table.specs.Inner.Reserved.{IsEntryFor, IsKeyFor};
 
 use std::alloc::AllocError;
-use std::collections::btree_map::Entry;
 use std::collections::{BTreeMap, BTreeSet};
 
 /// What was added to a table and to the glob table before a candidate is written.
@@ -26,13 +25,11 @@ pub(crate) fn add_entry<K: Ord + Drop, V: Drop>(
     let Some((key, value)) = entry else {
         return Ok(false);
     };
-    match map.entry(key)? {
-        Entry::Occupied(_place) => Ok(false),
-        Entry::Vacant(place) => {
-            place.insert(value);
-            Ok(true)
-        }
+    if map.contains_key(&key) {
+        return Ok(false);
     }
+    map.insert(key, value)?;
+    Ok(true)
 }
 
 /// Takes out an entry that was added.
