@@ -12,13 +12,12 @@ use Rattle.hir_def_map.specs.Closed.{PathsLeadToWhatIsThere, VisibilityIsThere}
 use Rattle.hir_def_map.specs.Overlay.{Maps, Placed, overlay, placed_in}
 use Rattle.hir_def_map.specs.References.{is_missing, test_of, test_visibility}
 use Rattle.hir_def_map.specs.Scoping.Slots.{is_in}
-use Rattle.hir_def_map.specs.State.{Map, ModuleValue, module_at, variants_at}
+use Rattle.hir_def_map.specs.State.{Map, module_at, variants_at}
 use Rattle.hir_def_map.specs.WellFormed.{AreWellFormed}
 use Rattle.hir_def_map.specs.declared.world.reference.Reference.TheVariants as named
 use Rattle.hir_def_map_laws.specs.ReadLaw.{has_no_variants}
 use Rattle.hir_glob_imports.specs.declared.edge.Bound.{Bound}
 use Rattle.hir_glob_imports.specs.declared.edge.Edge.{Edge}
-use Rattle.hir_glob_imports.specs.declared.edge.Key.{Key}
 use Rattle.hir_glob_imports.specs.declared.edge.Target.{Target}
 use Rattle.hir_glob_imports.specs.declared.edge.Target.TheVariants as targets
 use Rattle.hir_import_resolution.specs.Names.{bound_of}

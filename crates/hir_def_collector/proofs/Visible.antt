@@ -1,8 +1,7 @@
 -- Visibilities of whose modules a test fails.
-use Rattle.std.specs.Prelude.{◌≡◌, ◌||◌, ◌&&◌, ℕ, zero, suc, List, [], ◌∷◌, Bool, true, false, Option, None, Some, cond, if◌then◌else◌, is_some, not, option_and_then, option_map, slice_get, slice_set, unwrap_or}
+use Rattle.std.specs.Prelude.{◌≡◌, ◌||◌, ◌&&◌, ℕ, zero, suc, List, [], ◌∷◌, Bool, true, false, Option, None, Some, cond, if◌then◌else◌, not, option_and_then, option_map, slice_set, unwrap_or}
 use Rattle.std.specs.List.{list_any}
-use Rattle.std.proofs.Common.{ap, refl, subst, sym, ◌∙◌}
-use Rattle.hir_base.specs.ModPath.{Path}
+use Rattle.std.proofs.Common.{ap, refl, subst, sym}
 use Rattle.hir_base.specs.declared.ids.ModuleDefId.{ModuleDefId}
 use Rattle.hir_base.specs.declared.ids.ModuleDefId.TheVariants as definitions
 use Rattle.hir_base.specs.declared.ids.ModuleId.{ModuleId}
@@ -23,7 +22,7 @@ use Rattle.hir_def_map.proofs.Joined.{there_in}
 use Rattle.hir_def_map.proofs.NoneOf.{neither, none_at, none_more, not_first, not_second}
 use Rattle.hir_def_map.specs.Ancestors.{above_in}
 use Rattle.hir_def_map.specs.Closed.{IsClosed, IsThere, LocalIsThere, ModuleIsThere, PathsLeadToWhatIsThere, VisibilityIsThere}
-use Rattle.hir_def_map.specs.Overlay.{Maps, module_in, overlay}
+use Rattle.hir_def_map.specs.Overlay.{Maps, overlay}
 use Rattle.hir_def_map.specs.References.{is_missing, reference_to, test_item, test_of, test_visibility, Fails, FailsAtItem, FailsAtMacro}
 use Rattle.hir_def_map.specs.Scoping.{Resolution, resolution_of}
 use Rattle.hir_def_map.specs.Sources.{on_some}

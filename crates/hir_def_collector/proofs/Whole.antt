@@ -30,13 +30,12 @@ use Rattle.hir_item_tree.specs.declared.raw_visibility.RawVisibility.{RawVisibil
 use Rattle.hir_scope.specs.declared.imports.ImportOrExternCrate.{ImportOrExternCrate}
 use Rattle.hir_scope.specs.declared.imports.GlobId.{GlobId}
 use Rattle.hir_scope.specs.declared.imports.ImportId.{ImportId}
-use Rattle.hir_scope.specs.declared.imports.ImportOrGlob.{ImportOrGlob}
 use Rattle.hir_scope.specs.declared.item_in_ns.ItemInNs.{ItemInNs}
 use Rattle.hir_scope.specs.declared.item_in_ns.ItemInNs.TheVariants as in_ns
 use Rattle.hir_textual_scope.specs.Macros.{with_macro}
 use Rattle.hir_textual_scope.specs.declared.textual_scope.TextualMacro.{TextualMacro}
 use Rattle.hir_scope.specs.Scope.{ScopeValue}
-use Rattle.hir_scope.specs.PerNs.{Item, keep_item, with_constructor, item_of, macros_only}
+use Rattle.hir_scope.specs.PerNs.{Item, with_constructor, item_of, macros_only}
 use Rattle.hir_scope.specs.declared.per_ns.PerNs.{PerNs}
 use Rattle.hir_scope.specs.declared.visibility.Visibility.{Visibility}
 use Rattle.hir_scope.specs.declared.visibility.Visibility.TheVariants as visibilities
@@ -65,7 +64,7 @@ use Rattle.hir_def_map.specs.Scoping.{Resolution, resolution_of}
 use Rattle.hir_def_map.specs.Scoping.Segments.{variant_in}
 use Rattle.hir_def_map.specs.Scoping.Start.{crate_root}
 use Rattle.hir_def_map.specs.declared.nameres.enum_variants.EnumVariant.{EnumVariant}
-use Rattle.hir_def_map.specs.State.{CrateData, IsBefore, Local, Map, ModuleValue, Variants, entry_at, entry_of, module_at, new_id, new_module, numbered, root_of, with_declared, with_enum, with_extern, with_prelude, with_module, with_scope, at_name, variants_at}
+use Rattle.hir_def_map.specs.State.{CrateData, IsBefore, Local, Map, ModuleValue, Variants, entry_at, entry_of, module_at, new_id, new_module, numbered, root_of, with_declared, with_enum, with_extern, with_prelude, with_module, with_scope, at_name}
 use Rattle.hir_def_map.specs.Overlay.{Maps, Placed, entry_in, overlay, placed_in, module_in, variants_in}
 use Rattle.hir_def_map.proofs.StaysWellFormed.{Extends-overlay, Extends-grown, Extends-made, Extends-scope, IsClosed-overlay, LocalIsThere-begins, HasNoDanglingReference-listed, HasNoDanglingReference-made, HasNoDanglingReference-prelude, module_there, new_there, Extends-enum, HasNoDanglingReference-enum, HasNoDanglingReference-scope}
 use Rattle.hir_def_collector.specs.declared.collector.Start.{Start}
@@ -92,7 +91,7 @@ use Rattle.hir_def_collector.specs.ItemIds.{enum_id, extern_crate_id, macro_rule
 use Rattle.hir_def_collector.specs.Items.{constructor_of, declaration_of, declared_by, declared_by_leaf, declared_module, declared_struct, declared_type, file_origin, inline_origin, own_visibility, declared_value}
 use Rattle.hir_import_resolution.specs.Visibilities.{visibility_in, greater_in, is_public}
 use Rattle.hir_def_collector.specs.Enums.{variants_of}
-use Rattle.hir_import_resolution.specs.Directives.{answer_by_kind, answer_by_source, answer_in, answer_to, brought, brought_type, is_of_extern_crate, is_one_name, kept_by_kind, kept_trait, kind_of, leaf_of, name_of, offered_by, open_items, visibility_of, edge_to, path_answer, target_among, target_at, target_by}
+use Rattle.hir_import_resolution.specs.Directives.{answer_by_kind, answer_by_source, answer_in, answer_to, is_one_name, kept_by_kind, kept_trait, kind_of, leaf_of, name_of, offered_by, open_items, visibility_of, edge_to, path_answer, target_among, target_at, target_by}
 use Rattle.hir_import_resolution.specs.Changes.{act as act_on_imports, along, keeps_trait, pushes, kept_vis, Change as ImportChange, records, takes}
 use Rattle.hir_import_resolution.specs.Names.{ScopesValue, bound_at, bound_by, bound_of, bound_trait, entries_of, is_foreign, items_by, traits_of, variant_items, view_of, is_open, open_vis, scope_table, trait_vis}
 use Rattle.hir_import_resolution.specs.Rules.{Rule as ImportRule, May as MayImport, acts as import_acts, goes_along, takes_glob, takes_import}

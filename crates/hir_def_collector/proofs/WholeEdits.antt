@@ -1,5 +1,5 @@
 -- Changes of imports leave a map that names only what is there.
-use Rattle.std.specs.Prelude.{◌≡◌, ℕ, Bool, List, [], Option, None, Some}
+use Rattle.std.specs.Prelude.{ℕ, Bool, List, [], Option, None, Some}
 use Rattle.hir_scope.specs.Scope.{ScopeValue}
 use Rattle.hir_scope.specs.declared.item_in_ns.ItemInNs.{ItemInNs}
 use Rattle.hir_scope.specs.declared.item_in_ns.ItemInNs.TheVariants as in_ns
@@ -15,7 +15,7 @@ use Rattle.hir_def_map_laws.proofs.Updates.{macro_keeps, macro_vis_keeps, trait_
 use Rattle.hir_glob_imports.specs.declared.edge.Key.{Key}
 use Rattle.hir_glob_imports.specs.declared.edge.Key.TheVariants.{Types, Values, Macros, Unnamed}
 use Rattle.hir_import_resolution.specs.Names.{redefined, revised, with_trait}
-use Rattle.hir_def_collector.proofs.ImportEdits.{Edit, edit, edited, keeps_unnamed, pushes_to, redefines, revises}
+use Rattle.hir_def_collector.proofs.ImportEdits.{Edit, edit, keeps_unnamed, pushes_to, redefines, revises}
 
 -- ---- what an edit brings is there
 

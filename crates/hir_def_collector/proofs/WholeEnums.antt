@@ -1,5 +1,5 @@
 -- An enum that gets its variants is there, and they are its own.
-use Rattle.std.specs.Prelude.{◌≡◌, ◌&&◌, List, [], ◌∷◌, Bool, true, false, not, is_some, Option, None, Some, cond, fold, option_and_then}
+use Rattle.std.specs.Prelude.{◌≡◌, List, [], ◌∷◌, Bool, true, false, not, is_some, Option, None, Some, cond, fold, option_and_then}
 use Rattle.std.specs.BTreeMap.{insert_entry, is_at}
 use Rattle.std.specs.Cmp.Lexicographic.{slice_cmp}
 use Rattle.std.specs.Cmp.{IsTotalOrder, first_so, second_so, tied_itself}
@@ -8,7 +8,7 @@ use Rattle.std.specs.Map.{lookup}
 use Rattle.std.specs.Ordering.{is_eq, match_ordering, nat_cmp}
 use Rattle.std.specs.declared.cmp.Ordering.{Ordering}
 use Rattle.std.specs.declared.cmp.Ordering.TheVariants.{Less, Equal, Greater}
-use Rattle.std.proofs.Common.{ap, refl, sym, ◌∙◌}
+use Rattle.std.proofs.Common.{ap, refl, ◌∙◌}
 use Rattle.hir_base.specs.contracts.ids.EnumIdOrd.TheImpl as enum_order
 use Rattle.hir_base.specs.contracts.ids.EnumIdOrd.TheImpl.Laws.{matches_eq-law as enum_ties, total-law as enum_total}
 use Rattle.hir_base.specs.contracts.ids.EnumIdPartialEq.TheImpl as enum_id
