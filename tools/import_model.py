@@ -1,7 +1,8 @@
 #!/usr/bin/env python3
 """Random crates with imports and globs, and what a plain model of the import rules answers of their names.
 
-Usage: tools/import_model.py [--sessions N] [--seed S] [--program FILE] [--write FOLDER].
+Usage: tools/import_model.py [--sessions N] [--seed S] [--macros] [--program FILE] [--write FOLDER].
+With --macros the crates define macros too, in textual scope and as items.
 It runs the program, by default crates/hir_session_main/out/hir_session_main, over each session, and ends with 1 at the first
 whose answers aren't those of the model, which it writes to standard error. With --write it runs nothing, and writes the
 sessions and their answers as FOLDER/stdin and FOLDER/stdout, as crates/hir_session_rows has them.
@@ -29,6 +30,8 @@ class Module:
     def __init__(self, krate, index, parent, place):
         self.krate, self.index, self.parent, self.place = krate, index, parent, place
         self.scope = {kind: {} for kind in KINDS}
+        # the macros in textual scope, of each name the last
+        self.textual = dict(parent.textual) if parent is not None else {}
 
     def depth_first_up(self):
         at = self
@@ -170,6 +173,8 @@ class Crate:
 
     def in_scope(self, at, name):
         found = {ns: at.scope[ns][name] for ns in KINDS if name in at.scope[ns]}
+        if name in at.textual:
+            found["macros"] = Binding(at.textual[name], "pub")
         for ns, binding in self.among_crates(name).items():
             found.setdefault(ns, binding)
         return found
@@ -296,8 +301,8 @@ class Crate:
 class Session:
     """Draws the crates of one session."""
 
-    def __init__(self, seed):
-        self.random = random.Random(seed)
+    def __init__(self, seed, macros=False):
+        self.random, self.macros = random.Random(seed), macros
         self.crates, self.units, self.inputs, self.skeleton = [], [], [], []
         for number in range(self.random.randint(1, 3)):
             self.draw_crate(number)
@@ -366,6 +371,8 @@ class Session:
             roll = self.random.random()
             if kind == "module":
                 nodes.append(self.draw_module(krate, at, path, name))
+            elif self.macros and self.random.random() < 0.4:
+                nodes.append(self.draw_macro(krate, at))
             elif roll < 0.35:
                 nodes.append(self.draw_definition(krate, at))
             elif roll < 0.45:
@@ -385,7 +392,23 @@ class Session:
         if not any(m.parent is at and n == name for m, n in krate.children):
             krate.children.append((module, name))
         nodes = self.draw_items(krate, module, path + (name,))
+        if self.macros and self.random.random() < 0.4:
+            at.textual = dict(module.textual)
+            return self.node("Module", node_id, vis, name=name, nodes=nodes, attrs=[{"path": "macro_use"}])
         return self.node("Module", node_id, vis, name=name, nodes=nodes)
+
+    def draw_macro(self, krate, at):
+        node_id, name, vis = self.id(), self.choose(ITEMS + ["m"]), self.vis(at)
+        if self.random.random() < 0.3:
+            binding = Binding(self.item(krate, "MacroDef", node_id), krate.written(vis, at))
+            krate.push(at, name, {"macros": binding}, None)
+            return self.node("MacroDef", node_id, vis, name=name)
+        makro = self.item(krate, "MacroRules", node_id)
+        at.textual[name] = makro
+        if self.random.random() < 0.3:
+            krate.push(krate.root, name, {"macros": Binding(makro, "pub")}, None)
+            return self.node("MacroRules", node_id, None, name=name, attrs=[{"path": "macro_export"}])
+        return self.node("MacroRules", node_id, None, name=name)
 
     def draw_definition(self, krate, at):
         node_id, name, vis = self.id(), self.choose(ITEMS + ["m"]), self.vis(at)
@@ -477,11 +500,14 @@ class Session:
         for krate in self.crates:
             for module, place in self.places(krate):
                 for name in NAMES + ["d"]:
-                    found = {ns: module.scope[ns].get(name) for ns in KINDS}
-                    commands.append(dump({"do": "resolve", "at": place, "path": "self::" + name}))
-                    reply = {ns: self.answer(found[ns]) for ns in KINDS}
-                    reply["stop"] = None
-                    answers.append(dump({"ok": reply}))
+                    asked = [("self::" + name, {ns: module.scope[ns].get(name) for ns in KINDS})]
+                    if self.macros:
+                        asked.append((name, krate.in_scope(module, name)))
+                    for path, found in asked:
+                        commands.append(dump({"do": "resolve", "at": place, "path": path}))
+                        reply = {ns: self.answer(found.get(ns)) for ns in KINDS}
+                        reply["stop"] = None
+                        answers.append(dump({"ok": reply}))
         return commands, answers
 
     @staticmethod
@@ -501,12 +527,13 @@ def main():
     parser = argparse.ArgumentParser()
     parser.add_argument("--sessions", type=int, default=100)
     parser.add_argument("--seed", type=int, default=0)
+    parser.add_argument("--macros", action="store_true")
     parser.add_argument("--program", default="crates/hir_session_main/out/hir_session_main")
     parser.add_argument("--write")
     options = parser.parse_args()
     written = []
     for seed in range(options.seed, options.seed + options.sessions):
-        session = Session(seed)
+        session = Session(seed, options.macros)
         commands, answers = session.lines()
         if options.write:
             written.append((seed, commands, answers))

@@ -1,12 +1,12 @@
 -- A path answers only what is written where the maps bind.
 use Rattle.std.proofs.Common.{◌≡◌, refl, ℕ, ◌+◌, ◌-◌, List, [], ◌∷◌, length, Bool, true, false, ◌&&◌, ◌||◌, cond, Option, None, Some}
-use Rattle.std.specs.List.{list_any}
+use Rattle.std.specs.List.{filter, last_or, list_any}
 use Rattle.std.specs.Map.{lookup}
 use Rattle.std.specs.Option.{option_and_then, option_map}
 use Rattle.std.specs.Ordering.{nat_cmp}
 use Rattle.std.specs.BTreeMap.{is_at}
 use Rattle.std.specs.Cmp.Lexicographic.{pointwise, slice_cmp}
-use Rattle.std.specs.Prelude.{is_some, nat_eq, not, slice_get}
+use Rattle.std.specs.Prelude.{is_some, map as list_map, nat_eq, not, slice_get}
 use Rattle.hir_base.specs.declared.builtin_type.BuiltinType.{BuiltinType as AnyBuiltin}
 use Rattle.hir_base.specs.BuiltinType.{builtin_named}
 use Rattle.hir_base.specs.contracts.ids.EnumIdOrd.TheImpl as enum_order
@@ -28,7 +28,8 @@ use Rattle.hir_scope.specs.declared.per_ns.PerNs.{PerNs}
 use Rattle.hir_scope.specs.declared.visibility.Visibility.{Visibility}
 use Rattle.hir_scope.specs.ModuleTree.{same_block, same_crate}
 use Rattle.hir_scope.specs.Bindings.{first_of}
-use Rattle.hir_scope.specs.Scope.Reads.{legacy_at}
+use Rattle.hir_textual_scope.specs.Macros.{has_name, macros_of}
+use Rattle.hir_textual_scope.specs.declared.textual_scope.TextualMacro.{TextualMacro}
 use Rattle.hir_scope.specs.Visibility.{is_visible}
 use Rattle.hir_def_map.specs.Overlay.{Maps, Placed, entry_in, map_in, module_in}
 use Rattle.hir_def_map.specs.State.{ModuleValue, Variants, at_name, entry_of, module_at, variants_at}
@@ -37,7 +38,7 @@ use Rattle.hir_def_map.proofs.NoneOf.{neither, none_at, none_found, not_first, n
 use Rattle.hir_def_map.specs.Sources.{SourceTest, HoldsOfNone, HoldsNowhere, HoldsOfNoExtern, on_some, on_values, on_def, on_macro, on_visibility, on_type, on_value, on_macro_item, on_variant, on_macro_use, on_extern_entry, on_types_in, on_values_in, on_macros_in, on_legacy_in}
 use Rattle.hir_def_map.specs.Scoping.Asking.{Asking}
 use Rattle.hir_def_map.specs.Scoping.Blocks.{from_blocks, in_preludes, inherited, joined, with_preludes}
-use Rattle.hir_def_map.specs.Scoping.FirstSegment.{builtin_bound, builtin_name, extern_bound, extern_name, fits, is_block_root, keep_fitting, last_macro, legacy_bound, legacy_name, legacy_of, macro_use_bound, macro_use_name, macro_use_of, name_in_module, name_in_preludes, name_in_crate_root_or_extern_prelude, names_module, of_style, prelude_bound, prelude_name, prelude_of, scope_name, shadow_before, unless_block_root, with_builtin}
+use Rattle.hir_def_map.specs.Scoping.FirstSegment.{builtin_bound, builtin_name, extern_bound, extern_name, fits, is_block_root, keep_fitting, legacy_bound, legacy_name, legacy_of, macro_use_bound, macro_use_name, macro_use_of, name_in_module, name_in_preludes, name_in_crate_root_or_extern_prelude, names_module, of_style, prelude_bound, prelude_name, prelude_of, scope_name, shadow_before, unless_block_root, with_builtin}
 use Rattle.hir_def_map.specs.Scoping.Segments.{after_enum, crossing, nearest_non_block_module, rest, seen, through, through_adt, through_type, unresolved, variant_in}
 use Rattle.hir_def_map.specs.Scoping.Start.{abs_from, climb, crate_root, from_start, is_import, is_in_reach, module_bound, is_in_edition_2015, settled_in_block, super_from}
 use Rattle.hir_def_map.specs.declared.nameres.enum_variants.EnumVariant.{EnumVariant}
@@ -146,12 +147,18 @@ module _ (t : SourceTest) where
       go None e = refl
       go (Some v) e = none_found p test es v f e
 
-  of_last : (ms : List AnyMacro) → list_any (on_macro t) ms ≡ false → on_some (on_macro t) (last_macro ms) ≡ false
-  of_last ms f = go (last_macro ms) refl
+  -- of the last macro of a name
+  of_last : (name : List ℕ) (ms : List TextualMacro) (o : Option AnyMacro) → list_any (λ (x : TextualMacro). on_macro t x.makro) ms ≡ false → on_some (on_macro t) o ≡ false
+      → on_some (on_macro t) (last_or o (macros_of ms name)) ≡ false
+  of_last name [] o f g = g
+  of_last name (m ∷ ms) o f g =
+      let left : list_any (λ (x : TextualMacro). on_macro t x.makro) ms ≡ false = not_second (on_macro t m.makro) (list_any (λ (x : TextualMacro). on_macro t x.makro) ms) f in
+      go (has_name name m) (of_last name ms (Some m.makro) left (not_first (on_macro t m.makro) (list_any (λ (x : TextualMacro). on_macro t x.makro) ms) f)) (of_last name ms o left g)
     where
-      go : (o : Option AnyMacro) → last_macro ms ≡ o → on_some (on_macro t) o ≡ false
-      go None e = refl
-      go (Some m) e = none_at (on_macro t) ms f (length ms - 1) m e
+      go : (b : Bool) → on_some (on_macro t) (last_or (Some m.makro) (macros_of ms name)) ≡ false → on_some (on_macro t) (last_or o (macros_of ms name)) ≡ false
+          → on_some (on_macro t) (last_or o (list_map (λ (x : TextualMacro). x.makro) (cond b (m ∷ filter (has_name name) ms) (filter (has_name name) ms)))) ≡ false
+      go true h k = h
+      go false h k = k
 
   module _ (maps : Maps) (nowhere : HoldsNowhere t maps) (asking : Asking) (externs : HoldsOfNoExtern t asking.local) where
     -- of what a module among the maps holds
@@ -185,13 +192,9 @@ module _ (t : SourceTest) where
     of_legacy_name sub_ns at name = of_legacy sub_ns (legacy_of (module_in maps at) name)
         (go (module_in maps at) (of_modules (on_legacy_in t) (λ id placed e. (nowhere id placed e).legacy) at))
       where
-        listed : (o : Option (List AnyMacro)) → on_some (λ (ms : List AnyMacro). list_any (on_macro t) ms) o ≡ false → on_some (on_macro t) (option_and_then last_macro o) ≡ false
-        listed None f = refl
-        listed (Some ms) f = of_last ms f
-
         go : (o : Option ModuleValue) → on_some (on_legacy_in t) o ≡ false → on_some (on_macro t) (legacy_of o name) ≡ false
         go None f = refl
-        go (Some v) f = listed (legacy_at v.scope name) (found (λ (ms : List AnyMacro). list_any (on_macro t) ms) (pointwise nat_eq name) v.scope.legacy_macros f)
+        go (Some v) f = of_last name v.scope.legacy_macros None f refl
 
     of_macro_use_name : (at : AnyModule) (name : List ℕ) → HoldsOfNone t (macro_use_name maps at name)
     of_macro_use_name at name = of_macro_use (macro_use_of (map_in maps at.map) name) (go (maps at.map) refl)

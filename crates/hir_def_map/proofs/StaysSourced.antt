@@ -13,6 +13,7 @@ use Rattle.hir_base.specs.declared.ids.ModuleDefId.{ModuleDefId}
 use Rattle.hir_base.specs.declared.ids.ModuleId.{ModuleId}
 use Rattle.hir_base.specs.declared.ids.UseId.{UseId}
 use Rattle.hir_base.specs.declared.macro_kind.MacroId.{MacroId}
+use Rattle.hir_textual_scope.specs.declared.textual_scope.TextualMacro.{TextualMacro}
 use Rattle.hir_scope.specs.contracts.imports.ImportOrExternCratePartialEq.TheImpl as item_import
 use Rattle.hir_scope.specs.contracts.imports.ImportOrGlobPartialEq.TheImpl as glob_import
 use Rattle.hir_scope.specs.declared.imports.ImportOrExternCrate.{ImportOrExternCrate}
@@ -44,7 +45,7 @@ module _ (t : SourceTest) where
   -- ---- a change of one scope
 
   abbrev on_legacy : ScopeValue → Bool
-  on_legacy scope = on_values (λ macros. list_any (on_macro t) macros) scope.legacy_macros
+  on_legacy scope = list_any (λ (x : TextualMacro). on_macro t x.makro) scope.legacy_macros
 
   -- it leaves a scope that binds nothing of which the test holds
   pub record KeepsScope (change : ScopeValue → ScopeValue) : Type 0 where

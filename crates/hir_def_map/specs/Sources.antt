@@ -13,6 +13,7 @@ use Rattle.hir_base.specs.declared.ids.ModuleDefId.TheVariants as def
 use Rattle.hir_base.specs.declared.ids.ModuleId.{ModuleId}
 use Rattle.hir_base.specs.declared.macro_kind.MacroId.{MacroId}
 use Rattle.hir_base.specs.declared.macro_kind.MacroId.TheVariants as macro
+use Rattle.hir_textual_scope.specs.declared.textual_scope.TextualMacro.{TextualMacro}
 use Rattle.hir_scope.specs.declared.imports.ImportOrExternCrate.{ImportOrExternCrate}
 use Rattle.hir_scope.specs.declared.imports.ImportOrExternCrate.TheVariants as import
 use Rattle.hir_scope.specs.declared.imports.ImportOrGlob.{ImportOrGlob}
@@ -151,7 +152,7 @@ abbrev pub on_macros_in : SourceTest → ModuleValue → Bool
 on_macros_in t m = on_values (on_macro_item t) m.scope.macros
 
 abbrev pub on_legacy_in : SourceTest → ModuleValue → Bool
-on_legacy_in t m = on_values (λ macros. list_any (on_macro t) macros) m.scope.legacy_macros
+on_legacy_in t m = list_any (λ (x : TextualMacro). on_macro t x.makro) m.scope.legacy_macros
 
 -- it holds of nothing that a map binds, of no variant of its enums, and of none of its modules
 pub record HoldsNowhereIn (t : SourceTest) (map : Map) : Type 0 where

@@ -20,12 +20,12 @@ use Rattle.hir_scope.specs.Globs.{GlobNames, Place}
 use Rattle.hir_scope.specs.PerNs.{is_nothing}
 use Rattle.hir_scope.specs.Scope.{ScopeValue}
 use Rattle.hir_scope.specs.Scope.Push.{pushed_scope, taken_candidates, with_unresolved, written_scope}
-use Rattle.hir_scope.specs.Scope.Reads.{legacy_at}
+use Rattle.hir_scope.specs.Scope.Reads.{last_legacy_at}
 use Rattle.hir_scope.specs.declared.imports.ImportOrExternCrate.{ImportOrExternCrate}
 use Rattle.hir_scope.specs.declared.per_ns.PerNs.{PerNs}
 use Rattle.hir_scope.specs.declared.visibility.Visibility.{Visibility}
 use Rattle.hir_def_map.specs.Declaration.{listed}
-use Rattle.hir_def_map.specs.Scoping.FirstSegment.{last_macro, legacy_of}
+use Rattle.hir_def_map.specs.Scoping.FirstSegment.{legacy_of}
 use Rattle.hir_def_map.specs.State.{Local, Map, ModuleValue, Variants, changed_at, entry_at, module_at, new_id, new_module, numbered, parent_at, parent_of, place_at, pushed, pushed_module, variants_at, with_child, with_enum, with_extern, with_macro_use, with_module, with_module_scope, with_scope}
 use Rattle.hir_def_map.specs.declared.nameres.declaration.Declaration.{Declaration}
 use Rattle.hir_def_map.specs.declared.nameres.declaration.Declaration.TheVariants as declaration
@@ -63,10 +63,10 @@ same_preludes map modules local name = record { crates = refl; macro_uses = refl
 
 -- a push leaves textual scopes
 legacy_pushed : (globs : GlobNames) (place : Place) (items : PerNs) (import : Option ImportOrExternCrate) (scope : ScopeValue) (name : List ℕ)
-    → legacy_at (pushed_scope globs place items import scope) name ≡ legacy_at scope name
+    → last_legacy_at (pushed_scope globs place items import scope) name ≡ last_legacy_at scope name
 legacy_pushed globs place items import scope name = go (is_nothing items)
   where
-    go : (b : Bool) → legacy_at (cond b (with_unresolved scope place.1) (written_scope place.1 (taken_candidates scope globs place items import) scope)) name ≡ legacy_at scope name
+    go : (b : Bool) → last_legacy_at (cond b (with_unresolved scope place.1) (written_scope place.1 (taken_candidates scope globs place items import) scope)) name ≡ last_legacy_at scope name
     go true = refl
     go false = refl
 
@@ -79,7 +79,7 @@ changes-pushed map local globs at name items import = record {
   where
     legacy : (k : ℕ) (other : List ℕ) → legacy_of (module_at (pushed map globs at name items import) k) other ≡ legacy_of (module_at map k) other
     legacy k other = kept (λ (o : Option ModuleValue). legacy_of o other) map.modules at (pushed_module globs (place_at map.id at name) items import)
-        (λ m. ap (λ o. option_and_then last_macro o) (legacy_pushed globs (place_at map.id at name) items import m.scope other)) k
+        (λ m. legacy_pushed globs (place_at map.id at name) items import m.scope other) k
 
     entries : (k : ℕ) (other : List ℕ) → Some (of_module k other) ≢ Some (of_module at name) → (b : Bool) → (k == at) ≡ b
         → entry_at (pushed map globs at name items import) k other ≡ entry_at map k other
@@ -95,7 +95,7 @@ changes-pushed map local globs at name items import = record {
 
 -- ---- lists
 
-legacy_listed : (d : Declaration) (scope : ScopeValue) (name : List ℕ) → legacy_at (listed d scope) name ≡ legacy_at scope name
+legacy_listed : (d : Declaration) (scope : ScopeValue) (name : List ℕ) → last_legacy_at (listed d scope) name ≡ last_legacy_at scope name
 legacy_listed (declaration.Def def) scope name = refl
 legacy_listed (declaration.Use use_) scope name = refl
 legacy_listed (declaration.ExternCrate extern_crate) scope name = refl
@@ -114,7 +114,7 @@ changes-listed map local at d = record {
       entries = (KeepsNames-listed map at d).entries k other;
       legacy =
           kept (λ (o : Option ModuleValue). legacy_of o other) map.modules at (with_module_scope (listed d))
-          (λ m. ap (λ o. option_and_then last_macro o) (legacy_listed d m.scope other)) k;
+          (λ m. legacy_listed d m.scope other) k;
     }
     slots (of_preludes other) differs = same_preludes map _ local other
 

@@ -2,7 +2,8 @@
 use Rattle.std.proofs.Common.{◌≡◌, ◌≢◌, ◌∙◌, ap, sym, refl, ◌==◌, ℕ, ◌<◌, ◌≤◌, List, [], ◌∷◌, length, Bool, true, false, cond, Option, None, Some, arith}
 use Rattle.std.specs.Cmp.{unsigned_Decides}
 use Rattle.std.specs.Cmp.Lexicographic.{slice_cmp}
-use Rattle.std.specs.Prelude.{slice_get, option_and_then, Contains, zero, suc}
+use Rattle.std.specs.Prelude.{slice_get, Contains, zero, suc}
+use Rattle.std.specs.List.{last_or}
 use Rattle.std.specs.Option.{option_to_list}
 use Rattle.std.specs.BTreeMap.{is_at}
 use Rattle.std.specs.Map.{lookup, set_value}
@@ -15,15 +16,16 @@ use mathlib.Core.Bool.{true≢false}
 use Rattle.hir_scope.specs.Bindings.{with_item_definition, with_item_visibility}
 use Rattle.hir_scope.specs.Entries.{item_at}
 use Rattle.hir_scope.specs.Scope.{ScopeValue, binding_of}
-use Rattle.hir_scope.specs.Scope.Reads.{legacy_at}
-use Rattle.hir_def_map.specs.Scoping.FirstSegment.{last_macro, legacy_of}
+use Rattle.hir_textual_scope.proofs.NewMacro.{other_names_keep_theirs}
+use Rattle.hir_scope.specs.Scope.Reads.{last_legacy_at}
+use Rattle.hir_def_map.specs.Scoping.FirstSegment.{legacy_of}
 use Rattle.hir_def_map.specs.State.{Local, Map, ModuleValue, changed_at, entry_at, entry_of, module_at, numbered, parent_at, parent_of, place_at, pushed, pushed_module, with_module_scope, with_scope}
 use Rattle.hir_def_map.proofs.Grown.{kept}
 use Rattle.hir_def_map_laws.specs.ReadLaw.{AgreeAt, DiffersInScopes, Grows}
 use Rattle.hir_def_map_laws.proofs.InScopes.{changed_modules}
 use Rattle.hir_def_map_laws.proofs.ReadLaw.{reads_decide, scopes_read}
 use Rattle.hir_def_map_laws.proofs.SlotChanges.{Grows-changed, Grows-itself, changes-pushed}
-use Rattle.hir_def_map_laws.specs.SlotChanges.{ChangedScopesChangeTheirSlot, ChangesFollowOneAnother, ChangesOnly, NothingChangesNoScope, NothingChangesNoSlot, OneChangeIsAmongItsSlot, OneScopeChangeIsAmongItsSlot, PushesChangeTheirScope, ScopeChangesFollowOneAnother, TraitsChangeNoScope, TraitsChangeNoSlot, UnreadScopesDoNotMatter, UnreadSlotsDoNotMatter, UpdatesChangeTheirScope, UpdatesChangeTheirSlot, with_macro, with_macro_vis, with_trait, with_type, with_type_vis, with_value, with_value_vis}
+use Rattle.hir_def_map_laws.specs.SlotChanges.{ChangedScopesChangeTheirSlot, ChangesFollowOneAnother, ChangesOnly, NothingChangesNoScope, NothingChangesNoSlot, OneChangeIsAmongItsSlot, OneScopeChangeIsAmongItsSlot, PushesChangeTheirScope, ScopeChangesFollowOneAnother, TextualMacrosChangeTheirSlot, TraitsChangeNoScope, TraitsChangeNoSlot, UnreadScopesDoNotMatter, UnreadSlotsDoNotMatter, UpdatesChangeTheirScope, UpdatesChangeTheirSlot, with_macro, with_macro_vis, with_textual_macro, with_trait, with_type, with_type_vis, with_value, with_value_vis}
 use Rattle.hir_def_map.specs.declared.nameres.path_resolution.slots.Slot.{Slot}
 use Rattle.hir_def_map.specs.declared.nameres.path_resolution.slots.Slot.TheVariants.{Module as of_module, Preludes as of_preludes}
 use Rattle.hir_def_map.specs.Scoping.Slots.{reads}
@@ -190,18 +192,23 @@ changed_elsewhere (x ∷ xs) zero change (suc k) ne = refl
 changed_elsewhere (x ∷ xs) (suc at) change zero ne = refl
 changed_elsewhere (x ∷ xs) (suc at) change (suc k) ne = changed_elsewhere xs at change k (λ e. ne (ap suc e))
 
--- a change of a scope that leaves other names and the textual scope changes the slot of the name alone
+-- a change of a scope that leaves other names changes the slot of the name alone
 scope_changed : (map : Map) (local : Local) (at : ℕ) (name : List ℕ) (change : ScopeValue → ScopeValue)
     → ((scope : ScopeValue) (other : List ℕ) → other ≢ name → binding_of (change scope) other ≡ binding_of scope other)
-    → ((scope : ScopeValue) (other : List ℕ) → legacy_at (change scope) other ≡ legacy_at scope other)
+    → ((scope : ScopeValue) (other : List ℕ) → other ≢ name → last_legacy_at (change scope) other ≡ last_legacy_at scope other)
     → ChangesOnly map local (with_scope map at change) local (Some (of_module at name))
 scope_changed map local at name change names legacies = record {
   grows = Grows-changed map at (with_module_scope change) (λ m. refl);
   others = slots;
 }
   where
-    legacy : (k : ℕ) (other : List ℕ) → legacy_of (module_at (with_scope map at change) k) other ≡ legacy_of (module_at map k) other
-    legacy k other = kept (λ (o : Option ModuleValue). legacy_of o other) map.modules at (with_module_scope change) (λ m. ap (λ o. option_and_then last_macro o) (legacies m.scope other)) k
+    legacy : (k : ℕ) (other : List ℕ) → Some (of_module k other) ≢ Some (of_module at name) → (b : Bool) → (k == at) ≡ b
+        → legacy_of (module_at (with_scope map at change) k) other ≡ legacy_of (module_at map k) other
+    legacy k other differs true e =
+        let same : k ≡ at = (unsigned_Decides k at).0 e in
+        kept (λ (o : Option ModuleValue). legacy_of o other) map.modules at (with_module_scope change) (λ m. legacies m.scope other (λ f. differs (λ i. Some (of_module (same i) (f i))))) k
+    legacy k other differs false e =
+        ap (λ (o : Option ModuleValue). legacy_of o other) (changed_elsewhere map.modules at (with_module_scope change) k (λ f. true≢false (sym ((unsigned_Decides k at).1 f) ∙ e)))
 
     entries : (k : ℕ) (other : List ℕ) → Some (of_module k other) ≢ Some (of_module at name) → (b : Bool) → (k == at) ≡ b
         → entry_at (with_scope map at change) k other ≡ entry_at map k other
@@ -212,24 +219,28 @@ scope_changed map local at name change names legacies = record {
         ap (λ (o : Option ModuleValue). entry_of o other) (changed_elsewhere map.modules at (with_module_scope change) k (λ f. true≢false (sym ((unsigned_Decides k at).1 f) ∙ e)))
 
     slots : (slot : Slot) → Some slot ≢ Some (of_module at name) → AgreeAt map local (with_scope map at change) local slot
-    slots (of_module k other) differs = record { entries = entries k other differs (k == at) refl; legacy = legacy k other }
+    slots (of_module k other) differs = record { entries = entries k other differs (k == at) refl; legacy = legacy k other differs (k == at) refl }
     slots (of_preludes other) differs = record { crates = refl; macro_uses = refl }
 
 pub updates : (map : Map) (local : Local) (at : ℕ) (name : List ℕ) → UpdatesChangeTheirSlot map local at name
 updates map local at name = record {
   types = λ def vis. scope_changed map local at name (with_type name def vis)
-      (λ scope other ne i. record { types = rewritten_other (with_item_definition def vis) scope.types name other ne i; values = item_at scope.values other; macros = item_at scope.macros other }) (λ scope other. refl);
+      (λ scope other ne i. record { types = rewritten_other (with_item_definition def vis) scope.types name other ne i; values = item_at scope.values other; macros = item_at scope.macros other }) (λ scope other ne. refl);
   values = λ def vis. scope_changed map local at name (with_value name def vis)
-      (λ scope other ne i. record { types = item_at scope.types other; values = rewritten_other (with_item_definition def vis) scope.values name other ne i; macros = item_at scope.macros other }) (λ scope other. refl);
+      (λ scope other ne i. record { types = item_at scope.types other; values = rewritten_other (with_item_definition def vis) scope.values name other ne i; macros = item_at scope.macros other }) (λ scope other ne. refl);
   macros = λ def vis. scope_changed map local at name (with_macro name def vis)
-      (λ scope other ne i. record { types = item_at scope.types other; values = item_at scope.values other; macros = rewritten_other (with_item_definition def vis) scope.macros name other ne i }) (λ scope other. refl);
+      (λ scope other ne i. record { types = item_at scope.types other; values = item_at scope.values other; macros = rewritten_other (with_item_definition def vis) scope.macros name other ne i }) (λ scope other ne. refl);
   type_vis = λ vis. scope_changed map local at name (with_type_vis name vis)
-      (λ scope other ne i. record { types = rewritten_other (with_item_visibility vis) scope.types name other ne i; values = item_at scope.values other; macros = item_at scope.macros other }) (λ scope other. refl);
+      (λ scope other ne i. record { types = rewritten_other (with_item_visibility vis) scope.types name other ne i; values = item_at scope.values other; macros = item_at scope.macros other }) (λ scope other ne. refl);
   value_vis = λ vis. scope_changed map local at name (with_value_vis name vis)
-      (λ scope other ne i. record { types = item_at scope.types other; values = rewritten_other (with_item_visibility vis) scope.values name other ne i; macros = item_at scope.macros other }) (λ scope other. refl);
+      (λ scope other ne i. record { types = item_at scope.types other; values = rewritten_other (with_item_visibility vis) scope.values name other ne i; macros = item_at scope.macros other }) (λ scope other ne. refl);
   macro_vis = λ vis. scope_changed map local at name (with_macro_vis name vis)
-      (λ scope other ne i. record { types = item_at scope.types other; values = item_at scope.values other; macros = rewritten_other (with_item_visibility vis) scope.macros name other ne i }) (λ scope other. refl);
+      (λ scope other ne i. record { types = item_at scope.types other; values = item_at scope.values other; macros = rewritten_other (with_item_visibility vis) scope.macros name other ne i }) (λ scope other ne. refl);
 }
+
+pub textual_macros : TextualMacrosChangeTheirSlot
+textual_macros map local at name makro = scope_changed map local at name (with_textual_macro name makro)
+    (λ scope other ne. refl) (λ scope other ne. ap (last_or None) (other_names_keep_theirs scope.legacy_macros name makro other ne))
 
 pub traits_kept : TraitsChangeNoSlot
 traits_kept map local at tr vis import = record { grows = Grows-changed map at (with_module_scope (with_trait tr vis import)) (λ m. refl); others = slots }

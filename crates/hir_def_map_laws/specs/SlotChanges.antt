@@ -8,6 +8,7 @@ use Rattle.hir_base.specs.declared.ids.ModuleDefId.{ModuleDefId}
 use Rattle.hir_base.specs.declared.ids.ModuleId.{ModuleId}
 use Rattle.hir_base.specs.declared.ids.TraitId.{TraitId}
 use Rattle.hir_base.specs.declared.macro_kind.MacroId.{MacroId}
+use Rattle.hir_textual_scope.specs.Macros.{with_macro as with_more}
 use Rattle.hir_scope.specs.Globs.{GlobNames}
 use Rattle.hir_scope.specs.Scope.{ScopeValue}
 use Rattle.hir_scope.specs.Scope.Updates.{with_definition, with_unnamed_trait, with_visibility}
@@ -51,6 +52,15 @@ ListsChangeNoSlot = (map : Map) (local : Local) (at : ℕ) (d : Declaration) →
 abbrev pub ModulesChangeNoSlot : Type 0
 ModulesChangeNoSlot = (map : Map) (local : Local) (at : ℕ) (name : List ℕ) (origin : ModuleOrigin) (visibility : Visibility) (parent : Option ModuleId)
     → ChangesOnly map local (with_module map at name (new_module origin visibility parent)) local None
+
+-- a scope with one more macro in textual scope, the last of its name
+abbrev pub with_textual_macro : List ℕ → MacroId → ScopeValue → ScopeValue
+with_textual_macro name makro scope = record scope { legacy_macros = with_more scope.legacy_macros name makro }
+
+-- a macro that enters the textual scope of a module changes the slot of its name there
+abbrev pub TextualMacrosChangeTheirSlot : Type 0
+TextualMacrosChangeTheirSlot = (map : Map) (local : Local) (at : ℕ) (name : List ℕ) (makro : MacroId)
+    → ChangesOnly map local (with_scope map at (with_textual_macro name makro)) local (Some (of_module at name))
 
 -- variants that an enum gets which had none, or had these, change none
 abbrev pub EnumsChangeNoSlot : Type 0

@@ -11,7 +11,7 @@ ghost use Rattle.hir_def_map.specs.Closed.{IsClosed};
 ghost use Rattle.hir_def_map.specs.State.{Local, Map};
 ghost use Rattle.hir_def_map_laws.specs.Building.{DeclarationsKeepNames, DeclarationsKeepPlaces, DeclarationsNameWhatIsThere, EnumsKeepToSources, ListsKeepToSources, ModulesKeepToSources, ModulesNameWhatIsThere, PushesKeepPlaces, PushesKeepToSources, PushesNameWhatIsThere};
 ghost use Rattle.hir_def_map_laws.specs.ReadLaw.{ChangedModulesDifferInScopes, CrateMapsBeginOutside, CratesAreOutside, ImportsReadAlike, PartsKeepApart, ReadsDecide, ScopesReadAlike, SomeMapsKeepApart, WholeMapsKeepApart, WholeMapsStandBeside, WorldsKeepApart};
-ghost use Rattle.hir_def_map_laws.specs.SlotChanges.{ChangedScopesChangeTheirSlot, ChangesFollowOneAnother, CratesChangeTheirSlot, EnumsChangeNoSlot, ListsChangeNoSlot, MacroUsesChangeTheirSlot, ModulesChangeNoSlot, NothingChangesNoScope, NothingChangesNoSlot, OneChangeIsAmongItsSlot, OneScopeChangeIsAmongItsSlot, OtherSlotsDoNotMatter, PushesChangeTheirScope, PushesChangeTheirSlot, ScopeChangesFollowOneAnother, TraitsChangeNoScope, TraitsChangeNoSlot, UnreadScopesDoNotMatter, UnreadSlotsDoNotMatter, UpdatesChangeTheirScope, UpdatesChangeTheirSlot};
+ghost use Rattle.hir_def_map_laws.specs.SlotChanges.{ChangedScopesChangeTheirSlot, ChangesFollowOneAnother, CratesChangeTheirSlot, EnumsChangeNoSlot, ListsChangeNoSlot, MacroUsesChangeTheirSlot, ModulesChangeNoSlot, NothingChangesNoScope, NothingChangesNoSlot, OneChangeIsAmongItsSlot, OneScopeChangeIsAmongItsSlot, OtherSlotsDoNotMatter, PushesChangeTheirScope, PushesChangeTheirSlot, ScopeChangesFollowOneAnother, TextualMacrosChangeTheirSlot, TraitsChangeNoScope, TraitsChangeNoSlot, UnreadScopesDoNotMatter, UnreadSlotsDoNotMatter, UpdatesChangeTheirScope, UpdatesChangeTheirSlot};
 ghost use Rattle.hir_def_map_laws.specs.Paths.{BlocksAskHolders, CratesAskThemselves, InnerModulesAskPreludes, LaterSegmentsAreSeen, RootedStepsLeadToParents, SegmentsAreSeen, StepsLeadToParents, UnnamedBindingsDoNotMatter};
 
 use hir_def_map::nameres::local_def_map::LocalDefMap;
@@ -39,6 +39,7 @@ pub fn changes_keep_to_their_slot()
     ensures enums { EnumsChangeNoSlot }
     ensures macro_uses { MacroUsesChangeTheirSlot }
     ensures crates { CratesChangeTheirSlot }
+    ensures textual_macros { TextualMacrosChangeTheirSlot }
 {}
 
 /// Changes one after another change the slots of all; paths that look at none of them mean the same.

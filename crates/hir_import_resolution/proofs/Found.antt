@@ -1,24 +1,16 @@
 -- What look-ups find in a map among several.
-use Rattle.std.proofs.Common.{◌≡◌, ◌∙◌, ap, refl, ℕ, List, false, Option, None, Some, is_some}
+use Rattle.std.proofs.Common.{◌≡◌, ◌∙◌, ap, refl, ℕ, Option, None, Some}
 use Rattle.std.specs.Option.{option_and_then, option_map}
 use Rattle.hir_base.specs.declared.ids.EnumId.{EnumId}
-use Rattle.hir_base.specs.declared.ids.ModuleDefId.{ModuleDefId}
 use Rattle.hir_base.specs.declared.ids.ModuleId.{ModuleId}
 use Rattle.hir_base.specs.declared.ids.TraitId.{TraitId}
-use Rattle.hir_scope.specs.Entries.{item_at}
-use Rattle.hir_scope.specs.PerNs.{Item}
 use Rattle.hir_scope.specs.Scope.{ScopeValue}
-use Rattle.hir_scope.specs.Scope.Reads.{type_at}
-use Rattle.hir_scope.specs.declared.imports.ImportOrExternCrate.{ImportOrExternCrate}
-use Rattle.hir_scope.specs.declared.item_in_ns.ItemInNs.{ItemInNs}
-use Rattle.hir_scope.specs.declared.item_in_ns.ItemInNs.TheVariants as in_ns
-use Rattle.hir_scope.specs.declared.visibility.Visibility.{Visibility}
 use Rattle.hir_def_map.specs.Overlay.{Maps, Placed, map_in, module_in, variants_in}
 use Rattle.hir_def_map.specs.State.{Map, ModuleValue, module_at, scope_at, variants_at}
 use Rattle.hir_glob_imports.specs.declared.edge.Key.{Key}
 use Rattle.hir_glob_imports.specs.declared.edge.Key.TheVariants.{Types, Values, Macros, Unnamed}
 use Rattle.hir_import_resolution.specs.KeyLists.{scope_in}
-use Rattle.hir_import_resolution.specs.Names.{bound_by, trait_vis}
+use Rattle.hir_import_resolution.specs.Names.{trait_vis}
 use Rattle.hir_import_resolution.specs.Inner.ScopeLaws.{bound_scope}
 use Rattle.hir_import_resolution.specs.Inner.ViewLaws.{bound_inside, inside_scope}
 
@@ -88,28 +80,3 @@ module _ (map : Map) (at : ℕ) (key : Key) where
       go (Some m) f = absurd cc
 
 pub ruleset scoped = (bound-scope, bound-no_scope)
-
--- what a name stands for in one namespace of a scope
-module _ (scope : ScopeValue) (name : List ℕ) where
-  pub type-found : (def : ModuleDefId) (vis : Visibility) → type_at scope name ≡ Some (def, vis)
-      → bound_by in_ns.Types (item_at scope.types name) ≡ Some (record { def = in_ns.Types def; vis = vis })
-  type-found def vis e = go (item_at scope.types name) e
-    where
-      go : (o : Option (Item ModuleDefId ImportOrExternCrate)) → option_map {U = ModuleDefId × Visibility} (λ (i : Item ModuleDefId ImportOrExternCrate). (i.def, i.vis)) o ≡ Some (def, vis)
-          → bound_by in_ns.Types o ≡ Some (record { def = in_ns.Types def; vis = vis })
-      go None f = absurd cc
-      go (Some i) f = let same : (i.def, i.vis) ≡ (def, vis) = cc in ap (λ (p : ModuleDefId × Visibility). Some (record { def = in_ns.Types p.0; vis = p.1 })) same
-
-  pub type-none : type_at scope name ≡ None → bound_by in_ns.Types (item_at scope.types name) ≡ None
-  type-none e = go (item_at scope.types name) e
-    where
-      go : (o : Option (Item ModuleDefId ImportOrExternCrate)) → option_map {U = ModuleDefId × Visibility} (λ (i : Item ModuleDefId ImportOrExternCrate). (i.def, i.vis)) o ≡ None
-          → bound_by in_ns.Types o ≡ None
-      go None f = refl
-      go (Some i) f = absurd cc
-
-pub bound-none : {D I : Type 0} (in_namespace : D → ItemInNs) (o : Option (Item D I)) → is_some o ≡ false → bound_by in_namespace o ≡ None
-bound-none in_namespace None e = refl
-bound-none in_namespace (Some i) e = absurd cc
-
-pub ruleset in_one = (type-found, type-none, bound-none)

@@ -143,41 +143,24 @@ fn bound_trait(id: TraitId, vis: Option<Visibility>) -> Option<Bound>
 }
 
 /// What type a name stands for in a scope.
-#[tactic(auto, using(crate::proofs::Found::in_one))]
 fn type_in(scope: &ItemScope, name: &Name) -> Option<Bound>
     ensures value { result ≡ bound_by in_ns.Types (item_at scope.now.types name.now) }
 {
-    match scope.type_(name) {
-        Some((def, vis)) => Some(Bound {
-            def: ItemInNs::Types(def),
-            vis,
-        }),
-        None => None,
-    }
+    bound_type(scope.type_item(name))
 }
 
 /// What value a name stands for in a scope.
-#[tactic(auto, using(crate::proofs::Found::in_one))]
 fn value_in(scope: &ItemScope, name: &Name) -> Option<Bound>
     ensures value { result ≡ bound_by in_ns.Values (item_at scope.now.values name.now) }
 {
-    if scope.has_value(name) {
-        bound_value(scope.get(name).values)
-    } else {
-        None
-    }
+    bound_value(scope.value_item(name))
 }
 
 /// What macro a name stands for in a scope.
-#[tactic(auto, using(crate::proofs::Found::in_one))]
 fn macro_in(scope: &ItemScope, name: &Name) -> Option<Bound>
     ensures value { result ≡ bound_by in_ns.Macros (item_at scope.now.macros name.now) }
 {
-    if scope.has_macro(name) {
-        bound_macro(scope.get(name).macros)
-    } else {
-        None
-    }
+    bound_macro(scope.macro_item(name))
 }
 
 /// What stands at a key of a scope.

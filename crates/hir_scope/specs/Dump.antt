@@ -1,7 +1,6 @@
 -- How does a scope print?
-use Rattle.std.specs.Prelude.{ℕ, ◌||◌, List, [], ◌∷◌, ◌++◌, codes, Option, None, Some, if◌then◌else◌}
+use Rattle.std.specs.Prelude.{ℕ, ◌||◌, List, [], ◌∷◌, ◌++◌, codes, map, Option, None, Some, if◌then◌else◌}
 use Rattle.std.specs.List.{flat_map}
-use Rattle.std.specs.Map.{keys_of}
 use Rattle.std.specs.Ordering.{nat_cmp}
 use Rattle.std.specs.Cmp.Lexicographic.{slice_cmp}
 use Rattle.std.specs.BTreeSet.{insert_key}
@@ -12,6 +11,7 @@ use Rattle.hir_base.specs.declared.macro_kind.MacroId.{MacroId}
 use Rattle.hir_base.specs.declared.macro_kind.MacroCallStyles.{MacroCallStyles}
 use Rattle.hir_base.specs.MacroKind.{styles_of}
 use Rattle.hir_base.specs.Display.{shown}
+use Rattle.hir_textual_scope.specs.declared.textual_scope.TextualMacro.{TextualMacro}
 use Rattle.hir_scope.specs.declared.imports.ImportId.{ImportId}
 use Rattle.hir_scope.specs.declared.imports.ImportOrExternCrate.{ImportOrExternCrate}
 use Rattle.hir_scope.specs.declared.imports.ImportOrExternCrate.TheVariants as item
@@ -84,17 +84,16 @@ in_order sorted (name ∷ names) = in_order (insert_key (slice_cmp nat_cmp) sort
 unfoldable pub legacy_text : List ℕ → List MacroId → List ℕ
 legacy_text name macros = codes "- (legacy) " ++ shown (Some Edition2024) name ++ codes " :" ++ flat_map macro_word macros ++ 10 ∷ []
 
--- the macros of a name in textual scope
-abbrev pub legacy_macros_of : Option (List MacroId) → List MacroId
-legacy_macros_of None = []
-legacy_macros_of (Some macros) = macros
-
 abbrev pub legacy_line : ScopeValue → List ℕ → List ℕ
-legacy_line scope name = legacy_text name (legacy_macros_of (legacy_at scope name))
+legacy_line scope name = legacy_text name (legacy_at scope name)
+
+-- the names of macros
+abbrev pub names_of_macros : List TextualMacro → List (List ℕ)
+names_of_macros macros = map (λ (m : TextualMacro). m.name) macros
 
 -- the lines of a scope: traits without a name, names in order, and macros in textual scope by name
 abbrev pub dump_of : ScopeValue → List ℕ
 dump_of scope =
     flat_map unnamed_line scope.unnamed_traits
     ++ flat_map entry_line (entries_of scope)
-    ++ flat_map (legacy_line scope) (in_order [] (keys_of scope.legacy_macros))
+    ++ flat_map (legacy_line scope) (in_order [] (names_of_macros scope.legacy_macros))

@@ -1,4 +1,4 @@
--- What becomes of macros in textual scope, and of macro calls, attributes and derives?
+-- What becomes of macro calls, attributes and derives?
 use Rattle.std.specs.Prelude.{ℕ, nat_eq, Bool, false, List, [], ◌∷◌, ◌++◌, Option, None, Some, slice_get, slice_set, length, nat_lt, position}
 use Rattle.std.specs.Cmp.Lexicographic.{pointwise}
 use Rattle.std.specs.Map.{lookup, set_value}
@@ -20,10 +20,6 @@ with_item_behind same lists key item (Some items) = set_value (same key) lists (
 abbrev pub with_item_in : {K A : Type 0} → (K → K → Bool) → List (K × List A) → K → A → Option (List A) → List (K × List A)
 with_item_in same lists key item None = insert_entry same lists key (item ∷ [])
 with_item_in same lists key item (Some items) = set_value (same key) lists (items ++ item ∷ [])
-
--- the macros in textual scope with one more, the last of its name
-abbrev pub with_legacy_macro : List (List ℕ × List MacroId) → List ℕ → MacroId → List (List ℕ × List MacroId)
-with_legacy_macro macros name mac = with_item_in (pointwise nat_eq) macros name mac (lookup (pointwise nat_eq name) macros)
 
 -- the calls by node with one more; a node that is there takes the call
 abbrev pub with_call : List (AstId × MacroCallId) → AstId → MacroCallId → List (AstId × MacroCallId)

@@ -23,6 +23,7 @@ use Rattle.hir_scope.specs.declared.imports.ImportOrDef.{ImportOrDef}
 use Rattle.hir_scope.specs.declared.imports.ImportOrExternCrate.{ImportOrExternCrate}
 use Rattle.hir_scope.specs.declared.imports.ImportOrGlob.{ImportOrGlob}
 use Rattle.hir_scope.specs.PerNs.{Item}
+use Rattle.hir_textual_scope.specs.declared.textual_scope.TextualMacro.{TextualMacro}
 use Rattle.hir_scope.specs.declared.per_ns.PerNs.{PerNs}
 pub mod Push
 pub mod Updates
@@ -61,7 +62,8 @@ pub record ScopeValue : Type 0 where
   pub use_decls : List UseId
   pub extern_crate_decls : List ExternCrateId
   -- the macros of each name in textual scope, the first name first
-  pub legacy_macros : List (List ℕ × List MacroId)
+  -- the macros in textual scope, by name
+  pub legacy_macros : List TextualMacro
   -- the calls that attributes, macro calls and derives became, by node
   pub attr_macros : List (AstId × MacroCallId)
   pub macro_calls : List (AstId × MacroCallId)

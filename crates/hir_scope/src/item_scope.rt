@@ -16,7 +16,7 @@ pub mod resolve_import;
 pub mod update;
 
 use crate::imports::{ImportId, ImportOrDef, ImportOrExternCrate, ImportOrGlob};
-use crate::item_scope::macro_calls::{DeriveAttributes, LegacyMacros};
+use crate::item_scope::macro_calls::DeriveAttributes;
 use crate::per_ns::{Item, PerNs};
 use crate::visibility::Visibility;
 use hir_base::ast_id::{AstId, MacroCallId};
@@ -24,6 +24,7 @@ use hir_base::ids::{ConstId, ExternBlockId, ExternCrateId, ImplId, ModuleDefId, 
 use hir_base::macro_kind::{BuiltinDeriveImplId, MacroId};
 use hir_base::name::Name;
 use hir_scope_table::table::Table;
+use hir_textual_scope::textual_scope::TextualScope;
 use indexmap::IndexMap;
 use std::alloc::Global;
 use std::collections::BTreeSet;
@@ -45,7 +46,7 @@ pub struct ItemScope {
     unnamed_traits: IndexMap<TraitId, Item<(), ImportId>>,
     use_decls: Vec<UseId>,
     extern_crate_decls: Vec<ExternCrateId>,
-    legacy_macros: IndexMap<Name, LegacyMacros>,
+    legacy_macros: TextualScope,
     attr_macros: IndexMap<AstId, MacroCallId>,
     macro_calls: IndexMap<AstId, MacroCallId>,
     derive_macros: IndexMap<AstId, DeriveAttributes>,
@@ -72,7 +73,7 @@ impl Model for ItemScope {
       macro_imports = s.macros.records;
       use_decls = s.use_decls.items;
       extern_crate_decls = s.extern_crate_decls.items;
-      legacy_macros = s.legacy_macros.entries;
+      legacy_macros = s.legacy_macros;
       attr_macros = s.attr_macros.entries;
       macro_calls = s.macro_calls.entries;
       derive_macros = s.derive_macros.entries;
@@ -98,7 +99,7 @@ impl ItemScope {
             unnamed_traits: IndexMap::new(alloc),
             use_decls: Vec::new(alloc),
             extern_crate_decls: Vec::new(alloc),
-            legacy_macros: IndexMap::new(alloc),
+            legacy_macros: TextualScope::new(alloc),
             attr_macros: IndexMap::new(alloc),
             macro_calls: IndexMap::new(alloc),
             derive_macros: IndexMap::new(alloc),

@@ -14,12 +14,12 @@ use crate::item_scope::iter::impls::Impls;
 use crate::item_scope::iter::imports::Imports;
 use crate::item_scope::iter::modules_and_traits::{ModulesInScope, Traits};
 use crate::item_scope::iter::tables::TableEntries;
-use crate::item_scope::macro_calls::{DeriveAttributes, LegacyMacros};
+use crate::item_scope::macro_calls::DeriveAttributes;
 use crate::per_ns_items::PerNsItems;
 use hir_base::ast_id::{AstId, MacroCallId};
 use hir_base::ids::ModuleDefId;
 use hir_base::macro_kind::MacroId;
-use hir_base::name::Name;
+use hir_textual_scope::textual_scope::TextualMacros;
 
 /// Each walk ends, and has then given its list.
 pub fn walks_give_their_list()
@@ -35,7 +35,7 @@ pub fn walks_give_their_list()
     ensures types { GivesItsList ⟦<Bindings<'static, ModuleDefId, ImportOrExternCrate> as Iterator>⟧.next_gives deref_pair (λ (left : List _). left) }
     ensures values { GivesItsList ⟦<Bindings<'static, ModuleDefId, ImportOrGlob> as Iterator>⟧.next_gives deref_pair (λ (left : List _). left) }
     ensures macros { GivesItsList ⟦<Bindings<'static, MacroId, ImportOrExternCrate> as Iterator>⟧.next_gives deref_pair (λ (left : List _). left) }
-    ensures legacy_macros { GivesItsList ⟦<TableEntries<'static, Name, LegacyMacros> as Iterator>⟧.next_gives deref_pair (λ (left : List _). left) }
+    ensures legacy_macros { GivesItsList ⟦<TextualMacros<'static> as Iterator>⟧.next_gives (λ m. m.now) (λ (left : List _). left) }
     ensures macro_invocs { GivesItsList ⟦<TableEntries<'static, AstId, MacroCallId> as Iterator>⟧.next_gives deref_pair (λ (left : List _). left) }
     ensures derive_macro_invocs { GivesItsList ⟦<TableEntries<'static, AstId, DeriveAttributes> as Iterator>⟧.next_gives deref_pair (λ (left : List _). left) }
 {}

@@ -26,7 +26,7 @@ equal Greater e = absurd cc
 
 module _ {K : Type 0} (cmp : K → K → Ordering) (total : IsTotalOrder cmp) where
   -- equal slots have the same watchers
-  is_watching-equal : (watchers : Watchers K) (slot other : K) (p : ℕ) → is_at (cmp slot) other ≡ true → is_watching cmp watchers slot p ≡ is_watching cmp watchers other p
+  pub is_watching-equal : (watchers : Watchers K) (slot other : K) (p : ℕ) → is_at (cmp slot) other ≡ true → is_watching cmp watchers slot p ≡ is_watching cmp watchers other p
   is_watching-equal watchers slot other p e = λ i. has_watcher (lookup (λ q. is_eq (total.congr slot other q (equal (cmp slot other) e) i)) watchers.positions.entries) p
 
   -- what is idle afterwards was idle and doesn't read the slot

@@ -13,7 +13,6 @@ use std::collections::BTreeMap;
 #[derive(Drop)]
 pub struct Watchers<K: Ord> {
     positions: BTreeMap<K, Vec<usize>>,
-    alloc: Global,
 }
 
 /// Wakes the things at some positions.
@@ -34,19 +33,7 @@ impl<K: Ord + Drop> Watchers<K> {
     {
         Watchers {
             positions: BTreeMap::new(alloc),
-            alloc,
         }
-    }
-
-    fn watch_first(&mut self, position: usize, slot: K) -> Result<(), AllocError>
-        requires absent { (p : ℕ) → is_watching K.cmp self.old slot p ≡ false }
-        ensures ok { OnOk result (Watches K.cmp self.old self.new slot position) }
-        ensures err { OnErr result (IsSame K.cmp self.old self.new) }
-    {
-        let mut positions = Vec::new(self.alloc);
-        positions.push(position)?;
-        self.positions.insert(slot, positions)?;
-        Ok(())
     }
 
     /// Has the thing at a position watch a slot.
@@ -54,23 +41,9 @@ impl<K: Ord + Drop> Watchers<K> {
         ensures ok { OnOk result (Watches K.cmp self.old self.new slot position) }
         ensures err { OnErr result (IsSame K.cmp self.old self.new) }
     {
-        match self.positions.get_mut(&slot) {
-            Some(positions) => {
-                positions.push(position)?;
-                Ok(())
-            }
-            None => self.watch_first(position, slot),
-        }
-    }
-
-    fn wake_watchers(&self, slot: &K, worklist: &mut Worklist) -> Result<(), AllocError>
-        ensures ok { OnOk result (Wakes worklist.old worklist.new (is_watching K.cmp self.now slot.now)) }
-        ensures err { OnErr result (WakesSome worklist.old worklist.new (is_watching K.cmp self.now slot.now)) }
-    {
-        match self.positions.get(slot) {
-            Some(positions) => wake_each(positions.as_slice(), worklist),
-            None => Ok(()),
-        }
+        let positions = self.positions.entry(slot)?.or_default();
+        positions.push(position)?;
+        Ok(())
     }
 
     /// Wakes all that watch a slot. They have to watch it anew when they are tried.
@@ -82,8 +55,10 @@ impl<K: Ord + Drop> Watchers<K> {
         ensures forgets { OnOk result (Forgets K.cmp self.old self.new slot.now) }
         ensures same { OnErr result (IsSame K.cmp self.old self.new) }
     {
-        self.wake_watchers(slot, worklist)?;
-        self.positions.remove(slot);
+        if let Some(positions) = self.positions.get(slot) {
+            wake_each(positions.as_slice(), worklist)?;
+            self.positions.remove(slot);
+        }
         Ok(())
     }
 }

@@ -14,7 +14,7 @@ use Rattle.hir_scope.specs.declared.imports.ImportOrExternCrate.TheVariants as w
 use Rattle.hir_scope.specs.PerNs.{Item, nothing, types_only, macros_only, or_of}
 use Rattle.hir_scope.specs.declared.per_ns.PerNs.{PerNs}
 use Rattle.hir_scope.specs.declared.visibility.Visibility.TheVariants.{Public}
-use Rattle.hir_scope.specs.Scope.Reads.{legacy_at}
+use Rattle.hir_scope.specs.Scope.Reads.{last_legacy_at}
 use Rattle.hir_def_map.specs.State.{Local, Map, ModuleValue, at_name, crate_root}
 use Rattle.hir_def_map.specs.Overlay.{Maps, entry_in, map_in, module_in}
 use Rattle.hir_base.specs.declared.resolve_mode.BuiltinShadowMode.{BuiltinShadowMode}
@@ -45,14 +45,10 @@ abbrev pub legacy_bound : Option MacroSubNs → Option MacroId → PerNs
 legacy_bound sub_ns None = nothing
 legacy_bound sub_ns (Some makro) = cond (fits sub_ns makro) (macros_only makro Public None) nothing
 
--- the last macro in a list
-abbrev pub last_macro : List MacroId → Option MacroId
-last_macro macros = slice_get macros (length macros - 1)
-
 -- the last of the macros of a name that are in textual scope in a module
 abbrev pub legacy_of : Option ModuleValue → List ℕ → Option MacroId
 legacy_of None name = None
-legacy_of (Some m) name = option_and_then last_macro (legacy_at m.scope name)
+legacy_of (Some m) name = last_legacy_at m.scope name
 
 -- it, where its style is asked for
 abbrev pub legacy_name : Maps → Option MacroSubNs → AnyModule → List ℕ → PerNs

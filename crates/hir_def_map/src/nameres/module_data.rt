@@ -1,11 +1,10 @@
 //! One module of a def map.
-ghost use Rattle.std.specs.Prelude.{◌≡◌, [], None, IfOk, OnOk, OnErr, option_and_then};
+ghost use Rattle.std.specs.Prelude.{◌≡◌, [], None, IfOk, OnOk, OnErr};
 ghost use Rattle.hir_scope.specs.Scope.{binding_of, empty_scope};
-ghost use Rattle.hir_scope.specs.Scope.Reads.{legacy_at};
+ghost use Rattle.hir_scope.specs.Scope.Reads.{last_legacy_at};
 ghost use Rattle.hir_scope.specs.Scope.Push.{pushed_globs, push_changes};
 ghost use Rattle.hir_def_map.specs.Declaration.{listed};
 ghost use Rattle.hir_def_map.specs.Origins.{declaration_of, source_of};
-ghost use Rattle.hir_def_map.specs.Scoping.FirstSegment.{last_macro};
 ghost use Rattle.hir_def_map.specs.Equality.{same_contents, same_place};
 ghost use Rattle.hir_def_map.specs.State.{at_name, pushed_module, with_child, with_module_scope};
 
@@ -135,12 +134,9 @@ impl ModuleData {
 
     /// The last of the macros of a name that are in textual scope in it.
     pub fn legacy_macro(&self, name: &Name) -> Option<MacroId>
-        ensures value { result ≡ option_and_then last_macro (legacy_at self.now.scope name.now) }
+        ensures value { result ≡ last_legacy_at self.now.scope name.now }
     {
-        match self.scope.get_legacy_macro(name) {
-            Some(macros) => macros.last().copied(),
-            None => None,
-        }
+        self.scope.last_legacy_macro(name)
     }
 
     /// Gives the module a child under a name that isn't taken.

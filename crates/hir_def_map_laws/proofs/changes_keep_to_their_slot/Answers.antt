@@ -1,5 +1,6 @@
 -- Each change by itself.
 use Rattle.hir_def_map_laws.proofs.SlotChanges.{changes-crate, changes-enum, changes-listed, changes-macro_use, changes-made, changes-pushed, other_slots}
+use Rattle.hir_def_map_laws.proofs.SlotLists.{textual_macros}
 use Rattle.hir_def_map_laws.proofs.changes_keep_to_their_slot.Goals as goal
 
 pub returns : goal.returns
@@ -11,4 +12,5 @@ returns c = record {
   enums = changes-enum;
   macro_uses = changes-macro_use;
   crates = changes-crate;
+  textual_macros = textual_macros;
 }

@@ -33,6 +33,8 @@ use Rattle.hir_base.specs.contracts.macro_kind.BuiltinDeriveImplIdPartialEq.TheI
 use Rattle.hir_base.specs.contracts.macro_kind.BuiltinDeriveImplIdEq.TheImpl.Laws.{laws-law as builtin_impl_laws}
 use Rattle.hir_base.specs.contracts.macro_kind.MacroIdPartialEq.TheImpl as makro
 use Rattle.hir_base.specs.contracts.macro_kind.MacroIdEq.TheImpl.Laws.{laws-law as makro_laws}
+use Rattle.hir_textual_scope.specs.contracts.textual_scope.TextualMacroPartialEq.TheImpl as textual_macro
+use Rattle.hir_textual_scope.specs.contracts.textual_scope.TextualMacroEq.TheImpl.Laws.{laws-law as textual_macro_laws}
 use Rattle.hir_scope.specs.contracts.imports.ImportIdPartialEq.TheImpl as import_id
 use Rattle.hir_scope.specs.contracts.imports.ImportIdEq.TheImpl.Laws.{laws-law as import_id_laws}
 use Rattle.hir_scope.specs.contracts.imports.ImportOrDefPartialEq.TheImpl as import_or_def
@@ -114,7 +116,7 @@ same_imports =
 -- the macros in textual scope, and what calls, attributes and derives became
 abbrev pub same_macros : ScopeValue → ScopeValue → Bool
 same_macros =
-    eq_of_both (same_list (λ s. s.legacy_macros) (same_entry (pointwise nat_eq) (pointwise makro.ghosts.eq)))
+    eq_of_both (same_list (λ s. s.legacy_macros) textual_macro.ghosts.eq)
     (eq_of_both (same_list (λ s. s.attr_macros) (same_entry ast_id.ghosts.eq macro_call.ghosts.eq))
     (eq_of_both (same_list (λ s. s.macro_calls) (same_entry ast_id.ghosts.eq macro_call.ghosts.eq))
     (same_list (λ s. s.derive_macros) (same_entry ast_id.ghosts.eq (pointwise same_derive)))))
@@ -190,7 +192,7 @@ same_imports_equiv =
 
 same_macros_equiv : IsEquivalence same_macros
 same_macros_equiv =
-    and_equiv (same_list_equiv (λ s. s.legacy_macros) (same_entry_equiv nat_list_eq_equiv (lists_equiv makro_laws)))
+    and_equiv (same_list_equiv (λ s. s.legacy_macros) textual_macro_laws)
     (and_equiv (same_list_equiv (λ s. s.attr_macros) (same_entry_equiv ast_id_laws macro_call_laws))
     (and_equiv (same_list_equiv (λ s. s.macro_calls) (same_entry_equiv ast_id_laws macro_call_laws))
     (same_list_equiv (λ s. s.derive_macros) (same_entry_equiv ast_id_laws (lists_equiv same_derive_equiv)))))

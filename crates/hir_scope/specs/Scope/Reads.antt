@@ -13,6 +13,7 @@ use Rattle.hir_base.specs.contracts.ids.TraitIdPartialEq.TheImpl as trait_id
 use Rattle.hir_base.specs.contracts.ast_id.AttrIdPartialEq.TheImpl as attr
 use Rattle.hir_base.specs.declared.ast_id.AttrId.{AttrId}
 use Rattle.hir_scope.specs.declared.visibility.Visibility.{Visibility}
+use Rattle.hir_textual_scope.specs.Macros.{last_of, macros_of}
 use Rattle.hir_scope.specs.Scope.{ScopeValue, DeriveCalls, DeriveCall}
 use Rattle.hir_scope.specs.Entries.{any_value, item_at}
 use Rattle.std.specs.Borrow.{Bor}
@@ -51,8 +52,12 @@ abbrev pub binds_macro : (Item MacroId ImportOrExternCrate → Bool) → ScopeVa
 binds_macro test scope = any_value test scope.macros
 
 -- the macros of a name in textual scope, the last one last
-abbrev pub legacy_at : ScopeValue → List ℕ → Option (List MacroId)
-legacy_at scope name = lookup (pointwise nat_eq name) scope.legacy_macros
+abbrev pub legacy_at : ScopeValue → List ℕ → List MacroId
+legacy_at scope name = macros_of scope.legacy_macros name
+
+-- the macro that a name means in textual scope: the last one
+abbrev pub last_legacy_at : ScopeValue → List ℕ → Option MacroId
+last_legacy_at scope name = last_of scope.legacy_macros name
 
 -- what a node has in a table of calls
 abbrev pub at_node : {X : Type 0} → List (AstId × X) → AstId → Option X

@@ -1,16 +1,16 @@
 //! What a scope declares, after the `define_` methods of rust-analyzer's `ItemScope`.
 ghost use Rattle.std.specs.Prelude.{◌≡◌, ◌++◌, ◌∷◌, [], OnOk, OnErr};
-ghost use Rattle.hir_scope.specs.MacroScope.{with_legacy_macro};
+ghost use Rattle.hir_textual_scope.specs.Macros.{with_macro};
 ghost use Rattle.hir_scope.specs.Scope.Updates.{with_unnamed_trait};
 
 use crate::imports::ImportId;
 use crate::item_scope::ItemScope;
-use crate::item_scope::macro_calls::{LegacyMacros, push_legacy_macro};
 use crate::per_ns::Item;
 use crate::visibility::Visibility;
 use hir_base::ids::{ConstId, ExternBlockId, ExternCrateId, ImplId, ModuleDefId, TraitId, UseId};
 use hir_base::macro_kind::{BuiltinDeriveImplId, MacroId};
 use hir_base::name::Name;
+use hir_textual_scope::textual_scope::TextualScope;
 use std::alloc::AllocError;
 
 impl ItemScope {
@@ -82,14 +82,17 @@ impl ItemScope {
 
     /// Defines a macro in textual scope, after those of its name that are there.
     pub fn define_legacy_macro(&mut self, name: Name, mac: MacroId) -> Result<(), AllocError>
-        ensures ok { OnOk result (self.new ≡ record self.old { legacy_macros = with_legacy_macro self.old.legacy_macros name mac }) }
+        ensures ok { OnOk result (self.new ≡ record self.old { legacy_macros = with_macro self.old.legacy_macros name mac }) }
         ensures err { OnErr result (self.new ≡ self.old) }
     {
-        if !push_legacy_macro(&mut self.legacy_macros, &name, mac)? {
-            let legacy = LegacyMacros::of(self.alloc, mac)?;
-            self.legacy_macros.insert(name, legacy)?;
-        }
-        Ok(())
+        self.legacy_macros.define(name, mac)
+    }
+
+    /// Takes these macros as those in textual scope.
+    pub fn set_textual_scope(&mut self, macros: TextualScope)
+        ensures value { self.new ≡ record self.old { legacy_macros = macros } }
+    {
+        self.legacy_macros = macros;
     }
 
     /// Imports a trait without a name.

@@ -1,12 +1,10 @@
 //! A scope as text, for tests of whoever fills it.
 ghost use Rattle.std.specs.Prelude.{◌≡◌, ◌++◌, [], ◌∷◌, Some, OnOk, IfOk};
 ghost use Rattle.std.specs.List.{flat_map};
-ghost use Rattle.std.specs.Map.{keys_of};
 ghost use Rattle.std.specs.Option.{option_copied};
 ghost use Rattle.std.specs.String.{string_bytes};
 ghost use Rattle.hir_scope.specs.Scope.Entries.{entries_of};
-ghost use Rattle.hir_scope.specs.Scope.Reads.{legacy_at};
-ghost use Rattle.hir_scope.specs.Dump.{import_word, value_import_word, style_marks, macro_word, type_text, value_text, macro_text, binding_text, line, entry_line, unnamed_line, in_order, legacy_text, legacy_macros_of, legacy_line, dump_of};
+ghost use Rattle.hir_scope.specs.Dump.{import_word, value_import_word, style_marks, macro_word, type_text, value_text, macro_text, binding_text, line, entry_line, unnamed_line, in_order, legacy_text, legacy_line, names_of_macros, dump_of};
 
 use crate::imports::{ImportOrExternCrate, ImportOrGlob};
 use crate::item_scope::ItemScope;
@@ -231,12 +229,12 @@ impl ItemScope {
 
     /// The names of macros in textual scope, in order.
     fn legacy_names(&self) -> Result<BTreeSet<Name>, AllocError>
-        ensures ok { IfOk result (λ names. names.keys ≡ in_order [] (keys_of self.now.legacy_macros)) }
+        ensures ok { IfOk result (λ names. names.keys ≡ in_order [] (names_of_macros self.now.legacy_macros)) }
     {
         let mut sorted = BTreeSet::new(self.alloc);
-        let mut left = self.legacy_macros.keys();
-        'names: while let Some(name) = left.next() {
-            sorted.insert(name.clone()?)?;
+        let mut left = self.legacy_macros.iter();
+        'names: while let Some(textual) = left.next() {
+            sorted.insert(textual.name.clone()?)?;
         }
         Ok(sorted)
     }
@@ -255,16 +253,8 @@ impl ItemScope {
     fn dump_legacy_name(&self, name: &Name, buf: &mut String) -> Result<(), AllocError>
         ensures ok { OnOk result (string_bytes buf.new ≡ string_bytes buf.old ++ legacy_line self.now name.now) }
     {
-        let macros = self.legacy_macros_of(name);
+        let macros = self.get_legacy_macro(name)?;
+        let macros = macros.as_slice();
         write!(buf, "{}", LegacyLine { name, macros })
-    }
-
-    fn legacy_macros_of(&self, name: &Name) -> &[MacroId]
-        ensures value { result.now ≡ legacy_macros_of (legacy_at self.now name.now) }
-    {
-        match self.get_legacy_macro(name) {
-            Some(macros) => macros,
-            None => &[],
-        }
     }
 }

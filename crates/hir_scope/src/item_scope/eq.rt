@@ -4,31 +4,9 @@ ghost use Rattle.std.specs.Cmp.Lexicographic.{pointwise};
 ghost use Rattle.hir_scope.specs.Inner.Equality.{same_entry, same_derive, same_bindings, same_declarations, same_uses, same_imports, same_macros, same_scope};
 
 use crate::item_scope::ItemScope;
-use crate::item_scope::macro_calls::{DeriveAttribute, DeriveAttributes, LegacyMacros};
-use hir_base::macro_kind::MacroId;
+use crate::item_scope::macro_calls::{DeriveAttribute, DeriveAttributes};
 use indexmap::IndexMap;
 use std::hash::Hash;
-
-impl PartialEq for LegacyMacros {
-    ghost use Rattle.std.specs.Cmp.{partial_equiv_from_equiv};
-    ghost use Rattle.std.specs.Cmp.Lexicographic.{lists_equiv};
-    ghost use Rattle.hir_base.specs.contracts.macro_kind.MacroIdEq.TheImpl.Laws.{laws-law as macro_laws};
-
-    ghost eq = { pointwise ⟦<MacroId as PartialEq>⟧.eq };
-
-    ghost laws = { partial_equiv_from_equiv (lists_equiv macro_laws) };
-
-    fn eq(&self, other: &LegacyMacros) -> bool {
-        self.macros == other.macros
-    }
-}
-
-impl Eq for LegacyMacros {
-    ghost use Rattle.std.specs.Cmp.Lexicographic.{lists_equiv};
-    ghost use Rattle.hir_base.specs.contracts.macro_kind.MacroIdEq.TheImpl.Laws.{laws-law as macro_laws};
-
-    ghost laws = { lists_equiv macro_laws };
-}
 
 impl PartialEq for DeriveAttribute {
     ghost use Rattle.std.specs.Cmp.{partial_equiv_from_equiv};
@@ -118,7 +96,7 @@ impl ItemScope {
     fn has_same_macros(&self, other: &ItemScope) -> bool
         ensures value { result ≡ same_macros self.now other.now }
     {
-        same_entries(&self.legacy_macros, &other.legacy_macros)
+        self.legacy_macros == other.legacy_macros
             && same_entries(&self.attr_macros, &other.attr_macros)
             && same_entries(&self.macro_calls, &other.macro_calls)
             && same_entries(&self.derive_macros, &other.derive_macros)

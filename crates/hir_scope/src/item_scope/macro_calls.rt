@@ -1,72 +1,15 @@
-//! Macros in textual scope, and what the macro calls, attributes and derives of a scope became.
-ghost use Rattle.std.specs.Prelude.{◌≡◌, ◌++◌, ◌∷◌, [], nat_eq, is_some, position, Some, IsTrue, IfOk, OnOk, OnErr};
-ghost use Rattle.std.specs.Cmp.Lexicographic.{pointwise};
+//! What the macro calls, attributes and derives of a scope became.
+ghost use Rattle.std.specs.Prelude.{◌≡◌, ◌++◌, ◌∷◌, [], position, IsTrue, IfOk, OnOk, OnErr};
 ghost use Rattle.std.specs.Map.{lookup};
 ghost use Rattle.hir_scope.specs.MacroScope.{with_item_behind, with_call, with_derive_attribute, is_attribute, has_path, has_slot, with_path_call, with_derive_call, has_derive_slot, with_derive};
 
 use crate::item_scope::ItemScope;
 use either::Either;
 use hir_base::ast_id::{AstId, AttrId, MacroCallId};
-use hir_base::macro_kind::{BuiltinDeriveImplId, MacroId};
-use hir_base::name::Name;
+use hir_base::macro_kind::BuiltinDeriveImplId;
 use indexmap::IndexMap;
 use std::alloc::{AllocError, Global};
 use std::marker::Model;
-
-/// The macros of one name in textual scope, the last one last.
-#[derive(Drop)]
-pub struct LegacyMacros {
-    pub(crate) macros: Vec<MacroId>,
-}
-
-impl Model for LegacyMacros {
-    ghost use Rattle.std.specs.Prelude.{List};
-    ghost use Rattle.hir_base.specs.declared.macro_kind.MacroId.{MacroId};
-
-    ghost Value = { List MacroId };
-
-    ghost view = { λ l. l.macros.items };
-}
-
-impl LegacyMacros {
-    /// One macro.
-    pub(crate) fn of(alloc: Global, mac: MacroId) -> Result<LegacyMacros, AllocError>
-        ensures ok { IfOk result (λ legacy. legacy ≡ mac ∷ []) }
-    {
-        let mut macros = Vec::new(alloc);
-        macros.push(mac)?;
-        Ok(LegacyMacros { macros })
-    }
-
-    /// One more, which is now the last.
-    pub(crate) fn push(&mut self, mac: MacroId) -> Result<(), AllocError>
-        ensures ok { OnOk result (self.new ≡ self.old ++ mac ∷ []) }
-        ensures err { OnErr result (self.new ≡ self.old) }
-    {
-        self.macros.push(mac)?;
-        Ok(())
-    }
-}
-
-/// Adds a macro to those of a name that has some, and says whether it has.
-pub(crate) fn push_legacy_macro(
-    macros: &mut IndexMap<Name, LegacyMacros>,
-    name: &Name,
-    mac: MacroId,
-) -> Result<bool, AllocError>
-    ensures ok { OnOk result (macros.new.entries ≡ with_item_behind (pointwise nat_eq) macros.old.entries name.now mac
-        (lookup (pointwise nat_eq name.now) macros.old.entries)) }
-    ensures found { IfOk result (λ found. found ≡ is_some (lookup (pointwise nat_eq name.now) macros.old.entries)) }
-    ensures err { OnErr result (macros.new.entries ≡ macros.old.entries) }
-{
-    match macros.get_mut(name) {
-        Some(legacy) => {
-            legacy.push(mac)?;
-            Ok(true)
-        }
-        None => Ok(false),
-    }
-}
 
 /// A `derive` attribute: its call, and for each of its paths the call or the builtin impl that it became.
 #[derive(Drop)]

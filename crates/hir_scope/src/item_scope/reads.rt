@@ -1,15 +1,18 @@
 //! What a scope holds, list by list and name by name.
-ghost use Rattle.std.specs.Prelude.{◌≡◌};
-ghost use Rattle.std.specs.Option.{option_copied};
-ghost use Rattle.hir_scope.specs.Scope.Reads.{type_at, macro_at, legacy_at, at_node, derive_attribute, derive_call, unnamed_vis};
+ghost use Rattle.std.specs.Prelude.{◌≡◌, IfOk};
+ghost use Rattle.hir_scope.specs.Entries.{item_at};
+ghost use Rattle.hir_scope.specs.Scope.Reads.{type_at, macro_at, legacy_at, last_legacy_at, at_node, derive_attribute, derive_call, unnamed_vis};
 
 use crate::item_scope::ItemScope;
 use crate::item_scope::macro_calls::DeriveAttribute;
+use crate::per_ns::{MacrosItem, TypesItem, ValuesItem};
 use crate::visibility::Visibility;
 use hir_base::ast_id::{AstId, AttrId, MacroCallId};
 use hir_base::ids::{ConstId, ExternBlockId, ExternCrateId, ModuleDefId, TraitId, UseId};
 use hir_base::macro_kind::{BuiltinDeriveImplId, MacroId};
 use hir_base::name::Name;
+use hir_textual_scope::textual_scope::TextualScope;
+use std::alloc::AllocError;
 
 impl ItemScope {
     /// The definitions that are declared here.
@@ -50,13 +53,45 @@ impl ItemScope {
     }
 
     /// The macros of a name in textual scope, the last one last.
-    pub fn get_legacy_macro(&self, name: &Name) -> Option<&[MacroId]>
-        ensures value { option_copied result ≡ legacy_at self.now name.now }
+    pub fn get_legacy_macro(&self, name: &Name) -> Result<Vec<MacroId>, AllocError>
+        ensures ok { IfOk result (λ macros. macros.items ≡ legacy_at self.now name.now) }
     {
-        match self.legacy_macros.get(name) {
-            Some(of_name) => Some(of_name.macros.as_slice()),
-            None => None,
-        }
+        self.legacy_macros.macros_of(name)
+    }
+
+    /// The macro that a name means in textual scope: the last one.
+    pub fn last_legacy_macro(&self, name: &Name) -> Option<MacroId>
+        ensures value { result ≡ last_legacy_at self.now name.now }
+    {
+        self.legacy_macros.last(name)
+    }
+
+    /// The macros in textual scope.
+    pub fn textual_scope(&self) -> &TextualScope
+        ensures value { result.now ≡ self.now.legacy_macros }
+    {
+        &self.legacy_macros
+    }
+
+    /// What a name stands for in types.
+    pub fn type_item(&self, name: &Name) -> Option<TypesItem>
+        ensures value { result ≡ item_at self.now.types name.now }
+    {
+        self.types.get(name)
+    }
+
+    /// What a name stands for in values.
+    pub fn value_item(&self, name: &Name) -> Option<ValuesItem>
+        ensures value { result ≡ item_at self.now.values name.now }
+    {
+        self.values.get(name)
+    }
+
+    /// What a name stands for in macros.
+    pub fn macro_item(&self, name: &Name) -> Option<MacrosItem>
+        ensures value { result ≡ item_at self.now.macros name.now }
+    {
+        self.macros.get(name)
     }
 
     /// The type of a name.

@@ -18,7 +18,7 @@ returns c = record {
   types = gives_its_list deref_pair (λ left. left);
   values = gives_its_list deref_pair (λ left. left);
   macros = gives_its_list deref_pair (λ left. left);
-  legacy_macros = gives_its_list deref_pair (λ left. left);
+  legacy_macros = gives_its_list (λ m. m.now) (λ left. left);
   macro_invocs = gives_its_list deref_pair (λ left. left);
   derive_macro_invocs = gives_its_list deref_pair (λ left. left);
 }

@@ -4,15 +4,15 @@ ghost use Rattle.std.specs.Iterator.{YieldsFirstBy, item_count};
 ghost use Rattle.std.specs.Map.Iter.{deref_pair};
 
 use crate::item_scope::ItemScope;
-use crate::item_scope::macro_calls::{DeriveAttribute, DeriveAttributes, LegacyMacros};
+use crate::item_scope::macro_calls::{DeriveAttribute, DeriveAttributes};
 use either::Either;
 use hir_base::ast_id::{AstId, AttrId, MacroCallId};
-use hir_base::macro_kind::{BuiltinDeriveImplId, MacroId};
-use hir_base::name::Name;
+use hir_base::macro_kind::BuiltinDeriveImplId;
+use hir_textual_scope::textual_scope::TextualMacros;
 use std::marker::Model;
 
-/// Names or nodes, each with what a table of a scope has of it; see `ItemScope::legacy_macros`, `iter_macro_invoc`,
-/// `attr_macro_invocs` and `derive_macro_invocs`.
+/// Nodes, each with what a table of a scope has of it; see `ItemScope::iter_macro_invoc`, `attr_macro_invocs` and
+/// `derive_macro_invocs`.
 #[derive(Drop)]
 pub struct TableEntries<'a, K, V> {
     left: indexmap::map::Iter<'a, K, V>,
@@ -56,22 +56,12 @@ impl DeriveAttributes {
     }
 }
 
-impl LegacyMacros {
-    pub fn as_slice(&self) -> &[MacroId]
-        ensures value { result.now ≡ self.now }
-    {
-        self.macros.as_slice()
-    }
-}
-
 impl ItemScope {
-    /// The names of macros in textual scope, each with its macros, the last one last.
-    pub fn legacy_macros(&self) -> TableEntries<'_, Name, LegacyMacros>
+    /// The macros in textual scope, by name, and those of one name in the order of their definition.
+    pub fn legacy_macros(&self) -> TextualMacros<'_>
         ensures value { result ≡ self.now.legacy_macros }
     {
-        TableEntries {
-            left: self.legacy_macros.iter(),
-        }
+        self.legacy_macros.iter()
     }
 
     /// Each macro call with what it became.
