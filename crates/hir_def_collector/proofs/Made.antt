@@ -9,7 +9,7 @@ use Rattle.hir_scope.specs.declared.per_ns.PerNs.{PerNs}
 use Rattle.hir_scope.specs.declared.visibility.Visibility.{Visibility}
 use Rattle.hir_def_map.specs.Macros.{with_diagnostic}
 use Rattle.hir_def_map.specs.Overlay.{Maps}
-use Rattle.hir_def_map.specs.State.{new_module, with_declared, with_enum, with_module}
+use Rattle.hir_def_map.specs.State.{new_module, with_declared, with_enum}
 use Rattle.hir_def_map.specs.declared.nameres.diagnostics.DefDiagnostic.{DefDiagnostic}
 use Rattle.hir_def_map.specs.declared.nameres.origin.ModuleOrigin.{ModuleOrigin}
 use Rattle.hir_def_map.proofs.Grown.{globs_after-none}
@@ -22,14 +22,15 @@ use Rattle.hir_import_resolution.specs.State.{nothing_brought}
 use Rattle.hir_def_collector.specs.declared.collector.declaration.Declaration.{Declaration}
 use Rattle.hir_def_collector.specs.declared.collector.site.Site.{Site}
 use Rattle.hir_def_collector.specs.declared.source_database.Key.TheVariants as keys
-use Rattle.hir_def_collector.specs.Changes.{act, changes_imports, perform, tells}
+use Rattle.hir_def_collector.specs.Changes.{Change, act, changes_imports, perform, tells}
 use Rattle.hir_def_collector.specs.Enums.{variants_of}
 use Rattle.hir_def_collector.specs.ItemIds.{enum_id, module_id}
 use Rattle.hir_def_collector.specs.Items.{bound_in, declaration_of, own_visibility}
 use Rattle.hir_def_collector.specs.Keys.{Environment, look, of_variants}
-use Rattle.hir_def_collector.specs.Moves.{opened}
-use Rattle.hir_def_collector.specs.State.{Core, State, Visit, counted, joined, ticked, with_asked, with_map}
-use Rattle.hir_def_collector.specs.Steps.{Rule, May, Numbered, reads, Sees, after, declares_enum, declares_item, enum_declaration, making, module_declaration, visit, with_declaration, Step}
+use Rattle.hir_def_collector.specs.Moves.{Makes, begun, opened}
+use Rattle.hir_def_collector.proofs.Changes.{perform-append}
+use Rattle.hir_def_collector.specs.State.{Core, State, Task, Visit, visits, counted, joined, ticked, with_asked, with_map}
+use Rattle.hir_def_collector.specs.Steps.{Rule, May, Numbered, declaring, reads, Sees, after, declares_enum, declares_item, enum_declaration, making, module_declaration, visit, with_declaration, Step}
 
 pub made : {env : Environment} {finished : Maps} {old new : State} (r : Rule) → May finished old r → Sees env finished (reads old r) → Numbered env.tables r → new ≡ after finished old r → Step env finished old new
 made r may sees numbered is = record { rule = r; may = may; sees = sees; numbered = numbered; is = is }
@@ -60,7 +61,7 @@ none_brought home name items =
     ∙ none_in home (Macros name) (is_some items.macros)
 
 -- what a declaration binds leaves it so
-pub act-declared : (c : Core) (agenda : List Visit) (home : ℕ) (name : List ℕ) (items : PerNs)
+pub act-declared : (c : Core) (agenda : List Task) (home : ℕ) (name : List ℕ) (items : PerNs)
     → act (joined c agenda) (changes_imports (pushes home (Some name) items None)) ≡ joined (with_map c (bound_in c.map home name items)) agenda
 act-declared c agenda home name items = λ i. record {
   core = with_map c (bound_in c.map home name items);
@@ -68,20 +69,29 @@ act-declared c agenda home name items = λ i. record {
   globs = record { names = globs_after-none c.map home name items None refl i; edges = []; brought = none_brought home name items i };
 }
 
+-- so a definition that is listed and bound
+pub binds : (c : Core) (home : ℕ) (d : Declaration) (agenda : List Task) → joined (with_map c (with_declaration c.map home d)) agenda ≡ perform (joined c agenda) (declaring home d)
+binds c home d agenda = sym (act-declared (with_map c (with_declared c.map home d.def)) agenda home d.name d.items)
+
+-- changes that are made one after another, where a step ends
+pub makes_both : (cs ds : List Change) (c d e : Core) → Makes cs c d → Makes ds d e → (rest : List Task) → joined (counted e) rest ≡ ticked (perform (joined c rest) (cs ++ ds))
+makes_both cs ds c d e first then_ rest =
+    ap ticked (then_.is rest ∙ ap (λ (s : State). perform s ds) (first.is rest) ∙ sym (perform-append cs ds (joined c rest)))
+
 module _ {env : Environment} {finished : Maps} where
   -- an item that declares something
-  pub declared : (c new : Core) (v : Visit) (d : Declaration) (rest : List Visit) → is_enabled (item_head v.item).attributes ≡ true → declaration_of finished c.local c.map v ≡ Some d
-      → new ≡ counted (with_map c (with_declaration c.map v.site.home d)) → Step env finished (joined c (v ∷ rest)) (joined new rest)
+  pub declared : (c new : Core) (v : Visit) (d : Declaration) (rest : List Task) → is_enabled (item_head v.item).attributes ≡ true → declaration_of finished c.local c.map v ≡ Some d
+      → new ≡ counted (with_map c (with_declaration c.map v.site.home d)) → Step env finished (joined c (visits v ∷ rest)) (joined new rest)
   declared c new v d rest enabled declares is =
       made (declares_item v d rest) (record { here = record { next = refl; enabled = enabled }; declares = declares }) tt tt
       (ap (λ (x : Core). joined x rest) is ∙ sym (ap ticked (act-declared (with_map c (with_declared c.map v.site.home d.def)) rest v.site.home d.name d.items)))
 
   -- an enum
-  pub declared_enum : (c new : Core) (site : Site) (head : Head) (name : List ℕ) (found : Option (List VariantItem)) (rest : List Visit) → is_enabled head.attributes ≡ true
+  pub declared_enum : (c new : Core) (site : Site) (head : Head) (name : List ℕ) (found : Option (List VariantItem)) (rest : List Task) → is_enabled head.attributes ≡ true
       → look env.tables env.workspace finished (keys.Variants (enum_id c.map site head.id)) ≡ of_variants found
       → new ≡ counted (with_map (with_asked c (keys.Variants (enum_id c.map site head.id))) (with_declaration (with_enum c.map (enum_id c.map site head.id) (variants_of (enum_id c.map site head.id) found)) site.home
       (enum_declaration c.map site head name (own_visibility finished c.local c.map site head))))
-      → Step env finished (joined c (visit site (leaf head (enumeration name)) ∷ rest)) (joined new rest)
+      → Step env finished (joined c (visits (visit site (leaf head (enumeration name))) ∷ rest)) (joined new rest)
   declared_enum c new site head name found rest enabled sees is =
       let id : EnumId = enum_id c.map site head.id in
       let d : Declaration = enum_declaration c.map site head name (own_visibility finished c.local c.map site head) in
@@ -90,7 +100,7 @@ module _ {env : Environment} {finished : Maps} where
       ∙ sym (ap ticked (act-declared (with_map (with_asked c (keys.Variants id)) (with_declared (with_enum c.map id (variants_of id found)) site.home d.def)) rest site.home d.name d.items)))
 
 -- a module that is made, listed and bound
-module _ (finished : Maps) (c : Core) (site : Site) (head : Head) (name : List ℕ) (origin : ModuleOrigin) (agenda next : List Visit) where
+module _ (finished : Maps) (c : Core) (site : Site) (head : Head) (name : List ℕ) (origin : ModuleOrigin) (agenda next : List Task) where
   abbrev vis : Visibility
   vis = own_visibility finished c.local c.map site head
 
@@ -98,7 +108,7 @@ module _ (finished : Maps) (c : Core) (site : Site) (head : Head) (name : List �
   d = module_declaration c.map name vis
 
   abbrev listing : Core
-  listing = with_map c (with_declared (with_module c.map site.home name (new_module origin vis (Some (module_id c.map site.home)))) site.home d.def)
+  listing = with_map c (with_declared (begun c.map site.home name (new_module origin vis (Some (module_id c.map site.home)))) site.home d.def)
 
   pub opened_after : joined (opened finished c site head name origin) next ≡ ticked (perform (joined c agenda) (making finished (joined c agenda) site head name origin next))
   opened_after = sym (ap ticked (act-declared listing next site.home d.name d.items))

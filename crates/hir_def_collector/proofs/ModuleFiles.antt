@@ -21,7 +21,7 @@ use Rattle.hir_def_collector.specs.declared.source_database.Key.TheVariants as k
 use Rattle.hir_def_collector.specs.Workspace.{TreeLook, Workspace, seen_of}
 use Rattle.hir_def_collector.specs.Keys.{HasMeaning, Look, absent_source, environment, look, of_tree, source_under}
 use Rattle.hir_def_collector.specs.ModuleFiles.{AreAbsent, AreNumbered, AreTried, IsNumberOf, IsNumbered, LookedAt, ModuleFile, Search, Tried, file_key, file_reading, file_readings, file_tree, is_there, module_file, named_by, taken_by, tried_in}
-use Rattle.hir_def_collector.specs.Steps.{Numbered, Rule, Sees, drops_item, passes_over, declares_item, declares_enum, lists_constant, lists_impl, opens_module, opens_file, drops_file, misses_file, enters_block, reaches_imports, reaches_crate, resolves_imports, keys_read}
+use Rattle.hir_def_collector.specs.Steps.{Numbered, Rule, Sees, drops_item, passes_over, defines_rules, defines_macro, closes_module, declares_item, declares_enum, lists_constant, lists_impl, opens_module, opens_file, drops_file, misses_file, enters_block, reaches_imports, reaches_crate, resolves_imports, keys_read}
 use Rattle.hir_def_collector.proofs.Asked.{seen_tree}
 
 -- ---- numbers stay as tables grow
@@ -45,6 +45,9 @@ module _ (tables grown : TablesValue) (kept : KeepsTables tables grown) where
   Numbered-kept (drops_file site head name s report rest) h = numbered_kept site.tree s h
   Numbered-kept (misses_file site head name s report rest) h = numbered_kept site.tree s h
   Numbered-kept (drops_item v report rest) h = tt
+  Numbered-kept (defines_rules site head name expander helpers rest) h = tt
+  Numbered-kept (defines_macro site head name expander helpers rest) h = tt
+  Numbered-kept (closes_module parent child rest) h = tt
   Numbered-kept (passes_over site head l rest) h = tt
   Numbered-kept (declares_item v d rest) h = tt
   Numbered-kept (declares_enum site head name found rest) h = tt

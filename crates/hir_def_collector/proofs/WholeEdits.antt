@@ -82,7 +82,7 @@ module _ (maps : Maps) where
 
 module _ (finished : Maps) (map : Map) (at : ℕ) where
   -- a change of the names of one module, after which they are of what is there
-  names-scope : (change : ScopeValue → ScopeValue) → ((scope : ScopeValue) → none_missing_in (overlay finished map) scope → none_missing_in (overlay finished map) (change scope))
+  pub names-scope : (change : ScopeValue → ScopeValue) → ((scope : ScopeValue) → none_missing_in (overlay finished map) scope → none_missing_in (overlay finished map) (change scope))
       → HasNoDanglingReference (overlay finished map) map → HasNoDanglingReference (overlay finished (with_scope map at change)) (with_scope map at change)
   names-scope change keeps f =
       let new : Map = with_scope map at change in
