@@ -60,7 +60,7 @@ Keeps-act s (uses_macros macros by) = record { count = refl; id = refl; crate_da
 Keeps-act s (tells d) = record { count = refl; id = refl; crate_data = refl; dependencies = refl; asked = refl }
 Keeps-act s (goes_on tasks) = record { count = refl; id = refl; crate_data = refl; dependencies = refl; asked = refl }
 
-Keeps-perform : (cs : List Change) (s : State) → Keeps s (perform s cs)
+pub Keeps-perform : (cs : List Change) (s : State) → Keeps s (perform s cs)
 Keeps-perform [] s = record { count = refl; id = refl; crate_data = refl; dependencies = refl; asked = refl }
 Keeps-perform (c ∷ cs) s = Keeps-trans (Keeps-act s c) (Keeps-perform cs (act s c))
 

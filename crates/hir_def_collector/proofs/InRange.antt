@@ -7,7 +7,7 @@ use Rattle.hir_use_tree.specs.declared.imports.Import.{Import}
 use Rattle.hir_item_tree.specs.declared.raw_visibility.RawVisibility.{RawVisibility}
 use Rattle.hir_mod_dir.specs.Directory.{Directory}
 use Rattle.hir_mod_dir.specs.ModuleFiles.{inline_directory}
-use Rattle.hir_def_map.specs.State.{Map, ModuleValue, with_module}
+use Rattle.hir_def_map.specs.State.{Map, ModuleValue, new_module, with_module}
 use Rattle.hir_def_map.specs.Overlay.{Maps}
 use Rattle.hir_def_map.proofs.Grown.{length-changed}
 use Rattle.hir_def_map.proofs.StaysWellFormed.{length-made}
@@ -16,12 +16,13 @@ use Rattle.hir_import_resolution.specs.Rules.{acts as import_acts}
 use Rattle.hir_def_collector.specs.declared.collector.site.Site.{Site}
 use Rattle.hir_def_collector.specs.Keys.{Environment}
 use Rattle.hir_def_collector.specs.State.{State, Task, Visit, visits, closes, import_state, visits_over}
-use Rattle.hir_def_collector.specs.ItemIds.{macro_rules_id, use_id}
+use Rattle.hir_def_collector.specs.ItemIds.{macro_rules_id, module_id, use_id}
+use Rattle.hir_def_collector.specs.Items.{file_origin, inline_origin, own_visibility}
 use Rattle.hir_def_collector.specs.Imports.{reached_import}
 use Rattle.hir_def_collector.specs.Macros.{is_macro_use}
 use Rattle.hir_def_collector.specs.Moves.{begun}
 use Rattle.hir_def_collector.specs.Changes.{Change, lists, makes, gives_variants, begins_paths, reaches, changes_imports, adds_textual, takes_textual, defines, uses_macros, tells, goes_on, act, on_map}
-use Rattle.hir_def_collector.specs.Steps.{Rule, drops_item, passes_over, defines_rules, defines_macro, closes_module, closing, declares_item, declares_enum, lists_constant, lists_impl, opens_module, opens_file, drops_file, misses_file, enters_block, reaches_imports, reaches_crate, resolves_imports, May, acts, asking, inside_block, inside_file, inside_module, path_of, visits_inside, Step, Steps, none, more}
+use Rattle.hir_def_collector.specs.Steps.{Rule, drops_item, passes_over, defines_rules, defines_macro, closes_module, closing, declares_item, declares_enum, lists_constant, lists_impl, opens_module, opens_file, drops_file, misses_file, enters_block, reaches_imports, reaches_crate, resolves_imports, May, acts, asking, inside_block, inside_file, inside_module, path_of, visits_in_file, visits_inside, Step, Steps, none, more}
 use Rattle.hir_def_collector.proofs.Changes.{AllFine, all_fine, fine_macro, fine_reporting, perform_keeps}
 use Rattle.hir_def_collector.proofs.Grows.{Grows, Grows-act}
 use Rattle.hir_def_collector.proofs.ImportEdits.{imports_after}
@@ -164,11 +165,16 @@ stays_in_range finished s (declares_enum site head name found rest) may p = (lef
 stays_in_range finished s (lists_constant site head rest) may p = (left s p _ rest may.next, (tt, tt))
 stays_in_range finished s (lists_impl site head of_trait rest) may p = (left s p _ rest may.next, (tt, tt))
 stays_in_range finished s (opens_module site head name items rest) may p =
-    (tt, (tt, (below_made s.core.map site.home name _ _ (inside_before s.core.map site head (inline_directory site.dir name (path_of head)) items rest (left s p _ rest may.next)), (tt, (tt, tt)))))
+    let m : Map = s.core.map in
+    let inside : Option Directory = inline_directory site.dir name (path_of head) in
+    let new : ModuleValue = new_module (inline_origin site.tree head.id) (own_visibility finished s.core.local m site head) (Some (module_id m site.home)) in
+    (tt, (tt, (below_made m site.home name new (visits_inside m site head inside items ++ rest) (inside_before m site head inside items rest (left s p _ rest may.next)), (tt, (tt, tt)))))
 stays_in_range finished s (opens_file site head name search file rest) may p =
-    let before : VisitsBelow (length s.core.map.modules) rest = left s p _ rest may.looks.here.next in
-    let below = made_before (length s.core.map.modules) (inside_file s.core.map file) refl file.tree.items (is_macro_use head.attributes || is_macro_use file.tree.attributes) site.home (length s.core.map.modules) rest before in
-    (tt, (tt, (below_made s.core.map site.home name _ _ below, (tt, (tt, tt)))))
+    let m : Map = s.core.map in
+    let new : ModuleValue = new_module (file_origin site.tree head.id m.crate_data.edition file) (own_visibility finished s.core.local m site head) (Some (module_id m site.home)) in
+    let below = made_before (length m.modules) (inside_file m file) refl file.tree.items (is_macro_use head.attributes || is_macro_use file.tree.attributes) site.home (length m.modules) rest
+    (left s p _ rest may.looks.here.next) in
+    (tt, (tt, (below_made m site.home name new (visits_in_file m site head file ++ rest) below, (tt, (tt, tt)))))
 stays_in_range finished s (drops_file site head name search report rest) may p = (left s p _ rest may.looks.here.next, (tt, tt))
 stays_in_range finished s (misses_file site head name search report rest) may p =
     let n : ℕ = length s.core.map.modules in

@@ -44,13 +44,11 @@ module _ (t : SourceTest) where
 
   pub textual_more : (ms : List TextualMacro) (name : List ℕ) (makro : MacroId) → list_any on_textual ms ≡ false → on_macro t makro ≡ false → list_any on_textual (with_macro ms name makro) ≡ false
   textual_more [] name makro f g = neither (on_macro t makro) false g refl
-  textual_more (m ∷ ms) name makro f g = go (is_before name m.name)
+  textual_more (m ∷ ms) name makro f g = go (textual_more ms name makro (not_second (on_textual m) (list_any on_textual ms) f) g) (is_before name m.name)
     where
-      go : (b : Bool) → list_any on_textual (if b then record { name = name; makro = makro } ∷ m ∷ ms else m ∷ with_macro ms name makro) ≡ false
-      go true = neither (on_macro t makro) (list_any on_textual (m ∷ ms)) g f
-      go false =
-          neither (on_textual m) (list_any on_textual (with_macro ms name makro)) (not_first (on_textual m) (list_any on_textual ms) f)
-          (textual_more ms name makro (not_second (on_textual m) (list_any on_textual ms) f) g)
+      go : list_any on_textual (with_macro ms name makro) ≡ false → (b : Bool) → list_any on_textual (if b then record { name = name; makro = makro } ∷ m ∷ ms else m ∷ with_macro ms name makro) ≡ false
+      go behind true = neither (on_macro t makro) (list_any on_textual (m ∷ ms)) g f
+      go behind false = neither (on_textual m) (list_any on_textual (with_macro ms name makro)) (not_first (on_textual m) (list_any on_textual ms) f) behind
 
   -- a change of what is in textual scope in a module
   pub textual_changed : (m : Map) (home : ℕ) (change : List TextualMacro → List TextualMacro) → ((ms : List TextualMacro) → list_any on_textual ms ≡ false → list_any on_textual (change ms) ≡ false)

@@ -19,8 +19,7 @@ ghost use Rattle.hir_def_collector.specs.Moves.{AreUntaken, begun};
 use crate::collector::macro_use::{root_scope, use_prelude_macros, use_wanted};
 use crate::collector::preludes::prelude;
 use crate::collector::site::{ItemHead, Site};
-use crate::collector::textual;
-use crate::collector::{CollectError, STEP_LIMIT, Start};
+use crate::collector::{CollectError, STEP_LIMIT, Start, textual};
 use crate::source_database::{Dependency, Key};
 use hir_base::ast_id::{AstId, EditionedFileId, FileId, HirFileId};
 use hir_base::cfg_options::CfgOptions;
@@ -371,7 +370,7 @@ impl DefCollector {
 
     /// What the root of the crate binds that an `extern crate` names, if it is another one.
     fn other_scope<'a>(&self, world: WorldPart<'a>, name: &ExternCrateName) -> Option<&'a ItemScope>
-        ensures value { option_map (λ s. s.now) result ≡ other_scope (part_of world) self.now.dependencies name.now }
+        ensures value { option_map (λ s. s.now) result ≡ other_scope (part_of world.entry) self.now.dependencies name.now }
     {
         match name {
             ExternCrateName::SelfCrate => None,

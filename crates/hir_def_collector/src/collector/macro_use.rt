@@ -1,7 +1,8 @@
 //! The macros of other crates that a crate uses.
-ghost use Rattle.std.specs.Prelude.{◌≡◌, map, option_map, OnOk};
+ghost use Rattle.std.specs.Prelude.{◌≡◌, map as list_map, option_map, Some, OnOk};
 ghost use Rattle.hir_item_tree.specs.Attributes.{input_view};
 ghost use Rattle.hir_item_tree.specs.Collected.{numbered};
+ghost use Rattle.hir_scope.specs.Entries.{item_at};
 ghost use Rattle.hir_def_map.specs.WorldParts.{part_of};
 ghost use Rattle.hir_def_collector.specs.Macros.{lists_names, public_among, public_at, public_named, public_one, root_scope, wanted_among, wants_all, with_macros_used};
 ghost use Rattle.hir_def_collector.specs.Preludes.{with_prelude_macros};
@@ -33,11 +34,7 @@ fn use_public(
 }
 
 /// Uses the public macros of a scope.
-fn use_all(
-    map: &mut DefMap,
-    scope: &ItemScope,
-    by: Option<ExternCrateId>,
-) -> Result<(), AllocError>
+fn use_all(map: &mut DefMap, scope: &ItemScope, by: Option<ExternCrateId>) -> Result<(), AllocError>
     ensures ok { OnOk result (map.new ≡ with_macros_used map.old (public_among scope.now.macros) by) }
 {
     for (name, item) in scope.macros() {
@@ -88,7 +85,7 @@ fn lists_names(input: &Option<AttrInput>) -> bool
 
 /// Whether some `macro_use` lists none.
 fn wants_all(attrs: &[Attr]) -> bool
-    ensures value { result ≡ wants_all (map numbered attrs.now) }
+    ensures value { result ≡ wants_all (list_map numbered attrs.now) }
 {
     for attr in attrs {
         if is_keyed(attr, "macro_use") && !lists_names(&attr.meta.input) {
@@ -108,7 +105,7 @@ pub fn use_wanted(
     attrs: &[Attr],
     by: ExternCrateId,
 ) -> Result<(), AllocError>
-    ensures ok { OnOk result (map.new ≡ with_macros_used map.old (wanted_among (map numbered attrs.now) scope.now.macros) (Some by)) }
+    ensures ok { OnOk result (map.new ≡ with_macros_used map.old (wanted_among (list_map numbered attrs.now) scope.now.macros) (Some by)) }
 {
     if wants_all(attrs) {
         return use_all(map, scope, Some(by));
@@ -119,7 +116,7 @@ pub fn use_wanted(
 
 /// What the root of a crate binds, if its map is there.
 pub fn root_scope<'a>(world: WorldPart<'a>, krate: Crate) -> Option<&'a ItemScope>
-    ensures value { option_map (λ s. s.now) result ≡ root_scope (part_of world) krate }
+    ensures value { option_map (λ s. s.now) result ≡ root_scope (part_of world.entry) krate }
 {
     match world.map(MapId::of_crate(krate)) {
         Some(map) => map.scope(0),

@@ -392,12 +392,12 @@ walk_item-close-requires g t c =
     subst (λ (o : Inside). GoesInside now w c.args.run.now.map.id.krate (length mid.map.modules) site (held_numbers (kind_content item)) o) c.in-Held.is c.in_ok-inside.ensures.within in
     let first : Handles (environment last w) part c.args.run.now mid (visit site (item_of (all_items tree.items) h (kind_content item))) (visits_at tree inner ns ++ closing c.in-Held.macro_use site.home inner.home) =
     subst (λ (o : Inside). Handles (environment last w) part c.args.run.now mid (visit site (item_of (all_items tree.items) h (kind_content item))) (tasks_of site.home (all_items tree.items) o)) c.in-Held.is
-    (c.in_ok-inside.ensures.ok grown (KeepsTables-trans now c.walk_all.new.locations last c.in_ok-walk_all-in-Held.ensures.kept (tables_stay last)) (all_items tree.items)) in
+    (c.in_ok-inside.ensures.ok last c.in_ok-walk_all-in-Held.ensures.kept (all_items tree.items)) in
     let later : OnceGrown c.walk_all.new.locations w (λ env. Walks env part mid c.walk_all.new.run (visits_at tree inner ns)) =
     subst (λ (v : Workspace). OnceGrown c.walk_all.new.locations v (λ env. Walks env part mid c.walk_all.new.run (visits_at tree inner ns))) c.in_ok-inside.ensures.same c.in_ok-walk_all-in-Held.ensures.ok in
     let there : site.home < length mid.map.modules = still_there c.args.run.now mid _ (visits_at tree inner ns ++ closing c.in-Held.macro_use site.home inner.home) site.home first c.requires.in_range in
     let longer : length mid.map.modules ≤ length c.walk_all.new.run.map.modules = longer_after mid c.walk_all.new.run (visits_at tree inner ns) (later last (tables_stay last)) in
-    λ κs lives. (lives, (omega (arith, there, longer), tt))
+    record { in_range = omega (arith, there, longer) }
 
 pub walk_item-returns-in_err-close-in-File-clause-kept : goal.walk_item-returns-in_err-close-in-File-clause-kept
 walk_item-returns-in_err-close-in-File-clause-kept g t c =
@@ -499,7 +499,7 @@ walk_item-close-requires-in-File g t c =
     subst (λ (o : Inside). GoesInside now w c.args.run.now.map.id.krate (length mid.map.modules) site (held_numbers (kind_content item)) o) c.in-File.is c.in_ok-inside.ensures.within in
     let first : Handles (environment last w) part c.args.run.now mid (visit site (item_of (all_items tree.items) h (kind_content item))) (visits_over inner source.tree.items ++ closing c.in-File.macro_use site.home inner.home) =
     subst (λ (o : Inside). Handles (environment last w) part c.args.run.now mid (visit site (item_of (all_items tree.items) h (kind_content item))) (tasks_of site.home (all_items tree.items) o)) c.in-File.is
-    (c.in_ok-inside.ensures.ok grown (KeepsTables-trans now c.walk_all-in-File.new.locations last c.in_ok-walk_all-in-File.ensures.kept (tables_stay last)) (all_items tree.items)) in
+    (c.in_ok-inside.ensures.ok last c.in_ok-walk_all-in-File.ensures.kept (all_items tree.items)) in
     let items_same : visits_at c.deref-in-File.result.now.tree inner (numbers_of c.top_level_items-ids.result.now) ≡ visits_over inner source.tree.items =
     ap (λ (s : SourceTreeValue). visits_at s.tree inner (numbers_of c.top_level_items-ids.result.now)) c.deref-in-File.ensures
     ∙ ap (visits_over inner) (subst (λ (t : Tree). items_at (all_items t.items) (numbers_of c.top_level_items-ids.result.now) ≡ t.items) (c.tree-in-File.ensures.value ∙ ap (λ (s : SourceTreeValue). s.tree) c.deref.ensures) c.top_level_items-ids.ensures.value) in
@@ -508,7 +508,7 @@ walk_item-close-requires-in-File g t c =
     (subst (λ (v : Workspace). OnceGrown c.walk_all-in-File.new.locations v (λ env. Walks env part mid c.walk_all-in-File.new.run (visits_at c.deref-in-File.result.now.tree inner (numbers_of c.top_level_items-ids.result.now)))) c.in_ok-inside.ensures.same c.in_ok-walk_all-in-File.ensures.ok) in
     let there : site.home < length mid.map.modules = still_there c.args.run.now mid _ (visits_over inner source.tree.items ++ closing c.in-File.macro_use site.home inner.home) site.home first c.requires.in_range in
     let longer : length mid.map.modules ≤ length c.walk_all-in-File.new.run.map.modules = longer_after mid c.walk_all-in-File.new.run (visits_over inner source.tree.items) (later last (tables_stay last)) in
-    λ κs lives. (lives, (omega (arith, there, longer), tt))
+    record { in_range = omega (arith, there, longer) }
 
 pub walk_item-returns-in-Nothing-clause-ok : goal.walk_item-returns-in-Nothing-clause-ok
 walk_item-returns-in-Nothing-clause-ok g t c = λ grown k.
