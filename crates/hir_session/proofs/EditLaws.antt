@@ -224,7 +224,7 @@ remove_present_file_marks old new path was k found key there is kept asked at =
 
 -- an expansion that is there isn't seen as one that is absent
 looks_apart : (o : Option EntryValue) (e : EntryValue) → o ≡ None → look_of o ≢ look_of (Some e)
-looks_apart o e absent h = clash (sym (ap (λ (l : EntryLook). l.present) h)) (ap (λ (x : Option EntryValue). (look_of x).present) absent)
+looks_apart o e absent h = clash (ap (λ (l : EntryLook). l.present) h) (ap (λ (x : Option EntryValue). (look_of x).present) absent)
 
 pub set_absent_expansion_marks : SetAbsentExpansionMarks
 set_absent_expansion_marks old new key entry k found number absent is kept asked at =

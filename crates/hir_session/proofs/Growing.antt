@@ -75,14 +75,10 @@ module _ (few more : TablesValue) (keeps : KeepsTables few more) where
       go None s = inl s
       go (Some q) s = inr (keeps.files f.file_id.0 q s ∙ sym s)
   within_stays zero (Macro c) None = inl refl
-  within_stays (suc n) (Macro c) None = go (call_at few c) refl
+  within_stays (suc n) (Macro c) None = go (call_at few c) refl (λ file block. within_stays n file block)
     where
       inside : TablesValue → MacroCallLoc → Option ItemSource
       inside t call = option_map (and_call (source_call call.kind)) (source_within n t (call_node call.kind).file_id (call_node call.kind).block)
-
-      go : (o : Option MacroCallLoc) → call_at few c ≡ o → Stays (option_and_then (inside few) (call_at few c)) (option_and_then (inside more) (call_at more c))
-      go None s = inl (ap (option_and_then (inside few)) s)
-      go (Some call) s = stays call s (within_stays n (call_node call.kind).file_id (call_node call.kind).block)
 
       stays : (call : MacroCallLoc) → call_at few c ≡ Some call → Stays (source_within n few (call_node call.kind).file_id (call_node call.kind).block) (source_within n more (call_node call.kind).file_id (call_node call.kind).block)
           → Stays (option_and_then (inside few) (call_at few c)) (option_and_then (inside more) (call_at more c))
@@ -90,6 +86,11 @@ module _ (few more : TablesValue) (keeps : KeepsTables few more) where
           subst (λ (o : Option MacroCallLoc). Stays (option_and_then (inside few) o) (option_and_then (inside more) (call_at more c))) (sym s)
           (subst (λ (o : Option MacroCallLoc). Stays (option_and_then (inside few) (Some call)) (option_and_then (inside more) o)) (sym (keeps.calls c.0 call s))
           (mapped (and_call (source_call call.kind)) _ _ next))
+
+      go : (o : Option MacroCallLoc) → call_at few c ≡ o → ((file : HirFileId) (block : Option BlockId) → Stays (source_within n few file block) (source_within n more file block))
+          → Stays (option_and_then (inside few) (call_at few c)) (option_and_then (inside more) (call_at more c))
+      go None s next = inl (ap (option_and_then (inside few)) s)
+      go (Some call) s next = stays call s (next (call_node call.kind).file_id (call_node call.kind).block)
 
   source_stays : (file : HirFileId) (block : Option BlockId) → Stays (source_of few file block) (source_of more file block)
   source_stays file block = within_stays (most_calls file) file block
