@@ -1,5 +1,5 @@
 -- What a derivation comes to, over each workspace and beside finished maps that agree on what was asked for.
-use Rattle.std.proofs.Common.{◌≡◌, ◌∙◌, ◌==◌, ◌||◌, ℕ, zero, suc, ◌<◌, length, Bool, true, false, List, [], ◌∷◌, ◌++◌, map as list_map, Option, None, Some, ◌⊎◌, inl, inr, refl, sym, ap, subst, arith, Contains, if◌then◌else◌}
+use Rattle.std.proofs.Common.{◌≡◌, ◌∙◌, ◌==◌, ◌||◌, ℕ, zero, suc, ◌<◌, length, Bool, false, List, [], ◌∷◌, ◌++◌, map as list_map, Option, None, Some, inl, inr, refl, sym, ap, subst, arith, Contains, if◌then◌else◌}
 use Rattle.std.specs.List.{list_any}
 use Rattle.std.specs.Prelude.{option_map, unwrap_or}
 use Rattle.hir_crate_graph.specs.CrateSet.{crate_of, crates_from}

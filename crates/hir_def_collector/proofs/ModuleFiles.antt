@@ -1,19 +1,14 @@
 -- What a search for the file of a module comes to.
-use Rattle.std.proofs.Common.{◌≡◌, ◌∙◌, ℕ, zero, suc, ◌+◌, ◌<◌, Bool, true, false, List, [], ◌∷◌, ◌++◌, map, Option, Some, None, slice_get, refl, sym, ap, subst, arith, Contains}
+use Rattle.std.proofs.Common.{◌≡◌, ◌∙◌, ℕ, zero, suc, ◌<◌, false, List, [], ◌∷◌, ◌++◌, map, Option, Some, None, slice_get, refl, sym, ap, subst, arith, Contains}
 use Rattle.std.specs.Prelude.{IsSome, option_map}
-use Rattle.std.specs.Option.{option_and_then, option_map_or, option_to_list}
-use Rattle.std.proofs.lemmas.List.Elements.{Contains-append_right}
-use Rattle.hir_base.specs.declared.ast_id.BlockId.{BlockId}
+use Rattle.std.specs.Option.{option_map_or, option_to_list}
 use Rattle.hir_base.specs.declared.ast_id.FileId.{FileId}
-use Rattle.hir_base.specs.declared.ast_id.HirFileId.{HirFileId}
-use Rattle.hir_base.specs.declared.ast_id.HirFileId.TheVariants.{File, Macro}
 use Rattle.hir_base.specs.declared.edition.Edition.{Edition}
 use Rattle.hir_base.specs.declared.ids.Crate.{Crate}
 use Rattle.hir_item_tree.specs.declared.tree_id.TreeId.{TreeId}
 use Rattle.hir_mod_dir.specs.Directory.{Directory}
-use Rattle.hir_mod_dir.specs.ModuleFiles.{candidates_of}
 use Rattle.hir_mod_dir.specs.declared.candidate.Candidate.{Candidate}
-use Rattle.hir_tables.specs.SourcePlaces.{SourcePlaceValue, file}
+use Rattle.hir_tables.specs.SourcePlaces.{file}
 use Rattle.hir_tables.specs.Tables.{KeepsTables, TablesValue, file_at, source_of}
 use Rattle.hir_def_map.specs.Overlay.{Maps}
 use Rattle.hir_def_collector.specs.declared.source_database.Key.{Key}

@@ -1,7 +1,7 @@
 -- A module whose items are in a file of its own is handled by a step, whatever the tables grow to.
 use Rattle.std.proofs.lemmas.Bool.{ltb-true}
-use Rattle.std.proofs.Common.{◌≡◌, ◌∙◌, ℕ, ◌+◌, ◌<◌, ◌≤◌, ◌||◌, nat_lt, if◌then◌else◌, codes, Bool, true, false, List, [], ◌∷◌, ◌++◌, map as list_map, length, Option, Some, None, slice_get, refl, sym, ap, subst, arith}
-use Rattle.std.specs.Prelude.{IsSome, option_map}
+use Rattle.std.proofs.Common.{◌≡◌, ◌∙◌, ℕ, ◌+◌, ◌<◌, ◌≤◌, ◌||◌, nat_lt, if◌then◌else◌, codes, Bool, true, false, List, [], ◌∷◌, ◌++◌, map as list_map, length, Option, Some, None, refl, sym, ap, subst, arith}
+use Rattle.std.specs.Prelude.{IsSome}
 use Rattle.std.specs.Option.{option_to_list}
 use Rattle.hir_base.specs.Locations.{max_locations}
 use Rattle.hir_base.specs.declared.ids.Crate.{Crate}
@@ -29,9 +29,9 @@ use Rattle.hir_def_collector.specs.ItemIds.{module_id, node_of}
 use Rattle.hir_base.specs.declared.ast_id.AstKind.TheVariants as nodes
 use Rattle.hir_def_collector.specs.ModuleFiles.{AreTried, IsNumberOf, IsNumbered, IsSearch, ModuleFile, Search, Tried, file_of_tree, file_tree, module_file}
 use Rattle.hir_def_collector.specs.Macros.{is_macro_use}
-use Rattle.hir_def_collector.specs.Reports.{IsUnconfigured, IsUnresolvedModule}
-use Rattle.hir_def_collector.specs.State.{Core, State, Task, Visit, visits, joined, visits_over}
-use Rattle.hir_def_collector.specs.Steps.{LooksFor, Step, none, closing, drops_file, inside_file, keys_read, misses_file, module_declaration, opens_file, opens_module, path_of, search_readings, visit, visits_in_file, visits_inside, with_keys}
+use Rattle.hir_def_collector.specs.Reports.{IsUnresolvedModule}
+use Rattle.hir_def_collector.specs.State.{Core, Task, Visit, visits, joined, visits_over}
+use Rattle.hir_def_collector.specs.Steps.{LooksFor, none, closing, drops_file, inside_file, keys_read, misses_file, module_declaration, opens_file, opens_module, path_of, search_readings, visit, visits_in_file, visits_inside, with_keys}
 use Rattle.hir_def_collector.specs.Derivation.{IsFull, IsSpent, counted_out, numbered_out}
 use Rattle.hir_def_collector.specs.declared.collector.mod_collector.Inside.{Inside}
 use Rattle.hir_def_collector.specs.declared.collector.mod_collector.Inside.TheVariants.{Nothing, Held, File}

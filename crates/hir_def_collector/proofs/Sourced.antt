@@ -724,7 +724,7 @@ module _ (t : SourceTest) where
       brings_none (reaches_imports site head tree rest) may read = (left _ rest may.next, (use_imports s.core.map site head (file _ rest may.next) (imports_of tree), (tt, tt)))
       brings_none (reaches_crate site head name alias rest) may read =
           let own : t.holder site.tree.file site.tree.block ≡ false = file _ rest may.next in
-          (left _ rest may.next, (own, ((brought_macros_clear t finished nowhere s.core.map s.core.dependencies site head name, own), (neither (t.holder site.tree.file site.tree.block) false own refl, (tt, tt)))))
+          (left _ rest may.next, (own, ((brought_macros_clear t finished nowhere s.core.map s.core.dependencies head name, own), (neither (t.holder site.tree.file site.tree.block) false own refl, (tt, tt)))))
       brings_none (defines_rules site head name expander helpers rest) may read =
           let own : t.holder site.tree.file site.tree.block ≡ false = file _ rest may.next in
           let makro : MacroId = macro_rules_id s.core.map site head.id expander in

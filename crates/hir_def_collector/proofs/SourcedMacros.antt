@@ -1,9 +1,8 @@
 -- Macros that are clear of a test of sources leave a map clear of it.
-use Rattle.std.specs.Prelude.{◌≡◌, ◌==◌, ◌&&◌, ◌||◌, ℕ, Bool, true, false, List, [], ◌∷◌, ◌++◌, codes, is_none, Option, None, Some, cond, if◌then◌else◌, option_and_then, option_map}
+use Rattle.std.specs.Prelude.{◌≡◌, ◌||◌, ℕ, Bool, true, false, List, [], ◌∷◌, codes, is_none, Option, None, Some, cond, if◌then◌else◌, option_and_then, option_map}
 use Rattle.std.specs.BTreeMap.{is_at}
 use Rattle.std.specs.Cmp.Lexicographic.{slice_cmp}
 use Rattle.std.specs.List.{list_any}
-use Rattle.std.specs.Map.{lookup}
 use Rattle.std.specs.Ordering.{nat_cmp}
 use Rattle.std.proofs.Common.{refl}
 use Rattle.hir_base.specs.declared.ids.Crate.{Crate}
@@ -31,8 +30,7 @@ use Rattle.hir_def_map.proofs.StaysSourced.{HoldsNowhereIn-scope}
 use Rattle.hir_import_resolution.specs.Visibilities.{is_public}
 use Rattle.hir_def_collector.specs.CrateTop.{listed_under}
 use Rattle.hir_def_collector.specs.Imports.{dependency_named}
-use Rattle.hir_def_collector.specs.Macros.{macros_beside, macros_brought, other_scope, public_among, public_at, public_in, public_named, public_one, root_scope, textual_at, textual_in, wanted_among, wanted_in, wants_all, with_macros_used, with_used}
-use Rattle.hir_def_collector.specs.declared.collector.site.Site.{Site}
+use Rattle.hir_def_collector.specs.Macros.{macros_beside, macros_brought, other_scope, public_among, public_at, public_in, public_named, public_one, root_scope, textual_at, textual_in, wanted_in, wants_all, with_macros_used, with_used}
 use Rattle.hir_def_collector.specs.declared.source_database.Dependency.{Dependency}
 use Rattle.hir_def_collector.proofs.Lists.{none_joined}
 
@@ -149,8 +147,8 @@ module _ (t : SourceTest) where
         go (Some krate) = root_clear krate
 
     -- what an `extern crate` brings, and what comes with a prelude module
-    pub brought_macros_clear : (m : Map) (ds : List Dependency) (s : Site) (head : Head) (name : ExternCrateName) → on_values (on_macro t) (macros_brought finished m ds s head name) ≡ false
-    brought_macros_clear m ds s head name = go ((s.home == 0) && is_none m.id.block)
+    pub brought_macros_clear : (m : Map) (ds : List Dependency) (head : Head) (name : ExternCrateName) → on_values (on_macro t) (macros_brought finished m ds head name) ≡ false
+    brought_macros_clear m ds head name = go (is_none m.id.block)
       where
         go : (b : Bool) → on_values (on_macro t) (cond b (wanted_in head.attributes.attributes (other_scope finished ds name)) []) ≡ false
         go true = wanted_clear head.attributes.attributes (other_scope finished ds name) (other_clear ds name)

@@ -21,8 +21,8 @@ use Rattle.hir_item_tree.specs.Rows.{Content, alone, with_items, numbers_of, ite
 use Rattle.hir_item_tree.specs.declared.rows.ModItemId.{ModItemId}
 use Rattle.hir_def_map.specs.Overlay.{Maps}
 use Rattle.hir_def_collector.specs.declared.collector.site.Site.{Site}
-use Rattle.hir_def_collector.specs.Keys.{Environment, absent_source, environment}
-use Rattle.hir_def_collector.specs.State.{Task, Visit, visits, closes, State, Core, at_rest, joined, visits_over, counted, with_map}
+use Rattle.hir_def_collector.specs.Keys.{Environment, absent_source}
+use Rattle.hir_def_collector.specs.State.{Task, Visit, visits, closes, Core, at_rest, joined, visits_over, counted, with_map}
 use Rattle.hir_def_collector.specs.Items.{is_passed_over}
 use Rattle.hir_def_collector.specs.Start.{tree_visits}
 use Rattle.hir_def_collector.specs.Steps.{Steps, none, closes_module, closing, drops_item, passes_over, visit}

@@ -577,7 +577,7 @@ module _ (paths : PathsLeadToWhatIsThere) (finished : Maps) (whole : AreWellForm
     brings_what_is_there (reaches_crate site head name alias rest) may =
         let r : ImportDirective = crate_import here s.core.dependencies site head name alias in
         let there : test_import (is_missing (overlay finished here)) r ≡ false = crate_there name in
-        let macros : List (List ℕ × MacroId) = macros_brought finished here s.core.dependencies site head name in
+        let macros : List (List ℕ × MacroId) = macros_brought finished here s.core.dependencies head name in
         let by : Option ExternCrateId = Some (extern_crate_id here site head.id) in
         let stays : test_import (is_missing (overlay finished (with_macros_used here macros by))) r ≡ false =
         still_there (overlay finished here) (overlay finished (with_macros_used here macros by)) (Extends-used finished here macros by) (root_named (crate_of r.source)) there in

@@ -12,7 +12,7 @@ use Rattle.hir_item_tree.specs.KeptForest.{Head, leaf, outline_module}
 use Rattle.hir_mod_dir.specs.ModuleFiles.{candidates_of}
 use Rattle.hir_mod_dir.specs.declared.candidate.Candidate.{Candidate}
 use Rattle.hir_tables.specs.SourcePlaces.{file}
-use Rattle.hir_tables.specs.Tables.{TablesValue, file_at}
+use Rattle.hir_tables.specs.Tables.{TablesValue}
 use Rattle.hir_def_map.specs.Overlay.{Maps}
 use Rattle.hir_def_map.specs.State.{ModuleValue, module_at}
 use Rattle.hir_def_collector.specs.declared.collector.site.Site.{Site}

@@ -1,5 +1,5 @@
 -- What do macros stand for, where are they in textual scope, and which macros of other crates does a crate use?
-use Rattle.std.specs.Prelude.{◌==◌, ℕ, Bool, true, false, ◌&&◌, not, is_none, List, [], ◌∷◌, ◌++◌, codes, Option, None, Some, cond}
+use Rattle.std.specs.Prelude.{ℕ, Bool, true, false, ◌&&◌, not, is_none, List, [], ◌∷◌, ◌++◌, codes, Option, None, Some, cond}
 use Rattle.std.specs.List.{list_any}
 use Rattle.std.specs.Option.{option_and_then}
 use Rattle.hir_base.specs.declared.ids.Crate.{Crate}
@@ -25,7 +25,6 @@ use Rattle.hir_def_map.specs.Overlay.{Maps, map_in}
 use Rattle.hir_def_map.specs.State.{Map, crate_map, scope_at, with_name, with_scope}
 use Rattle.hir_import_resolution.specs.Visibilities.{is_public}
 use Rattle.hir_def_collector.specs.declared.collector.declaration.Declaration.{Declaration}
-use Rattle.hir_def_collector.specs.declared.collector.site.Site.{Site}
 use Rattle.hir_def_collector.specs.declared.source_database.Dependency.{Dependency}
 use Rattle.hir_def_collector.specs.CrateTop.{is_keyed, listed_under, says}
 use Rattle.hir_def_collector.specs.Imports.{dependency_named}
@@ -112,10 +111,10 @@ abbrev pub wanted_in : List Numbered → Option ScopeValue → List (List ℕ ×
 wanted_in attributes None = []
 wanted_in attributes (Some s) = wanted_among attributes s.macros
 
--- the macros that an `extern crate` of the crate's root module brings into the macro-use prelude; the root of a block's map is none
-abbrev pub macros_brought : Maps → Map → List Dependency → Site → Head → ExternCrateName → List (List ℕ × MacroId)
-macros_brought finished m dependencies s head name =
-    cond ((s.home == 0) && is_none m.id.block) (wanted_in head.attributes.attributes (other_scope finished dependencies name)) []
+-- the macros that an `extern crate` brings into the macro-use prelude of a crate's map; into a block's it brings none
+abbrev pub macros_brought : Maps → Map → List Dependency → Head → ExternCrateName → List (List ℕ × MacroId)
+macros_brought finished m dependencies head name =
+    cond (is_none m.id.block) (wanted_in head.attributes.attributes (other_scope finished dependencies name)) []
 
 abbrev pub public_in : Option ScopeValue → List (List ℕ × MacroId)
 public_in None = []

@@ -1,6 +1,5 @@
 -- What a part of a run does.
 use Rattle.std.specs.Prelude.{◌≡◌, ◌<◌, ◌≤◌, ◌+◌, ℕ, Bool, true, false, ◌||◌, List, [], ◌∷◌, ◌++◌, length, Option, Some, option_map, slice_get}
-use Rattle.std.specs.List.{All}
 use Rattle.std.specs.Option.{option_to_list}
 use Rattle.hir_base.specs.Cfg.{Cfg}
 use Rattle.hir_base.specs.declared.ast_id.AstKind.TheVariants as nodes
@@ -42,7 +41,7 @@ use Rattle.hir_def_collector.specs.ItemIds.{module_id, node_of}
 use Rattle.hir_def_collector.specs.Items.{file_origin, own_visibility}
 use Rattle.hir_def_collector.specs.Macros.{is_macro_use, textual_at, with_textual_scope}
 use Rattle.hir_def_collector.specs.Reports.{IsUnconfigured}
-use Rattle.hir_def_collector.specs.State.{Core, State, Task, Visit, visits, counted, joined, visits_over, with_map}
+use Rattle.hir_def_collector.specs.State.{Core, Task, Visit, visits, counted, joined, visits_over, with_map}
 use Rattle.hir_def_collector.specs.Changes.{Change, perform}
 use Rattle.hir_def_collector.specs.Steps.{Sees, Step, Steps, closing, inside_file, keys_read, module_declaration, with_declaration, with_keys}
 use Rattle.hir_def_collector.specs.Derivation.{IsSpent}

@@ -290,7 +290,7 @@ acts finished s (reaches_imports site head tree rest) =
 acts finished s (reaches_crate site head name alias rest) =
     let r : ImportDirective = crate_import s.core.map s.core.dependencies site head name alias in
     let id : ExternCrateId = extern_crate_id s.core.map site head.id in
-    goes_on rest ∷ begins_paths r ∷ uses_macros (macros_brought finished s.core.map s.core.dependencies site head name) (Some id) ∷ reaches (r ∷ []) ∷ lists site.home (listings.ExternCrate id) ∷ []
+    goes_on rest ∷ begins_paths r ∷ uses_macros (macros_brought finished s.core.map s.core.dependencies head name) (Some id) ∷ reaches (r ∷ []) ∷ lists site.home (listings.ExternCrate id) ∷ []
 acts finished s (defines_rules site head name expander helpers rest) =
     let makro : MacroId = macro_rules_id s.core.map site head.id expander in
     let node : AstId = node_of site.tree nodes.MacroRules head.id in

@@ -381,19 +381,18 @@ impl DefCollector {
         }
     }
 
-    /// Uses the macros that an `extern crate` of the crate's root module brings into the macro-use prelude.
+    /// Uses the macros that an `extern crate` brings into the macro-use prelude of a crate's map.
     pub fn use_macros(
         &mut self,
         world: WorldPart<'_>,
-        site: &Site,
         head: ItemHead<'_>,
         name: &ExternCrateName,
         by: ExternCrateId,
     ) -> Result<(), AllocError>
         ensures ok { OnOk result (self.new ≡ with_map self.old (with_macros_used self.old.map
-            (macros_brought (part_of world.entry) self.old.map self.old.dependencies site.now (head_of head.entry) name.now) (Some by))) }
+            (macros_brought (part_of world.entry) self.old.map self.old.dependencies (head_of head.entry) name.now) (Some by))) }
     {
-        if site.home != 0 || self.map.id().block.is_some() {
+        if self.map.id().block.is_some() {
             return Ok(());
         }
         let Some(scope) = self.other_scope(world, name) else {

@@ -188,7 +188,7 @@ pub fn reach_extern_crate(
     };
     let import = crate_import(run, site, head, id, name, alias)?;
     run.add_extern(&import)?;
-    run.use_macros(world, site, head, name, id)?;
+    run.use_macros(world, head, name, id)?;
     run.reach(import)?;
     run.list_extern_crate(site.home, id)?;
     run.tick()?;

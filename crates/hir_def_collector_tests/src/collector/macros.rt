@@ -43,7 +43,8 @@ const ONE_MACRO: &str = r#"{"do":"set file","file":"b.rs","unit":{"nodes":[
 {"kind":"MacroRules","id":[1,0],"name":"b","text":""}]}}"#;
 
 /// `#![macro_use] macro_rules! c {}`
-const ONE_MACRO_TO_USE: &str = r#"{"do":"set file","file":"b.rs","unit":{"attrs":[{"path":"macro_use"}],"nodes":[
+const ONE_MACRO_TO_USE: &str =
+    r#"{"do":"set file","file":"b.rs","unit":{"attrs":[{"path":"macro_use"}],"nodes":[
 {"kind":"MacroRules","id":[1,0],"name":"c","text":""}]}}"#;
 
 /// `mod m { #[macro_export] macro_rules! a {} } use crate::a as b;`
@@ -142,9 +143,14 @@ const USED_ROWS: [UsedRow; 7] = [
     ("named", NAMED, false, "c= "),
     ("named, and all", NAMED_AND_ALL, false, "b= c= d= "),
     ("none", NONE, false, ""),
-    ("in a module", BELOW, false, ""),
+    ("in a module", BELOW, false, "b= c= d= "),
     ("a prelude crate's", NONE, true, "b- c- d- "),
-    ("a prelude crate's, and some named", NAMED, true, "b- c= d- "),
+    (
+        "a prelude crate's, and some named",
+        NAMED,
+        true,
+        "b- c= d- ",
+    ),
 ];
 
 const NAMES: [&str; 6] = ["a", "b", "c", "d", "e", "nope"];

@@ -1,4 +1,4 @@
-use Rattle.std.proofs.Common.{◌≡◌, ◌∙◌, refl, rules}
+use Rattle.std.proofs.Common.{◌≡◌, refl, rules}
 use Rattle.hir_base.specs.declared.macro_kind.MacroId.TheVariants as macros
 use Rattle.hir_def_collector.specs.TreeReads.{head_of}
 use Rattle.hir_def_collector.proofs.Made.{count_kept, defined_macro}

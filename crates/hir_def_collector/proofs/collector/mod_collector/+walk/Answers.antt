@@ -1,11 +1,10 @@
-use Rattle.std.proofs.Common.{rules, ◌≡◌, ◌∙◌, ◌+◌, ◌*◌, ◌-◌, ◌<◌, ◌≤◌, ℕ, slice_get, [], ◌∷◌, ◌++◌, List, Option, Some, None, length, min, inl, refl, sym, ap, subst, arith, slice_index_or}
+use Rattle.std.proofs.Common.{rules, ◌≡◌, ◌∙◌, ◌<◌, ◌≤◌, ℕ, slice_get, [], ◌∷◌, ◌++◌, List, Option, Some, length, inl, refl, sym, ap, subst, arith}
 use Rattle.std.proofs.lemmas.List.Elements.{All-map}
 use Rattle.std.specs.List.{All}
 use Rattle.std.specs.Option.{IfSome}
 use Rattle.std.specs.Prelude.{option_map}
 use Rattle.hir_base.specs.Cfg.{cfg_view}
 use Rattle.hir_base.specs.declared.cfg.CfgExpr.{CfgExpr}
-use Rattle.hir_base.specs.declared.ids.Crate.{Crate}
 use Rattle.hir_base.specs.declared.ids.MapId.{MapId}
 use Rattle.hir_item_tree.specs.ItemTree.{Tree}
 use Rattle.hir_item_tree.specs.KeptForest.{all_items}
@@ -14,8 +13,6 @@ use Rattle.hir_item_tree.specs.Rows.{numbers_of, held_numbers, item_of, items_at
 use Rattle.hir_item_tree.specs.SourceTree.{SourceTreeValue}
 use Rattle.hir_item_tree.specs.declared.rows.ModItemId.{ModItemId}
 use Rattle.hir_item_tree.specs.declared.tree_id.TreeId.{TreeId}
-use Rattle.hir_base.specs.declared.ast_id.AstKind.TheVariants as nodes
-use Rattle.hir_tables.specs.Tables.{KeepsTables}
 use Rattle.hir_tables.proofs.Growth.{KeepsTables-trans}
 use Rattle.hir_def_map.specs.WorldParts.{part_of}
 use Rattle.hir_def_map.specs.declared.nameres.diagnostics.DefDiagnosticKind.TheVariants as diagnostics
@@ -27,7 +24,6 @@ use Rattle.hir_def_collector.specs.State.{Task, visits, visits_over}
 use Rattle.hir_def_collector.specs.Steps.{closing, none, visit}
 use Rattle.hir_def_collector.specs.TreeReads.{head_of, visits_at, above}
 use Rattle.hir_def_collector.specs.declared.collector.mod_collector.Inside.{Inside}
-use Rattle.hir_def_collector.specs.declared.collector.mod_collector.Inside.TheVariants.{Nothing, Held, File}
 use Rattle.hir_def_collector.proofs.Changes.{id-Step, id-Steps}
 use Rattle.hir_def_collector.proofs.Numbers.{tables_stay}
 use Rattle.hir_def_collector.proofs.Finding.{falls_inside, falls_to_file, falls_to_item}

@@ -1,4 +1,4 @@
-use Rattle.std.proofs.Common.{◌≡◌, length, subst, refl, arith, append-nil}
+use Rattle.std.proofs.Common.{◌≡◌, refl, arith, append-nil}
 use Rattle.hir_def_map.specs.State.{with_extern_block}
 use Rattle.hir_def_collector.specs.ItemIds.{extern_block_id}
 use Rattle.hir_def_collector.specs.State.{counted, with_map}

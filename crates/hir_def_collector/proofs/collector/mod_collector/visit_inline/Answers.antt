@@ -1,4 +1,4 @@
-use Rattle.std.proofs.Common.{rules, ◌≡◌, ◌∙◌, ◌++◌, ◌<◌, ◌≤◌, ℕ, Bool, List, Option, Some, None, length, map, refl, sym, ap, subst}
+use Rattle.std.proofs.Common.{rules, ◌≡◌, ◌∙◌, ◌++◌, ◌<◌, ℕ, Bool, List, Option, Some, None, length, map, refl, sym, ap, subst}
 use Rattle.hir_item_tree.specs.Collected.{numbered}
 use Rattle.hir_item_tree.specs.Rows.{items_at, numbers_of}
 use Rattle.hir_item_tree.specs.declared.attrs.Attr.{Attr}
