@@ -17,7 +17,7 @@ use Rattle.hir_def_collector.specs.Changes.{Change, makes, act, perform}
 use Rattle.hir_def_collector.specs.Derivation.{CollectedValue}
 use Rattle.hir_def_collector.specs.ItemIds.{module_id}
 use Rattle.hir_def_collector.specs.Start.{Beginning}
-use Rattle.hir_def_collector.specs.State.{State, Task, Visit, visits, closes, visits_over}
+use Rattle.hir_def_collector.specs.State.{State, Task, visits, closes, visits_over}
 use Rattle.hir_def_collector.specs.Steps.{closing, visit}
 use Rattle.hir_def_collector.specs.Workspace.{Workspace}
 use Rattle.hir_def_collector.proofs.InRange.{VisitsBelow}

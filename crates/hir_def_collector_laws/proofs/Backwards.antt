@@ -1,7 +1,8 @@
 -- Back over one step: what the next item declares is what it lists, and what the items that come next in it declare.
-use Rattle.std.proofs.Common.{◌≡◌, ◌∙◌, ◌<◌, ℕ, List, [], ◌∷◌, ◌++◌, length, ◌||◌, Bool, true, false, Option, None, Some, map as list_map, refl, sym, ap, subst, Contains, append-nil}
+use Rattle.std.proofs.Common.{◌≡◌, ◌∙◌, ◌<◌, ◌+◌, ℕ, List, [], ◌∷◌, ◌++◌, length, ◌||◌, Bool, true, false, Option, None, Some, map as list_map, refl, sym, ap, subst, Contains, append-nil}
 use Rattle.hir_base.specs.Cfg.{Cfg}
 use Rattle.hir_base.specs.declared.edition.Edition.{Edition}
+use Rattle.hir_base.specs.declared.ast_id.AstId.{AstId}
 use Rattle.hir_base.specs.declared.ast_id.AstKind.TheVariants as nodes
 use Rattle.hir_base.specs.declared.ids.AdtId.TheVariants as adts
 use Rattle.hir_base.specs.declared.ids.Crate.{Crate}
@@ -28,16 +29,16 @@ use Rattle.hir_def_collector.specs.declared.collector.declaration.Declaration.{D
 use Rattle.hir_def_collector.specs.declared.collector.site.Site.{Site}
 use Rattle.hir_def_collector.specs.declared.source_database.Key.TheVariants as keys
 use Rattle.hir_def_collector.specs.Causes.{declarations_of}
-use Rattle.hir_def_collector.specs.Changes.{Change, act, changes_imports, goes_on, makes, perform, takes_textual, tells}
+use Rattle.hir_def_collector.specs.Changes.{Change, act, adds_textual, changes_imports, defines, goes_on, makes, perform, takes_textual, tells}
 use Rattle.hir_def_collector.specs.Derivation.{CollectedValue}
 use Rattle.hir_def_collector.specs.Items.{declaration_of, declared_by, declared_by_leaf, file_origin, inline_origin, is_passed_over, own_visibility}
 use Rattle.hir_def_collector.specs.ItemIds.{enum_id, macro_def_id, macro_rules_id, module_id, node_of}
 use Rattle.hir_def_collector.specs.Keys.{environment, tree_at}
-use Rattle.hir_def_collector.specs.Macros.{is_macro_use}
+use Rattle.hir_def_collector.specs.Macros.{is_macro_use, macro_declaration}
 use Rattle.hir_def_collector.specs.ModuleFiles.{IsNumbered, ModuleFile, Search, file_key, file_readings, file_tree, module_file, tried_in}
 use Rattle.hir_def_collector.specs.Start.{Beginning}
-use Rattle.hir_def_collector.specs.State.{State, Task, Visit, visits, closes, import_state, visits_over}
-use Rattle.hir_def_collector.specs.Steps.{Rule, drops_item, passes_over, defines_rules, defines_macro, closes_module, closing, declares_item, declares_enum, lists_constant, lists_impl, opens_module, opens_file, drops_file, misses_file, enters_block, reaches_imports, reaches_crate, resolves_imports, Drops, LooksFor, May, Numbered, Opens, Sees, acts, after, asking, declaring, inside_block, inside_file, inside_module, keys_read, module_declaration, path_of, reads, search_readings, visit, visits_in_file, visits_inside}
+use Rattle.hir_def_collector.specs.State.{State, Task, Visit, visits, import_state, visits_over}
+use Rattle.hir_def_collector.specs.Steps.{Rule, drops_item, passes_over, defines_rules, defines_macro, closes_module, declares_item, declares_enum, lists_constant, lists_impl, opens_module, opens_file, drops_file, misses_file, enters_block, reaches_imports, reaches_crate, resolves_imports, Drops, LooksFor, May, Numbered, Opens, Sees, acts, after, asking, declaring, inside_block, inside_file, inside_module, keys_read, module_declaration, path_of, reads, search_readings, visit, visits_in_file, visits_inside}
 use Rattle.hir_def_collector.specs.Workspace.{Workspace}
 use Rattle.hir_def_collector.proofs.InRange.{IsInRange, VisitsBelow, next_below}
 use Rattle.hir_def_collector.proofs.ModuleFiles.{found_read}
@@ -47,7 +48,7 @@ use Rattle.hir_def_collector_laws.specs.Written.{IsWritten}
 use Rattle.hir_def_collector_laws.proofs.Ahead.{AllDeclare, IsAhead, ahead_unclosed, altogether, back_made, back_one, back_same, declare_altogether, earlier, gathered, gathered_at, gathered_below, gathered_both, is_module, items_apart, items_listed, module_lists, others}
 use Rattle.hir_def_collector_laws.proofs.Found.{found_seen}
 use Rattle.hir_def_collector_laws.proofs.Lists.{at_home, at_home-nothing}
-use Rattle.hir_def_collector_laws.proofs.Listings.{all_added, all_made, macro_makes_none, macro_unlisted, nothing_added, nothing_made, reporting_makes_none, reporting_unlisted}
+use Rattle.hir_def_collector_laws.proofs.Listings.{all_added, all_made, macro_agenda, macro_makes_none, macro_unlisted, nothing_added, nothing_made, reporting_agenda, reporting_makes_none, reporting_unlisted}
 use Rattle.hir_def_collector_laws.proofs.Written.{IsAllWritten, placed_next}
 
 -- ids don't hang on more than the map's id
@@ -395,18 +396,25 @@ module _ (tables : TablesValue) (w : Workspace) (finished : Maps) (from : Beginn
     back_rule (defines_rules site head name expander helpers rest) may sees numbers read edition q =
         let r : Rule = defines_rules site head name expander helpers rest in
         let makro : MacroId = macro_rules_id m site head.id expander in
+        let node : AstId = node_of site.tree nodes.MacroRules head.id in
+        let defined : State = perform (asking s r) (goes_on rest ∷ defines node makro ∷ adds_textual site.home name makro ∷ []) in
+        let now : Ahead (MapAfter r) rest = subst (λ (vs : List Task). Ahead (MapAfter r) vs) (macro_agenda defined head name makro (module_id m site.home) node expander) q in
         at_next may.next
         (unlisted_one r site head (macro_rules name expander helpers) rest (leaf_one site head (macro_rules name expander helpers) [] may.enabled refl)
-        (macro_makes_none head name makro (module_id m site.home) (node_of site.tree nodes.MacroRules head.id) expander)
-        (macro_unlisted head name makro (module_id m site.home) (node_of site.tree nodes.MacroRules head.id) expander) q)
+        (ap (λ (n : ℕ). 0 + (0 + (0 + n))) (macro_makes_none head name makro (module_id m site.home) node expander))
+        (macro_unlisted head name makro (module_id m site.home) node expander) now)
     back_rule (defines_macro site head name expander helpers rest) may sees numbers read edition q =
         let r : Rule = defines_macro site head name expander helpers rest in
-        let def : ModuleDefId = definitions.MacroId (macro_def_id m site head.id expander) in
+        let makro : MacroId = macro_def_id m site head.id expander in
+        let def : ModuleDefId = definitions.MacroId makro in
+        let node : AstId = node_of site.tree nodes.MacroDef head.id in
+        let bound : State = perform (asking s r) (goes_on rest ∷ defines node makro ∷ declaring site.home (macro_declaration name makro (own_visibility finished s.core.local m site head))) in
+        let now : Ahead (MapAfter r) rest = subst (λ (vs : List Task). Ahead (MapAfter r) vs) (reporting_agenda bound (module_id m site.home) node expander) q in
         at_next may.next
         (back_one tables w finished from answer (asking s r) (acts finished s r) site (leaf head (macro_def name expander helpers)) rest (def ∷ [])
         (leaf_one site head (macro_def name expander helpers) (def ∷ []) may.enabled (same_definitions m answer.map f.id site head (macro_def name expander helpers)))
-        (reporting_makes_none (module_id m site.home) (node_of site.tree nodes.MacroDef head.id) expander)
-        (λ k. ap (λ (xs : List ModuleDefId). at_home site.home k (def ∷ []) ++ xs) (reporting_unlisted (module_id m site.home) (node_of site.tree nodes.MacroDef head.id) expander k) ∙ append-nil (at_home site.home k (def ∷ []))) q)
+        (ap (λ (n : ℕ). 0 + (0 + (0 + (0 + n)))) (reporting_makes_none (module_id m site.home) node expander))
+        (λ k. ap (λ (xs : List ModuleDefId). at_home site.home k (def ∷ []) ++ xs) (reporting_unlisted (module_id m site.home) node expander k) ∙ append-nil (at_home site.home k (def ∷ []))) now)
     back_rule (closes_module parent child rest) may sees numbers read edition q =
         let r : Rule = closes_module parent child rest in
         at_next may (back_same tables w finished from answer (asking s r) (acts finished s r) q q.pending refl (λ k. refl))

@@ -214,6 +214,25 @@ reporting_makes_none at node expander = go (is_unimplemented expander)
     go true = refl
     go false = refl
 
+-- nor do they change what comes next
+pub macro_agenda : (t : State) (head : Head) (name : List ℕ) (makro : MacroId) (at : ModuleId) (node : AstId) (expander : MacroExpander)
+    → (perform t (exporting head name makro ++ reporting at node expander)).agenda ≡ t.agenda
+macro_agenda t head name makro at node expander = go (is_exported head.attributes) (is_unimplemented expander)
+  where
+    go : (exported unimplemented : Bool) → (perform t (cond exported (changes_imports (pushes 0 (Some name) (macros_only makro visibilities.Public None) None) ∷ []) []
+        ++ cond unimplemented (tells (unimplemented_macro at node) ∷ []) [])).agenda ≡ t.agenda
+    go true true = refl
+    go true false = refl
+    go false true = refl
+    go false false = refl
+
+pub reporting_agenda : (t : State) (at : ModuleId) (node : AstId) (expander : MacroExpander) → (perform t (reporting at node expander)).agenda ≡ t.agenda
+reporting_agenda t at node expander = go (is_unimplemented expander)
+  where
+    go : (unimplemented : Bool) → (perform t (cond unimplemented (tells (unimplemented_macro at node) ∷ []) [])).agenda ≡ t.agenda
+    go true = refl
+    go false = refl
+
 -- ---- what stays of modules, and of the map
 
 -- a module is there with this origin and parent
