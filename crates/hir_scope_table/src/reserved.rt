@@ -4,6 +4,7 @@ ghost use Rattle.hir_scope_table.specs.Entries.{with_some_entry};
 ghost use Rattle.hir_scope_table.specs.Inner.Reserved.{IsEntryFor, IsKeyFor};
 
 use std::alloc::AllocError;
+use std::collections::btree_map::Entry;
 use std::collections::{BTreeMap, BTreeSet};
 
 /// What was added to a table and to the glob table before a candidate is written.
@@ -25,11 +26,13 @@ pub(crate) fn add_entry<K: Ord + Drop, V: Drop>(
     let Some((key, value)) = entry else {
         return Ok(false);
     };
-    if map.contains_key(&key) {
-        return Ok(false);
+    match map.entry(key)? {
+        Entry::Occupied(_place) => Ok(false),
+        Entry::Vacant(place) => {
+            place.insert(value);
+            Ok(true)
+        }
     }
-    map.insert(key, value)?;
-    Ok(true)
 }
 
 /// Takes out an entry that was added.

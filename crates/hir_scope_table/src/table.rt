@@ -5,7 +5,7 @@ ghost use Rattle.std.specs.Cmp.Lexicographic.{slice_cmp};
 ghost use Rattle.hir_scope_table.specs.declared.item.Item.{Item};
 ghost use Rattle.hir_scope_table.specs.Bindings.{is_reresolved_by, takes, with_item_visibility, with_item_definition};
 ghost use Rattle.hir_scope_table.specs.Entries.{item_at, value_at};
-ghost use Rattle.hir_scope_table.specs.Globs.{Place, place_cmp};
+ghost use Rattle.hir_scope_table.specs.Globs.{Place, place_cmp, has_place};
 ghost use Rattle.hir_scope_table.specs.Table.{empty_table, taken, item_entry, is_globs, record_entry, written_items, written_places, written_records, with_visibility, with_definition, is_definition, without_definition};
 ghost use Rattle.hir_scope_table.specs.Inner.Reserved.{IsEntryFor, IsKeyFor};
 
@@ -46,19 +46,20 @@ fn is_reresolved_by<Def: Copy + PartialEq, Vis: Copy, Import: Copy + PartialEq>(
     }
 }
 
-/// Whether a candidate changes a slot: what is bound there, and whether a glob brought it.
+/// Whether a candidate changes a slot, by what is bound there, and by whether a glob brought it.
 fn takes<Def: Copy + PartialEq, Vis: Copy, Import: Copy + PartialEq, Target: Copy>(
-    globbed: bool,
+    globs: &Globs,
+    at: &(ModuleId, Name),
     bound: Option<Item<Def, Vis, Import>>,
     candidate: Candidate<Def, Vis, Import, Target>,
 ) -> bool
-    ensures value { result ≡ takes Def.eq Import.eq globbed bound candidate.push }
+    ensures value { result ≡ takes Def.eq Import.eq (has_place globs.now at.now) bound candidate.push }
 {
     match bound {
         None => true,
         Some(bound) => {
             let is_glob = candidate.push.is_glob;
-            !is_glob && (globbed || is_reresolved_by(bound, candidate.push.item))
+            !is_glob && (globs.contains(at) || is_reresolved_by(bound, candidate.push.item))
         }
     }
 }
@@ -122,7 +123,7 @@ impl<Def: Copy + PartialEq, Vis: Copy, Import: Copy + Ord, Target: Copy> Table<
     {
         let candidate = candidate?;
         let bound = self.items.get(&at.1).copied();
-        if takes(globs.contains(at), bound, candidate) {
+        if takes(globs, at, bound, candidate) {
             Some(candidate)
         } else {
             None
