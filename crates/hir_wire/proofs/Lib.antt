@@ -1,6 +1,6 @@
 pub mod PlainLemmas
 pub mod ReadingLemmas
 pub mod FieldLemmas
-pub mod IdLemmas
+pub mod PairLemmas
 pub mod NodeLemmas
 pub mod LineLemmas

@@ -14,6 +14,7 @@ pub mod Macros
 pub mod Nodes
 -- ---- Commands: what a line asks for
 pub mod Edits
+pub mod Expansions
 pub mod CommandValue
 pub mod Commands
 -- ---- Replies: the text of a reply

@@ -78,12 +78,20 @@ fits bits n = if nat_lt n (2 ^ bits) then Some n else None
 unfoldable pub natural_of : ℕ → Data → Option ℕ
 natural_of bits d = option_and_then (fits bits) (option_and_then as_u64 (as_number d))
 
+-- what a list of two gives
+abbrev pub of_two : {A : Type 0} → (Data → Data → Option A) → Items → Option A
+of_two f no_items = None
+of_two f (item a no_items) = None
+of_two f (item a (item b no_items)) = f a b
+of_two f (item a (item b (item c ds))) = None
+
+-- the id of this hash and this index
+abbrev pub id_of_two : Data → Data → Option SyntaxId
+id_of_two a b = option_and_then (λ h. option_map (λ i. record { hash = h; index = i }) (natural_of 16 b)) (natural_of 16 a)
+
 -- the id of these two numbers
 abbrev pub id_of_items : Items → Option SyntaxId
-id_of_items no_items = None
-id_of_items (item a no_items) = None
-id_of_items (item a (item b no_items)) = option_and_then (λ h. option_map (λ i. record { hash = h; index = i }) (natural_of 16 b)) (natural_of 16 a)
-id_of_items (item a (item b (item c ds))) = None
+id_of_items ds = of_two id_of_two ds
 
 -- a value as a node's id
 abbrev pub id_of : Data → Option SyntaxId

@@ -31,6 +31,7 @@ pub use Rattle.hir_wire.specs.declared.diagnostic.DiagnosticKind.{DiagnosticKind
 pub use Rattle.hir_wire.specs.declared.diagnostic.DiagnosticKind.TheVariants as diagnostic
 pub use Rattle.hir_wire.specs.declared.edit.Edit.{Edit}
 pub use Rattle.hir_wire.specs.declared.edit.Edit.TheVariants as edit
+pub use Rattle.hir_wire.specs.declared.edit.ExpansionEntry.{ExpansionEntry}
 pub use Rattle.hir_wire.specs.declared.read_error.ReadError.{ReadError}
 pub use Rattle.hir_wire.specs.declared.read_error.ReadError.TheVariants as read_error
 pub use Rattle.hir_wire.specs.declared.reply.Reply.{Reply}

@@ -1,13 +1,37 @@
 //! Edits of the input between two queries.
 
 use hir_base::file_path::FilePath;
+use hir_base::macro_kind::ExpansionKey;
+use hir_base::text::Text;
 use hir_item_tree::source::Source;
+
+/// What a macro call expands to.
+#[derive(Drop)]
+pub struct ExpansionEntry {
+    pub source: Source,
+    /// Why the expansion failed, if it did. Its source counts all the same.
+    pub error: Option<Text>,
+}
 
 /// A change of the input.
 #[derive(Drop)]
 pub enum Edit {
     /// Sets a file's source, in place of an earlier one.
-    SetFile { file: FilePath, source: Source },
+    SetFile {
+        file: FilePath,
+        source: Source,
+    },
     /// Removes a file, if there is one.
-    RemoveFile { file: FilePath },
+    RemoveFile {
+        file: FilePath,
+    },
+    /// Sets what the macro calls with this key expand to, in place of what was set earlier.
+    SetExpansion {
+        key: ExpansionKey,
+        entry: ExpansionEntry,
+    },
+    /// Removes what the macro calls with this key expand to, if it is set.
+    RemoveExpansion {
+        key: ExpansionKey,
+    },
 }

@@ -3,13 +3,14 @@ ghost use Rattle.std.specs.Prelude.{◌≡◌, ◌≢◌, MatchResult, codes};
 ghost use Rattle.serde_json.specs.View.{view, members_view};
 ghost use Rattle.hir_wire.specs.CommandValue.{command_view};
 ghost use Rattle.hir_wire.specs.Reading.{Reads, required, word_as};
-ghost use Rattle.hir_wire.specs.Commands.{verb_of_word, set_file_in, resolve_in, tree_in, fields_of, command_with, command_of, data_of, reading_of};
+ghost use Rattle.hir_wire.specs.Commands.{verb_of_word, set_file_in, set_expansion_in, resolve_in, tree_in, fields_of, command_with, command_of, data_of, reading_of};
 
 use crate::command::{Command, MacroStyle, Shadow};
 use crate::edit::Edit;
 use crate::json::combinators::{both, required};
 use crate::json::floats::holds_float;
 use crate::json::words::{Word, optional_word, required_word};
+use crate::read::expansion::read_entry;
 use crate::read_error::ReadError;
 use serde_json::{Map, Value};
 use std::alloc::Global;
@@ -20,6 +21,8 @@ pub enum Verb {
     Crates,
     SetFile,
     RemoveFile,
+    SetExpansion,
+    RemoveExpansion,
     Refresh,
     Resolve,
     Status,
@@ -37,6 +40,8 @@ impl Word for Verb {
             "crates" => Some(Verb::Crates),
             "set file" => Some(Verb::SetFile),
             "remove file" => Some(Verb::RemoveFile),
+            "set expansion" => Some(Verb::SetExpansion),
+            "remove expansion" => Some(Verb::RemoveExpansion),
             "refresh" => Some(Verb::Refresh),
             "resolve" => Some(Verb::Resolve),
             "status" => Some(Verb::Status),
@@ -94,6 +99,27 @@ fn read_remove_file(alloc: Global, members: &Map<String, Value>) -> Result<Comma
 {
     match required(alloc, members, "file") {
         Ok(file) => Ok(Command::Edit(Edit::RemoveFile { file })),
+        Err(error) => Err(error),
+    }
+}
+
+#[tactic(auto, unfolding(crate::specs::Commands::set_expansion_in))]
+fn read_set_expansion(alloc: Global, members: &Map<String, Value>) -> Result<Command, ReadError>
+    ensures value { Reads command_view
+        (set_expansion_in (members_view members.now.entries)) result }
+{
+    match both(required(alloc, members, "key"), read_entry(alloc, members)) {
+        Ok((key, entry)) => Ok(Command::Edit(Edit::SetExpansion { key, entry })),
+        Err(error) => Err(error),
+    }
+}
+
+fn read_remove_expansion(alloc: Global, members: &Map<String, Value>) -> Result<Command, ReadError>
+    ensures value { Reads command_view
+        (fields_of Verb.RemoveExpansion (members_view members.now.entries)) result }
+{
+    match required(alloc, members, "key") {
+        Ok(key) => Ok(Command::Edit(Edit::RemoveExpansion { key })),
         Err(error) => Err(error),
     }
 }
@@ -177,6 +203,8 @@ fn read_verb_fields(
         Verb::Crates => read_begin(alloc, members),
         Verb::SetFile => read_set_file(alloc, members),
         Verb::RemoveFile => read_remove_file(alloc, members),
+        Verb::SetExpansion => read_set_expansion(alloc, members),
+        Verb::RemoveExpansion => read_remove_expansion(alloc, members),
         Verb::Refresh => Ok(Command::Refresh),
         Verb::Resolve => read_resolve(alloc, members),
         Verb::Status => read_status(alloc, members),

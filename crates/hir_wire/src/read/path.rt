@@ -113,7 +113,7 @@ fn read_u16(value: &Value) -> Option<u16>
 }
 
 #[tactic(auto, unfolding(crate::specs::Paths::natural_of))]
-fn read_u32(value: &Value) -> Option<u32>
+pub fn read_u32(value: &Value) -> Option<u32>
     ensures value { result ≡ natural_of 32 (view value.now) }
 {
     u32::try_from(value.as_u64()?).ok()

@@ -1,0 +1,143 @@
+//! Expansions of macro calls: what they depend on, and what they give.
+ghost use Rattle.std.specs.Prelude.{◌≡◌};
+ghost use Rattle.serde_json.specs.View.{view, members_view, items_view};
+ghost use Rattle.hir_tables.specs.SourcePlaces.{expansion_value};
+ghost use Rattle.hir_wire.specs.Edits.{entry_view};
+ghost use Rattle.hir_wire.specs.Expansions.{call_of_word, attribute_call, call_of_items, call_of, macro_text_in, key_in, entry_in};
+ghost use Rattle.hir_wire.specs.Reading.{Reads};
+
+use crate::edit::ExpansionEntry;
+use crate::json::combinators::{both, maybe, required};
+use crate::json::from_json::FromJson;
+use crate::read::path::read_u32;
+use crate::read_error::ReadError;
+use hir_base::ast_id::AttrId;
+use hir_base::macro_kind::{CallStyle, ExpansionKey, MacroText};
+use serde_json::{Map, Value};
+use std::alloc::Global;
+
+fn call_of_word(word: &str) -> Option<CallStyle>
+    ensures value { result ≡ call_of_word word.now }
+{
+    match word {
+        "bang" => Some(CallStyle::Bang),
+        "derive" => Some(CallStyle::Derive),
+        _ => None,
+    }
+}
+
+fn attribute_call(word: &Value, attr: &Value) -> Option<CallStyle>
+    ensures value { result ≡ attribute_call (view word.now) (view attr.now) }
+{
+    if word.as_str()? != "attr" {
+        return None;
+    }
+    Some(CallStyle::Attribute(AttrId(read_u32(attr)?)))
+}
+
+fn call_of_items(items: &[Value]) -> Option<CallStyle>
+    ensures value { result ≡ call_of_items (items_view items.now) }
+{
+    match items {
+        [word, attr] => attribute_call(word, attr),
+        _ => None,
+    }
+}
+
+fn call_of_value(value: &Value) -> Option<CallStyle>
+    ensures value { result ≡ call_of (view value.now) }
+{
+    match value {
+        Value::String(word) => call_of_word(word.as_str()),
+        Value::Array(items) => call_of_items(items.as_slice()),
+        _ => None,
+    }
+}
+
+impl FromJson for CallStyle {
+    ghost use Rattle.hir_base.specs.declared.macro_kind.CallStyle.{CallStyle};
+    ghost use Rattle.hir_wire.specs.Expansions.{call_meant};
+
+    ghost Seen = { CallStyle };
+
+    ghost seen = { λ c. c };
+
+    ghost meaning = { call_meant };
+
+    fn read(_alloc: Global, value: &Value) -> Result<CallStyle, ReadError> {
+        match call_of_value(value) {
+            Some(call) => Ok(call),
+            None => Err(ReadError::Command),
+        }
+    }
+}
+
+#[tactic(auto, unfolding(crate::specs::Expansions::macro_text_in))]
+fn read_macro_text(alloc: Global, members: &Map<String, Value>) -> Result<MacroText, ReadError>
+    ensures value { Reads (λ m. m) (macro_text_in (members_view members.now.entries)) result }
+{
+    match both(
+        required(alloc, members, "crate"),
+        required(alloc, members, "text"),
+    ) {
+        Ok((krate, text)) => Ok(MacroText { krate, text }),
+        Err(error) => Err(error),
+    }
+}
+
+#[tactic(auto, unfolding(crate::specs::Expansions::key_in))]
+fn read_key_members(alloc: Global, members: &Map<String, Value>) -> Result<ExpansionKey, ReadError>
+    ensures value { Reads expansion_value (key_in (members_view members.now.entries)) result }
+{
+    match both(
+        both(
+            required(alloc, members, "caller"),
+            read_macro_text(alloc, members),
+        ),
+        both(
+            required(alloc, members, "call"),
+            required(alloc, members, "input"),
+        ),
+    ) {
+        Ok(((caller, called), (call, input))) => Ok(ExpansionKey {
+            caller,
+            called,
+            call,
+            input,
+            reached: Vec::new(alloc),
+        }),
+        Err(error) => Err(error),
+    }
+}
+
+impl FromJson for ExpansionKey {
+    ghost use Rattle.hir_tables.specs.SourcePlaces.{ExpansionValue, expansion_value};
+    ghost use Rattle.hir_wire.specs.Expansions.{key_of};
+
+    ghost Seen = { ExpansionValue };
+
+    ghost seen = { expansion_value };
+
+    ghost meaning = { key_of };
+
+    fn read(alloc: Global, value: &Value) -> Result<ExpansionKey, ReadError> {
+        match value {
+            Value::Object(members) => read_key_members(alloc, members),
+            _ => Err(ReadError::Command),
+        }
+    }
+}
+
+/// What an expansion gives: its syntax, and why it failed, if it did.
+#[tactic(auto, unfolding(crate::specs::Expansions::entry_in))]
+pub fn read_entry(alloc: Global, members: &Map<String, Value>) -> Result<ExpansionEntry, ReadError>
+    ensures value { Reads entry_view (entry_in (members_view members.now.entries)) result }
+{
+    match both(
+        required(alloc, members, "unit"),
+        maybe(alloc, members, "error"),
+    ) {
+        Ok((source, error)) => Ok(ExpansionEntry { source, error }),
+        Err(error) => Err(error),
+    }
+}
