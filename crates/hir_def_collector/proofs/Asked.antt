@@ -13,7 +13,7 @@ use Rattle.hir_def_map.specs.References.{crate_map}
 use Rattle.hir_def_map.specs.Overlay.{Maps, Placed}
 use Rattle.hir_def_collector.specs.declared.source_database.Key.{Key}
 use Rattle.hir_def_collector.specs.Workspace.{ConfigValue, TreeLook, seen_of, transitive_by, transitive_dependencies_in}
-use Rattle.hir_def_collector.specs.Keys.{Environment, Look, of_tree, of_map, of_variants, absent_source, look, map_key}
+use Rattle.hir_def_collector.specs.Keys.{Environment, Look, of_tree, of_map, of_variants, of_text, of_input, of_entry, absent_source, look, map_key}
 use Rattle.hir_tables.specs.Tables.{KeepsTables}
 use Rattle.hir_def_collector.specs.Start.{Beginning, krate_of, read_by, root_key, root_tree}
 
@@ -49,11 +49,17 @@ is_of_crate crates id h = go id.block refl (list_any (same_crate id.krate) crate
 abbrev pub seen_tree : Look → TreeLook → TreeLook
 seen_tree (of_tree t) other = t
 seen_tree (of_variants vs) other = other
+seen_tree (of_text text) other = other
+seen_tree (of_input text) other = other
+seen_tree (of_entry e) other = other
 seen_tree (of_map m) other = other
 
 abbrev seen_map : Look → Option Placed → Option Placed
 seen_map (of_tree t) other = other
 seen_map (of_variants vs) other = other
+seen_map (of_text text) other = other
+seen_map (of_input text) other = other
+seen_map (of_entry e) other = other
 seen_map (of_map m) other = m
 
 -- a workspace with its finished maps is like another, where the numbers that the one is spoken of by mean the same to the other

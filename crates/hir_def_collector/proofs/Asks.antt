@@ -21,12 +21,12 @@ use Rattle.hir_def_collector.specs.Workspace.{Workspace}
 use Rattle.hir_def_collector.specs.Causes.{IsCandidate}
 use Rattle.hir_def_collector.specs.ModuleFiles.{IsNumbered, Search}
 use Rattle.hir_def_collector.specs.Keys.{Environment, environment}
-use Rattle.hir_def_collector.specs.State.{State, Visit}
+use Rattle.hir_def_collector.specs.State.{State, Task}
 use Rattle.hir_def_collector.specs.ItemIds.{enum_id}
 use Rattle.hir_def_collector.specs.Items.{own_visibility}
 use Rattle.hir_def_collector.specs.Changes.{changes_imports, gives_variants, goes_on, lists, perform}
 use Rattle.hir_def_collector.specs.Enums.{variants_of}
-use Rattle.hir_def_collector.specs.Steps.{Rule, drops_item, passes_over, declares_item, declares_enum, lists_constant, lists_impl, opens_module, opens_file, drops_file, misses_file, enters_block, reaches_imports, reaches_crate, resolves_imports, LooksFor, May, Numbered, Sees, after, asking, keys_read, path_of, reads, search_readings, Step, Steps, none, more, enum_declaration}
+use Rattle.hir_def_collector.specs.Steps.{Rule, drops_item, passes_over, defines_rules, defines_macro, closes_module, declares_item, declares_enum, lists_constant, lists_impl, opens_module, opens_file, drops_file, misses_file, enters_block, reaches_imports, reaches_crate, resolves_imports, LooksFor, May, Numbered, Sees, after, asking, keys_read, path_of, reads, search_readings, Step, Steps, none, more, enum_declaration}
 use Rattle.hir_def_collector.proofs.Changes.{asked-Step}
 use Rattle.hir_def_collector.proofs.Declared.{Lists, Lists-now}
 use Rattle.hir_def_collector.proofs.Grows.{Grows, Grows-Step, Grows-act}
@@ -47,7 +47,7 @@ IsOfListed-Grows : {old new : Map} {key : Key} → Grows old new → IsOfListed 
 IsOfListed-Grows grows p = record { home = p.home; id = p.id; listed = grows.listed p.home (of_enum p.id) p.listed; is = p.is }
 
 -- an enum that is declared is listed
-listed_now : (finished : Maps) (s : State) (site : Site) (head : Head) (name : List ℕ) (found : Option (List VariantItem)) (rest : List Visit) → site.home < length s.core.map.modules
+listed_now : (finished : Maps) (s : State) (site : Site) (head : Head) (name : List ℕ) (found : Option (List VariantItem)) (rest : List Task) → site.home < length s.core.map.modules
     → Lists (of_enum (enum_id s.core.map site head.id)) (module_at (after finished s (declares_enum site head name found rest)).core.map site.home)
 listed_now finished s site head name found rest here =
     let rule : Rule = declares_enum site head name found rest in
@@ -74,7 +74,7 @@ data IsRead (tables : TablesValue) (w : Workspace) (finished : Maps) (s : State)
   file_read : IsCandidate tables w s key → IsRead tables w finished s r key
 
 module _ (tables : TablesValue) (w : Workspace) (finished : Maps) (s : State) where
-  searched : (site : Site) (head : Head) (name : List ℕ) (search : Search) (rest : List Visit) → LooksFor s site head name search rest → IsNumbered tables site.tree search
+  searched : (site : Site) (head : Head) (name : List ℕ) (search : Search) (rest : List Task) → LooksFor s site head name search rest → IsNumbered tables site.tree search
       → Sees (environment tables w) finished (search_readings s.core.map search) → (key : Key) → Contains (keys_read (search_readings s.core.map search)) key → IsCandidate tables w s key
   searched site head name search rest looks numbered sees key h =
       let m : Map = s.core.map in
@@ -101,6 +101,9 @@ module _ (tables : TablesValue) (w : Workspace) (finished : Maps) (s : State) wh
   caused : (r : Rule) → May finished s r → Sees (environment tables w) finished (reads s r) → Numbered tables r → IsInRange s → (key : Key) → Contains (keys_read (reads s r)) key
       → IsRead tables w finished s r key
   caused (drops_item v report rest) may sees numbered p key h = absurd (no_key key h)
+  caused (defines_rules site head name expander helpers rest) may sees numbered p key h = absurd (no_key key h)
+  caused (defines_macro site head name expander helpers rest) may sees numbered p key h = absurd (no_key key h)
+  caused (closes_module parent child rest) may sees numbered p key h = absurd (no_key key h)
   caused (passes_over site head l rest) may sees numbered p key h = absurd (no_key key h)
   caused (declares_item v d rest) may sees numbered p key h = absurd (no_key key h)
   caused (declares_enum site head name found rest) may sees numbered p key h =

@@ -2,7 +2,6 @@
 use Rattle.std.proofs.Common.{◌≡◌, ◌∙◌, Bool, true, false, List, [], Option, Some, None, refl, sym, ap, subst}
 use Rattle.std.specs.Prelude.{IsSome, is_some, not, option_map}
 use Rattle.hir_base.specs.declared.ids.Crate.{Crate}
-use Rattle.hir_item_tree.specs.ItemTree.{Tree}
 use Rattle.hir_item_tree.specs.SourceTree.{SourceTreeValue}
 use Rattle.hir_item_tree.specs.declared.tree_id.TreeId.{TreeId}
 use Rattle.hir_tables.specs.SourcePlaces.{SourcePlaceValue}
@@ -12,7 +11,7 @@ use Rattle.hir_def_collector.specs.declared.collector.Start.{Start}
 use Rattle.hir_def_collector.specs.Workspace.{Workspace}
 use Rattle.hir_def_collector.specs.Keys.{source_in, source_under}
 use Rattle.hir_def_collector.specs.Start.{began, core_of, krate_of, root_site, start_by, tree_key, tree_visits}
-use Rattle.hir_def_collector.specs.State.{Core, State, at_rest, joined}
+use Rattle.hir_def_collector.specs.State.{Core, at_rest, joined}
 use Rattle.hir_def_collector.specs.Moves.{IsHeld}
 use Rattle.hir_def_collector.proofs.Outline.{held_grown, held_source}
 

@@ -1,14 +1,23 @@
 -- What no change alters, and what changes keep that each of them keeps.
-use Rattle.std.proofs.Common.{◌≡◌, ◌∙◌, ◌+◌, ◌++◌, ℕ, List, [], ◌∷◌, map as list_map, refl, sym, ap, append-nil, append_assoc}
+use Rattle.std.proofs.Common.{◌≡◌, ◌∙◌, ◌+◌, ◌++◌, ℕ, Bool, true, false, cond, Some, None, List, [], ◌∷◌, map as list_map, refl, sym, ap, append-nil, append_assoc}
+use Rattle.hir_base.specs.declared.ast_id.AstId.{AstId}
+use Rattle.hir_base.specs.declared.ids.ModuleId.{ModuleId}
+use Rattle.hir_base.specs.declared.macro_kind.MacroExpander.{MacroExpander}
+use Rattle.hir_base.specs.declared.macro_kind.MacroId.{MacroId}
+use Rattle.hir_item_tree.specs.KeptForest.{Head}
+use Rattle.hir_scope.specs.PerNs.{macros_only}
+use Rattle.hir_scope.specs.declared.visibility.Visibility.TheVariants as visibilities
 use Rattle.hir_def_map.specs.Overlay.{Maps}
 use Rattle.hir_def_map.specs.State.{Map}
-use Rattle.hir_import_resolution.specs.Changes.{Change as ImportChange}
+use Rattle.hir_import_resolution.specs.Changes.{Change as ImportChange, pushes}
 use Rattle.hir_import_resolution.specs.State.{ImportState}
 use Rattle.hir_def_collector.specs.declared.source_database.Key.{Key}
 use Rattle.hir_def_collector.specs.Keys.{Environment}
 use Rattle.hir_def_collector.specs.State.{State, import_state}
-use Rattle.hir_def_collector.specs.Changes.{Change, lists, makes, gives_variants, begins_paths, reaches, changes_imports, tells, goes_on, act, perform}
-use Rattle.hir_def_collector.specs.Steps.{Step, Steps, none, more, acts, asking, keys_read, reads, with_keys}
+use Rattle.hir_def_collector.specs.Changes.{Change, lists, makes, gives_variants, begins_paths, reaches, changes_imports, adds_textual, takes_textual, defines, uses_macros, tells, goes_on, act, perform}
+use Rattle.hir_def_collector.specs.Macros.{is_exported}
+use Rattle.hir_def_collector.specs.Reports.{is_unimplemented, unimplemented_macro}
+use Rattle.hir_def_collector.specs.Steps.{Step, Steps, none, more, acts, asking, exporting, keys_read, reads, reporting, with_keys}
 use Rattle.hir_def_collector.proofs.ImportEdits.{count_after, crate_data_edited, edit_of, id_edited, map_after}
 
 -- ---- what no change alters
@@ -44,10 +53,14 @@ Keeps-act s (changes_imports c) =
       dependencies = refl;
       asked = refl;
     }
+Keeps-act s (adds_textual home name makro) = record { count = refl; id = refl; crate_data = refl; dependencies = refl; asked = refl }
+Keeps-act s (takes_textual home from) = record { count = refl; id = refl; crate_data = refl; dependencies = refl; asked = refl }
+Keeps-act s (defines node makro) = record { count = refl; id = refl; crate_data = refl; dependencies = refl; asked = refl }
+Keeps-act s (uses_macros macros by) = record { count = refl; id = refl; crate_data = refl; dependencies = refl; asked = refl }
 Keeps-act s (tells d) = record { count = refl; id = refl; crate_data = refl; dependencies = refl; asked = refl }
-Keeps-act s (goes_on visits) = record { count = refl; id = refl; crate_data = refl; dependencies = refl; asked = refl }
+Keeps-act s (goes_on tasks) = record { count = refl; id = refl; crate_data = refl; dependencies = refl; asked = refl }
 
-Keeps-perform : (cs : List Change) (s : State) → Keeps s (perform s cs)
+pub Keeps-perform : (cs : List Change) (s : State) → Keeps s (perform s cs)
 Keeps-perform [] s = record { count = refl; id = refl; crate_data = refl; dependencies = refl; asked = refl }
 Keeps-perform (c ∷ cs) s = Keeps-trans (Keeps-act s c) (Keeps-perform cs (act s c))
 
@@ -67,6 +80,34 @@ pub all_fine : (Fine : State → Change → Type 0) → ((s : State) (c : Import
     → AllFine Fine s (list_map changes_imports cs)
 all_fine Fine fine [] s = tt
 all_fine Fine fine (c ∷ cs) s = (fine s c, all_fine Fine fine cs (act s (changes_imports c)))
+
+-- ---- changes one after another
+
+pub perform-append : (cs ds : List Change) (s : State) → perform s (cs ++ ds) ≡ perform (perform s cs) ds
+perform-append [] ds s = refl
+perform-append (c ∷ cs) ds s = perform-append cs ds (act s c)
+
+pub fine-append : (Fine : State → Change → Type 0) (cs ds : List Change) (s : State) → AllFine Fine s cs → AllFine Fine (perform s cs) ds → AllFine Fine s (cs ++ ds)
+fine-append Fine [] ds s f g = g
+fine-append Fine (c ∷ cs) ds s f g = (f.0, fine-append Fine cs ds (act s c) f.1 g)
+
+-- what is reported of a macro, and where it is bound besides
+module _ (Fine : State → Change → Type 0) (at : ModuleId) (node : AstId) (expander : MacroExpander) (told : (s : State) → Fine s (tells (unimplemented_macro at node))) where
+  pub fine_reporting : (s : State) → AllFine Fine s (reporting at node expander)
+  fine_reporting s = go (is_unimplemented expander)
+    where
+      go : (b : Bool) → AllFine Fine s (cond b (tells (unimplemented_macro at node) ∷ []) [])
+      go true = (told s, tt)
+      go false = tt
+
+  pub fine_macro : (head : Head) (name : List ℕ) (makro : MacroId) → ((s : State) → Fine s (changes_imports (pushes 0 (Some name) (macros_only makro visibilities.Public None) None))) → (s : State)
+      → AllFine Fine s (exporting head name makro ++ reporting at node expander)
+  fine_macro head name makro pushed s =
+      fine-append Fine (exporting head name makro) (reporting at node expander) s (go (is_exported head.attributes)) (fine_reporting (perform s (exporting head name makro)))
+    where
+      go : (b : Bool) → AllFine Fine s (cond b (changes_imports (pushes 0 (Some name) (macros_only makro visibilities.Public None) None) ∷ []) [])
+      go true = (pushed s, tt)
+      go false = tt
 
 -- ---- steps
 

@@ -1,5 +1,5 @@
 -- What a derivation comes to, over each workspace and beside finished maps that agree on what was asked for.
-use Rattle.std.proofs.Common.{◌≡◌, ◌∙◌, ◌==◌, ◌||◌, ℕ, zero, suc, ◌<◌, length, Bool, true, false, List, [], ◌∷◌, ◌++◌, map as list_map, Option, None, Some, ◌⊎◌, inl, inr, refl, sym, ap, subst, arith, Contains, if◌then◌else◌}
+use Rattle.std.proofs.Common.{◌≡◌, ◌∙◌, ◌==◌, ◌||◌, ℕ, zero, suc, ◌<◌, length, Bool, false, List, [], ◌∷◌, ◌++◌, map as list_map, Option, None, Some, inl, inr, refl, sym, ap, subst, arith, Contains, if◌then◌else◌}
 use Rattle.std.specs.List.{list_any}
 use Rattle.std.specs.Prelude.{option_map, unwrap_or}
 use Rattle.hir_crate_graph.specs.CrateSet.{crate_of, crates_from}
@@ -48,6 +48,9 @@ same_look : (env other : Environment) (before finished maps : Maps) (key : Key)
     → look other.tables other.workspace finished key ≡ look env.tables env.workspace before key → look other.tables other.workspace maps key ≡ look env.tables env.workspace maps key
 same_look env other before finished maps (keys.Tree tree) e = e
 same_look env other before finished maps (keys.Variants id) e = e
+same_look env other before finished maps (keys.Text id) e = e
+same_look env other before finished maps (keys.Input krate ast) e = e
+same_look env other before finished maps (keys.Expansion id) e = e
 same_look env other before finished maps (keys.Map id) e = refl
 
 -- so a step is one over each that has the same at what was asked for, where its numbers mean the same

@@ -1,5 +1,5 @@
 -- The file of a module is looked for, one candidate after another.
-use Rattle.std.proofs.Common.{◌≡◌, ◌∙◌, ◌+◌, ◌*◌, ◌-◌, ◌<◌, ◌≤◌, ℕ, Bool, true, false, List, [], ◌∷◌, ◌++◌, map as list_map, length, take, drop, get_or, min, Option, Some, None, refl, sym, ap, subst, arith}
+use Rattle.std.proofs.Common.{◌≡◌, ◌∙◌, ◌+◌, ◌*◌, ◌-◌, ◌<◌, ◌≤◌, ℕ, true, false, List, [], ◌∷◌, ◌++◌, length, take, drop, get_or, min, Option, Some, None, refl, sym, ap, subst, arith}
 use Rattle.std.proofs.lemmas.List.{take_all}
 use Rattle.std.specs.Prelude.{option_map}
 use Rattle.std.specs.Option.{option_map_or, option_to_list}
@@ -8,14 +8,14 @@ use Rattle.hir_base.specs.declared.edition.Edition.{Edition}
 use Rattle.hir_base.specs.declared.ids.Crate.{Crate}
 use Rattle.hir_item_tree.specs.SourceTree.{SourceTreeValue}
 use Rattle.hir_mod_dir.specs.declared.candidate.Candidate.{Candidate}
-use Rattle.hir_tables.specs.SourcePlaces.{SourcePlaceValue, file}
+use Rattle.hir_tables.specs.SourcePlaces.{file}
 use Rattle.hir_tables.specs.Tables.{KeepsTables, TablesValue, file_at}
 use Rattle.hir_tables.proofs.Growth.{KeepsTables-trans}
 use Rattle.hir_def_map.specs.State.{Map}
 use Rattle.hir_def_map.specs.Overlay.{Maps}
-use Rattle.hir_def_collector.specs.Workspace.{TreeLook, Workspace, seen_of}
-use Rattle.hir_def_collector.specs.Keys.{Environment, Look, environment, of_tree, source_in, source_under}
-use Rattle.hir_def_collector.specs.ModuleFiles.{AreTried, IsNumberOf, LookedAt, ModuleFile, Tried, file_key, file_reading, file_readings, file_tree, is_there, named_by, taken_by}
+use Rattle.hir_def_collector.specs.Workspace.{Workspace, seen_of}
+use Rattle.hir_def_collector.specs.Keys.{environment, of_tree, source_in, source_under}
+use Rattle.hir_def_collector.specs.ModuleFiles.{AreTried, IsNumberOf, LookedAt, ModuleFile, Tried, file_key, file_reading, file_readings, file_tree, named_by, taken_by}
 use Rattle.hir_def_collector.specs.State.{Core}
 use Rattle.hir_def_collector.specs.Steps.{Sees, keys_read, with_keys}
 use Rattle.hir_def_collector.specs.declared.collector.mod_resolution.LookedFile.{LookedFile}

@@ -1,10 +1,15 @@
 -- No step takes a module, a binding or a declaration away.
-use Rattle.std.proofs.Common.{◌≡◌, ℕ, ◌+◌, ◌<◌, ◌≤◌, List, [], ◌∷◌, length, Option, None, Some, sym, ap, subst, arith, Contains}
+use Rattle.std.proofs.Common.{◌≡◌, ℕ, ◌+◌, ◌<◌, ◌≤◌, List, [], ◌∷◌, length, Option, None, Some, refl, sym, ap, subst, arith, Contains}
+use Rattle.hir_base.specs.declared.ast_id.AstId.{AstId}
 use Rattle.hir_base.specs.declared.ids.EnumId.{EnumId}
 use Rattle.hir_base.specs.declared.ids.ExternBlockId.{ExternBlockId}
+use Rattle.hir_base.specs.declared.ids.ExternCrateId.{ExternCrateId}
 use Rattle.hir_base.specs.declared.ids.ModuleDefId.{ModuleDefId}
 use Rattle.hir_base.specs.declared.ids.ModuleId.{ModuleId}
-use Rattle.hir_scope.specs.Scope.{ScopeValue}
+use Rattle.hir_base.specs.declared.macro_kind.MacroId.{MacroId}
+use Rattle.hir_textual_scope.specs.Macros.{with_macro}
+use Rattle.hir_textual_scope.specs.declared.textual_scope.TextualMacro.{TextualMacro}
+use Rattle.hir_scope.specs.Scope.{ScopeValue, binding_of}
 use Rattle.hir_scope.specs.declared.per_ns.PerNs.{PerNs}
 use Rattle.hir_scope.specs.declared.visibility.Visibility.{Visibility}
 use Rattle.hir_def_map.specs.State.{Map, Variants, changed_at, entry_at, module_at, new_id, new_module, no_globs, numbered, with_child, with_declared, with_enum, with_extern_block, with_module, with_module_scope, with_scope}
@@ -16,7 +21,7 @@ use Rattle.hir_def_map.proofs.Listed.{KeepsNames-listed}
 use Rattle.hir_def_map.proofs.StaysWellFormed.{length-made}
 use Rattle.hir_def_map.specs.declared.nameres.declaration.Declaration.{Declaration as Listing}
 use Rattle.hir_def_map.specs.declared.nameres.declaration.Declaration.TheVariants as declaration
-use Rattle.hir_def_map.specs.Macros.{with_diagnostic}
+use Rattle.hir_def_map.specs.Macros.{with_diagnostic, with_macro_def}
 use Rattle.hir_def_map.specs.declared.nameres.diagnostics.DefDiagnostic.{DefDiagnostic}
 use Rattle.hir_def_map.specs.declared.nameres.origin.ModuleOrigin.{ModuleOrigin}
 use Rattle.hir_def_collector.specs.declared.collector.declaration.Declaration.{Declaration}
@@ -25,7 +30,9 @@ use Rattle.hir_def_collector.specs.State.{Core, State, counted, import_state, wi
 use Rattle.hir_def_collector.specs.ItemIds.{module_id}
 use Rattle.hir_import_resolution.specs.Directives.{AreAmong, namespaces_of}
 use Rattle.hir_def_collector.specs.Items.{bound_in}
-use Rattle.hir_def_collector.specs.Changes.{Change, lists, makes, gives_variants, begins_paths, reaches, changes_imports, tells, goes_on, act, perform}
+use Rattle.hir_def_collector.specs.Macros.{textual_at, with_macros_used}
+use Rattle.hir_def_collector.specs.Moves.{begun}
+use Rattle.hir_def_collector.specs.Changes.{Change, lists, makes, gives_variants, begins_paths, reaches, changes_imports, adds_textual, takes_textual, defines, uses_macros, tells, goes_on, act, perform}
 use Rattle.hir_def_collector.specs.Steps.{Step, Steps, none, more, acts, asking, with_declaration}
 use Rattle.hir_def_collector.proofs.Declared.{Lists, Lists-changed, Lists-longer, Lists-listed}
 use Rattle.hir_def_collector.proofs.Bound.{AreAmong-same, AreAmong-trans, AreAmong-by, KeepsBindings, among-changed, keeps-edit}
@@ -100,6 +107,19 @@ Grows-with_module m home name origin vis above = record {
 pub Grows-told : (m : Map) (d : DefDiagnostic) → Grows m (with_diagnostic m d)
 Grows-told m d = let same : Grows m m = Grows-same m in record { longer = same.longer; kept = same.kept; listed = same.listed }
 
+-- macros come into textual scope, are defined and are used
+keeps-textual : (change : List TextualMacro → List TextualMacro) → KeepsBindings (λ (s : ScopeValue). record s { legacy_macros = change s.legacy_macros })
+keeps-textual change = record { bound = λ scope name. AreAmong-same (namespaces_of (binding_of scope name)); declared = λ scope. refl }
+
+pub Grows-textual : (m : Map) (home : ℕ) (change : List TextualMacro → List TextualMacro) → Grows m (with_scope m home (λ (s : ScopeValue). record s { legacy_macros = change s.legacy_macros }))
+Grows-textual m home change = Grows-scope m home _ (keeps-textual change)
+
+Grows-defined : (m : Map) (node : AstId) (makro : MacroId) → Grows m (with_macro_def m node makro)
+Grows-defined m node makro = let same : Grows m m = Grows-same m in record { longer = same.longer; kept = same.kept; listed = same.listed }
+
+Grows-used : (m : Map) (macros : List (List ℕ × MacroId)) (by : Option ExternCrateId) → Grows m (with_macros_used m macros by)
+Grows-used m macros by = let same : Grows m m = Grows-same m in record { longer = same.longer; kept = same.kept; listed = same.listed }
+
 -- ---- changes
 
 pub Grows-act : (s : State) (c : Change) → Grows s.core.map (act s c).core.map
@@ -110,8 +130,12 @@ Grows-act s (begins_paths r) = Grows-same s.core.map
 Grows-act s (reaches rs) = Grows-same s.core.map
 Grows-act s (changes_imports c) =
     subst (λ (m : Map). Grows s.core.map m) (sym (map_after (import_state s) c)) (Grows-edited s.core.map (edit_of (import_state s) c))
+Grows-act s (adds_textual home name makro) = Grows-textual s.core.map home (λ macros. with_macro macros name makro)
+Grows-act s (takes_textual home from) = Grows-textual s.core.map home (λ _. textual_at s.core.map from)
+Grows-act s (defines node makro) = Grows-defined s.core.map node makro
+Grows-act s (uses_macros macros by) = Grows-used s.core.map macros by
 Grows-act s (tells d) = Grows-told s.core.map d
-Grows-act s (goes_on visits) = Grows-same s.core.map
+Grows-act s (goes_on tasks) = Grows-same s.core.map
 
 pub Grows-perform : (cs : List Change) (s : State) → Grows s.core.map (perform s cs).core.map
 Grows-perform [] s = Grows-same s.core.map
@@ -130,13 +154,15 @@ Grows-Steps (more old new before step) = Grows-trans (Grows-Steps before) (Grows
 
 -- a module that is made, listed and bound adds one
 pub longer_by_module : (old new : Core) (home : ℕ) (name : List ℕ) (origin : ModuleOrigin) (vis : Visibility) (above : Option ModuleId) (d : Declaration)
-    → new ≡ counted (with_map old (with_declaration (with_module old.map home name (new_module origin vis above)) home d)) → length old.map.modules < length new.map.modules
+    → new ≡ counted (with_map old (with_declaration (begun old.map home name (new_module origin vis above)) home d)) → length old.map.modules < length new.map.modules
 longer_by_module old new home name origin vis above d is =
     let made : Map = with_module old.map home name (new_module origin vis above) in
+    let started : Map = begun old.map home name (new_module origin vis above) in
     let one_more : length made.modules ≡ length old.map.modules + 1 = length-made old.map home name (new_module origin vis above) in
-    let kept : length made.modules ≤ length (with_declaration made home d).modules =
-    (Grows-trans (Grows-listed made home (declaration.Def d.def)) (Grows-bound_in (with_declared made home d.def) home d.name d.items)).longer in
-    let below : length old.map.modules < length (with_declaration made home d).modules = omega arith in
+    let same : length made.modules ≤ length started.modules = (Grows-textual made (length old.map.modules) (λ _. textual_at made home)).longer in
+    let kept : length started.modules ≤ length (with_declaration started home d).modules =
+    (Grows-trans (Grows-listed started home (declaration.Def d.def)) (Grows-bound_in (with_declared started home d.def) home d.name d.items)).longer in
+    let below : length old.map.modules < length (with_declaration started home d).modules = omega arith in
     rw is below
 
 -- an extern block that is listed leaves each module there

@@ -22,14 +22,14 @@ use Rattle.hir_def_collector.specs.declared.collector.site.Site.{Site}
 use Rattle.hir_tables.specs.Tables.{TablesValue}
 use Rattle.hir_def_collector.specs.Workspace.{Workspace}
 use Rattle.hir_def_collector.specs.Keys.{Environment}
-use Rattle.hir_def_collector.specs.State.{State, import_state, visits}
+use Rattle.hir_def_collector.specs.State.{State, import_state, visits_over}
 use Rattle.hir_def_collector.specs.Start.{Beginning, start_of, root_site, root_tree, tree_visits}
-use Rattle.hir_def_collector.specs.Changes.{Change, lists, makes, gives_variants, begins_paths, reaches, changes_imports, tells, goes_on, act, on_map}
-use Rattle.hir_def_collector.specs.Steps.{Rule, drops_item, passes_over, declares_item, declares_enum, lists_constant, lists_impl, opens_module, opens_file, drops_file, misses_file, enters_block, reaches_imports, reaches_crate, resolves_imports, May, acts, asking, Step, Steps, none, more}
+use Rattle.hir_def_collector.specs.Changes.{Change, lists, makes, gives_variants, begins_paths, reaches, changes_imports, adds_textual, takes_textual, defines, uses_macros, tells, goes_on, act, on_map}
+use Rattle.hir_def_collector.specs.Steps.{Rule, drops_item, passes_over, defines_rules, defines_macro, closes_module, declares_item, declares_enum, lists_constant, lists_impl, opens_module, opens_file, drops_file, misses_file, enters_block, reaches_imports, reaches_crate, resolves_imports, May, acts, asking, Step, Steps, none, more}
 use Rattle.hir_def_collector.proofs.Lists.{get_left, get_right, get_inside, get_set_same, get_set_other, length_set, length_both, length_mapped, get_same}
 use Rattle.hir_def_collector.proofs.Bound.{AreAmong-trans, AreAmong-both, AreAmong-nothing, among-pushed, namespaces_of-imported, number_same_or_not}
 use Rattle.hir_def_collector.proofs.Kept.{kept_namespaces, kept_namespaces-both, kept_namespaces-none, kept_of-own, namespaces_of-kept}
-use Rattle.hir_def_collector.proofs.Changes.{AllFine, perform_keeps}
+use Rattle.hir_def_collector.proofs.Changes.{AllFine, fine_macro, fine_reporting, perform_keeps}
 use Rattle.hir_def_collector.proofs.Grows.{Grows, Grows-act}
 use Rattle.hir_def_collector.proofs.ImportEdits.{imports_after}
 use Rattle.hir_def_collector.proofs.InRange.{IsInRange, VisitsBelow, import_at, in_range-Steps}
@@ -61,6 +61,10 @@ TakesWhatIsBound s (gives_variants id variants) = Unit {0}
 TakesWhatIsBound s (begins_paths r) = Unit {0}
 TakesWhatIsBound s (reaches rs) = Unit {0}
 TakesWhatIsBound s (changes_imports c) = TakesBound s c
+TakesWhatIsBound s (adds_textual home name makro) = Unit {0}
+TakesWhatIsBound s (takes_textual home from) = Unit {0}
+TakesWhatIsBound s (defines node makro) = Unit {0}
+TakesWhatIsBound s (uses_macros macros by) = Unit {0}
 TakesWhatIsBound s (tells d) = Unit {0}
 TakesWhatIsBound s (goes_on vs) = Unit {0}
 
@@ -145,6 +149,10 @@ Holds-act s (gives_variants id variants) h fine = Holds-grown s _ (Grows-act s (
 Holds-act s (begins_paths r) h fine = record { paired = h.paired; bound = λ i t at. same_bound s (act s (begins_paths r)) refl refl i t (h.bound i t at) }
 Holds-act s (reaches rs) h fine = Holds-reaches s rs h
 Holds-act s (changes_imports c) h fine = Holds-imports s c h fine
+Holds-act s (adds_textual home name makro) h fine = Holds-grown s _ (Grows-act s (adds_textual home name makro)) h
+Holds-act s (takes_textual home from) h fine = Holds-grown s _ (Grows-act s (takes_textual home from)) h
+Holds-act s (defines node makro) h fine = Holds-grown s _ (Grows-act s (defines node makro)) h
+Holds-act s (uses_macros macros by) h fine = Holds-grown s _ (Grows-act s (uses_macros macros by)) h
 Holds-act s (tells d) h fine = Holds-grown s _ (Grows-act s (tells d)) h
 Holds-act s (goes_on vs) h fine = record { paired = h.paired; bound = λ i t at. same_bound s (act s (goes_on vs)) refl refl i t (h.bound i t at) }
 
@@ -227,18 +235,21 @@ imports_take finished s (goes_along rule) may p h = along_bound finished _ s
 
 takes_what_is_bound : (finished : Maps) (s : State) (r : Rule) → May finished s r → IsInRange s → Holds s → AllFine TakesWhatIsBound (asking s r) (acts finished s r)
 takes_what_is_bound finished s (drops_item v report rest) may p h = (tt, (tt, tt))
-takes_what_is_bound finished s (passes_over site head l rest) may p h = (tt, tt)
 takes_what_is_bound finished s (declares_item v d rest) may p h = (tt, (tt, (tt, tt)))
 takes_what_is_bound finished s (declares_enum site head name found rest) may p h = (tt, (tt, (tt, (tt, tt))))
 takes_what_is_bound finished s (lists_constant site head rest) may p h = (tt, (tt, tt))
 takes_what_is_bound finished s (lists_impl site head of_trait rest) may p h = (tt, (tt, tt))
-takes_what_is_bound finished s (opens_module site head name items rest) may p h = (tt, (tt, (tt, (tt, tt))))
-takes_what_is_bound finished s (opens_file site head name search file rest) may p h = (tt, (tt, (tt, (tt, tt))))
+takes_what_is_bound finished s (opens_module site head name items rest) may p h = (tt, (tt, (tt, (tt, (tt, tt)))))
+takes_what_is_bound finished s (opens_file site head name search file rest) may p h = (tt, (tt, (tt, (tt, (tt, tt)))))
 takes_what_is_bound finished s (drops_file site head name search report rest) may p h = (tt, (tt, tt))
-takes_what_is_bound finished s (misses_file site head name search report rest) may p h = (tt, (tt, (tt, (tt, (tt, tt)))))
+takes_what_is_bound finished s (misses_file site head name search report rest) may p h = (tt, (tt, (tt, (tt, (tt, (tt, tt))))))
 takes_what_is_bound finished s (enters_block site head items rest) may p h = (tt, (tt, tt))
 takes_what_is_bound finished s (reaches_imports site head tree rest) may p h = (tt, (tt, (tt, tt)))
-takes_what_is_bound finished s (reaches_crate site head name alias rest) may p h = (tt, (tt, (tt, (tt, tt))))
+takes_what_is_bound finished s (reaches_crate site head name alias rest) may p h = (tt, (tt, (tt, (tt, (tt, tt)))))
+takes_what_is_bound finished s (defines_rules site head name expander helpers rest) may p h = (tt, (tt, (tt, fine_macro TakesWhatIsBound _ _ expander (λ t. tt) head name _ (λ t. tt) _)))
+takes_what_is_bound finished s (defines_macro site head name expander helpers rest) may p h = (tt, (tt, (tt, (tt, fine_reporting TakesWhatIsBound _ _ expander (λ t. tt) _))))
+takes_what_is_bound finished s (closes_module parent child rest) may p h = (tt, (tt, tt))
+takes_what_is_bound finished s (passes_over site head l rest) may p h = (tt, tt)
 takes_what_is_bound finished s (resolves_imports rule) may p h = imports_take finished s rule may p h
 
 -- ---- steps
@@ -256,7 +267,7 @@ Holds-Steps (more old new before step) p h = Holds-Step step (in_range-Steps bef
 
 -- ---- the start
 
-in_range-visits : (n : ℕ) (site : Site) (forest : KeptForest) → site.home < n → VisitsBelow n (visits site forest)
+in_range-visits : (n : ℕ) (site : Site) (forest : KeptForest) → site.home < n → VisitsBelow n (visits_over site forest)
 in_range-visits n site no_items h = tt
 in_range-visits n site (item i is) h = (h, in_range-visits n site is h)
 

@@ -1,5 +1,5 @@
 -- What changes of imports leave: of the map, one scope is another, and what else they leave alone.
-use Rattle.std.proofs.Common.{◌≡◌, ℕ, ◌+◌, List, [], ◌∷◌, Option, None, Some, map as list_map, refl, ap}
+use Rattle.std.proofs.Common.{◌≡◌, ℕ, List, Option, None, Some, refl}
 use Rattle.hir_base.specs.declared.ids.ModuleId.{ModuleId}
 use Rattle.hir_base.specs.declared.ids.TraitId.{TraitId}
 use Rattle.hir_scope.specs.Globs.{GlobNames}
@@ -10,7 +10,6 @@ use Rattle.hir_scope.specs.declared.imports.ImportId.{ImportId}
 use Rattle.hir_scope.specs.declared.imports.ImportOrExternCrate.{ImportOrExternCrate}
 use Rattle.hir_scope.specs.declared.imports.ImportOrExternCrate.TheVariants as ways
 use Rattle.hir_scope.specs.declared.item_in_ns.ItemInNs.{ItemInNs}
-use Rattle.hir_scope.specs.declared.item_in_ns.ItemInNs.TheVariants as in_ns
 use Rattle.hir_scope.specs.declared.per_ns.PerNs.{PerNs}
 use Rattle.hir_scope.specs.declared.visibility.Visibility.{Visibility}
 use Rattle.hir_def_map.specs.State.{Map, module_at, numbered, with_scope}
@@ -20,8 +19,8 @@ use Rattle.hir_glob_imports.specs.declared.edge.Bound.{Bound}
 use Rattle.hir_glob_imports.specs.declared.edge.Key.{Key}
 use Rattle.hir_glob_imports.specs.declared.edge.Key.TheVariants.{Types, Values, Macros, Unnamed}
 use Rattle.hir_glob_imports.specs.declared.edge.Slot.{Slot}
-use Rattle.hir_import_resolution.specs.Changes.{Change as ImportChange, act as act_on_imports, along, kept_vis, keeps_trait, perform as perform_on_imports, pushes, pushing, records, takes}
-use Rattle.hir_import_resolution.specs.Names.{ScopesValue, bound_of, copied_where, followed_where, items_by, redefined, revised, trait_vis, with_trait}
+use Rattle.hir_import_resolution.specs.Changes.{Change as ImportChange, act as act_on_imports, along, kept_vis, keeps_trait, pushes, pushing, records, takes}
+use Rattle.hir_import_resolution.specs.Names.{bound_of, copied_where, followed_where, items_by, redefined, revised, trait_vis, with_trait}
 use Rattle.hir_import_resolution.specs.State.{ImportState, scopes_of}
 
 -- a change of one scope

@@ -1,32 +1,37 @@
 -- What is to be visited, and each import, is of a module that is there.
-use Rattle.std.proofs.Common.{◌≡◌, ℕ, zero, suc, ◌+◌, ◌<◌, ◌≤◌, List, [], ◌∷◌, ◌++◌, length, map as list_map, slice_get, Option, None, Some, refl, sym, subst, arith}
+use Rattle.std.proofs.Common.{◌≡◌, ℕ, zero, suc, ◌+◌, ◌<◌, ◌≤◌, Bool, true, false, ◌||◌, List, [], ◌∷◌, ◌++◌, length, map as list_map, slice_get, Option, None, Some, refl, sym, subst, arith, append_assoc}
 use Rattle.hir_base.specs.declared.ids.UseId.{UseId}
-use Rattle.hir_item_tree.specs.KeptForest.{KeptForest, no_items, item}
+use Rattle.hir_item_tree.specs.KeptForest.{Head, KeptForest, no_items, item}
 use Rattle.hir_item_tree.specs.Imports.{imports_of}
 use Rattle.hir_use_tree.specs.declared.imports.Import.{Import}
 use Rattle.hir_item_tree.specs.declared.raw_visibility.RawVisibility.{RawVisibility}
 use Rattle.hir_mod_dir.specs.Directory.{Directory}
 use Rattle.hir_mod_dir.specs.ModuleFiles.{inline_directory}
-use Rattle.hir_def_map.specs.State.{Map, ModuleValue, with_module}
+use Rattle.hir_def_map.specs.State.{Map, ModuleValue, new_module, with_module}
 use Rattle.hir_def_map.specs.Overlay.{Maps}
+use Rattle.hir_def_map.proofs.Grown.{length-changed}
 use Rattle.hir_def_map.proofs.StaysWellFormed.{length-made}
 use Rattle.hir_import_resolution.specs.declared.directive.ImportDirective.{ImportDirective}
 use Rattle.hir_import_resolution.specs.Rules.{acts as import_acts}
 use Rattle.hir_def_collector.specs.declared.collector.site.Site.{Site}
 use Rattle.hir_def_collector.specs.Keys.{Environment}
-use Rattle.hir_def_collector.specs.State.{State, Visit, import_state, visits}
-use Rattle.hir_def_collector.specs.ItemIds.{use_id}
+use Rattle.hir_def_collector.specs.State.{State, Task, Visit, visits, closes, import_state, visits_over}
+use Rattle.hir_def_collector.specs.ItemIds.{macro_rules_id, module_id, use_id}
+use Rattle.hir_def_collector.specs.Items.{file_origin, inline_origin, own_visibility}
 use Rattle.hir_def_collector.specs.Imports.{reached_import}
-use Rattle.hir_def_collector.specs.Changes.{Change, lists, makes, gives_variants, begins_paths, reaches, changes_imports, tells, goes_on, act, on_map}
-use Rattle.hir_def_collector.specs.Steps.{Rule, drops_item, passes_over, declares_item, declares_enum, lists_constant, lists_impl, opens_module, opens_file, drops_file, misses_file, enters_block, reaches_imports, reaches_crate, resolves_imports, May, acts, asking, inside_block, inside_file, inside_module, path_of, visits_inside, Step, Steps, none, more}
-use Rattle.hir_def_collector.proofs.Changes.{AllFine, all_fine, perform_keeps}
+use Rattle.hir_def_collector.specs.Macros.{is_macro_use}
+use Rattle.hir_def_collector.specs.Moves.{begun}
+use Rattle.hir_def_collector.specs.Changes.{Change, lists, makes, gives_variants, begins_paths, reaches, changes_imports, adds_textual, takes_textual, defines, uses_macros, tells, goes_on, act, on_map}
+use Rattle.hir_def_collector.specs.Steps.{Rule, drops_item, passes_over, defines_rules, defines_macro, closes_module, closing, declares_item, declares_enum, lists_constant, lists_impl, opens_module, opens_file, drops_file, misses_file, enters_block, reaches_imports, reaches_crate, resolves_imports, May, acts, asking, inside_block, inside_file, inside_module, path_of, visits_in_file, visits_inside, Step, Steps, none, more}
+use Rattle.hir_def_collector.proofs.Changes.{AllFine, all_fine, fine_macro, fine_reporting, perform_keeps}
 use Rattle.hir_def_collector.proofs.Grows.{Grows, Grows-act}
 use Rattle.hir_def_collector.proofs.ImportEdits.{imports_after}
 
 -- each visit is of a module that is there
-abbrev pub VisitsBelow : ℕ → List Visit → Type 0
+abbrev pub VisitsBelow : ℕ → List Task → Type 0
 VisitsBelow n [] = Unit {0}
-VisitsBelow n (v ∷ vs) = (v.site.home < n) × VisitsBelow n vs
+VisitsBelow n (visits v ∷ ts) = (v.site.home < n) × VisitsBelow n ts
+VisitsBelow n (closes parent child ∷ ts) = VisitsBelow n ts
 
 -- so is each import
 abbrev pub ImportsBelow : ℕ → List ImportDirective → Type 0
@@ -39,9 +44,10 @@ pub record IsInRange (s : State) : Type 0 where
 
 -- ---- lists
 
-visits_more : (n k : ℕ) → n ≤ k → (vs : List Visit) → VisitsBelow n vs → VisitsBelow k vs
+visits_more : (n k : ℕ) → n ≤ k → (vs : List Task) → VisitsBelow n vs → VisitsBelow k vs
 visits_more n k low [] f = tt
-visits_more n k low (v ∷ vs) f = let first : v.site.home < n = f.0 in (omega arith, visits_more n k low vs f.1)
+visits_more n k low (visits v ∷ ts) f = let first : v.site.home < n = f.0 in (omega arith, visits_more n k low ts f.1)
+visits_more n k low (closes parent child ∷ ts) f = visits_more n k low ts f
 
 imports_more : (n k : ℕ) → n ≤ k → (rs : List ImportDirective) → ImportsBelow n rs → ImportsBelow k rs
 imports_more n k low [] f = tt
@@ -57,12 +63,24 @@ import_at n (x ∷ xs) zero r f e = let same : x ≡ r = cc in subst (λ (y : Im
 import_at n (x ∷ xs) (suc i) r f e = import_at n xs i r f.1 e
 
 -- visits of one site come before others
-pub visits_before : (n : ℕ) (s : Site) → s.home < n → (is : KeptForest) (rest : List Visit) → VisitsBelow n rest → VisitsBelow n (visits s is ++ rest)
+pub visits_before : (n : ℕ) (s : Site) → s.home < n → (is : KeptForest) (rest : List Task) → VisitsBelow n rest → VisitsBelow n (visits_over s is ++ rest)
 visits_before n s low no_items rest f = f
 visits_before n s low (item i is) rest f = (low, visits_before n s low is rest f)
 
-pub next_below : (n : ℕ) (vs : List Visit) (v : Visit) (rest : List Visit) → VisitsBelow n vs → vs ≡ v ∷ rest → (v.site.home < n) × VisitsBelow n rest
-next_below n vs v rest f e = subst (VisitsBelow n) e f
+pub next_below : (n : ℕ) (ts : List Task) (v : Visit) (rest : List Task) → VisitsBelow n ts → ts ≡ visits v ∷ rest → (v.site.home < n) × VisitsBelow n rest
+next_below n ts v rest f e = subst (VisitsBelow n) e f
+
+-- a module that is closed comes before others
+closing_before : (n : ℕ) (marked : Bool) (parent child : ℕ) (rest : List Task) → VisitsBelow n rest → VisitsBelow n (closing marked parent child ++ rest)
+closing_before n true parent child rest f = f
+closing_before n false parent child rest f = f
+
+-- visits of one site come before it
+pub visits_closed : (n : ℕ) (s : Site) → s.home < n → (is : KeptForest) (marked : Bool) (parent child : ℕ) (rest : List Task) → VisitsBelow n rest
+    → VisitsBelow n ((visits_over s is ++ closing marked parent child) ++ rest)
+visits_closed n s low is marked parent child rest f =
+    subst (VisitsBelow n) (sym (append_assoc (visits_over s is) (closing marked parent child) rest))
+    (visits_before n s low is (closing marked parent child ++ rest) (closing_before n marked parent child rest f))
 
 imports_of_use : (n home : ℕ) → home < n → (by : UseId) (vis : RawVisibility) (is : List Import) → ImportsBelow n (list_map (reached_import home by vis) is)
 imports_of_use n home low by vis [] = tt
@@ -78,6 +96,10 @@ StaysInRange s (gives_variants id variants) = Unit {0}
 StaysInRange s (begins_paths r) = Unit {0}
 StaysInRange s (reaches rs) = ImportsBelow (length s.core.map.modules) rs
 StaysInRange s (changes_imports c) = Unit {0}
+StaysInRange s (adds_textual home name makro) = Unit {0}
+StaysInRange s (takes_textual home from) = Unit {0}
+StaysInRange s (defines node makro) = Unit {0}
+StaysInRange s (uses_macros macros by) = Unit {0}
 StaysInRange s (tells d) = Unit {0}
 StaysInRange s (goes_on vs) = VisitsBelow (length s.core.map.modules) vs
 
@@ -99,29 +121,36 @@ in_range-act s (changes_imports c) p fine =
       visits = larger.visits;
       imports = subst (λ (rs : List ImportDirective). ImportsBelow (length (act s (changes_imports c)).core.map.modules) rs) (sym (imports_after (import_state s) c)) larger.imports;
     }
+in_range-act s (adds_textual home name makro) p fine = in_larger s _ (Grows-act s (adds_textual home name makro)) p
+in_range-act s (takes_textual home from) p fine = in_larger s _ (Grows-act s (takes_textual home from)) p
+in_range-act s (defines node makro) p fine = in_larger s _ (Grows-act s (defines node makro)) p
+in_range-act s (uses_macros macros by) p fine = in_larger s _ (Grows-act s (uses_macros macros by)) p
 in_range-act s (tells d) p fine = in_larger s _ (Grows-act s (tells d)) p
 in_range-act s (goes_on vs) p fine = record { visits = fine; imports = p.imports }
 
 -- ---- modules that are made
 
 -- visits of the next module come before others
-made_before : (n : ℕ) (s : Site) → s.home ≡ n → (is : KeptForest) (rest : List Visit) → VisitsBelow n rest → VisitsBelow (n + 1) (visits s is ++ rest)
-made_before n s here is rest f = visits_before (n + 1) s (omega arith) is rest (visits_more n (n + 1) (omega arith) rest f)
+made_before : (n : ℕ) (s : Site) → s.home ≡ n → (is : KeptForest) (marked : Bool) (parent child : ℕ) (rest : List Task) → VisitsBelow n rest
+    → VisitsBelow (n + 1) ((visits_over s is ++ closing marked parent child) ++ rest)
+made_before n s here is marked parent child rest f = visits_closed (n + 1) s (omega arith) is marked parent child rest (visits_more n (n + 1) (omega arith) rest f)
 
-inside_before : (m : Map) (s : Site) (dir : Option Directory) (is : KeptForest) (rest : List Visit) → VisitsBelow (length m.modules) rest
-    → VisitsBelow (length m.modules + 1) (visits_inside m s dir is ++ rest)
-inside_before m s None is rest f = visits_more (length m.modules) (length m.modules + 1) (omega arith) rest f
-inside_before m s (Some dir) is rest f = made_before (length m.modules) (inside_module m s dir) refl is rest f
+inside_before : (m : Map) (s : Site) (head : Head) (dir : Option Directory) (is : KeptForest) (rest : List Task) → VisitsBelow (length m.modules) rest
+    → VisitsBelow (length m.modules + 1) (visits_inside m s head dir is ++ rest)
+inside_before m s head None is rest f = visits_more (length m.modules) (length m.modules + 1) (omega arith) rest f
+inside_before m s head (Some dir) is rest f = made_before (length m.modules) (inside_module m s dir) refl is (is_macro_use head.attributes) s.home (length m.modules) rest f
 
 -- so is all of a module that is there once the next one is
-below_made : (m : Map) (home : ℕ) (name : List ℕ) (new : ModuleValue) (vs : List Visit) → VisitsBelow (length m.modules + 1) vs → VisitsBelow (length (with_module m home name new).modules) vs
-below_made m home name new vs f =
-    let longer : length (with_module m home name new).modules ≡ length m.modules + 1 = length-made m home name new in
-    visits_more (length m.modules + 1) (length (with_module m home name new).modules) (omega arith) vs f
+below_made : (m : Map) (home : ℕ) (name : List ℕ) (new : ModuleValue) (ts : List Task) → VisitsBelow (length m.modules + 1) ts → VisitsBelow (length (begun m home name new).modules) ts
+below_made m home name new ts f =
+    let made : Map = with_module m home name new in
+    let longer : length made.modules ≡ length m.modules + 1 = length-made m home name new in
+    let same : length (begun m home name new).modules ≡ length made.modules = length-changed made.modules (length m.modules) _ in
+    visits_more (length m.modules + 1) (length (begun m home name new).modules) (omega arith) ts f
 
 -- ---- rules
 
-module _ (s : State) (p : IsInRange s) (v : Visit) (rest : List Visit) (next : s.agenda ≡ v ∷ rest) where
+module _ (s : State) (p : IsInRange s) (v : Visit) (rest : List Task) (next : s.agenda ≡ visits v ∷ rest) where
   -- the next item is of a module that is there, and so is each that stays
   pub next_home : v.site.home < length s.core.map.modules
   next_home = (next_below (length s.core.map.modules) s.agenda v rest p.visits next).0
@@ -131,26 +160,38 @@ module _ (s : State) (p : IsInRange s) (v : Visit) (rest : List Visit) (next : s
 
 stays_in_range : (finished : Maps) (s : State) (r : Rule) → May finished s r → IsInRange s → AllFine StaysInRange (asking s r) (acts finished s r)
 stays_in_range finished s (drops_item v report rest) may p = (left s p v rest may.next, (tt, tt))
-stays_in_range finished s (passes_over site head l rest) may p = (left s p _ rest may.here.next, tt)
 stays_in_range finished s (declares_item v d rest) may p = (left s p v rest may.here.next, (tt, (tt, tt)))
 stays_in_range finished s (declares_enum site head name found rest) may p = (left s p _ rest may.next, (tt, (tt, (tt, tt))))
 stays_in_range finished s (lists_constant site head rest) may p = (left s p _ rest may.next, (tt, tt))
 stays_in_range finished s (lists_impl site head of_trait rest) may p = (left s p _ rest may.next, (tt, tt))
 stays_in_range finished s (opens_module site head name items rest) may p =
-    (tt, (below_made s.core.map site.home name _ _ (inside_before s.core.map site (inline_directory site.dir name (path_of head)) items rest (left s p _ rest may.next)), (tt, (tt, tt))))
+    let m : Map = s.core.map in
+    let inside : Option Directory = inline_directory site.dir name (path_of head) in
+    let new : ModuleValue = new_module (inline_origin site.tree head.id) (own_visibility finished s.core.local m site head) (Some (module_id m site.home)) in
+    (tt, (tt, (below_made m site.home name new (visits_inside m site head inside items ++ rest) (inside_before m site head inside items rest (left s p _ rest may.next)), (tt, (tt, tt)))))
 stays_in_range finished s (opens_file site head name search file rest) may p =
-    let before : VisitsBelow (length s.core.map.modules) rest = left s p _ rest may.looks.here.next in
-    (tt, (below_made s.core.map site.home name _ _ (made_before (length s.core.map.modules) (inside_file s.core.map file) refl file.tree.items rest before), (tt, (tt, tt))))
+    let m : Map = s.core.map in
+    let new : ModuleValue = new_module (file_origin site.tree head.id m.crate_data.edition file) (own_visibility finished s.core.local m site head) (Some (module_id m site.home)) in
+    let below = made_before (length m.modules) (inside_file m file) refl file.tree.items (is_macro_use head.attributes || is_macro_use file.tree.attributes) site.home (length m.modules) rest
+    (left s p _ rest may.looks.here.next) in
+    (tt, (tt, (below_made m site.home name new (visits_in_file m site head file ++ rest) below, (tt, (tt, tt)))))
 stays_in_range finished s (drops_file site head name search report rest) may p = (left s p _ rest may.looks.here.next, (tt, tt))
 stays_in_range finished s (misses_file site head name search report rest) may p =
     let n : ℕ = length s.core.map.modules in
-    (tt, (below_made s.core.map site.home name _ rest (visits_more n (n + 1) (omega arith) rest (left s p _ rest may.looks.here.next)), (tt, (tt, (tt, tt)))))
+    (tt, (tt, (below_made s.core.map site.home name _ rest (visits_more n (n + 1) (omega arith) rest (left s p _ rest may.looks.here.next)), (tt, (tt, (tt, tt))))))
 stays_in_range finished s (enters_block site head items rest) may p =
     (visits_before (length s.core.map.modules) (inside_block s.core.map site head) (next_home s p _ rest may.next) items rest (left s p _ rest may.next), (tt, tt))
 stays_in_range finished s (reaches_imports site head tree rest) may p =
     let below = imports_of_use (length s.core.map.modules) site.home (next_home s p _ rest may.next) (use_id s.core.map site head.id) head.visibility (imports_of tree) in
     (left s p _ rest may.next, (below, (tt, tt)))
-stays_in_range finished s (reaches_crate site head name alias rest) may p = (left s p _ rest may.next, (tt, ((next_home s p _ rest may.next, tt), (tt, tt))))
+stays_in_range finished s (reaches_crate site head name alias rest) may p =
+    (left s p _ rest may.next, (tt, (tt, ((next_home s p _ rest may.next, tt), (tt, tt)))))
+stays_in_range finished s (defines_rules site head name expander helpers rest) may p =
+    (left s p _ rest may.next, (tt, (tt, fine_macro StaysInRange _ _ expander (λ t. tt) head name (macro_rules_id s.core.map site head.id expander) (λ t. tt) _)))
+stays_in_range finished s (defines_macro site head name expander helpers rest) may p =
+    (left s p _ rest may.next, (tt, (tt, (tt, fine_reporting StaysInRange _ _ expander (λ t. tt) _))))
+stays_in_range finished s (closes_module parent child rest) may p = (subst (VisitsBelow (length s.core.map.modules)) may p.visits, (tt, tt))
+stays_in_range finished s (passes_over site head l rest) may p = (left s p _ rest may.here.next, tt)
 stays_in_range finished s (resolves_imports rule) may p = all_fine StaysInRange (λ t c. tt) (import_acts finished (import_state s) rule) s
 
 pub in_range-Step : {env : Environment} {finished : Maps} {old new : State} → Step env finished old new → IsInRange old → IsInRange new

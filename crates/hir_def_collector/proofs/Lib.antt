@@ -1,6 +1,7 @@
 pub mod Lists
 pub mod Entries
 pub mod ImportEdits
+pub mod MacroEdits
 pub mod Made
 pub mod ImportSteps
 pub mod Resolved
@@ -29,6 +30,7 @@ pub mod WholeEnums
 pub mod WholeEdits
 pub mod Whole
 pub mod SourcedEdits
+pub mod SourcedMacros
 pub mod Sourced
 pub mod Numbers
 pub mod Meaning

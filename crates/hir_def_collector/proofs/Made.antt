@@ -1,15 +1,20 @@
 -- A rule that may be applied makes a step, and what a declaration leaves.
 use Rattle.std.proofs.Common.{◌≡◌, ◌∙◌, ℕ, Bool, true, false, List, [], ◌∷◌, ◌++◌, None, Option, Some, is_some, if◌then◌else◌, refl, sym, ap}
+use Rattle.hir_base.specs.declared.ast_id.AstId.{AstId}
+use Rattle.hir_base.specs.declared.ast_id.AstKind.TheVariants as nodes
 use Rattle.hir_base.specs.declared.ids.EnumId.{EnumId}
+use Rattle.hir_base.specs.declared.ids.ModuleId.{ModuleId}
+use Rattle.hir_base.specs.declared.macro_kind.MacroExpander.{MacroExpander}
+use Rattle.hir_base.specs.declared.macro_kind.MacroId.{MacroId}
 use Rattle.hir_item_tree.specs.Collected.{is_enabled}
-use Rattle.hir_item_tree.specs.KeptForest.{Head, enumeration, leaf}
+use Rattle.hir_item_tree.specs.KeptForest.{Head, enumeration, leaf, macro_def, macro_rules}
 use Rattle.hir_item_tree.specs.Kinds.{item_head}
 use Rattle.hir_item_tree.specs.declared.side_lists.VariantItem.{VariantItem}
 use Rattle.hir_scope.specs.declared.per_ns.PerNs.{PerNs}
 use Rattle.hir_scope.specs.declared.visibility.Visibility.{Visibility}
-use Rattle.hir_def_map.specs.Macros.{with_diagnostic}
+use Rattle.hir_def_map.specs.Macros.{with_diagnostic, with_macro_def}
 use Rattle.hir_def_map.specs.Overlay.{Maps}
-use Rattle.hir_def_map.specs.State.{new_module, with_declared, with_enum, with_module}
+use Rattle.hir_def_map.specs.State.{new_module, with_declared, with_enum}
 use Rattle.hir_def_map.specs.declared.nameres.diagnostics.DefDiagnostic.{DefDiagnostic}
 use Rattle.hir_def_map.specs.declared.nameres.origin.ModuleOrigin.{ModuleOrigin}
 use Rattle.hir_def_map.proofs.Grown.{globs_after-none}
@@ -22,14 +27,16 @@ use Rattle.hir_import_resolution.specs.State.{nothing_brought}
 use Rattle.hir_def_collector.specs.declared.collector.declaration.Declaration.{Declaration}
 use Rattle.hir_def_collector.specs.declared.collector.site.Site.{Site}
 use Rattle.hir_def_collector.specs.declared.source_database.Key.TheVariants as keys
-use Rattle.hir_def_collector.specs.Changes.{act, changes_imports, perform, tells}
+use Rattle.hir_def_collector.specs.Changes.{Change, act, changes_imports, perform, tells}
 use Rattle.hir_def_collector.specs.Enums.{variants_of}
-use Rattle.hir_def_collector.specs.ItemIds.{enum_id, module_id}
+use Rattle.hir_def_collector.specs.ItemIds.{enum_id, macro_def_id, macro_rules_id, module_id, node_of}
 use Rattle.hir_def_collector.specs.Items.{bound_in, declaration_of, own_visibility}
 use Rattle.hir_def_collector.specs.Keys.{Environment, look, of_variants}
-use Rattle.hir_def_collector.specs.Moves.{opened}
-use Rattle.hir_def_collector.specs.State.{Core, State, Visit, counted, joined, ticked, with_asked, with_map}
-use Rattle.hir_def_collector.specs.Steps.{Rule, May, Numbered, reads, Sees, after, declares_enum, declares_item, enum_declaration, making, module_declaration, visit, with_declaration, Step}
+use Rattle.hir_def_collector.specs.Macros.{macro_declaration, with_textual_macro}
+use Rattle.hir_def_collector.specs.Moves.{Makes, begun, opened}
+use Rattle.hir_def_collector.proofs.Changes.{Keeps-perform, perform-append}
+use Rattle.hir_def_collector.specs.State.{Core, State, Task, Visit, visits, counted, joined, ticked, with_asked, with_map}
+use Rattle.hir_def_collector.specs.Steps.{Rule, May, Numbered, declaring, reads, Sees, after, declares_enum, declares_item, defines_macro, defines_rules, enum_declaration, exporting, making, module_declaration, reporting, visit, with_declaration, Step}
 
 pub made : {env : Environment} {finished : Maps} {old new : State} (r : Rule) → May finished old r → Sees env finished (reads old r) → Numbered env.tables r → new ≡ after finished old r → Step env finished old new
 made r may sees numbered is = record { rule = r; may = may; sees = sees; numbered = numbered; is = is }
@@ -60,7 +67,7 @@ none_brought home name items =
     ∙ none_in home (Macros name) (is_some items.macros)
 
 -- what a declaration binds leaves it so
-pub act-declared : (c : Core) (agenda : List Visit) (home : ℕ) (name : List ℕ) (items : PerNs)
+pub act-declared : (c : Core) (agenda : List Task) (home : ℕ) (name : List ℕ) (items : PerNs)
     → act (joined c agenda) (changes_imports (pushes home (Some name) items None)) ≡ joined (with_map c (bound_in c.map home name items)) agenda
 act-declared c agenda home name items = λ i. record {
   core = with_map c (bound_in c.map home name items);
@@ -68,20 +75,77 @@ act-declared c agenda home name items = λ i. record {
   globs = record { names = globs_after-none c.map home name items None refl i; edges = []; brought = none_brought home name items i };
 }
 
+-- so a definition that is listed and bound
+pub binds : (c : Core) (home : ℕ) (d : Declaration) (agenda : List Task) → joined (with_map c (with_declaration c.map home d)) agenda ≡ perform (joined c agenda) (declaring home d)
+binds c home d agenda = sym (act-declared (with_map c (with_declared c.map home d.def)) agenda home d.name d.items)
+
+-- changes that are made one after another, where a step ends
+pub makes_both : (cs ds : List Change) (c d e : Core) → Makes cs c d → Makes ds d e → (rest : List Task) → joined (counted e) rest ≡ ticked (perform (joined c rest) (cs ++ ds))
+makes_both cs ds c d e first then_ rest =
+    ap ticked (then_.is rest ∙ ap (λ (s : State). perform s ds) (first.is rest) ∙ sym (perform-append cs ds (joined c rest)))
+
+-- they leave what is counted
+pub count_kept : (cs : List Change) (c d : Core) → Makes cs c d → d.count ≡ c.count
+count_kept cs c d makes = ap (λ (s : State). s.core.count) (makes.is []) ∙ (Keeps-perform cs (joined c [])).count
+
+-- a macro that is noted by its item, put into textual scope, exported and reported
+abbrev defines_both : Core → Site → Head → List ℕ → MacroExpander → List Task → MacroId → AstId → ModuleId → State
+defines_both c site head name expander rest makro node at =
+    ticked (perform (joined (with_map c (with_textual_macro (with_macro_def c.map node makro) site.home name makro)) rest) (exporting head name makro ++ reporting at node expander))
+
+-- one that is noted by its item, bound and reported
+abbrev defines_item : Core → Site → Declaration → MacroExpander → List Task → MacroId → AstId → ModuleId → State
+defines_item c site d expander rest makro node at = ticked (perform (joined (with_map c (with_declaration (with_macro_def c.map node makro) site.home d)) rest) (reporting at node expander))
+
+module _ {env : Environment} {finished : Maps} where
+  -- a `macro_rules`
+  pub defined_rules : (c defined exported reported new : Core) (site : Site) (head : Head) (name : List ℕ) (expander : MacroExpander) (helpers : List (List ℕ)) (rest : List Task) (makro : MacroId) (node : AstId) (at : ModuleId)
+      → is_enabled head.attributes ≡ true → makro ≡ macro_rules_id c.map site head.id expander → node ≡ node_of site.tree nodes.MacroRules head.id → at ≡ module_id c.map site.home
+      → defined ≡ with_map c (with_textual_macro (with_macro_def c.map node makro) site.home name makro) → Makes (exporting head name makro) defined exported → Makes (reporting at node expander) exported reported
+      → new ≡ counted reported → Step env finished (joined c (visits (visit site (leaf head (macro_rules name expander helpers))) ∷ rest)) (joined new rest)
+  defined_rules c defined exported reported new site head name expander helpers rest makro node at enabled of_macro of_node of_module is exports reports ends =
+      made (defines_rules site head name expander helpers rest) (record { next = refl; enabled = enabled }) tt tt
+      (ap (λ (x : Core). joined x rest) ends
+      ∙ makes_both (exporting head name makro) (reporting at node expander) defined exported reported exports reports rest
+      ∙ ap (λ (x : Core). ticked (perform (joined x rest) (exporting head name makro ++ reporting at node expander))) is
+      ∙ ap (λ (m : MacroId). defines_both c site head name expander rest m node at) of_macro
+      ∙ ap (λ (n : AstId). defines_both c site head name expander rest (macro_rules_id c.map site head.id expander) n at) of_node
+      ∙ ap (λ (i : ModuleId). defines_both c site head name expander rest (macro_rules_id c.map site head.id expander) (node_of site.tree nodes.MacroRules head.id) i) of_module)
+
+  -- a `macro`
+  pub defined_macro : (c bound reported new : Core) (site : Site) (head : Head) (name : List ℕ) (expander : MacroExpander) (helpers : List (List ℕ)) (rest : List Task) (makro : MacroId) (node : AstId) (at : ModuleId)
+      → is_enabled head.attributes ≡ true → makro ≡ macro_def_id c.map site head.id expander → node ≡ node_of site.tree nodes.MacroDef head.id → at ≡ module_id c.map site.home
+      → bound ≡ with_map c (with_declaration (with_macro_def c.map node makro) site.home (macro_declaration name makro (own_visibility finished c.local c.map site head)))
+      → Makes (reporting at node expander) bound reported → new ≡ counted reported
+      → Step env finished (joined c (visits (visit site (leaf head (macro_def name expander helpers))) ∷ rest)) (joined new rest)
+  defined_macro c bound reported new site head name expander helpers rest makro node at enabled of_macro of_node of_module is reports ends =
+      let vis : Visibility = own_visibility finished c.local c.map site head in
+      let id : MacroId = macro_def_id c.map site head.id expander in
+      let d : Declaration = macro_declaration name id vis in
+      let noted : Core = with_map c (with_macro_def c.map (node_of site.tree nodes.MacroDef head.id) id) in
+      made (defines_macro site head name expander helpers rest) (record { next = refl; enabled = enabled }) tt tt
+      (ap (λ (x : Core). joined x rest) ends
+      ∙ ap ticked (reports.is rest)
+      ∙ ap (λ (x : Core). ticked (perform (joined x rest) (reporting at node expander))) is
+      ∙ ap (λ (m : MacroId). defines_item c site (macro_declaration name m vis) expander rest m node at) of_macro
+      ∙ ap (λ (n : AstId). defines_item c site d expander rest id n at) of_node
+      ∙ ap (λ (i : ModuleId). defines_item c site d expander rest id (node_of site.tree nodes.MacroDef head.id) i) of_module
+      ∙ ap (λ (s : State). ticked (perform s (reporting (module_id c.map site.home) (node_of site.tree nodes.MacroDef head.id) expander))) (binds noted site.home d rest))
+
 module _ {env : Environment} {finished : Maps} where
   -- an item that declares something
-  pub declared : (c new : Core) (v : Visit) (d : Declaration) (rest : List Visit) → is_enabled (item_head v.item).attributes ≡ true → declaration_of finished c.local c.map v ≡ Some d
-      → new ≡ counted (with_map c (with_declaration c.map v.site.home d)) → Step env finished (joined c (v ∷ rest)) (joined new rest)
+  pub declared : (c new : Core) (v : Visit) (d : Declaration) (rest : List Task) → is_enabled (item_head v.item).attributes ≡ true → declaration_of finished c.local c.map v ≡ Some d
+      → new ≡ counted (with_map c (with_declaration c.map v.site.home d)) → Step env finished (joined c (visits v ∷ rest)) (joined new rest)
   declared c new v d rest enabled declares is =
       made (declares_item v d rest) (record { here = record { next = refl; enabled = enabled }; declares = declares }) tt tt
       (ap (λ (x : Core). joined x rest) is ∙ sym (ap ticked (act-declared (with_map c (with_declared c.map v.site.home d.def)) rest v.site.home d.name d.items)))
 
   -- an enum
-  pub declared_enum : (c new : Core) (site : Site) (head : Head) (name : List ℕ) (found : Option (List VariantItem)) (rest : List Visit) → is_enabled head.attributes ≡ true
+  pub declared_enum : (c new : Core) (site : Site) (head : Head) (name : List ℕ) (found : Option (List VariantItem)) (rest : List Task) → is_enabled head.attributes ≡ true
       → look env.tables env.workspace finished (keys.Variants (enum_id c.map site head.id)) ≡ of_variants found
       → new ≡ counted (with_map (with_asked c (keys.Variants (enum_id c.map site head.id))) (with_declaration (with_enum c.map (enum_id c.map site head.id) (variants_of (enum_id c.map site head.id) found)) site.home
       (enum_declaration c.map site head name (own_visibility finished c.local c.map site head))))
-      → Step env finished (joined c (visit site (leaf head (enumeration name)) ∷ rest)) (joined new rest)
+      → Step env finished (joined c (visits (visit site (leaf head (enumeration name))) ∷ rest)) (joined new rest)
   declared_enum c new site head name found rest enabled sees is =
       let id : EnumId = enum_id c.map site head.id in
       let d : Declaration = enum_declaration c.map site head name (own_visibility finished c.local c.map site head) in
@@ -90,7 +154,7 @@ module _ {env : Environment} {finished : Maps} where
       ∙ sym (ap ticked (act-declared (with_map (with_asked c (keys.Variants id)) (with_declared (with_enum c.map id (variants_of id found)) site.home d.def)) rest site.home d.name d.items)))
 
 -- a module that is made, listed and bound
-module _ (finished : Maps) (c : Core) (site : Site) (head : Head) (name : List ℕ) (origin : ModuleOrigin) (agenda next : List Visit) where
+module _ (finished : Maps) (c : Core) (site : Site) (head : Head) (name : List ℕ) (origin : ModuleOrigin) (agenda next : List Task) where
   abbrev vis : Visibility
   vis = own_visibility finished c.local c.map site head
 
@@ -98,7 +162,7 @@ module _ (finished : Maps) (c : Core) (site : Site) (head : Head) (name : List �
   d = module_declaration c.map name vis
 
   abbrev listing : Core
-  listing = with_map c (with_declared (with_module c.map site.home name (new_module origin vis (Some (module_id c.map site.home)))) site.home d.def)
+  listing = with_map c (with_declared (begun c.map site.home name (new_module origin vis (Some (module_id c.map site.home)))) site.home d.def)
 
   pub opened_after : joined (opened finished c site head name origin) next ≡ ticked (perform (joined c agenda) (making finished (joined c agenda) site head name origin next))
   opened_after = sym (ap ticked (act-declared listing next site.home d.name d.items))

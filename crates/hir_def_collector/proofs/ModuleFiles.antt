@@ -1,19 +1,14 @@
 -- What a search for the file of a module comes to.
-use Rattle.std.proofs.Common.{◌≡◌, ◌∙◌, ℕ, zero, suc, ◌+◌, ◌<◌, Bool, true, false, List, [], ◌∷◌, ◌++◌, map, Option, Some, None, slice_get, refl, sym, ap, subst, arith, Contains}
+use Rattle.std.proofs.Common.{◌≡◌, ◌∙◌, ℕ, zero, suc, ◌<◌, false, List, [], ◌∷◌, ◌++◌, map, Option, Some, None, slice_get, refl, sym, ap, subst, arith, Contains}
 use Rattle.std.specs.Prelude.{IsSome, option_map}
-use Rattle.std.specs.Option.{option_and_then, option_map_or, option_to_list}
-use Rattle.std.proofs.lemmas.List.Elements.{Contains-append_right}
-use Rattle.hir_base.specs.declared.ast_id.BlockId.{BlockId}
+use Rattle.std.specs.Option.{option_map_or, option_to_list}
 use Rattle.hir_base.specs.declared.ast_id.FileId.{FileId}
-use Rattle.hir_base.specs.declared.ast_id.HirFileId.{HirFileId}
-use Rattle.hir_base.specs.declared.ast_id.HirFileId.TheVariants.{File, Macro}
 use Rattle.hir_base.specs.declared.edition.Edition.{Edition}
 use Rattle.hir_base.specs.declared.ids.Crate.{Crate}
 use Rattle.hir_item_tree.specs.declared.tree_id.TreeId.{TreeId}
 use Rattle.hir_mod_dir.specs.Directory.{Directory}
-use Rattle.hir_mod_dir.specs.ModuleFiles.{candidates_of}
 use Rattle.hir_mod_dir.specs.declared.candidate.Candidate.{Candidate}
-use Rattle.hir_tables.specs.SourcePlaces.{SourcePlaceValue, file}
+use Rattle.hir_tables.specs.SourcePlaces.{file}
 use Rattle.hir_tables.specs.Tables.{KeepsTables, TablesValue, file_at, source_of}
 use Rattle.hir_def_map.specs.Overlay.{Maps}
 use Rattle.hir_def_collector.specs.declared.source_database.Key.{Key}
@@ -21,7 +16,7 @@ use Rattle.hir_def_collector.specs.declared.source_database.Key.TheVariants as k
 use Rattle.hir_def_collector.specs.Workspace.{TreeLook, Workspace, seen_of}
 use Rattle.hir_def_collector.specs.Keys.{HasMeaning, Look, absent_source, environment, look, of_tree, source_under}
 use Rattle.hir_def_collector.specs.ModuleFiles.{AreAbsent, AreNumbered, AreTried, IsNumberOf, IsNumbered, LookedAt, ModuleFile, Search, Tried, file_key, file_reading, file_readings, file_tree, is_there, module_file, named_by, taken_by, tried_in}
-use Rattle.hir_def_collector.specs.Steps.{Numbered, Rule, Sees, drops_item, passes_over, declares_item, declares_enum, lists_constant, lists_impl, opens_module, opens_file, drops_file, misses_file, enters_block, reaches_imports, reaches_crate, resolves_imports, keys_read}
+use Rattle.hir_def_collector.specs.Steps.{Numbered, Rule, Sees, drops_item, passes_over, defines_rules, defines_macro, closes_module, declares_item, declares_enum, lists_constant, lists_impl, opens_module, opens_file, drops_file, misses_file, enters_block, reaches_imports, reaches_crate, resolves_imports, keys_read}
 use Rattle.hir_def_collector.proofs.Asked.{seen_tree}
 
 -- ---- numbers stay as tables grow
@@ -45,6 +40,9 @@ module _ (tables grown : TablesValue) (kept : KeepsTables tables grown) where
   Numbered-kept (drops_file site head name s report rest) h = numbered_kept site.tree s h
   Numbered-kept (misses_file site head name s report rest) h = numbered_kept site.tree s h
   Numbered-kept (drops_item v report rest) h = tt
+  Numbered-kept (defines_rules site head name expander helpers rest) h = tt
+  Numbered-kept (defines_macro site head name expander helpers rest) h = tt
+  Numbered-kept (closes_module parent child rest) h = tt
   Numbered-kept (passes_over site head l rest) h = tt
   Numbered-kept (declares_item v d rest) h = tt
   Numbered-kept (declares_enum site head name found rest) h = tt

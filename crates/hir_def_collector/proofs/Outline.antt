@@ -1,7 +1,7 @@
 -- A module whose items are in a file of its own is handled by a step, whatever the tables grow to.
 use Rattle.std.proofs.lemmas.Bool.{ltb-true}
-use Rattle.std.proofs.Common.{◌≡◌, ◌∙◌, ℕ, ◌+◌, ◌<◌, ◌≤◌, ◌||◌, nat_lt, if◌then◌else◌, codes, Bool, true, false, List, [], ◌∷◌, ◌++◌, map as list_map, length, Option, Some, None, slice_get, refl, sym, ap, subst, arith}
-use Rattle.std.specs.Prelude.{IsSome, option_map}
+use Rattle.std.proofs.Common.{◌≡◌, ◌∙◌, ℕ, ◌+◌, ◌<◌, ◌≤◌, ◌||◌, nat_lt, if◌then◌else◌, codes, Bool, true, false, List, [], ◌∷◌, ◌++◌, map as list_map, length, Option, Some, None, refl, sym, ap, subst, arith}
+use Rattle.std.specs.Prelude.{IsSome}
 use Rattle.std.specs.Option.{option_to_list}
 use Rattle.hir_base.specs.Locations.{max_locations}
 use Rattle.hir_base.specs.declared.ids.Crate.{Crate}
@@ -28,13 +28,14 @@ use Rattle.hir_def_collector.specs.Items.{file_origin, inline_origin, own_visibi
 use Rattle.hir_def_collector.specs.ItemIds.{module_id, node_of}
 use Rattle.hir_base.specs.declared.ast_id.AstKind.TheVariants as nodes
 use Rattle.hir_def_collector.specs.ModuleFiles.{AreTried, IsNumberOf, IsNumbered, IsSearch, ModuleFile, Search, Tried, file_of_tree, file_tree, module_file}
-use Rattle.hir_def_collector.specs.Reports.{IsUnconfigured, IsUnresolvedModule}
-use Rattle.hir_def_collector.specs.State.{Core, State, Visit, joined, visits}
-use Rattle.hir_def_collector.specs.Steps.{LooksFor, Step, none, drops_file, inside_file, keys_read, misses_file, module_declaration, opens_file, opens_module, path_of, search_readings, visit, visits_inside, with_keys}
+use Rattle.hir_def_collector.specs.Macros.{is_macro_use}
+use Rattle.hir_def_collector.specs.Reports.{IsUnresolvedModule}
+use Rattle.hir_def_collector.specs.State.{Core, Task, Visit, visits, joined, visits_over}
+use Rattle.hir_def_collector.specs.Steps.{LooksFor, none, closing, drops_file, inside_file, keys_read, misses_file, module_declaration, opens_file, opens_module, path_of, search_readings, visit, visits_in_file, visits_inside, with_keys}
 use Rattle.hir_def_collector.specs.Derivation.{IsFull, IsSpent, counted_out, numbered_out}
 use Rattle.hir_def_collector.specs.declared.collector.mod_collector.Inside.{Inside}
 use Rattle.hir_def_collector.specs.declared.collector.mod_collector.Inside.TheVariants.{Nothing, Held, File}
-use Rattle.hir_def_collector.specs.Moves.{DropsFile, Finds, GoesInside, Handles, IsHeld, MayTake, OnceGrown, OpensFile, TakesFile, Tells, WalksTooFar, may_drop, may_open, opened, visits_of}
+use Rattle.hir_def_collector.specs.Moves.{DropsFile, Finds, GoesInside, Handles, IsHeld, MayTake, OnceGrown, OpensFile, TakesFile, Tells, WalksTooFar, may_drop, may_open, opened, tasks_of}
 use Rattle.hir_def_collector.proofs.Made.{Goes, goes, made, missed_after, opened_after}
 use Rattle.hir_def_collector.proofs.Grows.{longer_by_module}
 use Rattle.hir_def_collector.proofs.Lists.{get_inside, get_there}
@@ -73,19 +74,19 @@ module _ (tables : TablesValue) (w : Workspace) (finished : Maps) (site : Site) 
   abbrev asked : {file : Option ModuleFile} → Finds tables w declaring candidates old mid file → Core
   asked finds = record old { asked = with_keys old.asked (keys_read (search_readings old.map (searched finds))) }
 
-  looks : {file : Option ModuleFile} (finds : Finds tables w declaring candidates old mid file) (rest : List Visit) → LooksFor (joined old (next ∷ rest)) site head name (searched finds) rest
+  looks : {file : Option ModuleFile} (finds : Finds tables w declaring candidates old mid file) (rest : List Task) → LooksFor (joined old (visits next ∷ rest)) site head name (searched finds) rest
   looks finds rest = record { here = record { next = refl; enabled = enabled }; tries = subst (λ (cs : List Candidate). IsSearch cs (searched finds)) tried finds.search }
 
   numbered : {file : Option ModuleFile} (finds : Finds tables w declaring candidates old mid file) (grown : TablesValue) → KeepsTables tables grown → IsNumbered grown site.tree (searched finds)
   numbered finds grown kept = record { declaring = written grown kept; tried = numbers_kept tables grown kept declaring (finds.absent ++ option_to_list finds.found) finds.numbered }
 
   pub file_opened : (file : ModuleFile) (new : Core) → Finds tables w declaring candidates old mid (Some file) → OpensFile finished site head name file mid new
-      → OnceGrown tables w (λ env. Handles env finished old new next (visits (inside_file old.map file) file.tree.items))
+      → OnceGrown tables w (λ env. Handles env finished old new next (visits_in_file old.map site head file))
   file_opened file new finds opens = λ grown kept. record {
     step = λ rest.
         let origin : ModuleOrigin = file_origin site.tree head.id old.map.crate_data.edition file in
         made (opens_file site head name (searched finds) file rest) (record { looks = looks finds rest; found = sym finds.is; enabled = opens.enabled }) (finds.sees grown kept finished) (numbered finds grown kept)
-        (rw (opens.is, finds.asked) (opened_after finished (asked finds) site head name origin (next ∷ rest) (visits (inside_file old.map file) file.tree.items ++ rest)));
+        (rw (opens.is, finds.asked) (opened_after finished (asked finds) site head name origin (visits next ∷ rest) (visits_in_file old.map site head file ++ rest)));
   }
 
   pub file_dropped : (file : ModuleFile) (new : Core) → Finds tables w declaring candidates old mid (Some file) → DropsFile site head file mid new
@@ -106,18 +107,18 @@ module _ (tables : TablesValue) (w : Workspace) (finished : Maps) (site : Site) 
         let reported = rw (finds.asked, tried) at tells.is_such in
         made (misses_file site head name (searched finds) tells.report rest) (record { looks = looks finds rest; missing = sym finds.is; reported = reported })
         (finds.sees grown kept finished) (numbered finds grown kept)
-        (rw (tells.is, finds.asked) (missed_after finished (asked finds) site head name (inline_origin site.tree head.id) (next ∷ rest) rest tells.report));
+        (rw (tells.is, finds.asked) (missed_after finished (asked finds) site head name (inline_origin site.tree head.id) (visits next ∷ rest) rest tells.report));
   }
 
   same_full : {file : Option ModuleFile} → Finds tables w declaring candidates old mid file → IsFull mid.count mid.map → IsFull old.count old.map
   same_full finds full = rw finds.asked at full
 
   -- as many steps or modules as are counted, and the step that is wanted
-  far : (grown : TablesValue) (rest : List Visit) → IsFull old.count old.map → Goes (environment grown w) finished (joined old (next ∷ rest)) → IsSpent (environment grown w) finished (joined old (next ∷ rest))
-  far grown rest full goes = record { at = joined old (next ∷ rest); steps = none; stuck = counted_out goes.next goes.step full }
+  far : (grown : TablesValue) (rest : List Task) → IsFull old.count old.map → Goes (environment grown w) finished (joined old (visits next ∷ rest)) → IsSpent (environment grown w) finished (joined old (visits next ∷ rest))
+  far grown rest full goes = record { at = joined old (visits next ∷ rest); steps = none; stuck = counted_out goes.next goes.step full }
 
   pub file_far : (file : ModuleFile) → Finds tables w declaring candidates old mid (Some file) → IsFull mid.count mid.map → MayTake site head file mid
-      → OnceGrown tables w (λ env. WalksTooFar env finished old (next ∷ []))
+      → OnceGrown tables w (λ env. WalksTooFar env finished old (visits next ∷ []))
   file_far file finds full (may_open on) = λ grown kept. record {
     spent = λ rest.
         far grown rest (same_full finds full)
@@ -133,7 +134,7 @@ module _ (tables : TablesValue) (w : Workspace) (finished : Maps) (site : Site) 
 
   pub missed_far : (report : DefDiagnostic) → Finds tables w declaring candidates old mid None → IsFull mid.count mid.map
       → IsUnresolvedModule (module_id mid.map site.home) (node_of site.tree nodes.Module head.id) (list_map (λ (c : Candidate). c.text) candidates) report
-      → OnceGrown tables w (λ env. WalksTooFar env finished old (next ∷ []))
+      → OnceGrown tables w (λ env. WalksTooFar env finished old (visits next ∷ []))
   missed_far report finds full reported = λ grown kept. record {
     spent = λ rest.
         far grown rest (same_full finds full)
@@ -142,8 +143,8 @@ module _ (tables : TablesValue) (w : Workspace) (finished : Maps) (site : Site) 
   }
 
 -- there are as many files as have numbers
-pub numbers_far : (tables : TablesValue) (w : Workspace) (finished : Maps) (old : Core) (v : Visit) → max_locations ≤ length tables.files → OnceGrown tables w (λ env. WalksTooFar env finished old (v ∷ []))
-numbers_far tables w finished old v full = λ grown kept. record { spent = λ rest. record { at = joined old (v ∷ rest); steps = none; stuck = numbered_out (more_files grown kept) } }
+pub numbers_far : (tables : TablesValue) (w : Workspace) (finished : Maps) (old : Core) (v : Visit) → max_locations ≤ length tables.files → OnceGrown tables w (λ env. WalksTooFar env finished old (visits v ∷ []))
+numbers_far tables w finished old v full = λ grown kept. record { spent = λ rest. record { at = joined old (visits v ∷ rest); steps = none; stuck = numbered_out (more_files grown kept) } }
   where
     more_files : (grown : TablesValue) → KeepsTables tables grown → max_locations ≤ length grown.files
     more_files grown kept =
@@ -203,14 +204,14 @@ found_deeper tables w declaring candidates old mid file dir name path finds trie
 pub inline_deeper : (dir : Directory) (name : List ℕ) (path : Option (List ℕ)) (d : Directory) → inline_directory dir name path ≡ Some d → dir.depth ≤ d.depth
 inline_deeper dir name path d e = let deep = child_deeper dir (inline_path dir name path) false d e in omega (arith, deep.1)
 
-pub inline_opened : (env : Environment) (finished : Maps) (site : Site) (head : Head) (name : List ℕ) (items : KeptForest) (old new : Core) (inside : List Visit) → is_enabled head.attributes ≡ true
-    → new ≡ opened finished old site head name (inline_origin site.tree head.id) → inside ≡ visits_inside old.map site (inline_directory site.dir name (path_of head)) items
+pub inline_opened : (env : Environment) (finished : Maps) (site : Site) (head : Head) (name : List ℕ) (items : KeptForest) (old new : Core) (inside : List Task) → is_enabled head.attributes ≡ true
+    → new ≡ opened finished old site head name (inline_origin site.tree head.id) → inside ≡ visits_inside old.map site head (inline_directory site.dir name (path_of head)) items
     → Handles env finished old new (visit site (holder head (inline_module name) items)) inside
 inline_opened env finished site head name items old new inside enabled is same = record {
   step = λ rest.
       made (opens_module site head name items rest) (record { next = refl; enabled = enabled }) tt tt
-      (rw (is, same) (opened_after finished old site head name (inline_origin site.tree head.id) (visit site (holder head (inline_module name) items) ∷ rest)
-      (visits_inside old.map site (inline_directory site.dir name (path_of head)) items ++ rest)));
+      (rw (is, same) (opened_after finished old site head name (inline_origin site.tree head.id) (visits (visit site (holder head (inline_module name) items)) ∷ rest)
+      (visits_inside old.map site head (inline_directory site.dir name (path_of head)) items ++ rest)));
 }
 
 -- ---- what comes next
@@ -223,22 +224,25 @@ module _ (tables : TablesValue) (w : Workspace) (finished : Maps) (site : Site) 
   same_map = ap (λ (c : Core). c.map) finds.asked
 
   pub taken_ok : (inside : Inside) → TakesFile finished site head name file source mid new inside
-      → OnceGrown tables w (λ env. (items : List KeptItem) → Handles env finished old new (visit site (leaf head (outline_module name))) (visits_of items inside))
+      → OnceGrown tables w (λ env. (items : List KeptItem) → Handles env finished old new (visit site (leaf head (outline_module name))) (tasks_of site.home items inside))
   taken_ok Nothing takes = λ grown kept items. file_dropped tables w finished site head name declaring candidates old mid tried written enabled file new finds takes grown kept
-  taken_ok (Held inner ids) takes = absurd takes
-  taken_ok (File inner held) takes = λ grown kept items.
-      let done : Handles (environment grown w) finished old new (visit site (leaf head (outline_module name))) (visits (inside_file old.map file) file.tree.items) =
+  taken_ok (Held inner ids marked) takes = absurd takes
+  taken_ok (File inner held marked) takes = λ grown kept items.
+      let done : Handles (environment grown w) finished old new (visit site (leaf head (outline_module name))) (visits_in_file old.map site head file) =
       file_opened tables w finished site head name declaring candidates old mid tried written enabled file new finds takes.0 grown kept in
       let inner_is : inside_file old.map file ≡ inner = ap (λ (m : Map). inside_file m file) (sym same_map) ∙ sym takes.1 in
       let tree_same : file.tree ≡ held.value.tree = tree_is ∙ ap (λ (s : SourceTreeValue). s.tree) (sym takes.2) in
-      subst (λ (s : Site). Handles (environment grown w) finished old new (visit site (leaf head (outline_module name))) (visits s held.value.tree.items)) inner_is
-      (subst (λ (t : Tree). Handles (environment grown w) finished old new (visit site (leaf head (outline_module name))) (visits (inside_file old.map file) t.items)) tree_same done)
+      subst (λ (b : Bool). Handles (environment grown w) finished old new (visit site (leaf head (outline_module name))) (visits_over inner held.value.tree.items ++ closing b site.home inner.home)) (sym takes.3)
+      (subst (λ (s : Site). Handles (environment grown w) finished old new (visit site (leaf head (outline_module name)))
+      (visits_over s held.value.tree.items ++ closing (is_macro_use head.attributes || is_macro_use file.tree.attributes) site.home s.home)) inner_is
+      (subst (λ (t : Tree). Handles (environment grown w) finished old new (visit site (leaf head (outline_module name)))
+      (visits_over (inside_file old.map file) t.items ++ closing (is_macro_use head.attributes || is_macro_use file.tree.attributes) site.home (length old.map.modules))) tree_same done))
 
   pub taken_within : IsHeld tables w old.map.id.krate (file_tree old.map.crate_data.edition file.id) source → (inside : Inside) → TakesFile finished site head name file source mid new inside
       → GoesInside tables w old.map.id.krate (length new.map.modules) site [] inside
   taken_within held Nothing takes = tt
-  taken_within held (Held inner ids) takes = absurd takes
-  taken_within held (File inner kept) takes =
+  taken_within held (Held inner ids marked) takes = absurd takes
+  taken_within held (File inner kept marked) takes =
       let deep = found_deeper tables w declaring candidates old mid file site.dir name (path_of head) finds tried in
       let inner_is : inner ≡ inside_file old.map file = takes.1 ∙ ap (λ (m : Map). inside_file m file) same_map in
       let longer : length mid.map.modules < length new.map.modules = opened_longer finished mid new site head name _ takes.0.is in

@@ -1,6 +1,6 @@
 -- Each item has its rule, so where something is to be visited a step may be taken: where it is a module with a file of its own,
 -- once that is looked for.
-use Rattle.std.proofs.Common.{◌≡◌, Bool, true, false, List, ◌∷◌, None, Some, refl}
+use Rattle.std.proofs.Common.{◌≡◌, ℕ, Bool, true, false, List, ◌∷◌, None, Some, refl}
 use Rattle.hir_item_tree.specs.Collected.{is_enabled}
 use Rattle.hir_base.specs.Cfg.{Cfg}
 use Rattle.hir_def_map.specs.declared.nameres.diagnostics.DefDiagnostic.{DefDiagnostic}
@@ -10,10 +10,10 @@ use Rattle.hir_item_tree.specs.KeptForest.{Head, Leaf, KeptItem, extern_block, i
 use Rattle.hir_def_map.specs.Overlay.{Maps}
 use Rattle.hir_def_collector.specs.declared.collector.site.Site.{Site}
 use Rattle.hir_def_collector.specs.Keys.{Environment, variants_at}
-use Rattle.hir_def_collector.specs.State.{State, Visit}
+use Rattle.hir_def_collector.specs.State.{State, Task, visits, closes}
 use Rattle.hir_def_collector.specs.ItemIds.{enum_id, module_id, node_of}
 use Rattle.hir_def_collector.specs.Reports.{IsUnconfigured}
-use Rattle.hir_def_collector.specs.Steps.{IsNext, drops_item, passes_over, declares_item, declares_enum, lists_constant, lists_impl, opens_module, enters_block, reaches_imports, reaches_crate, visit}
+use Rattle.hir_def_collector.specs.Steps.{IsNext, drops_item, passes_over, defines_rules, defines_macro, closes_module, declares_item, declares_enum, lists_constant, lists_impl, opens_module, enters_block, reaches_imports, reaches_crate, visit}
 use Rattle.hir_def_collector.proofs.Made.{Goes, goes}
 
 -- whether an item is a module with a file of its own
@@ -25,7 +25,7 @@ abbrev pub is_outline : KeptItem → Bool
 is_outline (leaf h l) = outline_leaf l
 is_outline (holder h k items) = false
 
-module _ (env : Environment) (finished : Maps) (s : State) (site : Site) (rest : List Visit) where
+module _ (env : Environment) (finished : Maps) (s : State) (site : Site) (rest : List Task) where
   by_leaf : (h : Head) (l : Leaf) → IsNext s (visit site (leaf h l)) rest → is_outline (leaf h l) ≡ false → Goes env finished s
   by_leaf h (import tree) next single = goes (reaches_imports site h tree rest) next tt tt
   by_leaf h (extern_crate name alias) next single = goes (reaches_crate site h name alias rest) next tt tt
@@ -41,8 +41,8 @@ module _ (env : Environment) (finished : Maps) (s : State) (site : Site) (rest :
   by_leaf h (type_alias name) next single = goes (declares_item (visit site (leaf h (type_alias name))) _ rest) (record { here = next; declares = refl }) tt tt
   by_leaf h (outline_module name) next single = absurd (true≢false single)
   by_leaf h (macro_call path) next single = goes (passes_over site h (macro_call path) rest) (record { here = next; passed = refl }) tt tt
-  by_leaf h (macro_rules name expander helpers) next single = goes (passes_over site h (macro_rules name expander helpers) rest) (record { here = next; passed = refl }) tt tt
-  by_leaf h (macro_def name expander helpers) next single = goes (passes_over site h (macro_def name expander helpers) rest) (record { here = next; passed = refl }) tt tt
+  by_leaf h (macro_rules name expander helpers) next single = goes (defines_rules site h name expander helpers rest) next tt tt
+  by_leaf h (macro_def name expander helpers) next single = goes (defines_macro site h name expander helpers rest) next tt tt
 
   by_item : (i : KeptItem) → IsNext s (visit site i) rest → is_outline i ≡ false → Goes env finished s
   by_item (leaf h l) next single = by_leaf h l next single
@@ -50,10 +50,14 @@ module _ (env : Environment) (finished : Maps) (s : State) (site : Site) (rest :
   by_item (holder h (inline_module name) items) next single = goes (opens_module site h name items rest) next tt tt
 
   -- an item that no condition leaves out, and that is no module with a file of its own
-  pub goes_next : (i : KeptItem) → s.agenda ≡ visit site i ∷ rest → is_enabled (item_head i).attributes ≡ true → is_outline i ≡ false → Goes env finished s
+  pub goes_next : (i : KeptItem) → s.agenda ≡ visits (visit site i) ∷ rest → is_enabled (item_head i).attributes ≡ true → is_outline i ≡ false → Goes env finished s
   goes_next i next on single = by_item i (record { next = next; enabled = on }) single
 
   -- one that a condition leaves out
-  pub goes_off : (i : KeptItem) (condition : Cfg) (report : DefDiagnostic) → s.agenda ≡ visit site i ∷ rest → (item_head i).attributes.disabled ≡ Some condition
+  pub goes_off : (i : KeptItem) (condition : Cfg) (report : DefDiagnostic) → s.agenda ≡ visits (visit site i) ∷ rest → (item_head i).attributes.disabled ≡ Some condition
       → IsUnconfigured (module_id s.core.map site.home) (node_of site.tree (item_kind i) (item_head i).id) condition s.core.options report → Goes env finished s
   goes_off i condition report next off reported = goes (drops_item (visit site i) report rest) (record { next = next; condition = condition; disabled = off; reported = reported }) tt tt
+
+-- a module that is to be closed
+pub goes_closing : (env : Environment) (finished : Maps) (s : State) (rest : List Task) (parent child : ℕ) → s.agenda ≡ closes parent child ∷ rest → Goes env finished s
+goes_closing env finished s rest parent child next = goes (closes_module parent child rest) next tt tt

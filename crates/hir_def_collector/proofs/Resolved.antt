@@ -1,7 +1,7 @@
 -- Where the imports of a run are resolved: what has to hold before.
-use Rattle.std.specs.Prelude.{◌≡◌, ◌<◌, ℕ, List, [], Option, None, Some, length, option_map, slice_get}
+use Rattle.std.specs.Prelude.{◌≡◌, ◌<◌, ℕ, List, [], Option, None, Some, option_map, slice_get}
 use Rattle.std.specs.BTreeMap.{BTreeMap}
-use Rattle.std.proofs.Common.{Contains, ap, arith, refl, subst, sym, ◌∙◌}
+use Rattle.std.proofs.Common.{Contains, ap, arith, refl, subst, sym}
 use Rattle.hir_base.specs.declared.ids.Crate.{Crate}
 use Rattle.hir_base.specs.declared.ids.MapId.{MapId}
 use Rattle.hir_def_map.specs.Overlay.{Maps, Placed}

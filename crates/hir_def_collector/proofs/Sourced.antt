@@ -8,6 +8,7 @@ use Rattle.std.proofs.Common.{Contains, ap, refl, subst, sym, ◌∙◌, arith}
 use Rattle.std.proofs.lemmas.List.Elements.{Contains-append_left, Contains-append_right}
 use mathlib.Core.Bool.{true≢false}
 use Rattle.hir_base.specs.contracts.ids.MapIdPartialEq.TheImpl as map_id
+use Rattle.hir_base.specs.declared.ast_id.AstId.{AstId}
 use Rattle.hir_base.specs.declared.ids.AdtId.TheVariants as adts
 use Rattle.hir_base.specs.declared.ids.EnumId.{EnumId}
 use Rattle.hir_base.specs.declared.ids.Crate.{Crate}
@@ -35,7 +36,8 @@ use Rattle.hir_mod_dir.specs.ModuleFiles.{inline_directory}
 use Rattle.hir_def_map.specs.declared.nameres.diagnostics.DefDiagnostic.{DefDiagnostic}
 use Rattle.hir_def_map.specs.declared.nameres.origin.ModuleOrigin.{ModuleOrigin}
 use Rattle.hir_scope.specs.ModuleTree.{is_at_or_above, same_crate, same_map, same_module}
-use Rattle.hir_scope.specs.PerNs.{keep_item, Item}
+use Rattle.hir_textual_scope.specs.Macros.{with_macro}
+use Rattle.hir_scope.specs.PerNs.{keep_item, macros_only, Item}
 use Rattle.hir_scope.specs.Visibility.{both_in, either_written, lower_of}
 use Rattle.hir_scope.specs.declared.imports.GlobId.{GlobId}
 use Rattle.hir_scope.specs.declared.imports.ImportId.{ImportId}
@@ -46,12 +48,13 @@ use Rattle.hir_scope.specs.declared.per_ns.PerNs.{PerNs}
 use Rattle.hir_scope.specs.declared.visibility.Visibility.{Visibility}
 use Rattle.hir_scope.specs.declared.visibility.Visibility.TheVariants as visibilities
 use Rattle.hir_def_map.specs.Ancestors.{above_in}
+use Rattle.hir_def_map.specs.Macros.{with_macro_def}
 use Rattle.hir_def_map.specs.Closed.{AreThere, IsClosed, IsThere, ModuleIsThere, PathsLeadToWhatIsThere, TypeIsThere}
 use Rattle.hir_def_map.specs.WellFormed.{AreWellFormed}
 use Rattle.hir_def_map.proofs.NoneOf.{neither, none_at, none_inserted, none_inserted_last, not_first, not_second}
 use Rattle.hir_def_map.specs.Reaches.{by_import}
 use Rattle.hir_def_map.specs.Scoping.{Resolution, resolution_of}
-use Rattle.hir_def_map.specs.Sources.{HoldsNowhere, HoldsNowhereIn, HoldsOfNone, HoldsOfNoExtern, PathsAnswerFromSources, SourceTest, on_def, on_extern_entry, on_import, on_macro, on_macro_item, on_origin, on_some, on_type, on_value, on_value_def, on_value_import, on_values, on_variant, on_visibility}
+use Rattle.hir_def_map.specs.Sources.{HoldsNowhere, HoldsNowhereIn, HoldsOfNone, HoldsOfNoExtern, PathsAnswerFromSources, SourceTest, on_def, on_extern, on_extern_entry, on_import, on_macro, on_macro_item, on_origin, on_some, on_type, on_value, on_value_def, on_value_import, on_values, on_variant, on_visibility}
 use Rattle.hir_def_map.specs.State.{CrateData, Local, Map, Variants, crate_root, module_at, new_id, root_of, with_extern}
 use Rattle.hir_def_map.specs.Overlay.{Maps, Placed, entry_in, overlay, module_in, placed_in}
 use Rattle.hir_def_map.proofs.StaysWellFormed.{IsClosed-overlay, LocalIsThere-begins, module_there}
@@ -84,14 +87,15 @@ use Rattle.hir_def_collector.specs.Enums.{variant_of, variants_of, with_variant}
 use Rattle.hir_import_resolution.specs.Directives.{answer_by_kind, answer_by_source, answer_in, answer_to, brought, brought_type, edge_to, glob_of, imported, is_of_extern_crate, is_one_name, kept_by_kind, kept_trait, kind_of, leaf_of, name_of, offered_by, open_items, visibility_of, way_of}
 use Rattle.hir_def_collector.specs.Imports.{extern_by, reached_import}
 use Rattle.hir_import_resolution.specs.Visibilities.{is_public, lesser_in, visibility_in}
-use Rattle.hir_def_collector.specs.ItemIds.{enum_id, module_id, use_id}
+use Rattle.hir_def_collector.specs.ItemIds.{enum_id, macro_def_id, macro_rules_id, module_id, use_id}
 use Rattle.hir_def_collector.specs.Items.{constructor_of, declaration_of, declared_by, declared_by_leaf, declared_struct, declared_type, file_origin, inline_origin, meet_of, own_visibility}
-use Rattle.hir_def_collector.specs.Preludes.{extern_prelude, joins, prelude_of, with_dependency}
+use Rattle.hir_def_collector.specs.Preludes.{extern_prelude, joins, prelude_of, with_dependency, with_prelude_module}
+use Rattle.hir_def_collector.specs.Macros.{is_macro_use, macros_beside, textual_at}
 use Rattle.hir_def_collector.specs.Sources.{IsClearOf}
 use Rattle.hir_def_collector.specs.Start.{Beginning, begin_of, krate_of, origin_of, read_by, root_key, root_map, root_site, root_tree, start_data, start_of, tree_key}
-use Rattle.hir_def_collector.specs.State.{State, Visit, import_state, visits}
-use Rattle.hir_def_collector.specs.Changes.{Change, lists, makes, gives_variants, begins_paths, reaches, changes_imports, tells, goes_on, act, on_map}
-use Rattle.hir_def_collector.specs.Steps.{Rule, drops_item, passes_over, declares_item, declares_enum, lists_constant, lists_impl, opens_module, opens_file, drops_file, misses_file, enters_block, reaches_imports, reaches_crate, resolves_imports, May, acts, asking, keys_read, making, path_of, reads, visits_inside, Step, Steps, none, more, inside_block, inside_file, inside_module}
+use Rattle.hir_def_collector.specs.State.{State, Task, Visit, visits, closes, import_state, visits_over}
+use Rattle.hir_def_collector.specs.Changes.{Change, lists, makes, gives_variants, begins_paths, reaches, changes_imports, adds_textual, takes_textual, defines, uses_macros, tells, goes_on, act, on_map}
+use Rattle.hir_def_collector.specs.Steps.{Rule, drops_item, passes_over, defines_rules, defines_macro, closes_module, closing, visits_in_file, declares_item, declares_enum, lists_constant, lists_impl, opens_module, opens_file, drops_file, misses_file, enters_block, reaches_imports, reaches_crate, resolves_imports, May, acts, asking, keys_read, making, path_of, reads, visits_inside, Step, Steps, none, more, inside_block, inside_file, inside_module}
 use Rattle.hir_def_collector.specs.Whole.{StandsOnWhole}
 use Rattle.hir_def_collector.specs.Workspace.{Workspace, dependencies_in, transitive_dependencies_in}
 use Rattle.hir_tables.specs.Tables.{TablesValue}
@@ -104,17 +108,19 @@ use Rattle.hir_def_collector.proofs.Asks.{still_asked, still_asked-Step}
 use Rattle.hir_def_collector.proofs.Grows.{Grows, Grows-Step, Grows-same}
 use Rattle.hir_def_collector.proofs.ModuleFiles.{found_read}
 use Rattle.hir_def_collector.proofs.Lists.{none_joined}
-use Rattle.hir_def_collector.proofs.Changes.{AllFine, asked-Step, id-Step, perform_keeps}
+use Rattle.hir_def_collector.proofs.Changes.{AllFine, asked-Step, fine_macro, fine_reporting, id-Step, perform_keeps}
 use Rattle.hir_def_collector.proofs.InRange.{IsInRange, import_at, in_range-Steps, next_home}
 use Rattle.hir_def_collector.proofs.Holds.{in_range-start}
 use Rattle.hir_def_collector.proofs.ImportEdits.{copy_at, copy_where, edit_of, follow_at, follow_where, imports_after, local_after, map_after}
 use Rattle.hir_def_collector.proofs.SourcedEdits.{EditIsClear, EditsAreClear, IsBoundClear, IsSeenClear, entry_clear, greater_clear, items_clear, key_clear, on_edge, own_clear, recorded_clear, shown_stands, sourced-edited, variants_clear}
+use Rattle.hir_def_collector.proofs.SourcedMacros.{beside_clear, brought_macros_clear, textual_changed, textual_clear, textual_more, used_clear}
 use Rattle.hir_def_collector.proofs.Whole.{NamesWhatIsThere, begins, steps_keep}
 
 -- ---- what is written at sites, and what brings bindings
 
-abbrev pub on_site : SourceTest → Visit → Bool
-on_site t v = t.holder v.site.tree.file v.site.tree.block
+abbrev pub on_site : SourceTest → Task → Bool
+on_site t (visits v) = t.holder v.site.tree.file v.site.tree.block
+on_site t (closes parent child) = false
 
 abbrev pub on_reached : SourceTest → ImportDirective → Bool
 on_reached t r = on_import t (way_of r.source)
@@ -156,14 +162,25 @@ stays_there finished old new same grows m e =
 -- ---- lists
 
 module _ (t : SourceTest) where
-  site_visits : (s : Site) → t.holder s.tree.file s.tree.block ≡ false → (is : KeptForest) → list_any (on_site t) (visits s is) ≡ false
+  site_visits : (s : Site) → t.holder s.tree.file s.tree.block ≡ false → (is : KeptForest) → list_any (on_site t) (visits_over s is) ≡ false
   site_visits s f no_items = refl
-  site_visits s f (item i is) = neither (t.holder s.tree.file s.tree.block) (list_any (on_site t) (visits s is)) f (site_visits s f is)
+  site_visits s f (item i is) = neither (t.holder s.tree.file s.tree.block) (list_any (on_site t) (visits_over s is)) f (site_visits s f is)
 
-  next_visits : (vs : List Visit) (v : Visit) (rest : List Visit) → list_any (on_site t) vs ≡ false → vs ≡ v ∷ rest → (t.holder v.site.tree.file v.site.tree.block ≡ false) × (list_any (on_site t) rest ≡ false)
-  next_visits vs v rest f e =
-      let both : list_any (on_site t) (v ∷ rest) ≡ false = subst (λ (xs : List Visit). list_any (on_site t) xs ≡ false) e f in
-      (not_first (on_site t v) (list_any (on_site t) rest) both, not_second (on_site t v) (list_any (on_site t) rest) both)
+  next_visits : (ts : List Task) (v : Visit) (rest : List Task) → list_any (on_site t) ts ≡ false → ts ≡ visits v ∷ rest → (t.holder v.site.tree.file v.site.tree.block ≡ false) × (list_any (on_site t) rest ≡ false)
+  next_visits ts v rest f e =
+      let both : list_any (on_site t) (visits v ∷ rest) ≡ false = subst (λ (xs : List Task). list_any (on_site t) xs ≡ false) e f in
+      (not_first (on_site t (visits v)) (list_any (on_site t) rest) both, not_second (on_site t (visits v)) (list_any (on_site t) rest) both)
+
+  -- a module that is closed is written nowhere
+  closing_none : (marked : Bool) (parent child : ℕ) → list_any (on_site t) (closing marked parent child) ≡ false
+  closing_none true parent child = refl
+  closing_none false parent child = refl
+
+  closed_visits : (s : Site) → t.holder s.tree.file s.tree.block ≡ false → (is : KeptForest) (marked : Bool) (parent child : ℕ) (rest : List Task) → list_any (on_site t) rest ≡ false
+      → list_any (on_site t) ((visits_over s is ++ closing marked parent child) ++ rest) ≡ false
+  closed_visits s f is marked parent child rest clear =
+      none_joined (on_site t) (visits_over s is ++ closing marked parent child) rest
+      (none_joined (on_site t) (visits_over s is) (closing marked parent child) (site_visits s f is) (closing_none marked parent child)) clear
 
   use_imports : (m : Map) (s : Site) (head : Head) → t.holder s.tree.file s.tree.block ≡ false → (is : List Import) → list_any (on_reached t) (list_map (reached_import s.home (use_id m s head.id) head.visibility) is) ≡ false
   use_imports m s head f [] = refl
@@ -337,11 +354,18 @@ module _ (t : SourceTest) where
   BringsNone s (begins_paths r) = on_reached t r ≡ false
   BringsNone s (reaches rs) = list_any (on_reached t) rs ≡ false
   BringsNone s (changes_imports c) = EditsAreClear t (edit_of (import_state s) c) × EdgesAreClear c
+  BringsNone s (adds_textual home name makro) = on_macro t makro ≡ false
+  BringsNone s (takes_textual home from) = Unit {0}
+  BringsNone s (defines node makro) = Unit {0}
+  BringsNone s (uses_macros macros by) = (on_values (on_macro t) macros ≡ false) × (on_extern t by ≡ false)
   BringsNone s (tells d) = Unit {0}
   BringsNone s (goes_on vs) = list_any (on_site t) vs ≡ false
 
   HoldsNowhereIn-reported : (m : Map) (ds : List DefDiagnostic) → HoldsNowhereIn t m → HoldsNowhereIn t (record m { diagnostics = ds })
   HoldsNowhereIn-reported m ds f = record { origins = f.origins; types = f.types; values = f.values; macros = f.macros; legacy = f.legacy; enums = f.enums; macro_use = f.macro_use }
+
+  HoldsNowhereIn-defined : (m : Map) (node : AstId) (makro : MacroId) → HoldsNowhereIn t m → HoldsNowhereIn t (with_macro_def m node makro)
+  HoldsNowhereIn-defined m node makro f = record { origins = f.origins; types = f.types; values = f.values; macros = f.macros; legacy = f.legacy; enums = f.enums; macro_use = f.macro_use }
 
   on_new_map : (s : State) (m : Map) → HoldsNowhereIn t m → IsSourced t s → IsSourced t (on_map s m)
   on_new_map s m g f = record { map = g; local = f.local; visits = f.visits; reached = f.reached; edges = f.edges }
@@ -397,6 +421,12 @@ module _ (t : SourceTest) where
         reached = subst (λ (rs : List ImportDirective). list_any (on_reached t) rs ≡ false) (sym (imports_after i c)) f.reached;
         edges = edges_clear i c f.edges fine.1;
       }
+  sourced-act s (adds_textual home name makro) f fine =
+      on_new_map s _ (textual_changed t s.core.map home (λ ms. with_macro ms name makro) (λ ms g. textual_more t ms name makro g fine) f.map) f
+  sourced-act s (takes_textual home from) f fine =
+      on_new_map s _ (textual_changed t s.core.map home (λ _. textual_at s.core.map from) (λ ms g. textual_clear t s.core.map from f.map) f.map) f
+  sourced-act s (defines node makro) f fine = on_new_map s _ (HoldsNowhereIn-defined s.core.map node makro f.map) f
+  sourced-act s (uses_macros macros by) f fine = on_new_map s _ (used_clear t s.core.map macros by fine.0 fine.1 f.map) f
   sourced-act s (tells d) f fine = on_new_map s _ (HoldsNowhereIn-reported s.core.map (s.core.map.diagnostics ++ d ∷ []) f.map) f
   sourced-act s (goes_on vs) f fine = record { map = f.map; local = f.local; visits = fine; reached = f.reached; edges = f.edges }
 
@@ -459,13 +489,13 @@ module _ (t : SourceTest) where
           (written at low raw) (all_written at low rest)
 
       -- the next item is of a module of the map, in a file of which the test doesn't hold
-      low : (v : Visit) (rest : List Visit) → s.agenda ≡ v ∷ rest → v.site.home < length s.core.map.modules
+      low : (v : Visit) (rest : List Task) → s.agenda ≡ visits v ∷ rest → v.site.home < length s.core.map.modules
       low v rest e = next_home s inside v rest e
 
-      file : (v : Visit) (rest : List Visit) → s.agenda ≡ v ∷ rest → t.holder v.site.tree.file v.site.tree.block ≡ false
+      file : (v : Visit) (rest : List Task) → s.agenda ≡ visits v ∷ rest → t.holder v.site.tree.file v.site.tree.block ≡ false
       file v rest e = (next_visits s.agenda v rest f.visits e).0
 
-      left : (v : Visit) (rest : List Visit) → s.agenda ≡ v ∷ rest → list_any (on_site t) rest ≡ false
+      left : (v : Visit) (rest : List Task) → s.agenda ≡ visits v ∷ rest → list_any (on_site t) rest ≡ false
       left v rest e = (next_visits s.agenda v rest f.visits e).1
 
       declares : (v : Visit) (d : Declaration) → v.site.home < length s.core.map.modules → t.holder v.site.tree.file v.site.tree.block ≡ false → declaration_of finished s.core.local s.core.map v ≡ Some d → HoldsOfNone t d.items
@@ -632,22 +662,26 @@ module _ (t : SourceTest) where
       bare_type def vis g h = ((type_of def vis g h, refl), tt)
 
       -- where a module is made, the item that declares it and what comes next are clear of the test
-      making_none : (site : Site) (head : Head) (name : List ℕ) (origin : ModuleOrigin) (next : List Visit) → site.home < length s.core.map.modules → on_origin t origin ≡ false
+      making_none : (site : Site) (head : Head) (name : List ℕ) (origin : ModuleOrigin) (next : List Task) → site.home < length s.core.map.modules → on_origin t origin ≡ false
           → list_any (on_site t) next ≡ false → AllFine BringsNone s (making finished s site head name origin next)
       making_none site head name origin next below own clear =
-          (own, (clear, (tt, (bare_type (definitions.ModuleId (new_id s.core.map)) (own_visibility finished s.core.local s.core.map site head) refl (written site.home below head.visibility), tt))))
+          (own, (tt, (clear, (tt, (bare_type (definitions.ModuleId (new_id s.core.map)) (own_visibility finished s.core.local s.core.map site head) refl (written site.home below head.visibility), tt)))))
 
-      inside_none : (site : Site) (dir : Option Directory) (items : KeptForest) (rest : List Visit) → t.holder site.tree.file site.tree.block ≡ false → list_any (on_site t) rest ≡ false
-          → list_any (on_site t) (visits_inside s.core.map site dir items ++ rest) ≡ false
-      inside_none site None items rest own clear = clear
-      inside_none site (Some dir) items rest own clear =
-          none_joined (on_site t) (visits (inside_module s.core.map site dir) items) rest (site_visits (inside_module s.core.map site dir) own items) clear
+      inside_none : (site : Site) (head : Head) (dir : Option Directory) (items : KeptForest) (rest : List Task) → t.holder site.tree.file site.tree.block ≡ false → list_any (on_site t) rest ≡ false
+          → list_any (on_site t) (visits_inside s.core.map site head dir items ++ rest) ≡ false
+      inside_none site head None items rest own clear = clear
+      inside_none site head (Some dir) items rest own clear =
+          closed_visits (inside_module s.core.map site dir) own items (is_macro_use head.attributes) site.home (length s.core.map.modules) rest clear
+
+      -- a macro that is declared alone
+      bare_macro : (makro : MacroId) (vis : Visibility) → on_macro t makro ≡ false → on_visibility t vis ≡ false
+          → (HoldsOfNone t (macros_only makro vis None) × (on_some (on_import t) (pushing None) ≡ false)) × Unit {0}
+      bare_macro makro vis g h = ((record { types = refl; values = refl; macros = bare (on_macro t makro) (on_visibility t vis) g h }, refl), tt)
 
       -- the sources that a rule reads are clear of it too
       brings_none : (r : Rule) → May finished s r → ((key : TreeKey) → Contains (keys_read (reads s r)) (keys.Tree key) → t.holder key.id.file key.id.block ≡ false)
           → AllFine BringsNone (asking s r) (acts finished s r)
       brings_none (drops_item v report rest) may read = (left v rest may.next, (tt, tt))
-      brings_none (passes_over site head l rest) may read = (left _ rest may.here.next, tt)
       brings_none (declares_item v d rest) may read =
           (left v rest may.here.next, (tt, (((declares v d (low v rest may.here.next) (file v rest may.here.next) may.declares, refl), tt), tt)))
       brings_none (declares_enum site head name found rest) may read =
@@ -657,37 +691,51 @@ module _ (t : SourceTest) where
       brings_none (lists_constant site head rest) may read = (left _ rest may.next, (tt, tt))
       brings_none (lists_impl site head of_trait rest) may read = (left _ rest may.next, (tt, tt))
       brings_none (opens_module site head name items rest) may read =
-          making_none site head name (inline_origin site.tree head.id) (visits_inside s.core.map site (inline_directory site.dir name (path_of head)) items ++ rest) (low _ rest may.next) (file _ rest may.next)
-          (inside_none site (inline_directory site.dir name (path_of head)) items rest (file _ rest may.next) (left _ rest may.next))
+          making_none site head name (inline_origin site.tree head.id) (visits_inside s.core.map site head (inline_directory site.dir name (path_of head)) items ++ rest) (low _ rest may.next) (file _ rest may.next)
+          (inside_none site head (inline_directory site.dir name (path_of head)) items rest (file _ rest may.next) (left _ rest may.next))
       brings_none (opens_file site head name search f rest) may read =
           let within : Site = inside_file s.core.map f in
           let m : Map = s.core.map in
           let own : t.holder within.tree.file within.tree.block ≡ false =
           read (file_key m.id.krate m.crate_data.edition f.id) (found_read m.id.krate m.crate_data.edition search.absent search.found f may.found) in
-          making_none site head name (file_origin site.tree head.id m.crate_data.edition f) (visits within f.tree.items ++ rest) (low _ rest may.looks.here.next) (file _ rest may.looks.here.next)
-          (none_joined (on_site t) (visits within f.tree.items) rest (site_visits within own f.tree.items) (left _ rest may.looks.here.next))
+          making_none site head name (file_origin site.tree head.id m.crate_data.edition f) (visits_in_file m site head f ++ rest) (low _ rest may.looks.here.next) (file _ rest may.looks.here.next)
+          (closed_visits within own f.tree.items (is_macro_use head.attributes || is_macro_use f.tree.attributes) site.home (length m.modules) rest (left _ rest may.looks.here.next))
       brings_none (drops_file site head name search report rest) may read = (left _ rest may.looks.here.next, (tt, tt))
       brings_none (misses_file site head name search report rest) may read = (
         file _ rest may.looks.here.next,
         (
-          left _ rest may.looks.here.next,
+          tt,
           (
-            tt,
+            left _ rest may.looks.here.next,
             (
-              bare_type (definitions.ModuleId (new_id s.core.map)) (own_visibility finished s.core.local s.core.map site head) refl
-                  (written site.home (low _ rest may.looks.here.next) head.visibility),
-              (tt, tt),
+              tt,
+              (
+                bare_type (definitions.ModuleId (new_id s.core.map)) (own_visibility finished s.core.local s.core.map site head) refl
+                    (written site.home (low _ rest may.looks.here.next) head.visibility),
+                (tt, tt),
+              ),
             ),
           ),
         ),
       )
       brings_none (enters_block site head items rest) may read =
           let within : Site = inside_block s.core.map site head in
-          (none_joined (on_site t) (visits within items) rest (site_visits within (file _ rest may.next) items) (left _ rest may.next), (tt, tt))
+          (none_joined (on_site t) (visits_over within items) rest (site_visits within (file _ rest may.next) items) (left _ rest may.next), (tt, tt))
       brings_none (reaches_imports site head tree rest) may read = (left _ rest may.next, (use_imports s.core.map site head (file _ rest may.next) (imports_of tree), (tt, tt)))
       brings_none (reaches_crate site head name alias rest) may read =
           let own : t.holder site.tree.file site.tree.block ≡ false = file _ rest may.next in
-          (left _ rest may.next, (own, (neither (t.holder site.tree.file site.tree.block) false own refl, (tt, tt))))
+          (left _ rest may.next, (own, ((brought_macros_clear t finished nowhere s.core.map s.core.dependencies head name, own), (neither (t.holder site.tree.file site.tree.block) false own refl, (tt, tt)))))
+      brings_none (defines_rules site head name expander helpers rest) may read =
+          let own : t.holder site.tree.file site.tree.block ≡ false = file _ rest may.next in
+          let makro : MacroId = macro_rules_id s.core.map site head.id expander in
+          (left _ rest may.next, (tt, (own, fine_macro BringsNone _ _ expander (λ at. tt) head name makro (λ at. bare_macro makro visibilities.Public own refl) _)))
+      brings_none (defines_macro site head name expander helpers rest) may read =
+          let own : t.holder site.tree.file site.tree.block ≡ false = file _ rest may.next in
+          let makro : MacroId = macro_def_id s.core.map site head.id expander in
+          (left _ rest may.next, (tt, (tt, (bare_macro makro (own_visibility finished s.core.local s.core.map site head) own (written site.home (low _ rest may.next) head.visibility), fine_reporting BringsNone _ _ expander (λ at. tt) _))))
+      brings_none (closes_module parent child rest) may read =
+          (subst (λ (ts : List Task). list_any (on_site t) ts ≡ false) may f.visits, (tt, tt))
+      brings_none (passes_over site head l rest) may read = (left _ rest may.here.next, tt)
       brings_none (resolves_imports rule) may read = imports_bring rule may
 
       sourced-Step : (env : Environment) (new : State) → Step env finished s new → AreClear t new → IsSourced t new
@@ -722,22 +770,23 @@ module _ (t : SourceTest) where
   root_nowhere : (start : Start) → on_origin t (origin_of start) ≡ false
   root_nowhere (starts.Crate krate root) = refl
 
-  first_sourced : (finished : Maps) (tables : TablesValue) (w : Workspace) (from : Beginning) → t.holder from.tree.file from.tree.block ≡ false → IsSourced t (start_of tables w finished from)
-  first_sourced finished tables w from written =
+  first_sourced : (finished : Maps) → HoldsNowhere t finished → (tables : TablesValue) (w : Workspace) (from : Beginning) → t.holder from.tree.file from.tree.block ≡ false → IsSourced t (start_of tables w finished from)
+  first_sourced finished nowhere tables w from written =
       let tree = root_tree tables w from in
       let krate : Crate = krate_of from.start in
       let crate_data : CrateData = start_data tree (transitive_dependencies_in w krate) from.start in
       let one : Map = root_map crate_data from.start in
       let local : Local = extern_prelude crate_data [] (dependencies_in w krate) in
       record {
-        map = HoldsNowhereIn-prelude t one (prelude_of finished one local) (record { origins = neither (on_origin t (origin_of from.start)) false (root_nowhere from.start) refl; types = refl; values = refl; macros = refl; legacy = refl; enums = refl; macro_use = refl });
+        map = used_clear t (with_prelude_module finished one local) (macros_beside finished one.id.krate (prelude_of finished one local)) None (beside_clear t finished nowhere one.id.krate (prelude_of finished one local)) refl
+            (HoldsNowhereIn-prelude t one (prelude_of finished one local) (record { origins = neither (on_origin t (origin_of from.start)) false (root_nowhere from.start) refl; types = refl; values = refl; macros = refl; legacy = refl; enums = refl; macro_use = refl }));
         local = local_begins crate_data [] (dependencies_in w krate) refl;
         visits = go (is_enabled tree.attributes) tree.items;
         reached = refl;
         edges = refl;
       }
     where
-      go : (b : Bool) (is : KeptForest) → list_any (on_site t) (if b then visits (root_site from.tree) is else []) ≡ false
+      go : (b : Bool) (is : KeptForest) → list_any (on_site t) (if b then visits_over (root_site from.tree) is else []) ≡ false
       go true is = site_visits (root_site from.tree) written is
       go false is = refl
 
@@ -755,7 +804,7 @@ module _ (t : SourceTest) where
       (Contains-append_left e.last.core.asked (map_keys (transitive_dependencies_in w (krate_of from.start))) (keys.Tree key) h)) in
       let root : t.holder from.tree.file from.tree.block ≡ false =
       asked (tree_key from.start from.tree) (still_asked derived (root_key from.start from.tree) (0, omega arith, refl)) in
-      let first : IsSourced t begun = first_sourced (read_by w all from.start) tables w from root in
+      let first : IsSourced t begun = first_sourced (read_by w all from.start) (subst (HoldsNowhere t) (sym same) clear.read) tables w from root in
       let m : Map = e.last.core.map in
       let reports : List DefDiagnostic = m.diagnostics ++ leftover_diagnostics m e.last.core.reached e.last.core.taken in
       let reported : Map = record m { diagnostics = reports } in

@@ -17,9 +17,7 @@ use Rattle.hir_item_tree.specs.declared.raw_visibility.VisibilityExplicitness.{V
 use Rattle.hir_scope.specs.Bindings.{with_item_definition, with_item_visibility}
 use Rattle.hir_scope.specs.ModuleTree.{is_at_or_above, same_crate, same_module}
 use Rattle.hir_scope.specs.PerNs.{Item, with_constructor}
-use Rattle.hir_scope.specs.Scope.{ScopeValue}
 use Rattle.hir_scope.specs.Visibility.{both_in, either_written, upper_of}
-use Rattle.hir_scope.specs.declared.imports.GlobId.{GlobId}
 use Rattle.hir_scope.specs.declared.imports.ImportOrExternCrate.{ImportOrExternCrate}
 use Rattle.hir_scope.specs.declared.imports.ImportOrExternCrate.TheVariants as ways
 use Rattle.hir_scope.specs.declared.imports.ImportOrGlob.{ImportOrGlob}
@@ -36,7 +34,7 @@ use Rattle.hir_def_map.specs.Scoping.Segments.{variant_in}
 use Rattle.hir_def_map.specs.Sources.{HoldsNowhere, HoldsNowhereIn, HoldsOfNone, SourceTest, on_def, on_import, on_macro, on_macro_item, on_macros_in, on_some, on_type, on_types_in, on_value, on_value_def, on_value_import, on_values, on_values_in, on_variant, on_visibility}
 use Rattle.hir_def_map.specs.State.{Map, ModuleValue, Variants, at_name, entry_of, module_at, numbered, variants_at, with_scope}
 use Rattle.hir_def_map.specs.declared.nameres.enum_variants.EnumVariant.{EnumVariant}
-use Rattle.hir_glob_imports.specs.Moves.{brought_vis, same_vis, seen_by, shown}
+use Rattle.hir_glob_imports.specs.Moves.{same_vis, seen_by}
 use Rattle.hir_glob_imports.specs.View.{View}
 use Rattle.hir_glob_imports.specs.Waves.{Records, adds, edge_with_vis, stays, widens, wider_of}
 use Rattle.hir_glob_imports.specs.declared.edge.Bound.{Bound}

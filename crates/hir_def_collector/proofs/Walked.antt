@@ -21,11 +21,12 @@ use Rattle.hir_item_tree.specs.Rows.{Content, alone, with_items, numbers_of, ite
 use Rattle.hir_item_tree.specs.declared.rows.ModItemId.{ModItemId}
 use Rattle.hir_def_map.specs.Overlay.{Maps}
 use Rattle.hir_def_collector.specs.declared.collector.site.Site.{Site}
-use Rattle.hir_def_collector.specs.Keys.{Environment, absent_source, environment}
-use Rattle.hir_def_collector.specs.State.{Visit, State, Core, at_rest, joined, visits, counted}
+use Rattle.hir_def_collector.specs.Keys.{Environment, absent_source}
+use Rattle.hir_def_collector.specs.State.{Task, Visit, visits, closes, Core, at_rest, joined, visits_over, counted, with_map}
 use Rattle.hir_def_collector.specs.Items.{is_passed_over}
 use Rattle.hir_def_collector.specs.Start.{tree_visits}
-use Rattle.hir_def_collector.specs.Steps.{Steps, none, drops_item, passes_over, visit}
+use Rattle.hir_def_collector.specs.Steps.{Steps, none, closes_module, closing, drops_item, passes_over, visit}
+use Rattle.hir_def_collector.specs.Macros.{textual_at, with_textual_scope}
 use Rattle.hir_def_collector.specs.TreeReads.{visits_at, above}
 use Rattle.hir_def_collector.specs.Reports.{IsUnconfigured}
 use Rattle.hir_def_collector.specs.ItemIds.{module_id, node_of}
@@ -35,7 +36,7 @@ use Rattle.hir_def_collector.proofs.Lists.{drop_at, get_there}
 use Rattle.hir_def_collector.proofs.Moves.{Steps-append, Steps-one, Steps-first, spent_after}
 use Rattle.hir_def_collector.proofs.Made.{Goes, made}
 use Rattle.hir_def_collector.proofs.Grows.{Grows-Step, Grows-Steps}
-use Rattle.hir_def_collector.proofs.Progress.{goes_next, goes_off, is_outline}
+use Rattle.hir_def_collector.proofs.Progress.{goes_closing, goes_next, goes_off, is_outline}
 
 -- nothing is anywhere
 abbrev pub nowhere : Environment
@@ -85,7 +86,7 @@ All-below m n ns h all = λ k d inside. omega (arith, all k d inside)
 
 -- ---- the items of a site, one after another
 
-visits_found : (site : Site) (o : Option KeptItem) (f : KeptForest) → visits site (and_found o f) ≡ visits site (and_found o no_items) ++ visits site f
+visits_found : (site : Site) (o : Option KeptItem) (f : KeptForest) → visits_over site (and_found o f) ≡ visits_over site (and_found o no_items) ++ visits_over site f
 visits_found site None f = refl
 visits_found site (Some i) f = refl
 
@@ -95,11 +96,11 @@ module _ (tree : Tree) (site : Site) where
   visits_first n ns = visits_found site (slice_get (all_items tree.items) n) (items_at (all_items tree.items) ns)
 
   -- what is still to be visited at an item: the item, and what comes after it
-  pub left_next : (ids : List ModItemId) (i : ℕ) (x : ModItemId) (rest : List Visit) → i < length ids → x ≡ get_or ids i x
+  pub left_next : (ids : List ModItemId) (i : ℕ) (x : ModItemId) (rest : List Task) → i < length ids → x ≡ get_or ids i x
       → visits_at tree site (numbers_of (drop i ids)) ++ rest ≡ visits_at tree site (x.0 ∷ []) ++ (visits_at tree site (numbers_of (drop (i + 1) ids)) ++ rest)
   left_next ids i x rest h e =
       ap (λ (xs : List ModItemId). visits_at tree site (numbers_of xs) ++ rest) (drop_at ids i x h e)
-      ∙ ap (λ (vs : List Visit). vs ++ rest) (visits_first x.0 (numbers_of (drop (i + 1) ids)))
+      ∙ ap (λ (vs : List Task). vs ++ rest) (visits_first x.0 (numbers_of (drop (i + 1) ids)))
       ∙ append_assoc (visits_at tree site (x.0 ∷ [])) (visits_at tree site (numbers_of (drop (i + 1) ids))) rest
 
   -- past the last, nothing
@@ -115,15 +116,15 @@ module _ (tree : Tree) (site : Site) where
   module _ (env : Environment) (finished : Maps) (ids : List ModItemId) (old : Core) where
     -- steps through those before a place
     pub record WalksTo (c : Core) (i : ℕ) : Type 0 where
-      pub steps : (rest : List Visit) → Steps env finished (joined old (visits_at tree site (numbers_of ids) ++ rest)) (joined c (visits_at tree site (numbers_of (drop i ids)) ++ rest))
+      pub steps : (rest : List Task) → Steps env finished (joined old (visits_at tree site (numbers_of ids) ++ rest)) (joined c (visits_at tree site (numbers_of (drop i ids)) ++ rest))
 
     pub WalksTo-none : WalksTo old 0
     WalksTo-none = record { steps = λ rest. none }
 
-    steps_to : (c : Core) (i : ℕ) (x : ModItemId) → i < length ids → x ≡ get_or ids i x → WalksTo c i → (rest : List Visit)
+    steps_to : (c : Core) (i : ℕ) (x : ModItemId) → i < length ids → x ≡ get_or ids i x → WalksTo c i → (rest : List Task)
         → Steps env finished (joined old (visits_at tree site (numbers_of ids) ++ rest)) (joined c (visits_at tree site (x.0 ∷ []) ++ (visits_at tree site (numbers_of (drop (i + 1) ids)) ++ rest)))
     steps_to c i x h e before rest =
-        subst (λ (agenda : List Visit). Steps env finished (joined old (visits_at tree site (numbers_of ids) ++ rest)) (joined c agenda)) (left_next ids i x rest h e) (before.steps rest)
+        subst (λ (agenda : List Task). Steps env finished (joined old (visits_at tree site (numbers_of ids) ++ rest)) (joined c agenda)) (left_next ids i x rest h e) (before.steps rest)
 
     pub WalksTo-next : (c d : Core) (i : ℕ) (x : ModItemId) → i < length ids → x ≡ get_or ids i x → WalksTo c i → Walks env finished c d (visits_at tree site (x.0 ∷ [])) → WalksTo d (i + 1)
     WalksTo-next c d i x h e before step = record {
@@ -133,7 +134,7 @@ module _ (tree : Tree) (site : Site) where
     pub Walks-all : (c : Core) (i : ℕ) → length ids ≤ i → WalksTo c i → Walks env finished old c (visits_at tree site (numbers_of ids))
     Walks-all c i h before = record {
       steps = λ rest.
-          subst (λ (vs : List Visit). Steps env finished (joined old (visits_at tree site (numbers_of ids) ++ rest)) (joined c (vs ++ rest))) (left_past ids i h) (before.steps rest);
+          subst (λ (vs : List Task). Steps env finished (joined old (visits_at tree site (numbers_of ids) ++ rest)) (joined c (vs ++ rest))) (left_past ids i h) (before.steps rest);
     }
 
     pub WalksTooFar-next : (c : Core) (i : ℕ) (x : ModItemId) → i < length ids → x ≡ get_or ids i x → WalksTo c i → WalksTooFar env finished c (visits_at tree site (x.0 ∷ []))
@@ -143,11 +144,11 @@ module _ (tree : Tree) (site : Site) where
     }
 
 -- steps take no module away
-pub longer_after : {env : Environment} {finished : Maps} (old new : Core) (vs : List Visit) → Walks env finished old new vs → length old.map.modules ≤ length new.map.modules
+pub longer_after : {env : Environment} {finished : Maps} (old new : Core) (vs : List Task) → Walks env finished old new vs → length old.map.modules ≤ length new.map.modules
 longer_after old new vs walks = (Grows-Steps (walks.steps [])).longer
 
 -- nor does one step
-pub still_there : {env : Environment} {finished : Maps} (old new : Core) (v : Visit) (inside : List Visit) (n : ℕ) → Handles env finished old new v inside → n < length old.map.modules → n < length new.map.modules
+pub still_there : {env : Environment} {finished : Maps} (old new : Core) (v : Visit) (inside : List Task) (n : ℕ) → Handles env finished old new v inside → n < length old.map.modules → n < length new.map.modules
 still_there old new v inside n handles h =
     let longer : length old.map.modules ≤ length new.map.modules = (Grows-Step (handles.step [])).longer in
     omega arith
@@ -164,47 +165,68 @@ module _ (tree : Tree) (site : Site) (n : ℕ) (h : Head) (c : Content) where
   -- the item of a number, by its head and content
   pub visits_one : n < length (all_items tree.items) → IfSome (slice_get (all_items tree.items) n) (λ i. h ≡ item_head i)
       → IfSome (slice_get (all_items tree.items) n) (λ i. item_of (all_items tree.items) (item_head i) c ≡ i)
-      → visits_at tree site (n ∷ []) ≡ visit site (item_of (all_items tree.items) h c) ∷ []
+      → visits_at tree site (n ∷ []) ≡ visits (visit site (item_of (all_items tree.items) h c)) ∷ []
   visits_one there head content =
       let items = all_items tree.items in
       let i = get_there items n there in
       let same_head : h ≡ item_head i.0 = found (slice_get items n) i.0 (λ i. h ≡ item_head i) i.1 head in
       let same : item_of items (item_head i.0) c ≡ i.0 = found (slice_get items n) i.0 (λ i. item_of items (item_head i) c ≡ i) i.1 content in
       let whole : item_of items h c ≡ i.0 = ap (λ (g : Head). item_of items g c) same_head ∙ same in
-      ap (λ (o : Option KeptItem). visits site (and_found o no_items)) i.1 ∙ ap (λ (x : KeptItem). visit site x ∷ []) (sym whole)
+      ap (λ (o : Option KeptItem). visits_over site (and_found o no_items)) i.1 ∙ ap (λ (x : KeptItem). visits (visit site x) ∷ []) (sym whole)
 
 -- a step handles the item, and then those inside are walked
-pub Walks-first : {env : Environment} {finished : Maps} (old mid new : Core) (v : Visit) (vs inside : List Visit) → vs ≡ v ∷ [] → Handles env finished old mid v inside → Walks env finished mid new inside → Walks env finished old new vs
+pub Walks-first : {env : Environment} {finished : Maps} (old mid new : Core) (v : Visit) (vs inside : List Task) → vs ≡ visits v ∷ [] → Handles env finished old mid v inside → Walks env finished mid new inside → Walks env finished old new vs
 Walks-first {env} {finished} old mid new v vs inside e handles walks = record {
   steps = λ rest.
-      subst (λ (us : List Visit). Steps env finished (joined old (us ++ rest)) (joined new rest)) (sym e)
+      subst (λ (us : List Task). Steps env finished (joined old (us ++ rest)) (joined new rest)) (sym e)
       (Steps-first (handles.step rest) (walks.steps rest));
 }
 
 -- steps through those inside lead too far
-pub WalksTooFar-inside : {env : Environment} {finished : Maps} (old mid : Core) (v : Visit) (vs inside : List Visit) → vs ≡ v ∷ [] → Handles env finished old mid v inside → WalksTooFar env finished mid inside → WalksTooFar env finished old vs
+pub WalksTooFar-inside : {env : Environment} {finished : Maps} (old mid : Core) (v : Visit) (vs inside : List Task) → vs ≡ visits v ∷ [] → Handles env finished old mid v inside → WalksTooFar env finished mid inside → WalksTooFar env finished old vs
 WalksTooFar-inside {env} {finished} old mid v vs inside e handles far = record {
   spent = λ rest.
-      subst (λ (us : List Visit). IsSpent env finished (joined old (us ++ rest))) (sym e)
+      subst (λ (us : List Task). IsSpent env finished (joined old (us ++ rest))) (sym e)
       (spent_after (Steps-one (handles.step rest)) (far.spent rest));
+}
+
+-- tasks that are done one after another
+pub Walks-append : {env : Environment} {finished : Maps} (old mid new : Core) (inside behind : List Task) → Walks env finished old mid inside → Walks env finished mid new behind
+    → Walks env finished old new (inside ++ behind)
+Walks-append {env} {finished} old mid new inside behind first then_ = record {
+  steps = λ rest.
+      subst (λ (ts : List Task). Steps env finished (joined old ts) (joined new rest)) (sym (append_assoc inside behind rest))
+      (Steps-append (first.steps (behind ++ rest)) (then_.steps rest));
+}
+
+-- the first of them lead too far, or those behind do
+pub WalksTooFar-first : {env : Environment} {finished : Maps} (old : Core) (inside behind : List Task) → WalksTooFar env finished old inside → WalksTooFar env finished old (inside ++ behind)
+WalksTooFar-first {env} {finished} old inside behind far = record {
+  spent = λ rest. subst (λ (ts : List Task). IsSpent env finished (joined old ts)) (sym (append_assoc inside behind rest)) (far.spent (behind ++ rest));
+}
+
+pub WalksTooFar-behind : {env : Environment} {finished : Maps} (old mid : Core) (inside behind : List Task) → Walks env finished old mid inside → WalksTooFar env finished mid behind
+    → WalksTooFar env finished old (inside ++ behind)
+WalksTooFar-behind {env} {finished} old mid inside behind first far = record {
+  spent = λ rest. subst (λ (ts : List Task). IsSpent env finished (joined old ts)) (sym (append_assoc inside behind rest)) (spent_after (first.steps (behind ++ rest)) (far.spent rest));
 }
 
 -- as many as are counted were taken already, and the item has its rule
 pub far_here : {env : Environment} {finished : Maps} (site : Site) (i : KeptItem) (old : Core) → is_enabled (item_head i).attributes ≡ true → is_outline i ≡ false → IsFull old.count old.map
-    → WalksTooFar env finished old (visit site i ∷ [])
+    → WalksTooFar env finished old (visits (visit site i) ∷ [])
 far_here {env} {finished} site i old on single full = record {
   spent = λ rest.
-      let goes : Goes env finished (joined old (visit site i ∷ rest)) = goes_next env finished (joined old (visit site i ∷ rest)) site rest i refl on single in
-      record { at = joined old (visit site i ∷ rest); steps = none; stuck = counted_out goes.next goes.step full };
+      let goes : Goes env finished (joined old (visits (visit site i) ∷ rest)) = goes_next env finished (joined old (visits (visit site i) ∷ rest)) site rest i refl on single in
+      record { at = joined old (visits (visit site i) ∷ rest); steps = none; stuck = counted_out goes.next goes.step full };
 }
 
 pub far_off : {env : Environment} {finished : Maps} (site : Site) (i : KeptItem) (condition : Cfg) (report : DefDiagnostic) (old : Core) → (item_head i).attributes.disabled ≡ Some condition
     → IsUnconfigured (module_id old.map site.home) (node_of site.tree (item_kind i) (item_head i).id) condition old.options report → IsFull old.count old.map
-    → WalksTooFar env finished old (visit site i ∷ [])
+    → WalksTooFar env finished old (visits (visit site i) ∷ [])
 far_off {env} {finished} site i condition report old off reported full = record {
   spent = λ rest.
-      let goes : Goes env finished (joined old (visit site i ∷ rest)) = goes_off env finished (joined old (visit site i ∷ rest)) site rest i condition report refl off reported in
-      record { at = joined old (visit site i ∷ rest); steps = none; stuck = counted_out goes.next goes.step full };
+      let goes : Goes env finished (joined old (visits (visit site i) ∷ rest)) = goes_off env finished (joined old (visits (visit site i) ∷ rest)) site rest i condition report refl off reported in
+      record { at = joined old (visits (visit site i) ∷ rest); steps = none; stuck = counted_out goes.next goes.step full };
 }
 
 -- an item of which the rules don't speak yet is passed over
@@ -216,10 +238,22 @@ passed site h l old new enabled over is = record {
 
 -- a disabled item is dropped
 pub dropped : {env : Environment} {finished : Maps} (site : Site) (i : KeptItem) (condition : Cfg) (old new : Core) → (item_head i).attributes.disabled ≡ Some condition
-    → Drops (IsUnconfigured (module_id old.map site.home) (node_of site.tree (item_kind i) (item_head i).id) condition old.options) old new → Walks env finished old new (visit site i ∷ [])
+    → Drops (IsUnconfigured (module_id old.map site.home) (node_of site.tree (item_kind i) (item_head i).id) condition old.options) old new → Walks env finished old new (visits (visit site i) ∷ [])
 dropped {env} {finished} site i condition old new off drops = record {
   steps = λ rest.
       Steps-one (made (drops_item (visit site i) drops.report rest) (record { next = refl; condition = condition; disabled = off; reported = drops.is_such }) tt tt (rw drops.is refl));
+}
+
+-- a module that is closed
+pub closed : {env : Environment} {finished : Maps} (parent child : ℕ) (old new : Core) → new ≡ counted (with_map old (with_textual_scope old.map parent (textual_at old.map child)))
+    → Walks env finished old new (closing true parent child)
+closed {env} {finished} parent child old new is = record { steps = λ rest. Steps-one (made (closes_module parent child rest) refl tt tt (rw is refl)) }
+
+pub closed_far : {env : Environment} {finished : Maps} (parent child : ℕ) (old : Core) → IsFull old.count old.map → WalksTooFar env finished old (closing true parent child)
+closed_far {env} {finished} parent child old full = record {
+  spent = λ rest.
+      let goes : Goes env finished (joined old (closes parent child ∷ rest)) = goes_closing env finished (joined old (closes parent child ∷ rest)) rest parent child refl in
+      record { at = joined old (closes parent child ∷ rest); steps = none; stuck = counted_out goes.next goes.step full };
 }
 
 -- what an item is that a tree lends
@@ -277,13 +311,13 @@ pub block_here : (items : List KeptItem) (h : Head) (item : ModItemKind) (b : Ex
 block_here items h item b e = subst (λ (it : ModItemKind). is_outline (item_of items h (kind_content it)) ≡ false) (sym e) refl
 
 pub far_item : (env : Environment) (finished : Maps) (site : Site) (items : List KeptItem) (h : Head) (item : ModItemKind) (old : Core) → is_enabled h.attributes ≡ true
-    → is_outline (item_of items h (kind_content item)) ≡ false → IsFull old.count old.map → WalksTooFar env finished old (visit site (item_of items h (kind_content item)) ∷ [])
+    → is_outline (item_of items h (kind_content item)) ≡ false → IsFull old.count old.map → WalksTooFar env finished old (visits (visit site (item_of items h (kind_content item))) ∷ [])
 far_item env finished site items h item old on here full =
     far_here site (item_of items h (kind_content item)) old (ap (λ (g : Head). is_enabled g.attributes) (head_same items h (kind_content item)) ∙ on) here full
 
 -- an item of a tree that is disabled
 module _ (site : Site) (tree : Tree) (n : ℕ) (h : Head) (item : ModItemKind) (condition : Cfg)
-    (is : visits_at tree site (n ∷ []) ≡ visit site (item_of (all_items tree.items) h (kind_content item)) ∷ []) (off : h.attributes.disabled ≡ Some condition) where
+    (is : visits_at tree site (n ∷ []) ≡ visits (visit site (item_of (all_items tree.items) h (kind_content item))) ∷ []) (off : h.attributes.disabled ≡ Some condition) where
   abbrev i : KeptItem
   i = item_of (all_items tree.items) h (kind_content item)
 
@@ -299,34 +333,34 @@ module _ (site : Site) (tree : Tree) (n : ℕ) (h : Head) (item : ModItemKind) (
   pub dropped_at : (env : Environment) (finished : Maps) (old new : Core) → Drops (IsUnconfigured (module_id old.map site.home) (node_of site.tree (kind_of item) h.id) condition old.options) old new
       → Walks env finished old new (visits_at tree site (n ∷ []))
   dropped_at env finished old new drops =
-      subst (λ (vs : List Visit). Walks env finished old new vs) (sym is)
+      subst (λ (vs : List Task). Walks env finished old new vs) (sym is)
       (dropped site i condition old new off_there (record { report = drops.report; is_such = reported_there old drops.report drops.is_such; is = drops.is }))
 
   pub far_at : (env : Environment) (finished : Maps) (old : Core) (d : DefDiagnostic) → IsUnconfigured (module_id old.map site.home) (node_of site.tree (kind_of item) h.id) condition old.options d
       → IsFull old.count old.map → WalksTooFar env finished old (visits_at tree site (n ∷ []))
   far_at env finished old d r full =
-      subst (λ (vs : List Visit). WalksTooFar env finished old vs) (sym is) (far_off site i condition d old off_there (reported_there old d r) full)
+      subst (λ (vs : List Task). WalksTooFar env finished old vs) (sym is) (far_off site i condition d old off_there (reported_there old d r) full)
 
 -- ---- the start
 
 disabled_visits : (site : Site) (tree : Tree) → is_enabled tree.attributes ≡ false → tree_visits site tree ≡ []
 disabled_visits site tree e = rw e refl
 
-enabled_visits : (site : Site) (tree : Tree) → is_enabled tree.attributes ≡ true → tree_visits site tree ≡ visits site tree.items
+enabled_visits : (site : Site) (tree : Tree) → is_enabled tree.attributes ≡ true → tree_visits site tree ≡ visits_over site tree.items
 enabled_visits site tree e = rw e refl
 
 module _ (env : Environment) (finished : Maps) (site : Site) (tree : Tree) (old : Core) where
   -- of a tree that is disabled at its top nothing is visited
   pub walks_disabled : is_enabled tree.attributes ≡ false → Steps env finished (joined old (tree_visits site tree)) (at_rest old)
-  walks_disabled disabled = subst (λ (vs : List Visit). Steps env finished (joined old vs) (at_rest old)) (sym (disabled_visits site tree disabled)) none
+  walks_disabled disabled = subst (λ (vs : List Task). Steps env finished (joined old vs) (at_rest old)) (sym (disabled_visits site tree disabled)) none
 
   -- of another its items are
   module _ (ids : List ModItemId) (enabled : is_enabled tree.attributes ≡ true) (all : items_at (all_items tree.items) (numbers_of ids) ≡ tree.items) where
     present_visits : visits_at tree site (numbers_of ids) ++ [] ≡ tree_visits site tree
-    present_visits = append-nil (visits_at tree site (numbers_of ids)) ∙ ap (visits site) all ∙ sym (enabled_visits site tree enabled)
+    present_visits = append-nil (visits_at tree site (numbers_of ids)) ∙ ap (visits_over site) all ∙ sym (enabled_visits site tree enabled)
 
     pub walks_present : (new : Core) → Walks env finished old new (visits_at tree site (numbers_of ids)) → Steps env finished (joined old (tree_visits site tree)) (at_rest new)
-    walks_present new walks = subst (λ (vs : List Visit). Steps env finished (joined old vs) (at_rest new)) present_visits (walks.steps [])
+    walks_present new walks = subst (λ (vs : List Task). Steps env finished (joined old vs) (at_rest new)) present_visits (walks.steps [])
 
     pub spent_present : WalksTooFar env finished old (visits_at tree site (numbers_of ids)) → IsSpent env finished (joined old (tree_visits site tree))
-    spent_present far = subst (λ (vs : List Visit). IsSpent env finished (joined old vs)) present_visits (far.spent [])
+    spent_present far = subst (λ (vs : List Task). IsSpent env finished (joined old vs)) present_visits (far.spent [])

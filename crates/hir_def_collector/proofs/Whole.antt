@@ -6,6 +6,7 @@ use Rattle.std.proofs.Common.{ap, refl, subst, sym, ◌∙◌, arith}
 use Rattle.std.specs.Prelude.{nat_eq}
 use Rattle.std.specs.Str.{bytes_eq}
 use Rattle.std.specs.Cmp.Lexicographic.{pointwise}
+use Rattle.hir_base.specs.declared.ast_id.AstId.{AstId}
 use Rattle.hir_base.specs.declared.ids.AdtId.TheVariants as adts
 use Rattle.hir_base.specs.declared.ids.Crate.{Crate}
 use Rattle.hir_base.specs.declared.ids.EnumId.{EnumId}
@@ -31,6 +32,9 @@ use Rattle.hir_scope.specs.declared.imports.ImportId.{ImportId}
 use Rattle.hir_scope.specs.declared.imports.ImportOrGlob.{ImportOrGlob}
 use Rattle.hir_scope.specs.declared.item_in_ns.ItemInNs.{ItemInNs}
 use Rattle.hir_scope.specs.declared.item_in_ns.ItemInNs.TheVariants as in_ns
+use Rattle.hir_textual_scope.specs.Macros.{with_macro}
+use Rattle.hir_textual_scope.specs.declared.textual_scope.TextualMacro.{TextualMacro}
+use Rattle.hir_scope.specs.Scope.{ScopeValue}
 use Rattle.hir_scope.specs.PerNs.{Item, keep_item, with_constructor}
 use Rattle.hir_scope.specs.declared.per_ns.PerNs.{PerNs}
 use Rattle.hir_scope.specs.declared.visibility.Visibility.{Visibility}
@@ -47,6 +51,7 @@ use Rattle.hir_def_map.specs.Closed.{AreThere, IsThere, PathsLeadToWhatIsThere, 
 use Rattle.hir_def_map.specs.WellFormed.{AreWellFormed, HasNoDanglingExtern, Extends, HasNoDanglingReference}
 use Rattle.hir_def_map.proofs.WellFormed.{HasNoDanglingExtern-more, IsClosed-well_formed, HasNoDanglingReference-more, none_missing}
 use Rattle.hir_def_map.specs.Declaration.{listed}
+use Rattle.hir_def_map.specs.Macros.{with_macro_def}
 use Rattle.hir_def_map.specs.References.{crate_map, is_missing, reference_to, prelude_reference, test_crate, test_of}
 use Rattle.hir_def_map.specs.Reaches.{by_import}
 use Rattle.hir_def_map.specs.Scoping.{Resolution, resolution_of}
@@ -74,7 +79,7 @@ use Rattle.hir_def_collector.specs.Workspace.{Workspace, dependencies_in, transi
 use Rattle.hir_tables.specs.Tables.{TablesValue}
 use Rattle.hir_def_collector.specs.Keys.{Environment, environment}
 use Rattle.hir_def_collector.specs.State.{State, Visit, import_state}
-use Rattle.hir_def_collector.specs.ItemIds.{enum_id, module_id, use_id}
+use Rattle.hir_def_collector.specs.ItemIds.{enum_id, extern_crate_id, macro_rules_id, module_id, use_id}
 use Rattle.hir_def_collector.specs.Items.{constructor_of, declaration_of, declared_by, declared_by_leaf, declared_module, declared_struct, declared_type, file_origin, inline_origin, own_visibility}
 use Rattle.hir_import_resolution.specs.Visibilities.{visibility_in}
 use Rattle.hir_def_collector.specs.Enums.{variants_of}
@@ -84,19 +89,21 @@ use Rattle.hir_import_resolution.specs.Names.{ScopesValue, bound_at, bound_by, b
 use Rattle.hir_import_resolution.specs.Rules.{Rule as ImportRule, May as MayImport, acts as import_acts, goes_along, takes_glob, takes_import}
 use Rattle.hir_import_resolution.specs.State.{ImportState, scopes_of}
 use Rattle.hir_def_collector.specs.Imports.{crate_import, crate_named, dependency_named, extern_by, reached_import}
-use Rattle.hir_def_collector.specs.Changes.{Change, lists, makes, gives_variants, begins_paths, reaches, changes_imports, tells, goes_on, act, on_map}
+use Rattle.hir_def_collector.specs.Changes.{Change, lists, makes, gives_variants, begins_paths, reaches, changes_imports, adds_textual, takes_textual, defines, uses_macros, tells, goes_on, act, on_map}
+use Rattle.hir_def_collector.specs.Macros.{macros_beside, macros_brought, textual_at, with_macros_used, with_used}
+use Rattle.hir_def_collector.specs.Moves.{begun}
 use Rattle.hir_def_collector.specs.Preludes.{by_prelude, extern_prelude, joins, module_by, module_named, module_of, prelude_of, prelude_path, with_dependency}
 use Rattle.hir_def_collector.specs.Reports.{leftover_diagnostics}
 use Rattle.hir_def_collector.specs.Start.{Beginning, begin_of, krate_of, origin_of, read_by, root_map, root_tree, start_data, start_of}
-use Rattle.hir_def_collector.specs.Steps.{Rule, drops_item, passes_over, declares_item, declares_enum, lists_constant, lists_impl, opens_module, opens_file, drops_file, misses_file, enters_block, reaches_imports, reaches_crate, resolves_imports, May, acts, asking, Step, Steps, none, more}
+use Rattle.hir_def_collector.specs.Steps.{Rule, drops_item, passes_over, defines_rules, defines_macro, closes_module, declares_item, declares_enum, lists_constant, lists_impl, opens_module, opens_file, drops_file, misses_file, enters_block, reaches_imports, reaches_crate, resolves_imports, May, acts, asking, Step, Steps, none, more}
 use Rattle.hir_def_collector.specs.Derivation.{CollectedValue, Ends}
 use Rattle.hir_def_collector.specs.Whole.{StandsOnWhole}
 use Rattle.hir_def_collector.proofs.Lists.{none_joined}
-use Rattle.hir_def_collector.proofs.Changes.{AllFine, perform_keeps}
+use Rattle.hir_def_collector.proofs.Changes.{AllFine, fine_macro, fine_reporting, perform_keeps}
 use Rattle.hir_def_collector.proofs.InRange.{IsInRange, import_at, in_range-Steps, next_home}
 use Rattle.hir_def_collector.proofs.Holds.{in_range-start}
 use Rattle.hir_def_collector.proofs.ImportEdits.{Edit, copy_at, copy_where, edit, edit_of, edited, follow_at, follow_where, imports_after, local_after, map_after}
-use Rattle.hir_def_collector.proofs.WholeEdits.{DefIsThere, EditIsThere, EditsWhatIsThere, names-edit}
+use Rattle.hir_def_collector.proofs.WholeEdits.{DefIsThere, EditIsThere, EditsWhatIsThere, names-edit, names-scope}
 use Rattle.hir_def_collector.proofs.WholeEnums.{Extends-enum, NamesOnly-enum, enum_there}
 
 -- ---- where it stands
@@ -233,6 +240,10 @@ BringsWhatIsThere finished s (gives_variants id variants) = Unit {0}
 BringsWhatIsThere finished s (begins_paths r) = test_import (is_missing (overlay finished s.core.map)) r ≡ false
 BringsWhatIsThere finished s (reaches rs) = list_any (test_import (is_missing (overlay finished s.core.map))) rs ≡ false
 BringsWhatIsThere finished s (changes_imports c) = EditsWhatIsThere (overlay finished s.core.map) (edit_of (import_state s) c)
+BringsWhatIsThere finished s (adds_textual home name makro) = Unit {0}
+BringsWhatIsThere finished s (takes_textual home from) = Unit {0}
+BringsWhatIsThere finished s (defines node makro) = Unit {0}
+BringsWhatIsThere finished s (uses_macros macros by) = Unit {0}
 BringsWhatIsThere finished s (tells d) = Unit {0}
 BringsWhatIsThere finished s (goes_on vs) = Unit {0}
 
@@ -249,14 +260,18 @@ with_larger finished s m same grown names f = record {
   dependencies = f.dependencies;
 }
 
--- diagnostics name nothing
-Extends-reported : (finished : Maps) (m : Map) (ds : List DefDiagnostic) → Extends (overlay finished m) (overlay finished (record m { diagnostics = ds }))
-Extends-reported finished m ds = Extends-grown finished m (record m { diagnostics = ds }) refl (λ k e. e) (λ e t. t)
+-- diagnostics name nothing, nor do macros
+abbrev beside : Map → List (AstId × MacroId) → List (List ℕ × (MacroId × Option ExternCrateId)) → List DefDiagnostic → Map
+beside m ids used ds = record m { macro_ids = ids; macro_use_prelude = used; diagnostics = ds }
 
-NamesOnly-reported : (finished : Maps) (m : Map) (ds : List DefDiagnostic) → HasNoDanglingReference (overlay finished m) m → HasNoDanglingReference (overlay finished (record m { diagnostics = ds })) (record m { diagnostics = ds })
-NamesOnly-reported finished m ds f =
-    let new : Map = record m { diagnostics = ds } in
-    HasNoDanglingReference-more (overlay finished m) (overlay finished new) (Extends-reported finished m ds) new (record {
+Extends-beside : (finished : Maps) (m : Map) (ids : List (AstId × MacroId)) (used : List (List ℕ × (MacroId × Option ExternCrateId))) (ds : List DefDiagnostic) → Extends (overlay finished m) (overlay finished (beside m ids used ds))
+Extends-beside finished m ids used ds = Extends-grown finished m (beside m ids used ds) refl (λ k e. e) (λ e t. t)
+
+NamesOnly-beside : (finished : Maps) (m : Map) (ids : List (AstId × MacroId)) (used : List (List ℕ × (MacroId × Option ExternCrateId))) (ds : List DefDiagnostic)
+    → HasNoDanglingReference (overlay finished m) m → HasNoDanglingReference (overlay finished (beside m ids used ds)) (beside m ids used ds)
+NamesOnly-beside finished m ids used ds f =
+    let new : Map = beside m ids used ds in
+    HasNoDanglingReference-more (overlay finished m) (overlay finished new) (Extends-beside finished m ids used ds) new (record {
       own_crate = f.own_crate;
       held = f.held;
       outside = f.outside;
@@ -266,6 +281,19 @@ NamesOnly-reported finished m ds f =
       prelude = f.prelude;
       dependencies = f.dependencies;
     })
+
+Extends-reported : (finished : Maps) (m : Map) (ds : List DefDiagnostic) → Extends (overlay finished m) (overlay finished (record m { diagnostics = ds }))
+Extends-reported finished m ds = Extends-beside finished m m.macro_ids m.macro_use_prelude ds
+
+NamesOnly-reported : (finished : Maps) (m : Map) (ds : List DefDiagnostic) → HasNoDanglingReference (overlay finished m) m → HasNoDanglingReference (overlay finished (record m { diagnostics = ds })) (record m { diagnostics = ds })
+NamesOnly-reported finished m ds = NamesOnly-beside finished m m.macro_ids m.macro_use_prelude ds
+
+Extends-used : (finished : Maps) (m : Map) (macros : List (List ℕ × MacroId)) (by : Option ExternCrateId) → Extends (overlay finished m) (overlay finished (with_macros_used m macros by))
+Extends-used finished m macros by = Extends-beside finished m m.macro_ids (with_used m.macro_use_prelude macros by) m.diagnostics
+
+NamesOnly-used : (finished : Maps) (m : Map) (macros : List (List ℕ × MacroId)) (by : Option ExternCrateId) → HasNoDanglingReference (overlay finished m) m
+    → HasNoDanglingReference (overlay finished (with_macros_used m macros by)) (with_macros_used m macros by)
+NamesOnly-used finished m macros by f = NamesOnly-beside finished m m.macro_ids (with_used m.macro_use_prelude macros by) m.diagnostics f
 
 -- paths may begin with a crate that is there
 extern_there : (finished : Maps) (m : Map) (local : Local) (source : ImportSource) (name : Option (List ℕ)) → HasNoDanglingExtern (overlay finished m) local
@@ -285,6 +313,13 @@ names-edited : (finished : Maps) (s : State) (o : Option (ℕ × Edit)) → Edit
 names-edited finished s None fine f = record { apart = f.apart; names = f.names; begins = f.begins; crates = f.crates; dependencies = f.dependencies }
 names-edited finished s (Some e) fine f =
     with_larger finished s _ refl (Extends-scope finished s.core.map e.0 (edit (numbered s.core.map.id e.0) e.1)) (names-edit finished s.core.map e.0 e.1 fine f.names) f
+
+-- what is in textual scope is neither a module nor an enum
+names-textual : (finished : Maps) (s : State) (home : ℕ) (change : List TextualMacro → List TextualMacro) → NamesWhatIsThere finished s
+    → NamesWhatIsThere finished (on_map s (with_scope s.core.map home (λ (x : ScopeValue). record x { legacy_macros = change x.legacy_macros })))
+names-textual finished s home change f =
+    let edit_ : ScopeValue → ScopeValue = λ x. record x { legacy_macros = change x.legacy_macros } in
+    with_larger finished s _ refl (Extends-scope finished s.core.map home edit_) (names-scope finished s.core.map home edit_ (λ x g. g) f.names) f
 
 names-act : (finished : Maps) (s : State) (c : Change) → NamesWhatIsThere finished s → BringsWhatIsThere finished s c → NamesWhatIsThere finished (act s c)
 names-act finished s (lists home d) f fine =
@@ -323,6 +358,13 @@ names-act finished s (changes_imports c) f fine =
           (subst (λ (x : Map). list_any (test_import (is_missing (overlay finished x))) s.core.reached ≡ false) (sym (map_after i c)) more.crates);
       dependencies = more.dependencies;
     }
+names-act finished s (adds_textual home name makro) f fine = names-textual finished s home (λ ms. with_macro ms name makro) f
+names-act finished s (takes_textual home from) f fine = names-textual finished s home (λ _. textual_at s.core.map from) f
+names-act finished s (defines node makro) f fine =
+    with_larger finished s _ refl (Extends-beside finished s.core.map (with_macro_def s.core.map node makro).macro_ids s.core.map.macro_use_prelude s.core.map.diagnostics)
+    (NamesOnly-beside finished s.core.map (with_macro_def s.core.map node makro).macro_ids s.core.map.macro_use_prelude s.core.map.diagnostics f.names) f
+names-act finished s (uses_macros macros by) f fine =
+    with_larger finished s _ refl (Extends-used finished s.core.map macros by) (NamesOnly-used finished s.core.map macros by f.names) f
 names-act finished s (tells d) f fine =
     with_larger finished s _ refl (Extends-reported finished s.core.map (s.core.map.diagnostics ++ d ∷ [])) (NamesOnly-reported finished s.core.map (s.core.map.diagnostics ++ d ∷ []) f.names) f
 names-act finished s (goes_on vs) f fine = record { apart = f.apart; names = f.names; begins = f.begins; crates = f.crates; dependencies = f.dependencies }
@@ -350,14 +392,15 @@ module _ (paths : PathsLeadToWhatIsThere) (finished : Maps) (whole : AreWellForm
 
     -- a module that was made, and is listed
     module_made_there : (site : Site) (head : Head) (name : List ℕ) (origin : ModuleOrigin) → site.home < count
-        → AreThere (overlay finished (with_declared (with_module here site.home name (new_module origin (own_visibility finished s.core.local here site head) (Some (module_id here site.home)))) site.home (definitions.ModuleId (new_id here))))
+        → AreThere (overlay finished (with_declared (begun here site.home name (new_module origin (own_visibility finished s.core.local here site head) (Some (module_id here site.home)))) site.home (definitions.ModuleId (new_id here))))
         (declared_module here (own_visibility finished s.core.local here site head))
     module_made_there site head name origin low =
         let vis : Visibility = own_visibility finished s.core.local here site head in
         let one : Map = with_module here site.home name (new_module origin vis (Some (module_id here site.home))) in
+        let two : Map = begun here site.home name (new_module origin vis (Some (module_id here site.home))) in
         let listing : Listing = listings.Def (definitions.ModuleId (new_id here)) in
-        none_missing (overlay finished one) (overlay finished (with_scope one site.home (listed listing))) (Extends-scope finished one site.home (listed listing)) (named.Module (new_id here))
-        (new_there finished here site.home low name origin vis)
+        none_missing (overlay finished two) (overlay finished (with_scope two site.home (listed listing))) (Extends-scope finished two site.home (listed listing)) (named.Module (new_id here))
+        (none_missing (overlay finished one) (overlay finished two) (Extends-scope finished one count _) (named.Module (new_id here)) (new_there finished here site.home low name origin vis))
 
     -- the root of its own crate is there, and of each crate on which it depends
     own_there : is_missing (overlay finished here) (named.Module (crate_root here.id.krate)) ≡ false
@@ -515,27 +558,35 @@ module _ (paths : PathsLeadToWhatIsThere) (finished : Maps) (whole : AreWellForm
 
     brings_what_is_there : (r : Rule) → May finished s r → AllFine (BringsWhatIsThere finished) (asking s r) (acts finished s r)
     brings_what_is_there (drops_item v report rest) may = (tt, (tt, tt))
-    brings_what_is_there (passes_over site head l rest) may = (tt, tt)
     brings_what_is_there (declares_item v d rest) may =
         (tt, (tt, (declares_nothing_named finished (overlay finished (with_declared here v.site.home d.def)) s.core.local here v d may.declares, tt)))
     brings_what_is_there (declares_enum site head name found rest) may = (tt, (tt, (tt, (enumeration_there site head (variants_of (enum_id here site head.id) found), tt))))
     brings_what_is_there (lists_constant site head rest) may = (tt, (tt, tt))
     brings_what_is_there (lists_impl site head of_trait rest) may = (tt, (tt, tt))
     brings_what_is_there (opens_module site head name items rest) may =
-        let low : site.home < count = next_home s inside _ rest may.next in (low, (tt, (tt, (module_made_there site head name (inline_origin site.tree head.id) low, tt))))
+        let low : site.home < count = next_home s inside _ rest may.next in (low, (tt, (tt, (tt, (module_made_there site head name (inline_origin site.tree head.id) low, tt)))))
     brings_what_is_there (opens_file site head name search file rest) may =
         let low : site.home < count = next_home s inside _ rest may.looks.here.next in
-        (low, (tt, (tt, (module_made_there site head name (file_origin site.tree head.id here.crate_data.edition file) low, tt))))
+        (low, (tt, (tt, (tt, (module_made_there site head name (file_origin site.tree head.id here.crate_data.edition file) low, tt)))))
     brings_what_is_there (drops_file site head name search report rest) may = (tt, (tt, tt))
     brings_what_is_there (misses_file site head name search report rest) may =
-        let low : site.home < count = next_home s inside _ rest may.looks.here.next in (low, (tt, (tt, (module_made_there site head name (inline_origin site.tree head.id) low, (tt, tt)))))
+        let low : site.home < count = next_home s inside _ rest may.looks.here.next in (low, (tt, (tt, (tt, (module_made_there site head name (inline_origin site.tree head.id) low, (tt, tt))))))
     brings_what_is_there (enters_block site head items rest) may = (tt, (tt, tt))
     brings_what_is_there (reaches_imports site head tree rest) may =
         (tt, (uses_name_none (is_missing (overlay finished here)) site.home (use_id here site head.id) head.visibility (imports_of tree), (tt, tt)))
     brings_what_is_there (reaches_crate site head name alias rest) may =
-        let there : test_import (is_missing (overlay finished here)) (crate_import here s.core.dependencies site head name alias) ≡ false = crate_there name in
-        let alone = neither (test_import (is_missing (overlay finished here)) (crate_import here s.core.dependencies site head name alias)) false there refl in
-        (tt, (there, (alone, (tt, tt))))
+        let r : ImportDirective = crate_import here s.core.dependencies site head name alias in
+        let there : test_import (is_missing (overlay finished here)) r ≡ false = crate_there name in
+        let macros : List (List ℕ × MacroId) = macros_brought finished here s.core.dependencies head name in
+        let by : Option ExternCrateId = Some (extern_crate_id here site head.id) in
+        let stays : test_import (is_missing (overlay finished (with_macros_used here macros by))) r ≡ false =
+        still_there (overlay finished here) (overlay finished (with_macros_used here macros by)) (Extends-used finished here macros by) (root_named (crate_of r.source)) there in
+        (tt, (there, (tt, (neither (test_import (is_missing (overlay finished (with_macros_used here macros by))) r) false stays refl, (tt, tt)))))
+    brings_what_is_there (defines_rules site head name expander helpers rest) may =
+        (tt, (tt, (tt, fine_macro (BringsWhatIsThere finished) _ _ expander (λ t. tt) head name (macro_rules_id here site head.id expander) (λ t. tt) _)))
+    brings_what_is_there (defines_macro site head name expander helpers rest) may = (tt, (tt, (tt, (tt, fine_reporting (BringsWhatIsThere finished) _ _ expander (λ t. tt) _))))
+    brings_what_is_there (closes_module parent child rest) may = (tt, (tt, tt))
+    brings_what_is_there (passes_over site head l rest) may = (tt, tt)
     brings_what_is_there (resolves_imports rule) may = imports_bring rule may
 
   names-Step : (env : Environment) (old new : State) → IsInRange old → NamesWhatIsThere finished old → Step env finished old new → NamesWhatIsThere finished new
@@ -632,10 +683,13 @@ module _ (paths : PathsLeadToWhatIsThere) (finished : Maps) (whole : AreWellForm
       HasNoDanglingExtern-more finished (overlay finished one) (Extends-overlay finished one stands.apart) local (begins_there finished crate_data start whole [] refl (dependencies_in w krate) stands.direct) in
       let prelude = prelude_of finished one local in
       let two : Map = with_prelude one prelude in
+      let macros : List (List ℕ × MacroId) = macros_beside finished one.id.krate prelude in
+      let two_there : HasNoDanglingExtern (overlay finished two) local =
+      HasNoDanglingExtern-more (overlay finished one) (overlay finished two) (Extends-grown finished one two refl (λ k e. e) (λ e t. t)) local local_there in
       record {
         apart = stands.apart;
-        names = HasNoDanglingReference-prelude finished one prelude (prelude_there one local stands.apart names local_there) names;
-        begins = HasNoDanglingExtern-more (overlay finished one) (overlay finished two) (Extends-grown finished one two refl (λ k e. e) (λ e t. t)) local local_there;
+        names = NamesOnly-used finished two macros None (HasNoDanglingReference-prelude finished one prelude (prelude_there one local stands.apart names local_there) names);
+        begins = HasNoDanglingExtern-more (overlay finished two) (overlay finished (with_macros_used two macros None)) (Extends-used finished two macros None) local two_there;
         crates = refl;
         dependencies = stands.direct;
       }

@@ -1,18 +1,14 @@
 -- Changes of imports leave a map that names only what is there.
-use Rattle.std.specs.Prelude.{◌≡◌, ◌||◌, ℕ, ◌<◌, List, [], ◌∷◌, length, map as list_map, Bool, true, false, Option, None, Some, option_map, slice_get}
+use Rattle.std.specs.Prelude.{◌≡◌, ◌||◌, ℕ, ◌<◌, List, Bool, false, Option, None, Some, option_map, slice_get}
 use Rattle.std.specs.List.{list_any}
 use Rattle.std.proofs.Common.{ap, refl, subst, sym, ◌∙◌}
 use Rattle.hir_base.specs.declared.ids.ModuleDefId.{ModuleDefId}
-use Rattle.hir_base.specs.declared.ids.TraitId.{TraitId}
 use Rattle.hir_scope.specs.PerNs.{Item}
 use Rattle.hir_scope.specs.Bindings.{with_item_definition, with_item_visibility}
 use Rattle.hir_scope.specs.Scope.{ScopeValue}
-use Rattle.hir_scope.specs.declared.imports.ImportId.{ImportId}
 use Rattle.hir_scope.specs.declared.imports.ImportOrExternCrate.{ImportOrExternCrate}
-use Rattle.hir_scope.specs.declared.imports.ImportOrGlob.{ImportOrGlob}
 use Rattle.hir_scope.specs.declared.item_in_ns.ItemInNs.{ItemInNs}
 use Rattle.hir_scope.specs.declared.item_in_ns.ItemInNs.TheVariants as in_ns
-use Rattle.hir_scope.specs.declared.per_ns.PerNs.{PerNs}
 use Rattle.hir_scope.specs.declared.visibility.Visibility.{Visibility}
 use Rattle.hir_def_map.proofs.Grown.{kept, length-changed}
 use Rattle.hir_def_map.proofs.NoneOf.{neither, none_changed, not_first, not_second}
@@ -28,7 +24,7 @@ use Rattle.hir_glob_imports.specs.declared.edge.Key.{Key}
 use Rattle.hir_glob_imports.specs.declared.edge.Key.TheVariants.{Types, Values, Macros, Unnamed}
 use Rattle.hir_import_resolution.specs.Names.{redefined, revised}
 use Rattle.hir_def_collector.proofs.Entries.{none_rewritten}
-use Rattle.hir_def_collector.proofs.ImportEdits.{Edit, edit, edited, keeps_unnamed, pushes_to, redefines, revises}
+use Rattle.hir_def_collector.proofs.ImportEdits.{Edit, edit, keeps_unnamed, pushes_to, redefines, revises}
 
 -- ---- what an edit brings is there
 
@@ -82,7 +78,7 @@ module _ (maps : Maps) where
 
 module _ (finished : Maps) (map : Map) (at : ℕ) where
   -- a change of the names of one module, after which they are of what is there
-  names-scope : (change : ScopeValue → ScopeValue) → ((scope : ScopeValue) → none_missing_in (overlay finished map) scope → none_missing_in (overlay finished map) (change scope))
+  pub names-scope : (change : ScopeValue → ScopeValue) → ((scope : ScopeValue) → none_missing_in (overlay finished map) scope → none_missing_in (overlay finished map) (change scope))
       → HasNoDanglingReference (overlay finished map) map → HasNoDanglingReference (overlay finished (with_scope map at change)) (with_scope map at change)
   names-scope change keeps f =
       let new : Map = with_scope map at change in

@@ -12,7 +12,7 @@ use Rattle.hir_item_tree.specs.KeptForest.{Head, leaf, outline_module}
 use Rattle.hir_mod_dir.specs.ModuleFiles.{candidates_of}
 use Rattle.hir_mod_dir.specs.declared.candidate.Candidate.{Candidate}
 use Rattle.hir_tables.specs.SourcePlaces.{file}
-use Rattle.hir_tables.specs.Tables.{TablesValue, file_at}
+use Rattle.hir_tables.specs.Tables.{TablesValue}
 use Rattle.hir_def_map.specs.Overlay.{Maps}
 use Rattle.hir_def_map.specs.State.{ModuleValue, module_at}
 use Rattle.hir_def_collector.specs.declared.collector.site.Site.{Site}
@@ -21,7 +21,7 @@ use Rattle.hir_def_collector.specs.declared.source_database.Key.TheVariants.{Tre
 use Rattle.hir_def_collector.specs.Workspace.{Workspace, transitive_dependencies_in}
 use Rattle.hir_def_collector.specs.Keys.{environment, map_key}
 use Rattle.hir_def_collector.specs.ModuleFiles.{IsNumberOf, file_key, file_of_tree, named_by}
-use Rattle.hir_def_collector.specs.State.{State, Visit}
+use Rattle.hir_def_collector.specs.State.{State, Task, visits}
 use Rattle.hir_def_collector.specs.Start.{Beginning, begin_of, krate_of, read_by, root_key}
 use Rattle.hir_def_collector.specs.Steps.{Steps, path_of, visit}
 
@@ -40,8 +40,8 @@ pub record IsCandidate (tables : TablesValue) (w : Workspace) (at : State) (key 
   pub site : Site
   pub head : Head
   pub name : List ℕ
-  pub rest : List Visit
-  pub next : at.agenda ≡ visit site (leaf head (outline_module name)) ∷ rest
+  pub rest : List Task
+  pub next : at.agenda ≡ visits (visit site (leaf head (outline_module name))) ∷ rest
   pub enabled : is_enabled head.attributes ≡ true
   -- the file in which the item is written
   pub declaring : Option (List ℕ)

@@ -1,18 +1,22 @@
 -- The changes that steps are made of.
-use Rattle.std.specs.Prelude.{ℕ, List, [], ◌∷◌, Some}
+use Rattle.std.specs.Prelude.{ℕ, List, [], ◌∷◌, Option, Some}
+use Rattle.hir_base.specs.declared.ast_id.AstId.{AstId}
 use Rattle.hir_base.specs.declared.ids.EnumId.{EnumId}
+use Rattle.hir_base.specs.declared.ids.ExternCrateId.{ExternCrateId}
+use Rattle.hir_base.specs.declared.macro_kind.MacroId.{MacroId}
 use Rattle.hir_scope.specs.declared.visibility.Visibility.{Visibility}
 use Rattle.hir_def_map.specs.Declaration.{listed}
-use Rattle.hir_def_map.specs.Macros.{with_diagnostic}
+use Rattle.hir_def_map.specs.Macros.{with_diagnostic, with_macro_def}
 use Rattle.hir_def_map.specs.State.{Map, Variants, new_module, with_enum, with_module, with_scope}
 use Rattle.hir_def_map.specs.declared.nameres.declaration.Declaration.{Declaration as Listing}
 use Rattle.hir_def_map.specs.declared.nameres.diagnostics.DefDiagnostic.{DefDiagnostic}
 use Rattle.hir_def_map.specs.declared.nameres.origin.ModuleOrigin.{ModuleOrigin}
 use Rattle.hir_import_resolution.specs.declared.directive.ImportDirective.{ImportDirective}
 use Rattle.hir_import_resolution.specs.Changes.{Change as ImportChange, act as act_on_imports}
-use Rattle.hir_def_collector.specs.State.{State, Visit, import_state, with_import_state, with_imports, with_local, with_map}
+use Rattle.hir_def_collector.specs.State.{State, Task, import_state, with_import_state, with_imports, with_local, with_map}
 use Rattle.hir_def_collector.specs.ItemIds.{module_id}
 use Rattle.hir_def_collector.specs.Imports.{extern_after}
+use Rattle.hir_def_collector.specs.Macros.{textual_at, with_macros_used, with_textual_macro, with_textual_scope}
 
 -- one change
 pub data Change : Type 0 where
@@ -28,10 +32,18 @@ pub data Change : Type 0 where
   reaches : List ImportDirective → Change
   -- a declaration, an import or a glob binds names, or it's noted what an import was taken for
   changes_imports : ImportChange → Change
+  -- a macro is defined, which comes last among those of its name in textual scope in a module
+  adds_textual : (home : ℕ) → (name : List ℕ) → MacroId → Change
+  -- a module takes over the macros that are in textual scope in another
+  takes_textual : (home from : ℕ) → Change
+  -- an item defines a macro
+  defines : AstId → MacroId → Change
+  -- macros come into the macro-use prelude, brought by an `extern crate`, if by one
+  uses_macros : List (List ℕ × MacroId) → Option ExternCrateId → Change
   -- this is reported
   tells : DefDiagnostic → Change
-  -- these are visited next, and then nothing
-  goes_on : List Visit → Change
+  -- these are done next, and then nothing
+  goes_on : List Task → Change
 
 -- the state with another map
 abbrev pub on_map : State → Map → State
@@ -45,8 +57,12 @@ act s (gives_variants id variants) = on_map s (with_enum s.core.map id variants)
 act s (begins_paths r) = record s { core = with_local s.core (extern_after s.core.map s.core.local r) }
 act s (reaches rs) = record s { core = with_imports s.core rs }
 act s (changes_imports c) = with_import_state s (act_on_imports (import_state s) c)
+act s (adds_textual home name makro) = on_map s (with_textual_macro s.core.map home name makro)
+act s (takes_textual home from) = on_map s (with_textual_scope s.core.map home (textual_at s.core.map from))
+act s (defines node makro) = on_map s (with_macro_def s.core.map node makro)
+act s (uses_macros macros by) = on_map s (with_macros_used s.core.map macros by)
 act s (tells d) = on_map s (with_diagnostic s.core.map d)
-act s (goes_on visits) = record s { agenda = visits }
+act s (goes_on tasks) = record s { agenda = tasks }
 
 -- changes one after another
 abbrev pub perform : State → List Change → State

@@ -11,7 +11,6 @@ use Rattle.hir_import_resolution.specs.declared.directive.ImportDirective.{Impor
 use Rattle.hir_import_resolution.specs.Directives.{AreAmong, TakenValue, glob_of, is_untaken, kept_by_kind, kind_of, name_of, namespaces_of, reached_by, target_of, way_of}
 use Rattle.hir_import_resolution.specs.Rest.{BroughtStands, IsClosed, IsSettled, IsSource}
 use Rattle.hir_def_collector.specs.declared.collector.collected.Collected.{Collected}
-use Rattle.hir_def_collector.specs.declared.collector.Start.{Start}
 use Rattle.hir_def_collector.specs.declared.collector.TheConstants.{STEP_LIMIT}
 use Rattle.hir_def_collector.specs.declared.source_database.Key.{Key}
 use Rattle.hir_def_collector.specs.Workspace.{Workspace, transitive_dependencies_in}

@@ -18,6 +18,10 @@ use Rattle.hir_base.specs.declared.ids.TraitId.{TraitId}
 use Rattle.hir_base.specs.declared.ids.TypeAliasId.{TypeAliasId}
 use Rattle.hir_base.specs.declared.ids.UnionId.{UnionId}
 use Rattle.hir_base.specs.declared.ids.UseId.{UseId}
+use Rattle.hir_base.specs.declared.macro_kind.MacroExpander.{MacroExpander}
+use Rattle.hir_base.specs.declared.macro_kind.MacroId.{MacroId}
+use Rattle.hir_base.specs.declared.macro_kind.MacroId.TheVariants as macros
+use Rattle.hir_base.specs.declared.macro_kind.MacroLoc.{MacroLoc}
 use Rattle.hir_item_tree.specs.declared.tree_id.TreeId.{TreeId}
 use Rattle.hir_def_map.specs.State.{Map, numbered}
 use Rattle.hir_def_collector.specs.declared.collector.site.Site.{Site}
@@ -76,3 +80,13 @@ use_id m s id = record { loc = record { container = module_id m s.home; file_id 
 
 abbrev pub extern_crate_id : Map → Site → SyntaxId → ExternCrateId
 extern_crate_id m s id = record { loc = record { container = module_id m s.home; file_id = s.tree.file; block = s.tree.block; id = id } }
+
+-- the macro that a `macro_rules` or a `macro` item of a site's module defines, with what expands it
+abbrev pub macro_loc : Map → Site → SyntaxId → MacroExpander → MacroLoc
+macro_loc m s id expander = record { container = module_id m s.home; file_id = s.tree.file; block = s.tree.block; id = id; expander = expander }
+
+abbrev pub macro_rules_id : Map → Site → SyntaxId → MacroExpander → MacroId
+macro_rules_id m s id expander = macros.MacroRulesId (record { loc = macro_loc m s id expander })
+
+abbrev pub macro_def_id : Map → Site → SyntaxId → MacroExpander → MacroId
+macro_def_id m s id expander = macros.Macro2Id (record { loc = macro_loc m s id expander })

@@ -86,7 +86,7 @@ struct_declaration finished local m s head name shape fields =
     let own = own_visibility finished local m s head in
     record { name = name; def = def; items = declared_struct def own (constructor_of finished m own shape fields) }
 
--- what an item that holds no others declares under its name, enums aside
+-- what an item that holds no others declares under its name, enums and macros aside
 abbrev pub declared_by_leaf : Maps → Local → Map → Site → Head → Leaf → Option Declaration
 declared_by_leaf finished local m s h (import tree) = None
 declared_by_leaf finished local m s h (extern_crate name alias) = None
@@ -112,7 +112,7 @@ declared_by_leaf finished local m s h (macro_call path) = None
 declared_by_leaf finished local m s h (macro_rules name expander helpers) = None
 declared_by_leaf finished local m s h (macro_def name expander helpers) = None
 
--- what an item of a site declares under its name, modules and enums aside
+-- what an item of a site declares under its name, modules, enums and macros aside
 abbrev pub declared_by : Maps → Local → Map → Site → KeptItem → Option Declaration
 declared_by finished local m s (leaf head l) = declared_by_leaf finished local m s head l
 declared_by finished local m s (holder head k items) = None
@@ -146,5 +146,5 @@ is_passed_over (implementation of_trait) = false
 is_passed_over (type_alias name) = false
 is_passed_over (outline_module name) = false
 is_passed_over (macro_call path) = true
-is_passed_over (macro_rules name expander helpers) = true
-is_passed_over (macro_def name expander helpers) = true
+is_passed_over (macro_rules name expander helpers) = false
+is_passed_over (macro_def name expander helpers) = false

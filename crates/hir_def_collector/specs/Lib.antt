@@ -12,6 +12,7 @@ pub mod ItemIds
 pub mod Items
 pub mod Enums
 pub mod Imports
+pub mod Macros
 -- ---- which files are those of modules, and what is reported
 pub mod ModuleFiles
 pub mod Reports

@@ -1,6 +1,5 @@
 -- What a part of a run does.
-use Rattle.std.specs.Prelude.{◌≡◌, ◌<◌, ◌≤◌, ◌+◌, ℕ, Bool, true, false, List, [], ◌∷◌, ◌++◌, Option, Some, option_map, slice_get}
-use Rattle.std.specs.List.{All}
+use Rattle.std.specs.Prelude.{◌≡◌, ◌<◌, ◌≤◌, ◌+◌, ℕ, Bool, true, false, ◌||◌, List, [], ◌∷◌, ◌++◌, length, Option, Some, option_map, slice_get}
 use Rattle.std.specs.Option.{option_to_list}
 use Rattle.hir_base.specs.Cfg.{Cfg}
 use Rattle.hir_base.specs.declared.ast_id.AstKind.TheVariants as nodes
@@ -18,7 +17,7 @@ use Rattle.hir_def_collector.specs.declared.collector.mod_collector.Inside.{Insi
 use Rattle.hir_def_collector.specs.declared.collector.mod_collector.Inside.TheVariants.{Nothing, Held, File}
 use Rattle.hir_scope.specs.declared.visibility.Visibility.{Visibility}
 use Rattle.hir_def_map.specs.Overlay.{Maps}
-use Rattle.hir_def_map.specs.State.{new_module, with_module}
+use Rattle.hir_def_map.specs.State.{Map, ModuleValue, new_module, with_module}
 use Rattle.hir_def_map.specs.declared.nameres.origin.ModuleOrigin.{ModuleOrigin}
 use Rattle.hir_def_collector.specs.declared.collector.site.Site.{Site}
 use Rattle.hir_def_map.specs.declared.nameres.AddModuleError.{AddModuleError}
@@ -40,9 +39,11 @@ use Rattle.hir_def_collector.specs.Workspace.{Workspace, seen_of}
 use Rattle.hir_def_collector.specs.ModuleFiles.{AreNumbered, IsNumberOf, IsSearch, LookedAt, ModuleFile, Tried, file_reading, file_readings, module_file, named_by}
 use Rattle.hir_def_collector.specs.ItemIds.{module_id, node_of}
 use Rattle.hir_def_collector.specs.Items.{file_origin, own_visibility}
+use Rattle.hir_def_collector.specs.Macros.{is_macro_use, textual_at, with_textual_scope}
 use Rattle.hir_def_collector.specs.Reports.{IsUnconfigured}
-use Rattle.hir_def_collector.specs.State.{Core, State, Visit, counted, joined, visits, with_map}
-use Rattle.hir_def_collector.specs.Steps.{Sees, Step, Steps, inside_file, keys_read, module_declaration, with_declaration, with_keys}
+use Rattle.hir_def_collector.specs.State.{Core, Task, Visit, visits, counted, joined, visits_over, with_map}
+use Rattle.hir_def_collector.specs.Changes.{Change, perform}
+use Rattle.hir_def_collector.specs.Steps.{Sees, Step, Steps, closing, inside_file, keys_read, module_declaration, with_declaration, with_keys}
 use Rattle.hir_def_collector.specs.Derivation.{IsSpent}
 
 -- it holds over the tables as they are, and over each that they grow to
@@ -59,17 +60,21 @@ pub record IsHeld (tables : TablesValue) (w : Workspace) (krate : Crate) (tree :
   pub at : source_of tables tree ≡ Some place
   pub is : w.tree krate place ≡ source
 
--- one step over the workspace handles the visit, and these visits come next
-pub record Handles (env : Environment) (finished : Maps) (old new : Core) (v : Visit) (inside : List Visit) : Type 0 where
-  pub step : (rest : List Visit) → Step env finished (joined old (v ∷ rest)) (joined new (inside ++ rest))
+-- one step over the workspace handles the visit, and these tasks come next
+pub record Handles (env : Environment) (finished : Maps) (old new : Core) (v : Visit) (inside : List Task) : Type 0 where
+  pub step : (rest : List Task) → Step env finished (joined old (visits v ∷ rest)) (joined new (inside ++ rest))
 
--- steps handle the visits, one after another
-pub record Walks (env : Environment) (finished : Maps) (old new : Core) (vs : List Visit) : Type 0 where
-  pub steps : (rest : List Visit) → Steps env finished (joined old (vs ++ rest)) (joined new rest)
+-- these changes are made, whatever is still to be done
+pub record Makes (changes : List Change) (old new : Core) : Type 0 where
+  pub is : (rest : List Task) → joined new rest ≡ perform (joined old rest) changes
 
--- steps that handle the visits lead to as many as are counted
-pub record WalksTooFar (env : Environment) (finished : Maps) (old : Core) (vs : List Visit) : Type 0 where
-  pub spent : (rest : List Visit) → IsSpent env finished (joined old (vs ++ rest))
+-- steps do what is to be done, one task after another
+pub record Walks (env : Environment) (finished : Maps) (old new : Core) (tasks : List Task) : Type 0 where
+  pub steps : (rest : List Task) → Steps env finished (joined old (tasks ++ rest)) (joined new rest)
+
+-- steps through the tasks lead to as many as are counted
+pub record WalksTooFar (env : Environment) (finished : Maps) (old : Core) (tasks : List Task) : Type 0 where
+  pub spent : (rest : List Task) → IsSpent env finished (joined old (tasks ++ rest))
 
 -- why a run is given up where a file can't get a number
 abbrev pub refusal_of_number : LocationsError → CollectError
@@ -115,11 +120,11 @@ found_view f = record { id = f.id; is_mod_rs = f.is_mod_rs; dir = f.dir; tree = 
 abbrev pub looked_view : LookedFile → LookedAt
 looked_view f = record { id = f.id; there = seen_of f.source.value }
 
--- the items that an item holds, or those of its file, to be visited next
-abbrev pub visits_of : List KeptItem → Inside → List Visit
-visits_of items Nothing = []
-visits_of items (Held site ids) = visits site (items_at items (numbers_of ids.now))
-visits_of items (File site source) = visits site source.value.tree.items
+-- the items that an item of a module holds, or those of its file, to be visited next; behind them the module is closed that they are in, where it is marked
+abbrev pub tasks_of : ℕ → List KeptItem → Inside → List Task
+tasks_of home items Nothing = []
+tasks_of home items (Held site ids marked) = visits_over site (items_at items (numbers_of ids.now)) ++ closing marked home site.home
+tasks_of home items (File site source marked) = visits_over site source.value.tree.items ++ closing marked home site.home
 
 -- the items that an item holds are written in a module that is there, in the same tree, not less deep
 pub record IsWithin (count : ℕ) (site inner : Site) : Type 0 where
@@ -137,14 +142,18 @@ pub record IsOfFile (tables : TablesValue) (w : Workspace) (krate : Crate) (coun
 -- so are those that come next behind an item that holds these
 abbrev pub GoesInside : TablesValue → Workspace → Crate → ℕ → Site → List ℕ → Inside → Type 0
 GoesInside tables w krate count site numbers Nothing = Unit {0}
-GoesInside tables w krate count site numbers (Held inner ids) = IsWithin count site inner × (numbers_of ids.now ≡ numbers)
-GoesInside tables w krate count site numbers (File inner source) = IsOfFile tables w krate count site inner source.value
+GoesInside tables w krate count site numbers (Held inner ids marked) = IsWithin count site inner × (numbers_of ids.now ≡ numbers)
+GoesInside tables w krate count site numbers (File inner source marked) = IsOfFile tables w krate count site inner source.value
+
+-- the map with one more module, which begins with the macros in textual scope in the one around it
+abbrev pub begun : Map → ℕ → List ℕ → ModuleValue → Map
+begun m home name new = let made : Map = with_module m home name new in with_textual_scope made (length m.modules) (textual_at made home)
 
 -- a run once a module is made, listed and bound
 abbrev pub opened : Maps → Core → Site → Head → List ℕ → ModuleOrigin → Core
 opened finished c site head name origin =
     let vis : Visibility = own_visibility finished c.local c.map site head in
-    counted (with_map c (with_declaration (with_module c.map site.home name (new_module origin vis (Some (module_id c.map site.home)))) site.home (module_declaration c.map name vis)))
+    counted (with_map c (with_declaration (begun c.map site.home name (new_module origin vis (Some (module_id c.map site.home)))) site.home (module_declaration c.map name vis)))
 
 -- a diagnostic like this is added, and a step is counted
 pub record Drops (P : DefDiagnostic → Type 0) (old new : Core) : Type 0 where
@@ -164,9 +173,10 @@ pub record OpensFile (finished : Maps) (site : Site) (head : Head) (name : List 
 
 abbrev pub TakesFile : Maps → Site → Head → List ℕ → ModuleFile → SourceTreeValue → Core → Core → Inside → Type 0
 TakesFile finished site head name file source old new Nothing = DropsFile site head file old new
-TakesFile finished site head name file source old new (Held inner ids) = ⊥
-TakesFile finished site head name file source old new (File inner held) =
+TakesFile finished site head name file source old new (Held inner ids marked) = ⊥
+TakesFile finished site head name file source old new (File inner held marked) =
     OpensFile finished site head name file old new × (inner ≡ inside_file old.map file) × (held.value ≡ source)
+    × (marked ≡ (is_macro_use head.attributes || is_macro_use file.tree.attributes))
 
 -- one of the two may be done
 pub data MayTake (site : Site) (head : Head) (file : ModuleFile) (c : Core) : Type 0 where

@@ -21,6 +21,7 @@ use Rattle.hir_def_map.specs.Scoping.Start.{crate_root}
 use Rattle.hir_def_map.specs.declared.nameres.path_resolution.ResolveMode.TheVariants as modes
 use Rattle.hir_base.specs.declared.resolve_mode.BuiltinShadowMode.TheVariants as shadow_modes
 use Rattle.hir_def_collector.specs.declared.source_database.Dependency.{Dependency}
+use Rattle.hir_def_collector.specs.Macros.{macros_beside, with_macros_used}
 
 -- ---- the crates that paths may begin with
 
@@ -80,3 +81,11 @@ prelude_of finished m local = cond m.crate_data.no_core None (module_named finis
 -- the map with it
 abbrev pub with_prelude_module : Maps → Map → Local → Map
 with_prelude_module finished m local = with_prelude m (prelude_of finished m local)
+
+-- and with the macros that come with it, which no `extern crate` brings
+abbrev pub with_prelude_macros : Maps → Map → Map
+with_prelude_macros finished m = with_macros_used m (macros_beside finished m.id.krate m.prelude) None
+
+-- the map with what its modules find
+abbrev pub with_preludes : Maps → Map → Local → Map
+with_preludes finished m local = with_prelude_macros finished (with_prelude_module finished m local)

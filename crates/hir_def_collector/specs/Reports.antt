@@ -1,5 +1,5 @@
 -- Which diagnostics does a run make?
-use Rattle.std.specs.Prelude.{◌≡◌, ℕ, Bool, false, List, [], ◌∷◌, ◌++◌, Option, None, Some, cond}
+use Rattle.std.specs.Prelude.{◌≡◌, ℕ, Bool, true, false, List, [], ◌∷◌, ◌++◌, cond}
 use Rattle.std.specs.List.{list_any}
 use Rattle.std.specs.BTreeMap.{is_at}
 use Rattle.std.specs.Cmp.Lexicographic.{slice_cmp}
@@ -14,6 +14,8 @@ use Rattle.hir_base.specs.declared.cfg.CfgAtom.{CfgAtom}
 use Rattle.hir_base.specs.declared.cfg.CfgExpr.{CfgExpr}
 use Rattle.hir_base.specs.declared.ids.MapId.{MapId}
 use Rattle.hir_base.specs.declared.ids.ModuleId.{ModuleId}
+use Rattle.hir_base.specs.declared.macro_kind.MacroExpander.{MacroExpander}
+use Rattle.hir_base.specs.declared.macro_kind.MacroExpander.TheVariants as expanders
 use Rattle.hir_base.specs.declared.mod_path.PathKind.{PathKind}
 use Rattle.hir_base.specs.declared.mod_path.PathKind.TheVariants as roots
 use Rattle.hir_def_map.specs.State.{Map, numbered}
@@ -38,6 +40,19 @@ pub record IsUnresolvedModule (at : ModuleId) (node : AstId) (candidates : List 
   pub texts : Vec (List ℕ) Global
   pub is : d ≡ record { in_module = at; kind = kinds.UnresolvedModule node texts }
   pub are : texts.items ≡ candidates
+
+-- whether nothing can expand a macro
+abbrev pub is_unimplemented : MacroExpander → Bool
+is_unimplemented (expanders.Declarative styles) = false
+is_unimplemented expanders.Builtin = false
+is_unimplemented expanders.BuiltinEager = false
+is_unimplemented expanders.BuiltinAttr = false
+is_unimplemented expanders.BuiltinDerive = false
+is_unimplemented expanders.Unimplemented = true
+
+-- nothing can expand the macro that a node in a module defines
+abbrev pub unimplemented_macro : ModuleId → AstId → DefDiagnostic
+unimplemented_macro at node = record { in_module = at; kind = kinds.UnimplementedBuiltinMacro node }
 
 -- ---- imports that are left over
 

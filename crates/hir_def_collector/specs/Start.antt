@@ -26,8 +26,8 @@ use Rattle.hir_def_collector.specs.declared.source_database.Dependency.{Dependen
 use Rattle.hir_def_collector.specs.Workspace.{ConfigValue, Workspace, dependencies_of, options_of, transitive_dependencies_in}
 use Rattle.hir_def_collector.specs.Keys.{tree_at}
 use Rattle.hir_def_collector.specs.CrateTop.{crate_data_of}
-use Rattle.hir_def_collector.specs.Preludes.{extern_prelude, with_prelude_module}
-use Rattle.hir_def_collector.specs.State.{Core, State, Visit, joined, visits}
+use Rattle.hir_def_collector.specs.Preludes.{extern_prelude, with_preludes}
+use Rattle.hir_def_collector.specs.State.{Core, State, Task, joined, visits_over}
 
 -- what a run begins with: where, the tree that it walks, and of a block the crates that paths of its crate may begin with
 pub record Beginning : Type 0 where
@@ -86,7 +86,7 @@ root_map crate_data start = empty_map (krate_of start) crate_data (new_module (o
 -- the root module, and what all modules find; its tree asked for
 abbrev pub core_by : Maps → CrateData → Local → List Dependency → List CfgAtom → Start → TreeId → Core
 core_by finished crate_data local dependencies options start id = record {
-  map = with_prelude_module finished (root_map crate_data start) local;
+  map = with_preludes finished (root_map crate_data start) local;
   local = local;
   dependencies = dependencies;
   options = options;
@@ -103,8 +103,8 @@ core_of finished tree config transitive start id =
     core_by finished crate_data (extern_prelude crate_data [] (dependencies_of config)) (dependencies_of config) (options_of config) start id
 
 -- the items of a tree that is written at a site; one that is disabled at its top declares nothing
-abbrev pub tree_visits : Site → Tree → List Visit
-tree_visits site tree = if is_enabled tree.attributes then visits site tree.items else []
+abbrev pub tree_visits : Site → Tree → List Task
+tree_visits site tree = if is_enabled tree.attributes then visits_over site tree.items else []
 
 -- the same, the items of the tree still to be visited
 abbrev pub start_by : Maps → Tree → Option ConfigValue → List Crate → Start → TreeId → State

@@ -18,7 +18,14 @@ pub record Visit : Type 0 where
   pub site : Site
   pub item : KeptItem
 
--- where a run stands, what it has still to visit aside
+-- something that is still to be done
+pub data Task : Type 0 where
+  -- an item is visited
+  visits : Visit → Task
+  -- the items of a module were visited, and its macros in textual scope become those of the module around it
+  closes : (parent child : ℕ) → Task
+
+-- where a run stands, what it has still to do aside
 pub record Core : Type 0 where
   -- the modules so far, and what each binds
   pub map : Map
@@ -53,13 +60,13 @@ no_recorded_globs = record { names = no_globs; edges = []; brought = nothing_bro
 -- where a run stands
 pub record State : Type 0 where
   pub core : Core
-  -- what is still to be visited, the next item first
-  pub agenda : List Visit
+  -- what is still to be done, the next first
+  pub agenda : List Task
   -- no glob is recorded before imports are resolved
   pub globs : RecordedGlobs
 
--- a core and what is still to be visited, where no glob was recorded
-abbrev pub joined : Core → List Visit → State
+-- a core and what is still to be done, where no glob was recorded
+abbrev pub joined : Core → List Task → State
 joined c agenda = record { core = c; agenda = agenda; globs = no_recorded_globs }
 
 -- the core with another map, with other crates that paths may begin with, with more imports, with one more step
@@ -79,14 +86,14 @@ with_asked c key = record c { asked = c.asked ++ key ∷ [] }
 abbrev pub counted : Core → Core
 counted c = record c { count = c.count + 1 }
 
--- a core with nothing to be visited
+-- a core with nothing to be done
 abbrev pub at_rest : Core → State
 at_rest c = joined c []
 
 -- the items of a forest that is written at a site, to be visited one after another
-abbrev pub visits : Site → KeptForest → List Visit
-visits site no_items = []
-visits site (item i is) = record { site = site; item = i } ∷ visits site is
+abbrev pub visits_over : Site → KeptForest → List Task
+visits_over site no_items = []
+visits_over site (item i is) = visits (record { site = site; item = i }) ∷ visits_over site is
 
 -- the state with one more step counted
 abbrev pub ticked : State → State

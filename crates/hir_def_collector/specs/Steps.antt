@@ -1,13 +1,18 @@
 -- The steps that the import rules allow: each is a rule, which reads of the workspace and makes changes.
-use Rattle.std.specs.Prelude.{◌≡◌, ℕ, Bool, true, List, [], ◌∷◌, ◌++◌, length, map as list_map, Option, Some, None}
+use Rattle.std.specs.Prelude.{◌≡◌, ℕ, Bool, ◌||◌, true, List, [], ◌∷◌, ◌++◌, length, map as list_map, Option, Some, None, cond}
 use Rattle.hir_base.specs.Cfg.{Cfg}
+use Rattle.hir_base.specs.declared.ast_id.AstId.{AstId}
 use Rattle.hir_base.specs.declared.ast_id.AstKind.TheVariants as nodes
 use Rattle.hir_base.specs.declared.ids.AdtId.TheVariants as adts
 use Rattle.hir_base.specs.declared.ids.EnumId.{EnumId}
+use Rattle.hir_base.specs.declared.ids.ExternCrateId.{ExternCrateId}
 use Rattle.hir_base.specs.declared.ids.ModuleDefId.TheVariants as definitions
+use Rattle.hir_base.specs.declared.ids.ModuleId.{ModuleId}
+use Rattle.hir_base.specs.declared.macro_kind.MacroExpander.{MacroExpander}
+use Rattle.hir_base.specs.declared.macro_kind.MacroId.{MacroId}
 use Rattle.hir_item_tree.specs.Collected.{is_enabled}
 use Rattle.hir_item_tree.specs.Kinds.{item_head, item_kind}
-use Rattle.hir_item_tree.specs.KeptForest.{Head, Leaf, KeptItem, KeptForest, leaf, import, extern_crate, enumeration, constant, implementation, outline_module, holder, extern_block, inline_module}
+use Rattle.hir_item_tree.specs.KeptForest.{Head, Leaf, KeptItem, KeptForest, leaf, import, extern_crate, enumeration, constant, implementation, outline_module, macro_rules, macro_def, holder, extern_block, inline_module}
 use Rattle.hir_item_tree.specs.UseTree.{UseTree}
 use Rattle.hir_item_tree.specs.declared.shape.ExternCrateName.{ExternCrateName}
 use Rattle.hir_use_tree.specs.declared.imports.ImportAlias.{ImportAlias}
@@ -20,7 +25,9 @@ use Rattle.hir_def_map.specs.declared.nameres.origin.ModuleOrigin.{ModuleOrigin}
 use Rattle.hir_mod_dir.specs.Directory.{Directory}
 use Rattle.hir_mod_dir.specs.ModuleFiles.{candidates_of, inline_directory}
 use Rattle.hir_mod_dir.specs.declared.candidate.Candidate.{Candidate}
+use Rattle.hir_scope.specs.PerNs.{macros_only}
 use Rattle.hir_scope.specs.declared.visibility.Visibility.{Visibility}
+use Rattle.hir_scope.specs.declared.visibility.Visibility.TheVariants as visibilities
 use Rattle.hir_tables.specs.Tables.{TablesValue}
 use Rattle.hir_def_collector.specs.declared.collector.declaration.Declaration.{Declaration}
 use Rattle.hir_import_resolution.specs.declared.directive.ImportDirective.{ImportDirective}
@@ -31,13 +38,14 @@ use Rattle.hir_def_collector.specs.declared.source_database.Key.{Key}
 use Rattle.hir_def_collector.specs.declared.source_database.Key.TheVariants as keys
 use Rattle.hir_def_collector.specs.Keys.{Environment, of_variants, look}
 use Rattle.hir_def_collector.specs.ModuleFiles.{IsNumbered, IsSearch, ModuleFile, Reading, Search, file_readings, file_tree, module_file, path_attribute, tried_in}
-use Rattle.hir_def_collector.specs.Reports.{IsUnconfigured, IsUnresolvedModule}
-use Rattle.hir_def_collector.specs.State.{Visit, State, import_state, visits, ticked}
-use Rattle.hir_def_collector.specs.ItemIds.{const_id, enum_id, impl_id, extern_block_id, extern_crate_id, module_id, node_of, use_id}
+use Rattle.hir_def_collector.specs.Reports.{IsUnconfigured, IsUnresolvedModule, is_unimplemented, unimplemented_macro}
+use Rattle.hir_def_collector.specs.State.{Visit, Task, visits, closes, State, import_state, visits_over, ticked}
+use Rattle.hir_def_collector.specs.ItemIds.{const_id, enum_id, impl_id, extern_block_id, extern_crate_id, macro_def_id, macro_rules_id, module_id, node_of, use_id}
 use Rattle.hir_def_collector.specs.Items.{declaration_of, declared_module, file_origin, inline_origin, is_passed_over, own_visibility, type_declaration, bound_in}
 use Rattle.hir_def_collector.specs.Enums.{variants_of}
 use Rattle.hir_def_collector.specs.Imports.{crate_import, imports_by}
-use Rattle.hir_def_collector.specs.Changes.{Change, lists, makes, gives_variants, begins_paths, reaches, changes_imports, tells, goes_on, perform}
+use Rattle.hir_def_collector.specs.Macros.{is_exported, is_macro_use, macro_declaration, macros_brought}
+use Rattle.hir_def_collector.specs.Changes.{Change, lists, makes, gives_variants, begins_paths, reaches, changes_imports, adds_textual, takes_textual, defines, uses_macros, tells, goes_on, perform}
 
 -- ---- what the rules are about
 
@@ -73,10 +81,18 @@ inside_block m s head = record { home = s.home; tree = s.tree; extern_block = So
 abbrev pub path_of : Head → Option (List ℕ)
 path_of head = path_attribute head.attributes.attributes
 
+-- a module marked `macro_use` is closed behind its items
+abbrev pub closing : Bool → (parent child : ℕ) → List Task
+closing marked parent child = cond marked (closes parent child ∷ []) []
+
 -- the items of the next module of a map that is written where it is declared; none where it is too deep
-abbrev pub visits_inside : Map → Site → Option Directory → KeptForest → List Visit
-visits_inside m s None items = []
-visits_inside m s (Some dir) items = visits (inside_module m s dir) items
+abbrev pub visits_inside : Map → Site → Head → Option Directory → KeptForest → List Task
+visits_inside m s head None items = []
+visits_inside m s head (Some dir) items = visits_over (inside_module m s dir) items ++ closing (is_macro_use head.attributes) s.home (length m.modules)
+
+-- and if they are those of a file, which may be marked as well
+abbrev pub visits_in_file : Map → Site → Head → ModuleFile → List Task
+visits_in_file m s head f = visits_over (inside_file m f) f.tree.items ++ closing (is_macro_use head.attributes || is_macro_use f.tree.attributes) s.home (length m.modules)
 
 -- an item that is written at a site
 abbrev pub visit : Site → KeptItem → Visit
@@ -84,72 +100,78 @@ visit site i = record { site = site; item = i }
 
 -- ---- the rules
 
--- a rule, what it is about, and what it reads; `rest` is what stays to be visited
+-- a rule, what it is about, and what it reads; `rest` is what stays to be done
 pub data Rule : Type 0 where
   -- the next item is disabled, and is dropped with all in it
-  drops_item : (v : Visit) (report : DefDiagnostic) (rest : List Visit) → Rule
-  -- the next item is of a kind of which the rules don't speak yet
-  passes_over : (site : Site) (head : Head) (l : Leaf) (rest : List Visit) → Rule
+  drops_item : (v : Visit) (report : DefDiagnostic) (rest : List Task) → Rule
   -- the next item binds its name
-  declares_item : (v : Visit) (d : Declaration) (rest : List Visit) → Rule
+  declares_item : (v : Visit) (d : Declaration) (rest : List Task) → Rule
   -- the next item is an enum, whose variants are asked for
-  declares_enum : (site : Site) (head : Head) (name : List ℕ) (found : Option (List VariantItem)) (rest : List Visit) → Rule
+  declares_enum : (site : Site) (head : Head) (name : List ℕ) (found : Option (List VariantItem)) (rest : List Task) → Rule
   -- the next item is a constant without a name
-  lists_constant : (site : Site) (head : Head) (rest : List Visit) → Rule
+  lists_constant : (site : Site) (head : Head) (rest : List Task) → Rule
   -- the next item is an impl
-  lists_impl : (site : Site) (head : Head) (of_trait : Bool) (rest : List Visit) → Rule
+  lists_impl : (site : Site) (head : Head) (of_trait : Bool) (rest : List Task) → Rule
   -- the next item is a module that is written where it is declared, and its items are visited next, unless it is too deep
-  opens_module : (site : Site) (head : Head) (name : List ℕ) (items : KeptForest) (rest : List Visit) → Rule
+  opens_module : (site : Site) (head : Head) (name : List ℕ) (items : KeptForest) (rest : List Task) → Rule
   -- the next item is a module whose items are in this file, and these are visited next
-  opens_file : (site : Site) (head : Head) (name : List ℕ) (search : Search) (file : ModuleFile) (rest : List Visit) → Rule
+  opens_file : (site : Site) (head : Head) (name : List ℕ) (search : Search) (file : ModuleFile) (rest : List Task) → Rule
   -- the next item is a module whose file is disabled at its top, and no module is made
-  drops_file : (site : Site) (head : Head) (name : List ℕ) (search : Search) (report : DefDiagnostic) (rest : List Visit) → Rule
+  drops_file : (site : Site) (head : Head) (name : List ℕ) (search : Search) (report : DefDiagnostic) (rest : List Task) → Rule
   -- the next item is a module whose file isn't found, or which is too deep, and it has no items
-  misses_file : (site : Site) (head : Head) (name : List ℕ) (search : Search) (report : DefDiagnostic) (rest : List Visit) → Rule
+  misses_file : (site : Site) (head : Head) (name : List ℕ) (search : Search) (report : DefDiagnostic) (rest : List Task) → Rule
   -- the next item is an extern block, and its items are visited next, in the same module
-  enters_block : (site : Site) (head : Head) (items : KeptForest) (rest : List Visit) → Rule
+  enters_block : (site : Site) (head : Head) (items : KeptForest) (rest : List Task) → Rule
   -- the next item is a `use`
-  reaches_imports : (site : Site) (head : Head) (tree : UseTree) (rest : List Visit) → Rule
+  reaches_imports : (site : Site) (head : Head) (tree : UseTree) (rest : List Task) → Rule
   -- the next item is an `extern crate`
-  reaches_crate : (site : Site) (head : Head) (name : ExternCrateName) (alias : Option ImportAlias) (rest : List Visit) → Rule
+  reaches_crate : (site : Site) (head : Head) (name : ExternCrateName) (alias : Option ImportAlias) (rest : List Task) → Rule
+  -- the next item is a `macro_rules`, which is in textual scope behind it
+  defines_rules : (site : Site) (head : Head) (name : List ℕ) (expander : MacroExpander) (helpers : List (List ℕ)) (rest : List Task) → Rule
+  -- the next item is a `macro`, which binds its name
+  defines_macro : (site : Site) (head : Head) (name : List ℕ) (expander : MacroExpander) (helpers : List (List ℕ)) (rest : List Task) → Rule
+  -- the items of a module marked `macro_use` were visited
+  closes_module : (parent child : ℕ) (rest : List Task) → Rule
+  -- the next item is of a kind of which the rules don't speak yet
+  passes_over : (site : Site) (head : Head) (l : Leaf) (rest : List Task) → Rule
   -- an import is taken, or a name goes along a glob
   resolves_imports : (rule : ImportRule) → Rule
 
 -- ---- when a rule may be applied
 
 -- this is the next item, and it is disabled, which is reported
-pub record IsOff (s : State) (v : Visit) (report : DefDiagnostic) (rest : List Visit) : Type 0 where
-  pub next : s.agenda ≡ v ∷ rest
+pub record IsOff (s : State) (v : Visit) (report : DefDiagnostic) (rest : List Task) : Type 0 where
+  pub next : s.agenda ≡ visits v ∷ rest
   pub condition : Cfg
   pub disabled : (item_head v.item).attributes.disabled ≡ Some condition
   pub reported : IsUnconfigured (module_id s.core.map v.site.home) (node_of v.site.tree (item_kind v.item) (item_head v.item).id) condition s.core.options report
 
 -- this is the next item, and it isn't disabled
-pub record IsNext (s : State) (v : Visit) (rest : List Visit) : Type 0 where
-  pub next : s.agenda ≡ v ∷ rest
+pub record IsNext (s : State) (v : Visit) (rest : List Task) : Type 0 where
+  pub next : s.agenda ≡ visits v ∷ rest
   pub enabled : is_enabled (item_head v.item).attributes ≡ true
 
 -- and it is passed over
-pub record IsPassed (s : State) (site : Site) (head : Head) (l : Leaf) (rest : List Visit) : Type 0 where
+pub record IsPassed (s : State) (site : Site) (head : Head) (l : Leaf) (rest : List Task) : Type 0 where
   pub here : IsNext s (visit site (leaf head l)) rest
   pub passed : is_passed_over l ≡ true
 
 -- or this is what it declares
-pub record Declares (finished : Maps) (s : State) (v : Visit) (d : Declaration) (rest : List Visit) : Type 0 where
+pub record Declares (finished : Maps) (s : State) (v : Visit) (d : Declaration) (rest : List Task) : Type 0 where
   pub here : IsNext s v rest
   pub declares : declaration_of finished s.core.local s.core.map v ≡ Some d
 
 -- or its file is looked for so
-pub record LooksFor (s : State) (site : Site) (head : Head) (name : List ℕ) (search : Search) (rest : List Visit) : Type 0 where
+pub record LooksFor (s : State) (site : Site) (head : Head) (name : List ℕ) (search : Search) (rest : List Task) : Type 0 where
   pub here : IsNext s (visit site (leaf head (outline_module name))) rest
   pub tries : IsSearch (candidates_of site.dir name (path_of head)) search
 
-pub record Opens (s : State) (site : Site) (head : Head) (name : List ℕ) (search : Search) (file : ModuleFile) (rest : List Visit) : Type 0 where
+pub record Opens (s : State) (site : Site) (head : Head) (name : List ℕ) (search : Search) (file : ModuleFile) (rest : List Task) : Type 0 where
   pub looks : LooksFor s site head name search rest
   pub found : module_file search.found ≡ Some file
   pub enabled : is_enabled file.tree.attributes ≡ true
 
-pub record Drops (s : State) (site : Site) (head : Head) (name : List ℕ) (search : Search) (report : DefDiagnostic) (rest : List Visit) : Type 0 where
+pub record Drops (s : State) (site : Site) (head : Head) (name : List ℕ) (search : Search) (report : DefDiagnostic) (rest : List Task) : Type 0 where
   pub looks : LooksFor s site head name search rest
   pub file : ModuleFile
   pub found : module_file search.found ≡ Some file
@@ -157,7 +179,7 @@ pub record Drops (s : State) (site : Site) (head : Head) (name : List ℕ) (sear
   pub disabled : file.tree.attributes.disabled ≡ Some condition
   pub reported : IsUnconfigured (module_id s.core.map site.home) (node_of site.tree nodes.Module head.id) condition s.core.options report
 
-pub record Misses (s : State) (site : Site) (head : Head) (name : List ℕ) (search : Search) (report : DefDiagnostic) (rest : List Visit) : Type 0 where
+pub record Misses (s : State) (site : Site) (head : Head) (name : List ℕ) (search : Search) (report : DefDiagnostic) (rest : List Task) : Type 0 where
   pub looks : LooksFor s site head name search rest
   pub missing : module_file search.found ≡ None
   pub reported : IsUnresolvedModule (module_id s.core.map site.home) (node_of site.tree nodes.Module head.id)
@@ -165,7 +187,6 @@ pub record Misses (s : State) (site : Site) (head : Head) (name : List ℕ) (sea
 
 abbrev pub May : Maps → State → Rule → Type 0
 May finished s (drops_item v report rest) = IsOff s v report rest
-May finished s (passes_over site head l rest) = IsPassed s site head l rest
 May finished s (declares_item v d rest) = Declares finished s v d rest
 May finished s (declares_enum site head name found rest) = IsNext s (visit site (leaf head (enumeration name))) rest
 May finished s (lists_constant site head rest) = IsNext s (visit site (leaf head (constant None))) rest
@@ -177,6 +198,10 @@ May finished s (misses_file site head name search report rest) = Misses s site h
 May finished s (enters_block site head items rest) = IsNext s (visit site (holder head extern_block items)) rest
 May finished s (reaches_imports site head tree rest) = IsNext s (visit site (leaf head (import tree))) rest
 May finished s (reaches_crate site head name alias rest) = IsNext s (visit site (leaf head (extern_crate name alias))) rest
+May finished s (defines_rules site head name expander helpers rest) = IsNext s (visit site (leaf head (macro_rules name expander helpers))) rest
+May finished s (defines_macro site head name expander helpers rest) = IsNext s (visit site (leaf head (macro_def name expander helpers))) rest
+May finished s (closes_module parent child rest) = s.agenda ≡ closes parent child ∷ rest
+May finished s (passes_over site head l rest) = IsPassed s site head l rest
 May finished s (resolves_imports rule) = MayImport finished (import_state s) rule
 
 -- ---- what it reads
@@ -187,7 +212,6 @@ search_readings m search = file_readings m.id.krate m.crate_data.edition (tried_
 
 abbrev pub reads : State → Rule → List Reading
 reads s (drops_item v report rest) = []
-reads s (passes_over site head l rest) = []
 reads s (declares_item v d rest) = []
 reads s (declares_enum site head name found rest) = record { key = keys.Variants (enum_id s.core.map site head.id); there = of_variants found } ∷ []
 reads s (lists_constant site head rest) = []
@@ -199,6 +223,10 @@ reads s (misses_file site head name search report rest) = search_readings s.core
 reads s (enters_block site head items rest) = []
 reads s (reaches_imports site head tree rest) = []
 reads s (reaches_crate site head name alias rest) = []
+reads s (defines_rules site head name expander helpers rest) = []
+reads s (defines_macro site head name expander helpers rest) = []
+reads s (closes_module parent child rest) = []
+reads s (passes_over site head l rest) = []
 reads s (resolves_imports rule) = []
 
 -- the numbers of files that a rule speaks of mean what they are taken for
@@ -207,7 +235,6 @@ Numbered tables (opens_file site head name search file rest) = IsNumbered tables
 Numbered tables (drops_file site head name search report rest) = IsNumbered tables site.tree search
 Numbered tables (misses_file site head name search report rest) = IsNumbered tables site.tree search
 Numbered tables (drops_item v report rest) = Unit {0}
-Numbered tables (passes_over site head l rest) = Unit {0}
 Numbered tables (declares_item v d rest) = Unit {0}
 Numbered tables (declares_enum site head name found rest) = Unit {0}
 Numbered tables (lists_constant site head rest) = Unit {0}
@@ -216,19 +243,30 @@ Numbered tables (opens_module site head name items rest) = Unit {0}
 Numbered tables (enters_block site head items rest) = Unit {0}
 Numbered tables (reaches_imports site head tree rest) = Unit {0}
 Numbered tables (reaches_crate site head name alias rest) = Unit {0}
+Numbered tables (defines_rules site head name expander helpers rest) = Unit {0}
+Numbered tables (defines_macro site head name expander helpers rest) = Unit {0}
+Numbered tables (closes_module parent child rest) = Unit {0}
+Numbered tables (passes_over site head l rest) = Unit {0}
 Numbered tables (resolves_imports rule) = Unit {0}
 
 -- ---- what it changes
 
--- the changes that make a module, list and bind it, where these are visited next
-abbrev pub making : Maps → State → Site → Head → List ℕ → ModuleOrigin → List Visit → List Change
+-- the changes that make a module, list and bind it, where these are done next; it begins with the macros in textual scope around it
+abbrev pub making : Maps → State → Site → Head → List ℕ → ModuleOrigin → List Task → List Change
 making finished s site head name origin next =
     let vis : Visibility = own_visibility finished s.core.local s.core.map site head in
-    makes site.home name origin vis ∷ goes_on next ∷ declaring site.home (module_declaration s.core.map name vis)
+    makes site.home name origin vis ∷ takes_textual (length s.core.map.modules) site.home ∷ goes_on next ∷ declaring site.home (module_declaration s.core.map name vis)
+
+-- the changes that bind a macro at the root of the map too, if it is exported
+abbrev pub exporting : Head → List ℕ → MacroId → List Change
+exporting head name makro = cond (is_exported head.attributes) (changes_imports (pushes 0 (Some name) (macros_only makro visibilities.Public None) None) ∷ []) []
+
+-- the changes that report a macro that a node in a module defines and nothing can expand
+abbrev pub reporting : ModuleId → AstId → MacroExpander → List Change
+reporting at node expander = cond (is_unimplemented expander) (tells (unimplemented_macro at node) ∷ []) []
 
 abbrev pub acts : Maps → State → Rule → List Change
 acts finished s (drops_item v report rest) = goes_on rest ∷ tells report ∷ []
-acts finished s (passes_over site head l rest) = goes_on rest ∷ []
 acts finished s (declares_item v d rest) = goes_on rest ∷ declaring v.site.home d
 acts finished s (declares_enum site head name found rest) =
     let id : EnumId = enum_id s.core.map site head.id in
@@ -238,20 +276,32 @@ acts finished s (lists_constant site head rest) = goes_on rest ∷ lists site.ho
 acts finished s (lists_impl site head of_trait rest) = goes_on rest ∷ lists site.home (listings.Impl (impl_id s.core.map site head.id) of_trait) ∷ []
 acts finished s (opens_module site head name items rest) =
     making finished s site head name (inline_origin site.tree head.id)
-    (visits_inside s.core.map site (inline_directory site.dir name (path_of head)) items ++ rest)
+    (visits_inside s.core.map site head (inline_directory site.dir name (path_of head)) items ++ rest)
 acts finished s (opens_file site head name search file rest) =
     making finished s site head name (file_origin site.tree head.id s.core.map.crate_data.edition file)
-    (visits (inside_file s.core.map file) file.tree.items ++ rest)
+    (visits_in_file s.core.map site head file ++ rest)
 acts finished s (drops_file site head name search report rest) = goes_on rest ∷ tells report ∷ []
 acts finished s (misses_file site head name search report rest) =
     making finished s site head name (inline_origin site.tree head.id) rest ++ tells report ∷ []
 acts finished s (enters_block site head items rest) =
-    goes_on (visits (inside_block s.core.map site head) items ++ rest) ∷ lists site.home (listings.ExternBlock (extern_block_id s.core.map site head.id)) ∷ []
+    goes_on (visits_over (inside_block s.core.map site head) items ++ rest) ∷ lists site.home (listings.ExternBlock (extern_block_id s.core.map site head.id)) ∷ []
 acts finished s (reaches_imports site head tree rest) =
     goes_on rest ∷ reaches (imports_by s.core.map site head tree) ∷ lists site.home (listings.Use (use_id s.core.map site head.id)) ∷ []
 acts finished s (reaches_crate site head name alias rest) =
     let r : ImportDirective = crate_import s.core.map s.core.dependencies site head name alias in
-    goes_on rest ∷ begins_paths r ∷ reaches (r ∷ []) ∷ lists site.home (listings.ExternCrate (extern_crate_id s.core.map site head.id)) ∷ []
+    let id : ExternCrateId = extern_crate_id s.core.map site head.id in
+    goes_on rest ∷ begins_paths r ∷ uses_macros (macros_brought finished s.core.map s.core.dependencies head name) (Some id) ∷ reaches (r ∷ []) ∷ lists site.home (listings.ExternCrate id) ∷ []
+acts finished s (defines_rules site head name expander helpers rest) =
+    let makro : MacroId = macro_rules_id s.core.map site head.id expander in
+    let node : AstId = node_of site.tree nodes.MacroRules head.id in
+    goes_on rest ∷ defines node makro ∷ adds_textual site.home name makro ∷ exporting head name makro ++ reporting (module_id s.core.map site.home) node expander
+acts finished s (defines_macro site head name expander helpers rest) =
+    let makro : MacroId = macro_def_id s.core.map site head.id expander in
+    let node : AstId = node_of site.tree nodes.MacroDef head.id in
+    goes_on rest ∷ defines node makro
+    ∷ declaring site.home (macro_declaration name makro (own_visibility finished s.core.local s.core.map site head)) ++ reporting (module_id s.core.map site.home) node expander
+acts finished s (closes_module parent child rest) = goes_on rest ∷ takes_textual parent child ∷ []
+acts finished s (passes_over site head l rest) = goes_on rest ∷ []
 acts finished s (resolves_imports rule) = list_map changes_imports (import_acts finished (import_state s) rule)
 
 -- ---- the same for all rules

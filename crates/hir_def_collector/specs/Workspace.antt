@@ -1,5 +1,5 @@
 -- What is handed in: the crates, and what each of their sources has.
-use Rattle.std.specs.Prelude.{ℕ, Bool, List, [], Option, None, Some, map, slice_get}
+use Rattle.std.specs.Prelude.{ℕ, Bool, List, [], Option, None, Some, map, option_map, slice_get}
 use Rattle.hir_base.specs.ModPath.{Path}
 use Rattle.hir_base.specs.declared.cfg.CfgAtom.{CfgAtom}
 use Rattle.hir_base.specs.declared.edition.Edition.{Edition}
@@ -12,6 +12,7 @@ use Rattle.hir_tables.specs.SourcePlaces.{ExpansionValue, SourcePlaceValue}
 use Rattle.hir_def_collector.specs.declared.source_database.Config.{Config}
 use Rattle.hir_def_collector.specs.declared.source_database.CrateRoot.{CrateRoot}
 use Rattle.hir_def_collector.specs.declared.source_database.Dependency.{Dependency}
+use Rattle.hir_def_collector.specs.declared.source_database.ExpansionLook.{ExpansionLook}
 
 -- what a crate was handed in with, its root aside
 pub record ConfigValue : Type 0 where
@@ -41,6 +42,10 @@ pub record EntryLook : Type 0 where
   pub present : Bool
   pub error : Option (List ℕ)
   pub inner : List Path
+
+-- the plain value of that
+abbrev pub entry_look : ExpansionLook → EntryLook
+entry_look e = record { present = e.present; error = option_map (λ text. text.now) e.error; inner = e.inner.now }
 
 -- the crates by number; what a source has under each crate; expansions
 pub record Workspace : Type 0 where

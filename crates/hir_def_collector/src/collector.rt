@@ -2,7 +2,8 @@
 //!
 //! A run begins with the crate's root module, and with the items of its root file on a worklist. The first item is taken off and
 //! handled by the rule of its kind: a definition is listed and bound under its name, an inline module is made and its items
-//! come next, a `use` adds its imports to those that wait.
+//! come next, a `use` adds its imports to those that wait. A `macro_rules` is in textual scope from there on, also in the
+//! modules that are made later: each begins with what is in textual scope around it, and shares it.
 //!
 //! When that worklist is empty the imports are resolved, by `hir_import_resolution`. They wait on a worklist of their own, in
 //! the order in which they were found, and each is tried once. A try resolves the path of the import and binds what it reaches;
@@ -37,11 +38,14 @@ mod enums;
 mod imports;
 mod known_name;
 mod leftovers;
+mod macro_use;
+mod macros;
 pub mod mod_collector;
 pub mod mod_resolution;
 mod preludes;
 pub mod site;
 mod sources;
+mod textual;
 
 use crate::source_database::{Config, Dependency, SourceDatabase};
 use collected::Collected;
@@ -175,8 +179,7 @@ impl From<ImportError> for CollectError {
 /// Finds what the names of a crate's modules stand for, beside the finished maps of the crates on which it depends.
 ///
 /// `tree` is the tree of the crate's root file, and `local` is of no use to a crate. A file that is looked for, found or
-/// not, gets a number in `locations`. Of the trees' items macro calls and macros are passed over. After rust-analyzer's
-/// `collect_defs`.
+/// not, gets a number in `locations`. Of the trees' items macro calls are passed over. After rust-analyzer's `collect_defs`.
 pub fn collect_defs<D: SourceDatabase>(
     alloc: Global,
     db: &mut D,

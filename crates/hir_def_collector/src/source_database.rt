@@ -1,13 +1,17 @@
 //! Where a run takes its crates and sources from.
 ghost use Rattle.std.specs.Prelude.{◌≡◌, IfOk, option_map};
-ghost use Rattle.hir_tables.specs.SourcePlaces.{source_value};
-ghost use Rattle.hir_def_collector.specs.Workspace.{Workspace, config_view, crate_in, transitive_dependencies_in};
+ghost use Rattle.hir_tables.specs.SourcePlaces.{expansion_value, source_value};
+ghost use Rattle.hir_def_collector.specs.Workspace.{Workspace, config_view, crate_in, entry_look, transitive_dependencies_in};
 
+use hir_base::ast_id::{AstId, EntryId};
 use hir_base::cfg_options::CfgOptions;
 use hir_base::edition::Edition;
 use hir_base::file_path::FilePath;
 use hir_base::ids::{Crate, EnumId, MapId};
+use hir_base::macro_kind::{ExpansionKey, MacroId};
+use hir_base::mod_path::ModPath;
 use hir_base::name::Name;
+use hir_base::text::Text;
 use hir_crate_graph::crate_set::CrateSet;
 use hir_item_tree::raw_attr::RawAttr;
 use hir_item_tree::source_tree::SourceTree;
@@ -23,6 +27,12 @@ pub enum Key {
     Tree(TreeKey),
     /// The variants of an enum.
     Variants(EnumId),
+    /// The text of a macro; of a procedural macro none is asked for.
+    Text(MacroId),
+    /// The input of the calls on a node, under a crate.
+    Input(Crate, AstId),
+    /// Whether an expansion is there, and the error beside it.
+    Expansion(EntryId),
     /// A finished map.
     Map(MapId),
 }
@@ -69,7 +79,20 @@ pub struct Config {
     pub options: CfgOptions,
 }
 
+/// What an expansion has beside its items.
+#[derive(Clone, Copy)]
+pub struct ExpansionLook<'a> {
+    pub present: bool,
+    /// Why its macro couldn't be expanded, if it couldn't.
+    pub error: Option<&'a Text>,
+    /// The paths that its macro asks to have resolved first.
+    pub inner: &'a [ModPath],
+}
+
 /// A workspace, one part at a time.
+///
+/// The variants of an enum, the text of a macro and the input of a call stand beside the tree of the source that writes
+/// them.
 pub trait SourceDatabase {
     ghost use Rattle.hir_def_collector.specs.Workspace.{Workspace, crate_in};
 
@@ -102,4 +125,8 @@ pub trait SourceDatabase {
     /// Whether a source is there.
     fn present(&self, krate: Crate, source: SourcePlace<'_>) -> bool
         ensures value { result ≡ ((workspace self.now).tree krate (source_value source.entry)).present };
+
+    /// What an expansion has beside its items; of one that is absent there is nothing.
+    fn expansion(&self, key: &ExpansionKey) -> ExpansionLook<'_>
+        ensures value { entry_look result ≡ (workspace self.now).entry (expansion_value key.now) };
 }

@@ -1,5 +1,5 @@
 -- A run's map seen from a state on the way: each module lists what it lists there, and what is still to be visited declares.
-use Rattle.std.proofs.Common.{◌≡◌, ◌∙◌, ◌<◌, ◌≤◌, ◌+◌, ℕ, List, [], ◌∷◌, ◌++◌, length, Option, Some, inl, inr, refl, sym, ap, subst, arith, append-nil, append_assoc}
+use Rattle.std.proofs.Common.{◌≡◌, ◌∙◌, ◌<◌, ◌≤◌, ◌+◌, ℕ, Bool, true, false, List, [], ◌∷◌, ◌++◌, length, Option, Some, inl, inr, refl, sym, ap, subst, arith, append-nil, append_assoc}
 use Rattle.std.proofs.lemmas.Bool.{cases_lt}
 use Rattle.hir_base.specs.declared.ids.MapId.{MapId}
 use Rattle.hir_base.specs.declared.ids.ModuleDefId.{ModuleDefId}
@@ -17,8 +17,8 @@ use Rattle.hir_def_collector.specs.Changes.{Change, makes, act, perform}
 use Rattle.hir_def_collector.specs.Derivation.{CollectedValue}
 use Rattle.hir_def_collector.specs.ItemIds.{module_id}
 use Rattle.hir_def_collector.specs.Start.{Beginning}
-use Rattle.hir_def_collector.specs.State.{State, Visit, visits}
-use Rattle.hir_def_collector.specs.Steps.{visit}
+use Rattle.hir_def_collector.specs.State.{State, Task, visits, closes, visits_over}
+use Rattle.hir_def_collector.specs.Steps.{closing, visit}
 use Rattle.hir_def_collector.specs.Workspace.{Workspace}
 use Rattle.hir_def_collector.proofs.InRange.{VisitsBelow}
 use Rattle.hir_def_collector_laws.specs.Declares.{Declares, DeclaresOne, IsModuleOf, module_alone}
@@ -29,49 +29,67 @@ use Rattle.hir_def_collector_laws.proofs.Listings.{Stays, StaysAt, Stays-perform
 module _ (tables : TablesValue) (w : Workspace) (finished : Maps) (from : Beginning) (answer : CollectedValue) where
   -- ---- what visits declare
 
-  abbrev pub AllDeclare : List Visit → Type 0
+  abbrev pub AllDeclare : List Task → Type 0
   AllDeclare [] = Unit {0}
-  AllDeclare (v ∷ vs) = ((defs : List ModuleDefId) × DeclaresOne tables w finished answer v.item v.site defs) × AllDeclare vs
+  AllDeclare (visits v ∷ ts) = ((defs : List ModuleDefId) × DeclaresOne tables w finished answer v.item v.site defs) × AllDeclare ts
+  AllDeclare (closes parent child ∷ ts) = AllDeclare ts
 
   -- in a module
-  abbrev pub gathered : ℕ → (vs : List Visit) → AllDeclare vs → List ModuleDefId
+  abbrev pub gathered : ℕ → (vs : List Task) → AllDeclare vs → List ModuleDefId
   gathered k [] p = []
-  gathered k (v ∷ vs) p = at_home v.site.home k p.0.0 ++ gathered k vs p.1
+  gathered k (visits v ∷ ts) p = at_home v.site.home k p.0.0 ++ gathered k ts p.1
+  gathered k (closes parent child ∷ ts) p = gathered k ts p
 
   -- the items of one site, all together
-  abbrev pub altogether : (s : Site) (is : KeptForest) → AllDeclare (visits s is) → List ModuleDefId
+  abbrev pub altogether : (s : Site) (is : KeptForest) → AllDeclare (visits_over s is) → List ModuleDefId
   altogether s no_items p = []
   altogether s (item i is) p = p.0.0 ++ altogether s is p.1
 
-  pub declare_altogether : (s : Site) (is : KeptForest) (p : AllDeclare (visits s is)) → Declares tables w finished answer is s (altogether s is p)
+  pub declare_altogether : (s : Site) (is : KeptForest) (p : AllDeclare (visits_over s is)) → Declares tables w finished answer is s (altogether s is p)
   declare_altogether s no_items p = refl
   declare_altogether s (item i is) p = (p.0.0, altogether s is p.1, p.0.1, declare_altogether s is p.1, refl)
 
-  pub gathered_at : (k : ℕ) (s : Site) (is : KeptForest) (p : AllDeclare (visits s is)) → gathered k (visits s is) p ≡ at_home s.home k (altogether s is p)
+  pub gathered_at : (k : ℕ) (s : Site) (is : KeptForest) (p : AllDeclare (visits_over s is)) → gathered k (visits_over s is) p ≡ at_home s.home k (altogether s is p)
   gathered_at k s no_items p = sym (at_home-nothing s.home k)
   gathered_at k s (item i is) p = ap (λ (xs : List ModuleDefId). at_home s.home k p.0.0 ++ xs) (gathered_at k s is p.1) ∙ sym (at_home-both s.home k p.0.0 (altogether s is p.1))
 
-  pub gathered_below : (k : ℕ) (vs : List Visit) (p : AllDeclare vs) → VisitsBelow k vs → gathered k vs p ≡ []
+  pub gathered_below : (k : ℕ) (vs : List Task) (p : AllDeclare vs) → VisitsBelow k vs → gathered k vs p ≡ []
   gathered_below k [] p f = refl
-  gathered_below k (v ∷ vs) p f = ap (λ (xs : List ModuleDefId). xs ++ gathered k vs p.1) (at_home-below v.site.home k p.0.0 f.0) ∙ gathered_below k vs p.1 f.1
+  gathered_below k (visits v ∷ ts) p f = ap (λ (xs : List ModuleDefId). xs ++ gathered k ts p.1) (at_home-below v.site.home k p.0.0 f.0) ∙ gathered_below k ts p.1 f.1
+  gathered_below k (closes parent child ∷ ts) p f = gathered_below k ts p f
 
-  abbrev pub earlier : (xs ys : List Visit) → AllDeclare (xs ++ ys) → AllDeclare xs
+  abbrev pub earlier : (xs ys : List Task) → AllDeclare (xs ++ ys) → AllDeclare xs
   earlier [] ys p = tt
-  earlier (x ∷ xs) ys p = (p.0, earlier xs ys p.1)
+  earlier (visits v ∷ xs) ys p = (p.0, earlier xs ys p.1)
+  earlier (closes parent child ∷ xs) ys p = earlier xs ys p
 
-  abbrev pub others : (xs ys : List Visit) → AllDeclare (xs ++ ys) → AllDeclare ys
+  abbrev pub others : (xs ys : List Task) → AllDeclare (xs ++ ys) → AllDeclare ys
   others [] ys p = p
-  others (x ∷ xs) ys p = others xs ys p.1
+  others (visits v ∷ xs) ys p = others xs ys p.1
+  others (closes parent child ∷ xs) ys p = others xs ys p
 
-  pub gathered_both : (k : ℕ) (xs ys : List Visit) (p : AllDeclare (xs ++ ys)) → gathered k (xs ++ ys) p ≡ gathered k xs (earlier xs ys p) ++ gathered k ys (others xs ys p)
+  pub gathered_both : (k : ℕ) (xs ys : List Task) (p : AllDeclare (xs ++ ys)) → gathered k (xs ++ ys) p ≡ gathered k xs (earlier xs ys p) ++ gathered k ys (others xs ys p)
   gathered_both k [] ys p = refl
-  gathered_both k (x ∷ xs) ys p =
-      ap (λ (zs : List ModuleDefId). at_home x.site.home k p.0.0 ++ zs) (gathered_both k xs ys p.1)
-      ∙ sym (append_assoc (at_home x.site.home k p.0.0) (gathered k xs (earlier xs ys p.1)) (gathered k ys (others xs ys p.1)))
+  gathered_both k (visits v ∷ xs) ys p =
+      ap (λ (zs : List ModuleDefId). at_home v.site.home k p.0.0 ++ zs) (gathered_both k xs ys p.1)
+      ∙ sym (append_assoc (at_home v.site.home k p.0.0) (gathered k xs (earlier xs ys p.1)) (gathered k ys (others xs ys p.1)))
+  gathered_both k (closes parent child ∷ xs) ys p = gathered_both k xs ys p
+
+  -- a module that is closed declares nothing
+  abbrev unclosed : (xs rest : List Task) (parent child : ℕ) → AllDeclare (xs ++ closes parent child ∷ rest) → AllDeclare (xs ++ rest)
+  unclosed [] rest parent child p = p
+  unclosed (visits v ∷ xs) rest parent child p = (p.0, unclosed xs rest parent child p.1)
+  unclosed (closes a b ∷ xs) rest parent child p = unclosed xs rest parent child p
+
+  gathered_unclosed : (k : ℕ) (xs rest : List Task) (parent child : ℕ) (p : AllDeclare (xs ++ closes parent child ∷ rest))
+      → gathered k (xs ++ closes parent child ∷ rest) p ≡ gathered k (xs ++ rest) (unclosed xs rest parent child p)
+  gathered_unclosed k [] rest parent child p = refl
+  gathered_unclosed k (visits v ∷ xs) rest parent child p = ap (λ (zs : List ModuleDefId). at_home v.site.home k p.0.0 ++ zs) (gathered_unclosed k xs rest parent child p.1)
+  gathered_unclosed k (closes a b ∷ xs) rest parent child p = gathered_unclosed k xs rest parent child p
 
   -- ---- a map on the way, and what is to be visited
 
-  pub record IsAhead (m : Map) (vs : List Visit) : Type 0 where
+  pub record IsAhead (m : Map) (vs : List Task) : Type 0 where
     pub id : m.id ≡ answer.map.id
     pub edition : m.crate_data.edition ≡ answer.map.crate_data.edition
     pub fewer : length m.modules ≤ length answer.map.modules
@@ -79,6 +97,25 @@ module _ (tables : TablesValue) (w : Workspace) (finished : Maps) (from : Beginn
     pub pending : AllDeclare vs
     pub lists : (k : ℕ) → k < length m.modules → declarations_of (module_at answer.map k) ≡ declarations_of (module_at m k) ++ gathered k vs pending
     pub modules : (k : ℕ) → length m.modules ≤ k → k < length answer.map.modules → ListsItsItems tables w finished from answer k
+
+  -- where a module is closed, nothing is ahead that isn't without it
+  ahead_closing : (m : Map) (xs rest : List Task) (parent child : ℕ) → IsAhead m (xs ++ closes parent child ∷ rest) → IsAhead m (xs ++ rest)
+  ahead_closing m xs rest parent child q = record {
+    id = q.id;
+    edition = q.edition;
+    fewer = q.fewer;
+    stays = q.stays;
+    pending = unclosed xs rest parent child q.pending;
+    lists = λ k low. q.lists k low ∙ ap (λ (zs : List ModuleDefId). declarations_of (module_at m k) ++ zs) (gathered_unclosed k xs rest parent child q.pending);
+    modules = q.modules;
+  }
+
+  pub ahead_unclosed : (m : Map) (xs rest : List Task) (marked : Bool) (parent child : ℕ) → IsAhead m ((xs ++ closing marked parent child) ++ rest) → IsAhead m (xs ++ rest)
+  ahead_unclosed m xs rest marked parent child q = go marked (subst (λ (ts : List Task). IsAhead m ts) (append_assoc xs (closing marked parent child) rest) q)
+    where
+      go : (b : Bool) → IsAhead m (xs ++ (closing b parent child ++ rest)) → IsAhead m (xs ++ rest)
+      go true f = ahead_closing m xs rest parent child f
+      go false f = f
 
   module _ (s : State) (cs : List Change) where
     abbrev before : Map
@@ -88,7 +125,7 @@ module _ (tables : TablesValue) (w : Workspace) (finished : Maps) (from : Beginn
     after = (perform s cs).core.map
 
     -- back over changes, where what they list and what comes next is what is declared before
-    pub back : {next vs : List Visit} (q : IsAhead after next) (pending : AllDeclare vs)
+    pub back : {next vs : List Task} (q : IsAhead after next) (pending : AllDeclare vs)
         → ((k : ℕ) → k < length before.modules → all_added cs k ++ gathered k next q.pending ≡ gathered k vs pending)
         → ((k : ℕ) → length before.modules ≤ k → k < length answer.map.modules → ListsItsItems tables w finished from answer k) → IsAhead before vs
     back {next = next} {vs = vs} q pending same modules =
@@ -108,15 +145,15 @@ module _ (tables : TablesValue) (w : Workspace) (finished : Maps) (from : Beginn
         }
 
     -- where no module is made
-    pub back_same : {next vs : List Visit} (q : IsAhead after next) (pending : AllDeclare vs) → all_made cs ≡ 0
+    pub back_same : {next vs : List Task} (q : IsAhead after next) (pending : AllDeclare vs) → all_made cs ≡ 0
         → ((k : ℕ) → all_added cs k ++ gathered k next q.pending ≡ gathered k vs pending) → IsAhead before vs
     back_same q pending none_made same =
         let more : length after.modules ≡ length before.modules + all_made cs = length-perform cs s in
         back q pending (λ k low. same k) (λ k past below. q.modules k (omega (arith, more, none_made, past)) below)
 
     -- an item that lists what it declares
-    pub back_one : (site : Site) (i : KeptItem) (rest : List Visit) (defs : List ModuleDefId) → DeclaresOne tables w finished answer i site defs → all_made cs ≡ 0
-        → ((k : ℕ) → all_added cs k ≡ at_home site.home k defs) → IsAhead after rest → IsAhead before (visit site i ∷ rest)
+    pub back_one : (site : Site) (i : KeptItem) (rest : List Task) (defs : List ModuleDefId) → DeclaresOne tables w finished answer i site defs → all_made cs ≡ 0
+        → ((k : ℕ) → all_added cs k ≡ at_home site.home k defs) → IsAhead after rest → IsAhead before (visits (visit site i) ∷ rest)
     back_one site i rest defs declares none_made adds q =
         back_same q ((defs, declares), q.pending) none_made (λ k. ap (λ (xs : List ModuleDefId). xs ++ gathered k rest q.pending) (adds k))
 
@@ -144,7 +181,7 @@ module _ (tables : TablesValue) (w : Workspace) (finished : Maps) (from : Beginn
     there : module_at made.core.map number ≡ Some (new_module origin vis (Some (module_id old_map home)))
     there = made_there old_map home name (new_module origin vis (Some (module_id old_map home)))
 
-    module _ {next : List Visit} (q : IsAhead new_map next) where
+    module _ {next : List Task} (q : IsAhead new_map next) where
       in_answer : number < length answer.map.modules
       in_answer = let fewer : length new_map.modules ≤ length answer.map.modules = q.fewer in omega (arith, more, fewer)
 
@@ -170,8 +207,8 @@ module _ (tables : TablesValue) (w : Workspace) (finished : Maps) (from : Beginn
           ∙ ap (λ (xs : List ModuleDefId). xs ++ gathered number next q.pending)
           (added-perform cs made number inside_made ∙ ap (λ (o : Option ModuleValue). declarations_of o ++ all_added cs number) there ∙ adds number ∙ at_home-below home number _ low)
 
-      pub back_made : (site : Site) (i : KeptItem) (rest : List Visit) → site.home ≡ home → DeclaresOne tables w finished answer i site (module_alone answer.map number) → ListsItsItems tables w finished from answer number
-          → (pending : AllDeclare rest) → ((k : ℕ) → k < number → gathered k next q.pending ≡ gathered k rest pending) → IsAhead old_map (visit site i ∷ rest)
+      pub back_made : (site : Site) (i : KeptItem) (rest : List Task) → site.home ≡ home → DeclaresOne tables w finished answer i site (module_alone answer.map number) → ListsItsItems tables w finished from answer number
+          → (pending : AllDeclare rest) → ((k : ℕ) → k < number → gathered k next q.pending ≡ gathered k rest pending) → IsAhead old_map (visits (visit site i) ∷ rest)
       back_made site i rest same declares lists pending gathers =
           back s (makes home name origin vis ∷ cs) q ((module_alone answer.map number, declares), pending)
           (λ k below.
@@ -185,21 +222,21 @@ module _ (tables : TablesValue) (w : Workspace) (finished : Maps) (from : Beginn
           ])
 
     -- where the items of one site in it come next
-    module _ (inner : Site) (items : KeptForest) (rest : List Visit) (here : inner.home ≡ number) (apart : VisitsBelow number rest) (q : IsAhead new_map (visits inner items ++ rest)) where
-      abbrev first_visits : AllDeclare (visits inner items)
-      first_visits = earlier (visits inner items) rest q.pending
+    module _ (inner : Site) (items : KeptForest) (rest : List Task) (here : inner.home ≡ number) (apart : VisitsBelow number rest) (q : IsAhead new_map (visits_over inner items ++ rest)) where
+      abbrev first_visits : AllDeclare (visits_over inner items)
+      first_visits = earlier (visits_over inner items) rest q.pending
 
       abbrev last_visits : AllDeclare rest
-      last_visits = others (visits inner items) rest q.pending
+      last_visits = others (visits_over inner items) rest q.pending
 
       abbrev inside_defs : List ModuleDefId
       inside_defs = altogether inner items first_visits
 
-      gathered_here : gathered number (visits inner items ++ rest) q.pending ≡ inside_defs
+      gathered_here : gathered number (visits_over inner items ++ rest) q.pending ≡ inside_defs
       gathered_here =
-          gathered_both number (visits inner items) rest q.pending
-          ∙ ap (λ (xs : List ModuleDefId). gathered number (visits inner items) first_visits ++ xs) (gathered_below number rest last_visits apart)
-          ∙ append-nil (gathered number (visits inner items) first_visits)
+          gathered_both number (visits_over inner items) rest q.pending
+          ∙ ap (λ (xs : List ModuleDefId). gathered number (visits_over inner items) first_visits ++ xs) (gathered_below number rest last_visits apart)
+          ∙ append-nil (gathered number (visits_over inner items) first_visits)
           ∙ gathered_at number inner items first_visits
           ∙ ap (λ (h : ℕ). at_home h number inside_defs) here
           ∙ at_home-same number inside_defs
@@ -207,8 +244,8 @@ module _ (tables : TablesValue) (w : Workspace) (finished : Maps) (from : Beginn
       pub items_listed : Declares tables w finished answer items inner (declarations_of (module_at answer.map number))
       items_listed = subst (λ (defs : List ModuleDefId). Declares tables w finished answer items inner defs) (sym (module_lists q ∙ gathered_here)) (declare_altogether inner items first_visits)
 
-      pub items_apart : (k : ℕ) → k < number → gathered k (visits inner items ++ rest) q.pending ≡ gathered k rest last_visits
+      pub items_apart : (k : ℕ) → k < number → gathered k (visits_over inner items ++ rest) q.pending ≡ gathered k rest last_visits
       items_apart k low_k =
-          gathered_both k (visits inner items) rest q.pending
+          gathered_both k (visits_over inner items) rest q.pending
           ∙ ap (λ (xs : List ModuleDefId). xs ++ gathered k rest last_visits)
           (gathered_at k inner items first_visits ∙ at_home-above inner.home k inside_defs (omega (arith, low_k, here)))

@@ -1,12 +1,15 @@
 -- Back over one step: what the next item declares is what it lists, and what the items that come next in it declare.
-use Rattle.std.proofs.Common.{◌≡◌, ◌∙◌, ◌<◌, ℕ, List, [], ◌∷◌, ◌++◌, length, Bool, true, false, Option, None, Some, map as list_map, refl, sym, ap, subst, Contains, append-nil}
+use Rattle.std.proofs.Common.{◌≡◌, ◌∙◌, ◌<◌, ◌+◌, ℕ, List, [], ◌∷◌, ◌++◌, length, ◌||◌, Bool, true, false, Option, None, Some, map as list_map, refl, sym, ap, subst, Contains, append-nil}
 use Rattle.hir_base.specs.Cfg.{Cfg}
 use Rattle.hir_base.specs.declared.edition.Edition.{Edition}
+use Rattle.hir_base.specs.declared.ast_id.AstId.{AstId}
+use Rattle.hir_base.specs.declared.ast_id.AstKind.TheVariants as nodes
 use Rattle.hir_base.specs.declared.ids.AdtId.TheVariants as adts
 use Rattle.hir_base.specs.declared.ids.Crate.{Crate}
 use Rattle.hir_base.specs.declared.ids.MapId.{MapId}
 use Rattle.hir_base.specs.declared.ids.ModuleDefId.{ModuleDefId}
 use Rattle.hir_base.specs.declared.ids.ModuleDefId.TheVariants as definitions
+use Rattle.hir_base.specs.declared.macro_kind.MacroId.{MacroId}
 use Rattle.hir_item_tree.specs.Collected.{Collected, is_enabled, is_enabled_by}
 use Rattle.hir_item_tree.specs.ItemTree.{Tree}
 use Rattle.hir_item_tree.specs.Kinds.{item_head}
@@ -26,25 +29,26 @@ use Rattle.hir_def_collector.specs.declared.collector.declaration.Declaration.{D
 use Rattle.hir_def_collector.specs.declared.collector.site.Site.{Site}
 use Rattle.hir_def_collector.specs.declared.source_database.Key.TheVariants as keys
 use Rattle.hir_def_collector.specs.Causes.{declarations_of}
-use Rattle.hir_def_collector.specs.Changes.{Change, act, changes_imports, goes_on, makes, perform, tells}
+use Rattle.hir_def_collector.specs.Changes.{Change, act, adds_textual, changes_imports, defines, goes_on, makes, perform, takes_textual, tells}
 use Rattle.hir_def_collector.specs.Derivation.{CollectedValue}
 use Rattle.hir_def_collector.specs.Items.{declaration_of, declared_by, declared_by_leaf, file_origin, inline_origin, is_passed_over, own_visibility}
-use Rattle.hir_def_collector.specs.ItemIds.{enum_id}
+use Rattle.hir_def_collector.specs.ItemIds.{enum_id, macro_def_id, macro_rules_id, module_id, node_of}
 use Rattle.hir_def_collector.specs.Keys.{environment, tree_at}
+use Rattle.hir_def_collector.specs.Macros.{is_macro_use, macro_declaration}
 use Rattle.hir_def_collector.specs.ModuleFiles.{IsNumbered, ModuleFile, Search, file_key, file_readings, file_tree, module_file, tried_in}
 use Rattle.hir_def_collector.specs.Start.{Beginning}
-use Rattle.hir_def_collector.specs.State.{State, Visit, import_state, visits}
-use Rattle.hir_def_collector.specs.Steps.{Rule, drops_item, passes_over, declares_item, declares_enum, lists_constant, lists_impl, opens_module, opens_file, drops_file, misses_file, enters_block, reaches_imports, reaches_crate, resolves_imports, Drops, LooksFor, May, Numbered, Opens, Sees, acts, after, asking, declaring, inside_block, inside_file, inside_module, keys_read, module_declaration, path_of, reads, search_readings, visit, visits_inside}
+use Rattle.hir_def_collector.specs.State.{State, Task, Visit, visits, import_state, visits_over}
+use Rattle.hir_def_collector.specs.Steps.{Rule, drops_item, passes_over, defines_rules, defines_macro, closes_module, declares_item, declares_enum, lists_constant, lists_impl, opens_module, opens_file, drops_file, misses_file, enters_block, reaches_imports, reaches_crate, resolves_imports, Drops, LooksFor, May, Numbered, Opens, Sees, acts, after, asking, declaring, inside_block, inside_file, inside_module, keys_read, module_declaration, path_of, reads, search_readings, visit, visits_in_file, visits_inside}
 use Rattle.hir_def_collector.specs.Workspace.{Workspace}
 use Rattle.hir_def_collector.proofs.InRange.{IsInRange, VisitsBelow, next_below}
 use Rattle.hir_def_collector.proofs.ModuleFiles.{found_read}
 use Rattle.hir_def_collector_laws.specs.Declares.{Declares, DeclaresOne, IsLookedFor, IfEnabled, IsModuleOf, LeafDeclares, definitions_of, disabled_file, module_alone, of_file, site_inside, without_file}
 use Rattle.hir_def_collector_laws.specs.Modules.{HasItems, inside_item, items_of, key_of, of_file as has_file, too_deep, without_file as has_none}
 use Rattle.hir_def_collector_laws.specs.Written.{IsWritten}
-use Rattle.hir_def_collector_laws.proofs.Ahead.{AllDeclare, IsAhead, altogether, back_made, back_one, back_same, declare_altogether, earlier, gathered, gathered_at, gathered_below, gathered_both, is_module, items_apart, items_listed, module_lists, others}
+use Rattle.hir_def_collector_laws.proofs.Ahead.{AllDeclare, IsAhead, ahead_unclosed, altogether, back_made, back_one, back_same, declare_altogether, earlier, gathered, gathered_at, gathered_below, gathered_both, is_module, items_apart, items_listed, module_lists, others}
 use Rattle.hir_def_collector_laws.proofs.Found.{found_seen}
 use Rattle.hir_def_collector_laws.proofs.Lists.{at_home, at_home-nothing}
-use Rattle.hir_def_collector_laws.proofs.Listings.{all_added, all_made, nothing_added, nothing_made}
+use Rattle.hir_def_collector_laws.proofs.Listings.{all_added, all_made, macro_agenda, macro_makes_none, macro_unlisted, nothing_added, nothing_made, reporting_agenda, reporting_makes_none, reporting_unlisted}
 use Rattle.hir_def_collector_laws.proofs.Written.{IsAllWritten, placed_next}
 
 -- ids don't hang on more than the map's id
@@ -64,7 +68,7 @@ same_definitions m n e s h (type_alias name) = ap (λ (x : MapId). definitions_o
 same_definitions m n e s h (outline_module name) = refl
 same_definitions m n e s h (macro_call path) = refl
 same_definitions m n e s h (macro_rules name expander helpers) = refl
-same_definitions m n e s h (macro_def name expander helpers) = refl
+same_definitions m n e s h (macro_def name expander helpers) = ap (λ (x : MapId). definitions_of (record m { id = x }) s h (macro_def name expander helpers)) e
 
 if_enabled : {P : Type 0} (defs : List ModuleDefId) (b : Bool) → b ≡ true → P → IfEnabled b P defs
 if_enabled defs true e p = p
@@ -106,7 +110,7 @@ module _ (tables : TablesValue) (w : Workspace) (finished : Maps) (from : Beginn
   passed_one site head (outline_module name) e = absurd (let no : ⊥ = cc in no)
   passed_one site head (macro_call path) e = refl
   passed_one site head (macro_rules name expander helpers) e = refl
-  passed_one site head (macro_def name expander helpers) e = refl
+  passed_one site head (macro_def name expander helpers) e = absurd (let no : ⊥ = cc in no)
 
   declared_one : (s : State) (v : Visit) (d : Declaration) → s.core.map.id ≡ answer.map.id → is_enabled (item_head v.item).attributes ≡ true
       → declaration_of finished s.core.local s.core.map v ≡ Some d → DeclaresOne tables w finished answer v.item v.site (d.def ∷ [])
@@ -147,39 +151,39 @@ module _ (tables : TablesValue) (w : Workspace) (finished : Maps) (from : Beginn
     count = length s.core.map.modules
 
     -- the next item is of a module that is there, and so is each that stays
-    below : (v : Visit) (rest : List Visit) → s.agenda ≡ v ∷ rest → (v.site.home < count) × VisitsBelow count rest
+    below : (v : Visit) (rest : List Task) → s.agenda ≡ visits v ∷ rest → (v.site.home < count) × VisitsBelow count rest
     below v rest e = next_below count s.agenda v rest inside.visits e
 
     -- it is written in its tree
-    placed : (v : Visit) (rest : List Visit) → s.agenda ≡ v ∷ rest → IsWritten tables w answer.asked (key_of answer v.site.tree) v.item
+    placed : (v : Visit) (rest : List Task) → s.agenda ≡ visits v ∷ rest → IsWritten tables w answer.asked (key_of answer v.site.tree) v.item
     placed v rest e = (placed_next tables w from answer s.agenda v rest f.visits e).0
 
-    abbrev Ahead : Map → List Visit → Type 0
+    abbrev Ahead : Map → List Task → Type 0
     Ahead new vs = IsAhead tables w finished from answer new vs
 
     abbrev MapAfter : Rule → Map
     MapAfter r = (perform (asking s r) (acts finished s r)).core.map
 
     -- a leaf that lists nothing among definitions
-    unlisted_one : (r : Rule) (site : Site) (head : Head) (l : Leaf) (rest : List Visit) → DeclaresOne tables w finished answer (leaf head l) site [] → all_made (acts finished s r) ≡ 0
-        → ((k : ℕ) → all_added (acts finished s r) k ≡ []) → Ahead (MapAfter r) rest → Ahead m (visit site (leaf head l) ∷ rest)
+    unlisted_one : (r : Rule) (site : Site) (head : Head) (l : Leaf) (rest : List Task) → DeclaresOne tables w finished answer (leaf head l) site [] → all_made (acts finished s r) ≡ 0
+        → ((k : ℕ) → all_added (acts finished s r) k ≡ []) → Ahead (MapAfter r) rest → Ahead m (visits (visit site (leaf head l)) ∷ rest)
     unlisted_one r site head l rest declares none_made nothing q =
         back_one tables w finished from answer (asking s r) (acts finished s r) site (leaf head l) rest [] declares none_made (λ k. nothing k ∙ sym (at_home-nothing site.home k)) q
 
     -- an extern block
-    block_back : (site : Site) (head : Head) (items : KeptForest) (rest : List Visit) → is_enabled head.attributes ≡ true
-        → Ahead (MapAfter (enters_block site head items rest)) (visits (inside_block m site head) items ++ rest) → Ahead m (visit site (holder head extern_block items) ∷ rest)
+    block_back : (site : Site) (head : Head) (items : KeptForest) (rest : List Task) → is_enabled head.attributes ≡ true
+        → Ahead (MapAfter (enters_block site head items rest)) (visits_over (inside_block m site head) items ++ rest) → Ahead m (visits (visit site (holder head extern_block items)) ∷ rest)
     block_back site head items rest on q =
         let r : Rule = enters_block site head items rest in
         let inner : Site = inside_block m site head in
-        let first : AllDeclare tables w finished from answer (visits inner items) = earlier tables w finished from answer (visits inner items) rest q.pending in
-        let last : AllDeclare tables w finished from answer rest = others tables w finished from answer (visits inner items) rest q.pending in
+        let first : AllDeclare tables w finished from answer (visits_over inner items) = earlier tables w finished from answer (visits_over inner items) rest q.pending in
+        let last : AllDeclare tables w finished from answer rest = others tables w finished from answer (visits_over inner items) rest q.pending in
         let defs : List ModuleDefId = altogether tables w finished from answer inner items first in
         let declares : Declares tables w finished answer items inner defs = declare_altogether tables w finished from answer inner items first in
         let in_answer : Declares tables w finished answer items (inside_block answer.map site head) defs =
         subst (λ (id : MapId). Declares tables w finished answer items (inside_block (record m { id = id }) site head) defs) f.id declares in
         back_same tables w finished from answer (asking s r) (acts finished s r) q ((defs, if_enabled defs (is_enabled head.attributes) on in_answer), last) refl
-        (λ k. gathered_both tables w finished from answer k (visits inner items) rest q.pending ∙ ap (λ (xs : List ModuleDefId). xs ++ gathered tables w finished from answer k rest last) (gathered_at tables w finished from answer k inner items first))
+        (λ k. gathered_both tables w finished from answer k (visits_over inner items) rest q.pending ∙ ap (λ (xs : List ModuleDefId). xs ++ gathered tables w finished from answer k rest last) (gathered_at tables w finished from answer k inner items first))
 
     -- ---- modules
 
@@ -189,10 +193,10 @@ module _ (tables : TablesValue) (w : Workspace) (finished : Maps) (from : Beginn
       Made = (perform (asking s r) (makes site.home name origin vis ∷ cs)).core.map
 
       -- a module without items
-      empty_back : (i : KeptItem) (rest : List Visit) → VisitsBelow count rest
+      empty_back : (i : KeptItem) (rest : List Task) → VisitsBelow count rest
           → (IsModuleOf answer.map site origin count → declarations_of (module_at answer.map count) ≡ [] → DeclaresOne tables w finished answer i site (module_alone answer.map count))
           → ((im : IsModuleOf answer.map site origin count) → HasItems tables w finished from answer im.value.origin (site_inside site count site.dir) no_items)
-          → Ahead Made rest → Ahead m (visit site i ∷ rest)
+          → Ahead Made rest → Ahead m (visits (visit site i) ∷ rest)
       empty_back i rest apart declares has q =
           let im : IsModuleOf answer.map site origin count = is_module tables w finished from answer (asking s r) site.home name origin vis cs low none_made adds q site refl in
           let nothing : declarations_of (module_at answer.map count) ≡ [] =
@@ -211,10 +215,10 @@ module _ (tables : TablesValue) (w : Workspace) (finished : Maps) (from : Beginn
           q.pending (λ k b. refl)
 
       -- a module with items
-      filled_back : (i : KeptItem) (rest : List Visit) (inner : Site) (items : KeptForest) → inner.home ≡ count → inner.extern_block ≡ None → VisitsBelow count rest
+      filled_back : (i : KeptItem) (rest : List Task) (inner : Site) (items : KeptForest) → inner.home ≡ count → inner.extern_block ≡ None → VisitsBelow count rest
           → (IsModuleOf answer.map site origin count → Declares tables w finished answer items inner (declarations_of (module_at answer.map count)) → DeclaresOne tables w finished answer i site (module_alone answer.map count))
           → ((im : IsModuleOf answer.map site origin count) → HasItems tables w finished from answer im.value.origin inner items)
-          → Ahead Made (visits inner items ++ rest) → Ahead m (visit site i ∷ rest)
+          → Ahead Made (visits_over inner items ++ rest) → Ahead m (visits (visit site i) ∷ rest)
       filled_back i rest inner items here alone apart declares has q =
           let im : IsModuleOf answer.map site origin count = is_module tables w finished from answer (asking s r) site.home name origin vis cs low none_made adds q site refl in
           let listed : Declares tables w finished answer items inner (declarations_of (module_at answer.map count)) =
@@ -230,24 +234,24 @@ module _ (tables : TablesValue) (w : Workspace) (finished : Maps) (from : Beginn
             has = has im;
             lists = subst (λ (defs : List ModuleDefId). Declares tables w finished answer items inner defs) (ap declarations_of im.there) listed;
           })
-          (others tables w finished from answer (visits inner items) rest q.pending)
+          (others tables w finished from answer (visits_over inner items) rest q.pending)
           (items_apart tables w finished from answer (asking s r) site.home name origin vis cs low none_made adds inner items rest here apart q)
 
     -- what is listed where a module is made
-    making_adds : (site : Site) (name : List ℕ) (vis : Visibility) (next : List Visit) (k : ℕ)
-        → all_added (goes_on next ∷ declaring site.home (module_declaration m name vis)) k ≡ at_home site.home k (definitions.ModuleId (new_id m) ∷ [])
+    making_adds : (site : Site) (name : List ℕ) (vis : Visibility) (next : List Task) (k : ℕ)
+        → all_added (takes_textual count site.home ∷ goes_on next ∷ declaring site.home (module_declaration m name vis)) k ≡ at_home site.home k (definitions.ModuleId (new_id m) ∷ [])
     making_adds site name vis next k = append-nil (at_home site.home k (definitions.ModuleId (new_id m) ∷ []))
 
     -- a module that is written where it is declared
-    inline_back : (site : Site) (head : Head) (name : List ℕ) (items : KeptForest) (rest : List Visit) → is_enabled head.attributes ≡ true → site.home < count → VisitsBelow count rest
+    inline_back : (site : Site) (head : Head) (name : List ℕ) (items : KeptForest) (rest : List Task) → is_enabled head.attributes ≡ true → site.home < count → VisitsBelow count rest
         → IsWritten tables w answer.asked (key_of answer site.tree) (holder head (inline_module name) items)
         → (o : Option Directory) → inline_directory site.dir name (path_of head) ≡ o
-        → Ahead (MapAfter (opens_module site head name items rest)) (visits_inside m site o items ++ rest) → Ahead m (visit site (holder head (inline_module name) items) ∷ rest)
+        → Ahead (MapAfter (opens_module site head name items rest)) (visits_inside m site head o items ++ rest) → Ahead m (visits (visit site (holder head (inline_module name) items)) ∷ rest)
     inline_back site head name items rest on low apart p None e q =
         let r : Rule = opens_module site head name items rest in
         let vis : Visibility = own_visibility finished s.core.local m site head in
-        let next : List Visit = visits_inside m site (inline_directory site.dir name (path_of head)) items ++ rest in
-        empty_back r site head name (inline_origin site.tree head.id) vis (goes_on next ∷ declaring site.home (module_declaration m name vis)) low refl (making_adds site name vis next)
+        let next : List Task = visits_inside m site head (inline_directory site.dir name (path_of head)) items ++ rest in
+        empty_back r site head name (inline_origin site.tree head.id) vis (takes_textual count site.home ∷ goes_on next ∷ declaring site.home (module_declaration m name vis)) low refl (making_adds site name vis next)
         (holder head (inline_module name) items) rest apart
         (λ im nothing. if_enabled (module_alone answer.map count) (is_enabled head.attributes) on (record {
           number = count;
@@ -260,8 +264,8 @@ module _ (tables : TablesValue) (w : Workspace) (finished : Maps) (from : Beginn
     inline_back site head name items rest on low apart p (Some dir) e q =
         let r : Rule = opens_module site head name items rest in
         let vis : Visibility = own_visibility finished s.core.local m site head in
-        let next : List Visit = visits_inside m site (inline_directory site.dir name (path_of head)) items ++ rest in
-        filled_back r site head name (inline_origin site.tree head.id) vis (goes_on next ∷ declaring site.home (module_declaration m name vis)) low refl (making_adds site name vis next)
+        let next : List Task = visits_inside m site head (inline_directory site.dir name (path_of head)) items ++ rest in
+        filled_back r site head name (inline_origin site.tree head.id) vis (takes_textual count site.home ∷ goes_on next ∷ declaring site.home (module_declaration m name vis)) low refl (making_adds site name vis next)
         (holder head (inline_module name) items) rest (inside_module m site dir) items refl refl apart
         (λ im listed. if_enabled (module_alone answer.map count) (is_enabled head.attributes) on (record {
           number = count;
@@ -272,7 +276,8 @@ module _ (tables : TablesValue) (w : Workspace) (finished : Maps) (from : Beginn
               subst (λ (d : Directory). Declares tables w finished answer items (site_inside site count d) (declarations_of (module_at answer.map count))) same listed;
           deep = λ f. absurd (let no : ⊥ = cc in no);
         }))
-        (λ im. inside_item head name items im.origin_is on p) q
+        (λ im. inside_item head name items im.origin_is on p)
+        (ahead_unclosed tables w finished from answer (MapAfter r) (visits_over (inside_module m site dir) items) rest (is_macro_use head.attributes) site.home count q)
 
     -- ---- files
 
@@ -282,7 +287,7 @@ module _ (tables : TablesValue) (w : Workspace) (finished : Maps) (from : Beginn
     same_key file edition =
         ap (λ (id : MapId). file_key id.krate m.crate_data.edition file.id) f.id ∙ ap (λ (e : Edition). file_key answer.map.id.krate e file.id) edition
 
-    module _ (edition : m.crate_data.edition ≡ answer.map.crate_data.edition) (site : Site) (head : Head) (name : List ℕ) (search : Search) (rest : List Visit) (looks : LooksFor s site head name search rest)
+    module _ (edition : m.crate_data.edition ≡ answer.map.crate_data.edition) (site : Site) (head : Head) (name : List ℕ) (search : Search) (rest : List Task) (looks : LooksFor s site head name search rest)
         (numbers : IsNumbered tables site.tree search) (sees : Sees (environment tables w) finished (search_readings m search))
         (read : (key : TreeKey) → Contains (keys_read (search_readings m search)) (keys.Tree key) → Contains answer.asked (keys.Tree key)) where
       abbrev readings_of : Crate → Edition → Type 0
@@ -307,23 +312,23 @@ module _ (tables : TablesValue) (w : Workspace) (finished : Maps) (from : Beginn
           ∙ found_seen tables w finished m.id.krate m.crate_data.edition search.absent search.found file found sees
 
       file_back : (file : ModuleFile) → Opens s site head name search file rest → site.home < count → VisitsBelow count rest
-          → Ahead (MapAfter (opens_file site head name search file rest)) (visits (inside_file m file) file.tree.items ++ rest) → Ahead m (visit site (leaf head (outline_module name)) ∷ rest)
+          → Ahead (MapAfter (opens_file site head name search file rest)) (visits_in_file m site head file ++ rest) → Ahead m (visits (visit site (leaf head (outline_module name))) ∷ rest)
       file_back file may low apart q =
           let r : Rule = opens_file site head name search file rest in
           let vis : Visibility = own_visibility finished s.core.local m site head in
-          let next : List Visit = visits (inside_file m file) file.tree.items ++ rest in
+          let next : List Task = visits_in_file m site head file ++ rest in
           let items : items_of (tree_at tables w (file_key answer.map.id.krate answer.map.crate_data.edition file.id)).tree ≡ file.tree.items =
           ap items_of (file_seen file may.found) ∙ items_enabled file.tree may.enabled in
-          filled_back r site head name (file_origin site.tree head.id m.crate_data.edition file) vis (goes_on next ∷ declaring site.home (module_declaration m name vis)) low refl (making_adds site name vis next)
+          filled_back r site head name (file_origin site.tree head.id m.crate_data.edition file) vis (takes_textual count site.home ∷ goes_on next ∷ declaring site.home (module_declaration m name vis)) low refl (making_adds site name vis next)
           (leaf head (outline_module name)) rest (inside_file m file) file.tree.items refl refl apart
           (λ im listed. leaf_one site head (outline_module name) (module_alone answer.map count) may.looks.here.enabled
           (of_file search looked_for file may.found may.enabled count (subst (λ (e : Edition). IsModuleOf answer.map site (file_origin site.tree head.id e file) count) edition im) refl))
           (λ im. subst (λ (is : KeptForest). HasItems tables w finished from answer im.value.origin (inside_file m file) is) items
           (has_file file.is_mod_rs _ site.tree file.id (im.origin_is ∙ ap (λ (e : Edition). file_origin site.tree head.id e file) edition) (ap (λ (e : Edition). file_tree e file.id) edition) (file_asked file may.found)))
-          q
+          (ahead_unclosed tables w finished from answer (MapAfter r) (visits_over (inside_file m file) file.tree.items) rest (is_macro_use head.attributes || is_macro_use file.tree.attributes) site.home count q)
 
       drop_back : (report : DefDiagnostic) → Drops s site head name search report rest → Ahead (MapAfter (drops_file site head name search report rest)) rest
-          → Ahead m (visit site (leaf head (outline_module name)) ∷ rest)
+          → Ahead m (visits (visit site (leaf head (outline_module name))) ∷ rest)
       drop_back report may q =
           unlisted_one (drops_file site head name search report rest) site head (outline_module name) rest
           (leaf_one site head (outline_module name) [] looks.here.enabled
@@ -332,11 +337,11 @@ module _ (tables : TablesValue) (w : Workspace) (finished : Maps) (from : Beginn
 
       miss_back : (report : DefDiagnostic) → module_file search.found ≡ None → site.home < count → VisitsBelow count rest
           → IsWritten tables w answer.asked (key_of answer site.tree) (leaf head (outline_module name))
-          → Ahead (MapAfter (misses_file site head name search report rest)) rest → Ahead m (visit site (leaf head (outline_module name)) ∷ rest)
+          → Ahead (MapAfter (misses_file site head name search report rest)) rest → Ahead m (visits (visit site (leaf head (outline_module name))) ∷ rest)
       miss_back report missing low apart p q =
           let r : Rule = misses_file site head name search report rest in
           let vis : Visibility = own_visibility finished s.core.local m site head in
-          empty_back r site head name (inline_origin site.tree head.id) vis (goes_on rest ∷ declaring site.home (module_declaration m name vis) ++ tells report ∷ []) low refl
+          empty_back r site head name (inline_origin site.tree head.id) vis (takes_textual count site.home ∷ goes_on rest ∷ declaring site.home (module_declaration m name vis) ++ tells report ∷ []) low refl
           (λ k. append-nil (at_home site.home k (definitions.ModuleId (new_id m) ∷ [])))
           (leaf head (outline_module name)) rest apart
           (λ im nothing. leaf_one site head (outline_module name) (module_alone answer.map count) looks.here.enabled (without_file search looked_for missing count im refl nothing))
@@ -348,8 +353,8 @@ module _ (tables : TablesValue) (w : Workspace) (finished : Maps) (from : Beginn
     same_agenda [] t = refl
     same_agenda (c ∷ cs) t = same_agenda cs (act t (changes_imports c))
 
-    at_next : {vs ws : List Visit} → vs ≡ ws → Ahead m ws → Ahead m vs
-    at_next e q = subst (λ (xs : List Visit). Ahead m xs) (sym e) q
+    at_next : {vs ws : List Task} → vs ≡ ws → Ahead m ws → Ahead m vs
+    at_next e q = subst (λ (xs : List Task). Ahead m xs) (sym e) q
 
     pub back_rule : (r : Rule) → May finished s r → Sees (environment tables w) finished (reads s r) → Numbered tables r
         → ((key : TreeKey) → Contains (keys_read (reads s r)) (keys.Tree key) → Contains answer.asked (keys.Tree key))
@@ -358,8 +363,6 @@ module _ (tables : TablesValue) (w : Workspace) (finished : Maps) (from : Beginn
         at_next may.next
         (back_one tables w finished from answer (asking s (drops_item v report rest)) (acts finished s (drops_item v report rest)) v.site v.item rest [] (off_one v.site v.item (no_map (item_head v.item).attributes may.condition may.disabled)) refl
         (λ k. sym (at_home-nothing v.site.home k)) q)
-    back_rule (passes_over site head l rest) may sees numbers read edition q =
-        at_next may.here.next (unlisted_one (passes_over site head l rest) site head l rest (leaf_one site head l [] may.here.enabled (passed_one site head l may.passed)) refl (λ k. refl) q)
     back_rule (declares_item v d rest) may sees numbers read edition q =
         at_next may.here.next
         (back_one tables w finished from answer (asking s (declares_item v d rest)) (acts finished s (declares_item v d rest)) v.site v.item rest (d.def ∷ []) (declared_one s v d f.id may.here.enabled may.declares) refl
@@ -390,8 +393,35 @@ module _ (tables : TablesValue) (w : Workspace) (finished : Maps) (from : Beginn
         at_next may.next (unlisted_one (reaches_imports site head tree rest) site head (import tree) rest (leaf_one site head (import tree) [] may.enabled refl) refl (λ k. refl) q)
     back_rule (reaches_crate site head name alias rest) may sees numbers read edition q =
         at_next may.next (unlisted_one (reaches_crate site head name alias rest) site head (extern_crate name alias) rest (leaf_one site head (extern_crate name alias) [] may.enabled refl) refl (λ k. refl) q)
+    back_rule (defines_rules site head name expander helpers rest) may sees numbers read edition q =
+        let r : Rule = defines_rules site head name expander helpers rest in
+        let makro : MacroId = macro_rules_id m site head.id expander in
+        let node : AstId = node_of site.tree nodes.MacroRules head.id in
+        let defined : State = perform (asking s r) (goes_on rest ∷ defines node makro ∷ adds_textual site.home name makro ∷ []) in
+        let now : Ahead (MapAfter r) rest = subst (λ (vs : List Task). Ahead (MapAfter r) vs) (macro_agenda defined head name makro (module_id m site.home) node expander) q in
+        at_next may.next
+        (unlisted_one r site head (macro_rules name expander helpers) rest (leaf_one site head (macro_rules name expander helpers) [] may.enabled refl)
+        (ap (λ (n : ℕ). 0 + (0 + (0 + n))) (macro_makes_none head name makro (module_id m site.home) node expander))
+        (macro_unlisted head name makro (module_id m site.home) node expander) now)
+    back_rule (defines_macro site head name expander helpers rest) may sees numbers read edition q =
+        let r : Rule = defines_macro site head name expander helpers rest in
+        let makro : MacroId = macro_def_id m site head.id expander in
+        let def : ModuleDefId = definitions.MacroId makro in
+        let node : AstId = node_of site.tree nodes.MacroDef head.id in
+        let bound : State = perform (asking s r) (goes_on rest ∷ defines node makro ∷ declaring site.home (macro_declaration name makro (own_visibility finished s.core.local m site head))) in
+        let now : Ahead (MapAfter r) rest = subst (λ (vs : List Task). Ahead (MapAfter r) vs) (reporting_agenda bound (module_id m site.home) node expander) q in
+        at_next may.next
+        (back_one tables w finished from answer (asking s r) (acts finished s r) site (leaf head (macro_def name expander helpers)) rest (def ∷ [])
+        (leaf_one site head (macro_def name expander helpers) (def ∷ []) may.enabled (same_definitions m answer.map f.id site head (macro_def name expander helpers)))
+        (ap (λ (n : ℕ). 0 + (0 + (0 + (0 + n)))) (reporting_makes_none (module_id m site.home) node expander))
+        (λ k. ap (λ (xs : List ModuleDefId). at_home site.home k (def ∷ []) ++ xs) (reporting_unlisted (module_id m site.home) node expander k) ∙ append-nil (at_home site.home k (def ∷ []))) now)
+    back_rule (closes_module parent child rest) may sees numbers read edition q =
+        let r : Rule = closes_module parent child rest in
+        at_next may (back_same tables w finished from answer (asking s r) (acts finished s r) q q.pending refl (λ k. refl))
+    back_rule (passes_over site head l rest) may sees numbers read edition q =
+        at_next may.here.next (unlisted_one (passes_over site head l rest) site head l rest (leaf_one site head l [] may.here.enabled (passed_one site head l may.passed)) refl (λ k. refl) q)
     back_rule (resolves_imports rule) may sees numbers read edition q =
         let r : Rule = resolves_imports rule in
         let cs : List ImportChange = import_acts finished (import_state s) rule in
-        let now : Ahead (MapAfter r) s.agenda = subst (λ (vs : List Visit). Ahead (MapAfter r) vs) (same_agenda cs (asking s r)) q in
+        let now : Ahead (MapAfter r) s.agenda = subst (λ (vs : List Task). Ahead (MapAfter r) vs) (same_agenda cs (asking s r)) q in
         back_same tables w finished from answer (asking s r) (acts finished s r) now now.pending (nothing_made cs) (λ k. ap (λ (xs : List ModuleDefId). xs ++ gathered tables w finished from answer k s.agenda now.pending) (nothing_added cs k))

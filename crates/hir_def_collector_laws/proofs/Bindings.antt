@@ -24,6 +24,8 @@ use Rattle.hir_scope.specs.ImportRecords.{is_glob}
 use Rattle.hir_scope.specs.Entries.{item_at}
 use Rattle.hir_scope.specs.Globs.{GlobNames, Place, has_place}
 use Rattle.hir_scope.specs.PerNs.{Item, is_nothing, value_import}
+use Rattle.hir_textual_scope.specs.Macros.{with_macro}
+use Rattle.hir_textual_scope.specs.declared.textual_scope.TextualMacro.{TextualMacro}
 use Rattle.hir_scope.specs.Scope.{ScopeValue, empty_scope}
 use Rattle.hir_scope.specs.Scope.Push.{pushed_scope, taken_candidates, with_unresolved, written_scope}
 use Rattle.hir_scope.specs.Scope.Updates.{unnamed_import}
@@ -56,16 +58,17 @@ use Rattle.hir_import_resolution.specs.State.{ImportState, glob_state, scopes_of
 use Rattle.hir_import_resolution.specs.declared.directive.ImportDirective.{ImportDirective}
 use Rattle.hir_import_resolution.specs.declared.directive.ImportSource.{ImportSource}
 use Rattle.hir_import_resolution.specs.declared.directive.ImportSource.TheVariants as sources
-use Rattle.hir_def_collector.specs.Changes.{Change, lists, makes, gives_variants, begins_paths, reaches, changes_imports, tells, goes_on, act, perform}
+use Rattle.hir_def_collector.specs.Changes.{Change, lists, makes, gives_variants, begins_paths, reaches, changes_imports, adds_textual, takes_textual, defines, uses_macros, tells, goes_on, act, perform}
 use Rattle.hir_def_collector.specs.Derivation.{CollectedValue, Ends}
 use Rattle.hir_def_collector.specs.ItemIds.{module_id}
 use Rattle.hir_def_collector.specs.Keys.{Environment, environment}
+use Rattle.hir_def_collector.specs.Macros.{textual_at}
 use Rattle.hir_def_collector.specs.Start.{Beginning, krate_of}
 use Rattle.hir_def_collector.specs.State.{State, import_state}
-use Rattle.hir_def_collector.specs.Steps.{Rule, drops_item, passes_over, declares_item, declares_enum, lists_constant, lists_impl, opens_module, opens_file, drops_file, misses_file, enters_block, reaches_imports, reaches_crate, resolves_imports, May, Step, Steps, acts, asking, more, none}
+use Rattle.hir_def_collector.specs.Steps.{Rule, drops_item, passes_over, defines_rules, defines_macro, closes_module, declares_item, declares_enum, lists_constant, lists_impl, opens_module, opens_file, drops_file, misses_file, enters_block, reaches_imports, reaches_crate, resolves_imports, May, Step, Steps, acts, asking, more, none}
 use Rattle.hir_def_collector.specs.Workspace.{Workspace}
 use Rattle.hir_def_collector.proofs.Asks.{still_asked-Step}
-use Rattle.hir_def_collector.proofs.Changes.{AllFine, perform_keeps}
+use Rattle.hir_def_collector.proofs.Changes.{AllFine, fine_macro, fine_reporting, perform_keeps}
 use Rattle.hir_def_collector.proofs.ImportEdits.{Edit, copy_at, copy_where, edit, edit_of, edited, follow_at, follow_where, imports_after, keeps_unnamed, map_after, pushes_to, redefines, revises}
 use Rattle.hir_def_collector_laws.specs.Imports.{AreBrought, BindingsAreWritten, Brings, BringsValue, HasImport, IsTraitBrought, IsUnderscoreImport, UnnamedTraitsAreWritten}
 use Rattle.hir_def_collector_laws.proofs.Entries.{AllValues, all_among, all_found, all_last, all_set, all_with_entry}
@@ -83,6 +86,10 @@ grown-act s (gives_variants id variants) r h = h
 grown-act s (begins_paths i) r h = h
 grown-act s (reaches rs) r h = Contains-append_left s.core.reached rs r h
 grown-act s (changes_imports c) r h = subst (λ (rs : List ImportDirective). Contains rs r) (sym (imports_after (import_state s) c)) h
+grown-act s (adds_textual home name makro) r h = h
+grown-act s (takes_textual home from_) r h = h
+grown-act s (defines node makro) r h = h
+grown-act s (uses_macros macros by) r h = h
 grown-act s (tells d) r h = h
 grown-act s (goes_on vs) r h = h
 
@@ -353,6 +360,10 @@ module _ (rs : List ImportDirective) where
   IsFineChange s (begins_paths r) = Unit {0}
   IsFineChange s (reaches found) = Unit {0}
   IsFineChange s (changes_imports c) = IsFineImport c
+  IsFineChange s (adds_textual home name makro) = Unit {0}
+  IsFineChange s (takes_textual home from_) = Unit {0}
+  IsFineChange s (defines node makro) = Unit {0}
+  IsFineChange s (uses_macros macros by) = Unit {0}
   IsFineChange s (tells d) = Unit {0}
   IsFineChange s (goes_on vs) = Unit {0}
 
@@ -392,6 +403,13 @@ module _ (rs : List ImportDirective) where
   pub record IsFineState (s : State) : Type 0 where
     pub modules : AreFine s.core.map.modules
 
+  -- macros in textual scope are none of these
+  textual_fine : (ms : List ModuleValue) (home : ℕ) (change : List TextualMacro → List TextualMacro) → AreFine ms
+      → AreFine (changed_at ms home (with_module_scope (λ (x : ScopeValue). record x { legacy_macros = change x.legacy_macros })))
+  textual_fine ms home change f =
+      fine_changed ms home (with_module_scope (λ (x : ScopeValue). record x { legacy_macros = change x.legacy_macros }))
+      (λ v g. record { types = g.types; values = g.values; macros = g.macros; traits = g.traits }) f
+
   fine-act : (s : State) (c : Change) → IsFineState s → IsFineChange s c → IsFineState (act s c)
   fine-act s (lists home d) f fine = record { modules = fine_changed s.core.map.modules home (with_module_scope (listed d)) (λ v g. fine_listed home d v.scope g) f.modules }
   fine-act s (makes home name origin visibility) f fine = record {
@@ -404,6 +422,10 @@ module _ (rs : List ImportDirective) where
   fine-act s (changes_imports c) f fine = record {
     modules = subst (λ (m : Map). AreFine m.modules) (sym (map_after (import_state s) c)) (edited_fine s.core.map (edit_of (import_state s) c) (fine_edits (import_state s) c fine) f.modules);
   }
+  fine-act s (adds_textual home name makro) f fine = record { modules = textual_fine s.core.map.modules home (λ macros. with_macro macros name makro) f.modules }
+  fine-act s (takes_textual home from_) f fine = record { modules = textual_fine s.core.map.modules home (λ _. textual_at s.core.map from_) f.modules }
+  fine-act s (defines node makro) f fine = record { modules = f.modules }
+  fine-act s (uses_macros macros by) f fine = record { modules = f.modules }
   fine-act s (tells d) f fine = record { modules = f.modules }
   fine-act s (goes_on vs) f fine = record { modules = f.modules }
 
@@ -460,18 +482,21 @@ module _ (rs : List ImportDirective) where
 
     fine_rule : (r : Rule) → May finished s r → AllFine IsFineChange (asking s r) (acts finished s r)
     fine_rule (drops_item v report rest) may = (tt, (tt, tt))
-    fine_rule (passes_over site head l rest) may = (tt, tt)
     fine_rule (declares_item v d rest) may = (tt, (tt, (none_fine v.site.home, tt)))
     fine_rule (declares_enum site head name variants rest) may = (tt, (tt, (tt, (none_fine site.home, tt))))
     fine_rule (lists_constant site head rest) may = (tt, (tt, tt))
     fine_rule (lists_impl site head of_trait rest) may = (tt, (tt, tt))
-    fine_rule (opens_module site head name items rest) may = (tt, (tt, (tt, (none_fine site.home, tt))))
-    fine_rule (opens_file site head name search file rest) may = (tt, (tt, (tt, (none_fine site.home, tt))))
+    fine_rule (opens_module site head name items rest) may = (tt, (tt, (tt, (tt, (none_fine site.home, tt)))))
+    fine_rule (opens_file site head name search file rest) may = (tt, (tt, (tt, (tt, (none_fine site.home, tt)))))
     fine_rule (drops_file site head name search report rest) may = (tt, (tt, tt))
-    fine_rule (misses_file site head name search report rest) may = (tt, (tt, (tt, (none_fine site.home, (tt, tt)))))
+    fine_rule (misses_file site head name search report rest) may = (tt, (tt, (tt, (tt, (none_fine site.home, (tt, tt))))))
     fine_rule (enters_block site head items rest) may = (tt, (tt, tt))
     fine_rule (reaches_imports site head tree rest) may = (tt, (tt, (tt, tt)))
-    fine_rule (reaches_crate site head name alias rest) may = (tt, (tt, (tt, (tt, tt))))
+    fine_rule (reaches_crate site head name alias rest) may = (tt, (tt, (tt, (tt, (tt, tt)))))
+    fine_rule (defines_rules site head name expander helpers rest) may = (tt, (tt, (tt, fine_macro IsFineChange _ _ expander (λ t. tt) head name _ (λ t. none_fine 0) _)))
+    fine_rule (defines_macro site head name expander helpers rest) may = (tt, (tt, (tt, (none_fine site.home, fine_reporting IsFineChange _ _ expander (λ t. tt) _))))
+    fine_rule (closes_module parent child rest) may = (tt, (tt, tt))
+    fine_rule (passes_over site head l rest) may = (tt, tt)
     fine_rule (resolves_imports rule) may = imports_all (import_acts finished (import_state s) rule) (asking s (resolves_imports rule)) (rule_all rule may)
 
 module _ (tables : TablesValue) (w : Workspace) (from : Beginning) (answer : CollectedValue) (rs : List ImportDirective) where

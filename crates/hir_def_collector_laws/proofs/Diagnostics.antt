@@ -6,7 +6,7 @@ use Rattle.hir_base.specs.declared.ast_id.AstKind.TheVariants as nodes
 use Rattle.hir_base.specs.declared.ids.Crate.{Crate}
 use Rattle.hir_base.specs.declared.ids.MapId.{MapId}
 use Rattle.hir_base.specs.declared.ids.ModuleId.{ModuleId}
-use Rattle.hir_item_tree.specs.KeptForest.{extern_crate, import, leaf, outline_module}
+use Rattle.hir_item_tree.specs.KeptForest.{extern_crate, import, leaf, macro_def, macro_rules, outline_module}
 use Rattle.hir_item_tree.specs.Kinds.{item_head, item_kind}
 use Rattle.hir_tables.specs.Tables.{TablesValue}
 use Rattle.hir_def_map.specs.Diagnostics.{diagnostic_view, node_of as node_told}
@@ -19,17 +19,17 @@ use Rattle.hir_import_resolution.specs.Rules.{acts as import_acts}
 use Rattle.hir_import_resolution.specs.declared.directive.ImportDirective.{ImportDirective}
 use Rattle.hir_import_resolution.specs.declared.directive.ImportSource.{ImportSource}
 use Rattle.hir_import_resolution.specs.declared.directive.ImportSource.TheVariants as sources
-use Rattle.hir_def_collector.specs.Changes.{Change, lists, makes, gives_variants, begins_paths, reaches, changes_imports, tells, goes_on, act}
+use Rattle.hir_def_collector.specs.Changes.{Change, lists, makes, gives_variants, begins_paths, reaches, changes_imports, adds_textual, takes_textual, defines, uses_macros, tells, goes_on, act}
 use Rattle.hir_def_collector.specs.Derivation.{CollectedValue, Ends}
 use Rattle.hir_def_collector.specs.ItemIds.{module_id, node_of}
 use Rattle.hir_def_collector.specs.Keys.{environment}
-use Rattle.hir_def_collector.specs.Reports.{begins_with, crates_among, leftover_diagnostics, report_by, reports_of, unresolved_among}
+use Rattle.hir_def_collector.specs.Reports.{begins_with, crates_among, leftover_diagnostics, report_by, reports_of, unimplemented_macro, unresolved_among}
 use Rattle.hir_def_collector.specs.Start.{Beginning, begin_of, krate_of, read_by}
-use Rattle.hir_def_collector.specs.State.{State, Visit, import_state}
-use Rattle.hir_def_collector.specs.Steps.{Rule, drops_item, passes_over, declares_item, declares_enum, lists_constant, lists_impl, opens_module, opens_file, drops_file, misses_file, enters_block, reaches_imports, reaches_crate, resolves_imports, May, Steps, acts, asking, more, none, visit}
+use Rattle.hir_def_collector.specs.State.{State, Task, Visit, visits, import_state}
+use Rattle.hir_def_collector.specs.Steps.{Rule, drops_item, passes_over, defines_rules, defines_macro, closes_module, declares_item, declares_enum, lists_constant, lists_impl, opens_module, opens_file, drops_file, misses_file, enters_block, reaches_imports, reaches_crate, resolves_imports, May, Steps, acts, asking, more, none, visit}
 use Rattle.hir_def_collector.specs.Workspace.{Workspace}
 use Rattle.hir_def_collector.proofs.Asks.{only, still_asked-Step}
-use Rattle.hir_def_collector.proofs.Changes.{AllFine, all_fine, perform_keeps}
+use Rattle.hir_def_collector.proofs.Changes.{AllFine, all_fine, fine_macro, fine_reporting, perform_keeps}
 use Rattle.hir_def_collector.proofs.Grows.{Grows-Step}
 use Rattle.hir_def_collector.proofs.Holds.{in_range-start}
 use Rattle.hir_def_collector.proofs.ImportEdits.{Edit, edit_of, edited, map_after}
@@ -73,6 +73,10 @@ module _ (tables : TablesValue) (w : Workspace) (from : Beginning) (answer : Col
   IsFine s (begins_paths r) = Unit {0}
   IsFine s (reaches found) = Unit {0}
   IsFine s (changes_imports c) = Unit {0}
+  IsFine s (adds_textual home name makro) = Unit {0}
+  IsFine s (takes_textual home from_) = Unit {0}
+  IsFine s (defines node makro) = Unit {0}
+  IsFine s (uses_macros macros by) = Unit {0}
   IsFine s (tells d) = IsTold d
   IsFine s (goes_on vs) = Unit {0}
 
@@ -89,6 +93,10 @@ module _ (tables : TablesValue) (w : Workspace) (from : Beginning) (answer : Col
   told-act s (changes_imports c) f fine = record {
     each = subst AllTold (sym (ap (λ (m : Map). m.diagnostics) (map_after (import_state s) c) ∙ same_edited s.core.map (edit_of (import_state s) c))) f.each;
   }
+  told-act s (adds_textual home name makro) f fine = record { each = f.each }
+  told-act s (takes_textual home from_) f fine = record { each = f.each }
+  told-act s (defines node makro) f fine = record { each = f.each }
+  told-act s (uses_macros macros by) f fine = record { each = f.each }
   told-act s (tells d) f fine = record { each = told_more s.core.map.diagnostics (d ∷ []) f.each (one_told d fine) }
   told-act s (goes_on vs) f fine = record { each = f.each }
 
@@ -96,7 +104,7 @@ module _ (tables : TablesValue) (w : Workspace) (from : Beginning) (answer : Col
 
   module _ (finished : Maps) (s : State) (written : IsAllWritten tables w from answer s) (in_range : IsInRange s) (fits : length s.core.map.modules ≤ length answer.map.modules) where
     -- the next item is one of which may be told
-    next_told : (v : Visit) (rest : List Visit) → s.agenda ≡ v ∷ rest → (d : DefDiagnostic) → d.in_module ≡ module_id s.core.map v.site.home
+    next_told : (v : Visit) (rest : List Task) → s.agenda ≡ visits v ∷ rest → (d : DefDiagnostic) → d.in_module ≡ module_id s.core.map v.site.home
         → node_told (diagnostic_view d).kind ≡ node_of v.site.tree (item_kind v.item) (item_head v.item).id → IsTold d
     next_told v rest next d at about =
         let home : v.site.home < length s.core.map.modules = next_home s in_range v rest next in
@@ -112,13 +120,12 @@ module _ (tables : TablesValue) (w : Workspace) (from : Beginning) (answer : Col
     fine_rule : (r : Rule) → May finished s r → AllFine IsFine (asking s r) (acts finished s r)
     fine_rule (drops_item v report rest) may =
         (tt, (next_told v rest may.next report (ap (λ (d : DefDiagnostic). d.in_module) may.reported.is) (ap (λ (d : DefDiagnostic). node_told (diagnostic_view d).kind) may.reported.is), tt))
-    fine_rule (passes_over site head l rest) may = (tt, tt)
     fine_rule (declares_item v d rest) may = (tt, (tt, (tt, tt)))
     fine_rule (declares_enum site head name found rest) may = (tt, (tt, (tt, (tt, tt))))
     fine_rule (lists_constant site head rest) may = (tt, (tt, tt))
     fine_rule (lists_impl site head of_trait rest) may = (tt, (tt, tt))
-    fine_rule (opens_module site head name items rest) may = (tt, (tt, (tt, (tt, tt))))
-    fine_rule (opens_file site head name search file rest) may = (tt, (tt, (tt, (tt, tt))))
+    fine_rule (opens_module site head name items rest) may = (tt, (tt, (tt, (tt, (tt, tt)))))
+    fine_rule (opens_file site head name search file rest) may = (tt, (tt, (tt, (tt, (tt, tt)))))
     fine_rule (drops_file site head name search report rest) may =
         let speaks : IsTold report =
         next_told (visit site (leaf head (outline_module name))) rest may.looks.here.next report (ap (λ (d : DefDiagnostic). d.in_module) may.reported.is)
@@ -128,10 +135,20 @@ module _ (tables : TablesValue) (w : Workspace) (from : Beginning) (answer : Col
         let speaks : IsTold report =
         next_told (visit site (leaf head (outline_module name))) rest may.looks.here.next report (ap (λ (d : DefDiagnostic). d.in_module) may.reported.is)
         (ap (λ (d : DefDiagnostic). node_told (diagnostic_view d).kind) may.reported.is) in
-        (tt, (tt, (tt, (tt, (speaks, tt)))))
+        (tt, (tt, (tt, (tt, (tt, (speaks, tt))))))
     fine_rule (enters_block site head items rest) may = (tt, (tt, tt))
     fine_rule (reaches_imports site head tree rest) may = (tt, (tt, (tt, tt)))
-    fine_rule (reaches_crate site head name alias rest) may = (tt, (tt, (tt, (tt, tt))))
+    fine_rule (reaches_crate site head name alias rest) may = (tt, (tt, (tt, (tt, (tt, tt)))))
+    fine_rule (defines_rules site head name expander helpers rest) may =
+        let speaks : IsTold (unimplemented_macro (module_id s.core.map site.home) (node_of site.tree nodes.MacroRules head.id)) =
+        next_told (visit site (leaf head (macro_rules name expander helpers))) rest may.next (unimplemented_macro (module_id s.core.map site.home) (node_of site.tree nodes.MacroRules head.id)) refl refl in
+        (tt, (tt, (tt, fine_macro IsFine _ _ expander (λ t. speaks) head name _ (λ t. tt) _)))
+    fine_rule (defines_macro site head name expander helpers rest) may =
+        let speaks : IsTold (unimplemented_macro (module_id s.core.map site.home) (node_of site.tree nodes.MacroDef head.id)) =
+        next_told (visit site (leaf head (macro_def name expander helpers))) rest may.next (unimplemented_macro (module_id s.core.map site.home) (node_of site.tree nodes.MacroDef head.id)) refl refl in
+        (tt, (tt, (tt, (tt, fine_reporting IsFine _ _ expander (λ t. speaks) _))))
+    fine_rule (closes_module parent child rest) may = (tt, (tt, tt))
+    fine_rule (passes_over site head l rest) may = (tt, tt)
     fine_rule (resolves_imports rule) may = all_fine IsFine (λ t c. tt) (import_acts finished (import_state s) rule) (asking s (resolves_imports rule))
 
   -- ---- steps

@@ -44,15 +44,15 @@ use Rattle.hir_import_resolution.specs.State.{glob_state, scopes_of}
 use Rattle.hir_import_resolution.specs.Visibilities.{greater_in, lesser_in}
 use Rattle.hir_import_resolution.specs.declared.directive.ImportSource.{ImportSource}
 use Rattle.hir_import_resolution.specs.declared.directive.ImportSource.TheVariants as sources
-use Rattle.hir_def_collector.specs.Changes.{Change, lists, makes, gives_variants, begins_paths, reaches, changes_imports, tells, goes_on, act, perform}
+use Rattle.hir_def_collector.specs.Changes.{Change, lists, makes, gives_variants, begins_paths, reaches, changes_imports, adds_textual, takes_textual, defines, uses_macros, tells, goes_on, act, perform}
 use Rattle.hir_def_collector.specs.Derivation.{CollectedValue, Ends}
 use Rattle.hir_def_collector.specs.ItemIds.{module_id}
 use Rattle.hir_def_collector.specs.Keys.{Environment}
 use Rattle.hir_def_collector.specs.Start.{Beginning, read_by}
 use Rattle.hir_def_collector.specs.State.{State, import_state}
-use Rattle.hir_def_collector.specs.Steps.{Rule, drops_item, passes_over, declares_item, declares_enum, lists_constant, lists_impl, opens_module, opens_file, drops_file, misses_file, enters_block, reaches_imports, reaches_crate, resolves_imports, May, Steps, acts, asking, more, none}
+use Rattle.hir_def_collector.specs.Steps.{Rule, drops_item, passes_over, defines_rules, defines_macro, closes_module, declares_item, declares_enum, lists_constant, lists_impl, opens_module, opens_file, drops_file, misses_file, enters_block, reaches_imports, reaches_crate, resolves_imports, May, Steps, acts, asking, more, none}
 use Rattle.hir_def_collector.specs.Workspace.{Workspace}
-use Rattle.hir_def_collector.proofs.Changes.{AllFine, perform_keeps}
+use Rattle.hir_def_collector.proofs.Changes.{AllFine, fine_macro, fine_reporting, perform_keeps}
 use Rattle.hir_def_collector_laws.specs.Globs.{AlsoShows, GlobsBringWhatIsShown, IsAsShown, IsBrought, WasSeen, glob_at, glob_by, glob_of_value, is_open_in, view_in}
 use Rattle.hir_def_collector_laws.proofs.Exact.{exact_bound, exact_visibility}
 use Rattle.hir_def_collector_laws.proofs.Noted.{GivesAll, HasNote, IsAsOpen, KeepsEdges, keeps_recorded}
@@ -79,6 +79,10 @@ IsFine s (gives_variants id variants) = Unit {0}
 IsFine s (begins_paths r) = Unit {0}
 IsFine s (reaches found) = Unit {0}
 IsFine s (changes_imports c) = IsFineImport s c
+IsFine s (adds_textual home name makro) = Unit {0}
+IsFine s (takes_textual home from_) = Unit {0}
+IsFine s (defines node makro) = Unit {0}
+IsFine s (uses_macros macros by) = Unit {0}
 IsFine s (tells d) = Unit {0}
 IsFine s (goes_on vs) = Unit {0}
 
@@ -108,6 +112,10 @@ noted-act s (gives_variants id variants) f fine = record { modules = f.modules }
 noted-act s (begins_paths r) f fine = record { modules = f.modules }
 noted-act s (reaches found) f fine = record { modules = f.modules }
 noted-act s (changes_imports c) f fine = noted-imports s c f fine
+noted-act s (adds_textual home name makro) f fine = record { modules = noted_rescoped s.core.map.modules home (with_module_scope _) (λ m. record { types = refl; values = refl; macros = refl }) f.modules }
+noted-act s (takes_textual home from_) f fine = record { modules = noted_rescoped s.core.map.modules home (with_module_scope _) (λ m. record { types = refl; values = refl; macros = refl }) f.modules }
+noted-act s (defines node makro) f fine = record { modules = f.modules }
+noted-act s (uses_macros macros by) f fine = record { modules = f.modules }
 noted-act s (tells d) f fine = record { modules = f.modules }
 noted-act s (goes_on vs) f fine = record { modules = f.modules }
 
@@ -285,18 +293,23 @@ module _ (finished : Maps) (s : State) (f : IsNotedState s) where
 
   rule_noted : (r : Rule) → May finished s r → IsNotedState (perform (asking s r) (acts finished s r))
   rule_noted (drops_item v report rest) may = by_changes (drops_item v report rest) (tt, (tt, tt))
-  rule_noted (passes_over site head l rest) may = by_changes (passes_over site head l rest) (tt, tt)
   rule_noted (declares_item v d rest) may = by_changes (declares_item v d rest) (tt, (tt, (refl, tt)))
   rule_noted (declares_enum site head name found rest) may = by_changes (declares_enum site head name found rest) (tt, (tt, (tt, (refl, tt))))
   rule_noted (lists_constant site head rest) may = by_changes (lists_constant site head rest) (tt, (tt, tt))
   rule_noted (lists_impl site head of_trait rest) may = by_changes (lists_impl site head of_trait rest) (tt, (tt, tt))
-  rule_noted (opens_module site head name items rest) may = by_changes (opens_module site head name items rest) (tt, (tt, (tt, (refl, tt))))
-  rule_noted (opens_file site head name search file rest) may = by_changes (opens_file site head name search file rest) (tt, (tt, (tt, (refl, tt))))
+  rule_noted (opens_module site head name items rest) may = by_changes (opens_module site head name items rest) (tt, (tt, (tt, (tt, (refl, tt)))))
+  rule_noted (opens_file site head name search file rest) may = by_changes (opens_file site head name search file rest) (tt, (tt, (tt, (tt, (refl, tt)))))
   rule_noted (drops_file site head name search report rest) may = by_changes (drops_file site head name search report rest) (tt, (tt, tt))
-  rule_noted (misses_file site head name search report rest) may = by_changes (misses_file site head name search report rest) (tt, (tt, (tt, (refl, (tt, tt)))))
+  rule_noted (misses_file site head name search report rest) may = by_changes (misses_file site head name search report rest) (tt, (tt, (tt, (tt, (refl, (tt, tt))))))
   rule_noted (enters_block site head items rest) may = by_changes (enters_block site head items rest) (tt, (tt, tt))
   rule_noted (reaches_imports site head tree rest) may = by_changes (reaches_imports site head tree rest) (tt, (tt, (tt, tt)))
-  rule_noted (reaches_crate site head name alias rest) may = by_changes (reaches_crate site head name alias rest) (tt, (tt, (tt, (tt, tt))))
+  rule_noted (reaches_crate site head name alias rest) may = by_changes (reaches_crate site head name alias rest) (tt, (tt, (tt, (tt, (tt, tt)))))
+  rule_noted (defines_rules site head name expander helpers rest) may =
+      by_changes (defines_rules site head name expander helpers rest) (tt, (tt, (tt, fine_macro IsFine _ _ expander (λ t. tt) head name _ (λ t. refl) _)))
+  rule_noted (defines_macro site head name expander helpers rest) may =
+      by_changes (defines_macro site head name expander helpers rest) (tt, (tt, (tt, (refl, fine_reporting IsFine _ _ expander (λ t. tt) _))))
+  rule_noted (closes_module parent child rest) may = by_changes (closes_module parent child rest) (tt, (tt, tt))
+  rule_noted (passes_over site head l rest) may = by_changes (passes_over site head l rest) (tt, tt)
   rule_noted (resolves_imports rule) may = import_noted rule may
 
 noted-Steps : {env : Environment} {finished : Maps} {begun last : State} → IsNotedState begun → Steps env finished begun last → IsNotedState last

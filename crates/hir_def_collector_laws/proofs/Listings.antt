@@ -1,18 +1,28 @@
 -- What changes add to the lists of modules, and what they leave of modules.
-use Rattle.std.proofs.Common.{◌≡◌, ◌∙◌, ◌<◌, ◌+◌, ℕ, zero, suc, List, [], ◌∷◌, ◌++◌, length, map as list_map, slice_get, Option, None, Some, refl, sym, ap, subst, arith, append-nil, append_assoc}
+use Rattle.std.proofs.Common.{◌≡◌, ◌∙◌, ◌<◌, ◌+◌, ℕ, zero, suc, Bool, true, false, cond, List, [], ◌∷◌, ◌++◌, length, map as list_map, slice_get, Option, None, Some, refl, sym, ap, subst, arith, append-nil, append_assoc}
+use Rattle.hir_base.specs.declared.ast_id.AstId.{AstId}
 use Rattle.hir_base.specs.declared.ids.ModuleDefId.{ModuleDefId}
+use Rattle.hir_base.specs.declared.ids.ModuleId.{ModuleId}
+use Rattle.hir_base.specs.declared.macro_kind.MacroExpander.{MacroExpander}
+use Rattle.hir_base.specs.declared.macro_kind.MacroId.{MacroId}
+use Rattle.hir_item_tree.specs.KeptForest.{Head}
+use Rattle.hir_scope.specs.PerNs.{macros_only}
 use Rattle.hir_scope.specs.Scope.{ScopeValue}
+use Rattle.hir_scope.specs.declared.visibility.Visibility.TheVariants as visibilities
 use Rattle.hir_def_map.specs.Declaration.{listed}
 use Rattle.hir_def_map.specs.State.{Map, ModuleValue, changed_at, module_at, new_id, new_module, numbered, with_child, with_module, with_module_scope, with_scope}
 use Rattle.hir_def_map.specs.declared.nameres.declaration.Declaration.{Declaration as Listing}
 use Rattle.hir_def_map.specs.declared.nameres.declaration.Declaration.TheVariants as listings
 use Rattle.hir_def_map.proofs.Grown.{length-changed}
 use Rattle.hir_def_map.proofs.StaysWellFormed.{length-made}
-use Rattle.hir_import_resolution.specs.Changes.{Change as ImportChange}
+use Rattle.hir_import_resolution.specs.Changes.{Change as ImportChange, pushes}
 use Rattle.hir_def_collector.specs.Causes.{declarations_of}
-use Rattle.hir_def_collector.specs.Changes.{Change, lists, makes, gives_variants, begins_paths, reaches, changes_imports, tells, goes_on, act, perform}
+use Rattle.hir_def_collector.specs.Changes.{Change, lists, makes, gives_variants, begins_paths, reaches, changes_imports, adds_textual, takes_textual, defines, uses_macros, tells, goes_on, act, perform}
 use Rattle.hir_def_collector.specs.ItemIds.{module_id}
+use Rattle.hir_def_collector.specs.Macros.{is_exported}
+use Rattle.hir_def_collector.specs.Reports.{is_unimplemented, unimplemented_macro}
 use Rattle.hir_def_collector.specs.State.{State, import_state}
+use Rattle.hir_def_collector.specs.Steps.{exporting, reporting}
 use Rattle.hir_def_collector.proofs.Bound.{keeps-edit}
 use Rattle.hir_def_collector.proofs.Changes.{Keeps-act}
 use Rattle.hir_def_collector.proofs.Grows.{Grows-act}
@@ -56,8 +66,12 @@ added (gives_variants id variants) k = []
 added (begins_paths r) k = []
 added (reaches rs) k = []
 added (changes_imports c) k = []
+added (adds_textual home name makro) k = []
+added (takes_textual home from_) k = []
+added (defines node makro) k = []
+added (uses_macros macros by) k = []
 added (tells d) k = []
-added (goes_on visits) k = []
+added (goes_on tasks) k = []
 
 abbrev pub all_added : List Change → ℕ → List ModuleDefId
 all_added [] k = []
@@ -96,8 +110,12 @@ added-act s (begins_paths r) k low = same_list (declarations_of (module_at s.cor
 added-act s (reaches rs) k low = same_list (declarations_of (module_at s.core.map k)) refl
 added-act s (changes_imports c) k low =
     ap (λ (m : Map). declarations_of (module_at m k)) (map_after (import_state s) c) ∙ added-edited s.core.map (edit_of (import_state s) c) k
+added-act s (adds_textual home name makro) k low = added-scope s.core.map home _ (λ x. refl) k
+added-act s (takes_textual home from_) k low = added-scope s.core.map home _ (λ x. refl) k
+added-act s (defines node makro) k low = same_list (declarations_of (module_at s.core.map k)) refl
+added-act s (uses_macros macros by) k low = same_list (declarations_of (module_at s.core.map k)) refl
 added-act s (tells d) k low = same_list (declarations_of (module_at s.core.map k)) refl
-added-act s (goes_on visits) k low = same_list (declarations_of (module_at s.core.map k)) refl
+added-act s (goes_on tasks) k low = same_list (declarations_of (module_at s.core.map k)) refl
 
 pub added-perform : (cs : List Change) (s : State) (k : ℕ) → k < length s.core.map.modules
     → declarations_of (module_at (perform s cs).core.map k) ≡ declarations_of (module_at s.core.map k) ++ all_added cs k
@@ -111,6 +129,25 @@ pub nothing_added : (cs : List ImportChange) (k : ℕ) → all_added (list_map c
 nothing_added [] k = refl
 nothing_added (c ∷ cs) k = nothing_added cs k
 
+-- a macro that is exported is not listed, and what is reported lists nothing
+pub macro_unlisted : (head : Head) (name : List ℕ) (makro : MacroId) (at : ModuleId) (node : AstId) (expander : MacroExpander) (k : ℕ)
+    → all_added (exporting head name makro ++ reporting at node expander) k ≡ []
+macro_unlisted head name makro at node expander k = go (is_exported head.attributes) (is_unimplemented expander)
+  where
+    go : (exported unimplemented : Bool) → all_added (cond exported (changes_imports (pushes 0 (Some name) (macros_only makro visibilities.Public None) None) ∷ []) []
+        ++ cond unimplemented (tells (unimplemented_macro at node) ∷ []) []) k ≡ []
+    go true true = refl
+    go true false = refl
+    go false true = refl
+    go false false = refl
+
+pub reporting_unlisted : (at : ModuleId) (node : AstId) (expander : MacroExpander) (k : ℕ) → all_added (reporting at node expander) k ≡ []
+reporting_unlisted at node expander k = go (is_unimplemented expander)
+  where
+    go : (unimplemented : Bool) → all_added (cond unimplemented (tells (unimplemented_macro at node) ∷ []) []) k ≡ []
+    go true = refl
+    go false = refl
+
 -- ---- how many modules there are
 
 abbrev pub made_by : Change → ℕ
@@ -120,8 +157,12 @@ made_by (gives_variants id variants) = 0
 made_by (begins_paths r) = 0
 made_by (reaches rs) = 0
 made_by (changes_imports c) = 0
+made_by (adds_textual home name makro) = 0
+made_by (takes_textual home from_) = 0
+made_by (defines node makro) = 0
+made_by (uses_macros macros by) = 0
 made_by (tells d) = 0
-made_by (goes_on visits) = 0
+made_by (goes_on tasks) = 0
 
 abbrev pub all_made : List Change → ℕ
 all_made [] = 0
@@ -141,8 +182,12 @@ length-act s (gives_variants id variants) = omega arith
 length-act s (begins_paths r) = omega arith
 length-act s (reaches rs) = omega arith
 length-act s (changes_imports c) = ap (λ (m : Map). length m.modules) (map_after (import_state s) c) ∙ length-edited s.core.map (edit_of (import_state s) c)
+length-act s (adds_textual home name makro) = length-scope s.core.map home _
+length-act s (takes_textual home from_) = length-scope s.core.map home _
+length-act s (defines node makro) = omega arith
+length-act s (uses_macros macros by) = omega arith
 length-act s (tells d) = omega arith
-length-act s (goes_on visits) = omega arith
+length-act s (goes_on tasks) = omega arith
 
 pub length-perform : (cs : List Change) (s : State) → length (perform s cs).core.map.modules ≡ length s.core.map.modules + all_made cs
 length-perform [] s = omega arith
@@ -151,6 +196,42 @@ length-perform (c ∷ cs) s = let later = length-perform cs (act s c) in let now
 pub nothing_made : (cs : List ImportChange) → all_made (list_map changes_imports cs) ≡ 0
 nothing_made [] = refl
 nothing_made (c ∷ cs) = omega (arith, nothing_made cs)
+
+pub macro_makes_none : (head : Head) (name : List ℕ) (makro : MacroId) (at : ModuleId) (node : AstId) (expander : MacroExpander) → all_made (exporting head name makro ++ reporting at node expander) ≡ 0
+macro_makes_none head name makro at node expander = go (is_exported head.attributes) (is_unimplemented expander)
+  where
+    go : (exported unimplemented : Bool) → all_made (cond exported (changes_imports (pushes 0 (Some name) (macros_only makro visibilities.Public None) None) ∷ []) []
+        ++ cond unimplemented (tells (unimplemented_macro at node) ∷ []) []) ≡ 0
+    go true true = refl
+    go true false = refl
+    go false true = refl
+    go false false = refl
+
+pub reporting_makes_none : (at : ModuleId) (node : AstId) (expander : MacroExpander) → all_made (reporting at node expander) ≡ 0
+reporting_makes_none at node expander = go (is_unimplemented expander)
+  where
+    go : (unimplemented : Bool) → all_made (cond unimplemented (tells (unimplemented_macro at node) ∷ []) []) ≡ 0
+    go true = refl
+    go false = refl
+
+-- nor do they change what comes next
+pub macro_agenda : (t : State) (head : Head) (name : List ℕ) (makro : MacroId) (at : ModuleId) (node : AstId) (expander : MacroExpander)
+    → (perform t (exporting head name makro ++ reporting at node expander)).agenda ≡ t.agenda
+macro_agenda t head name makro at node expander = go (is_exported head.attributes) (is_unimplemented expander)
+  where
+    go : (exported unimplemented : Bool) → (perform t (cond exported (changes_imports (pushes 0 (Some name) (macros_only makro visibilities.Public None) None) ∷ []) []
+        ++ cond unimplemented (tells (unimplemented_macro at node) ∷ []) [])).agenda ≡ t.agenda
+    go true true = refl
+    go true false = refl
+    go false true = refl
+    go false false = refl
+
+pub reporting_agenda : (t : State) (at : ModuleId) (node : AstId) (expander : MacroExpander) → (perform t (reporting at node expander)).agenda ≡ t.agenda
+reporting_agenda t at node expander = go (is_unimplemented expander)
+  where
+    go : (unimplemented : Bool) → (perform t (cond unimplemented (tells (unimplemented_macro at node) ∷ []) [])).agenda ≡ t.agenda
+    go true = refl
+    go false = refl
 
 -- ---- what stays of modules, and of the map
 
@@ -198,8 +279,12 @@ Stays-act s (gives_variants id variants) = λ k v e. record { value = v; there =
 Stays-act s (begins_paths r) = Stays-same s.core.map
 Stays-act s (reaches rs) = Stays-same s.core.map
 Stays-act s (changes_imports c) = subst (λ (m : Map). Stays s.core.map m) (sym (map_after (import_state s) c)) (Stays-edited s.core.map (edit_of (import_state s) c))
+Stays-act s (adds_textual home name makro) = Stays-scope s.core.map home _
+Stays-act s (takes_textual home from_) = Stays-scope s.core.map home _
+Stays-act s (defines node makro) = λ k v e. record { value = v; there = e; origin = refl; parent = refl }
+Stays-act s (uses_macros macros by) = λ k v e. record { value = v; there = e; origin = refl; parent = refl }
 Stays-act s (tells d) = λ k v e. record { value = v; there = e; origin = refl; parent = refl }
-Stays-act s (goes_on visits) = Stays-same s.core.map
+Stays-act s (goes_on tasks) = Stays-same s.core.map
 
 pub Stays-trans : (a b c : Map) → Stays a b → Stays b c → Stays a c
 Stays-trans a b c p q k v e =

@@ -20,7 +20,7 @@ use Rattle.hir_def_collector.specs.Derivation.{CollectedValue, Ends}
 use Rattle.hir_def_collector.specs.Keys.{environment}
 use Rattle.hir_def_collector.specs.Reports.{leftover_diagnostics, with_diagnostics}
 use Rattle.hir_def_collector.specs.Start.{Beginning, begin_of, krate_of, origin_of, read_by, root_site, root_tree, start_of, tree_visits}
-use Rattle.hir_def_collector.specs.State.{State, Visit, visits}
+use Rattle.hir_def_collector.specs.State.{State, Task, visits_over}
 use Rattle.hir_def_collector.specs.Steps.{Step, Steps, acts, after, asking, keys_read, more, none, reads}
 use Rattle.hir_def_collector.specs.Workspace.{Workspace}
 use Rattle.hir_def_collector.proofs.Asks.{still_asked-Step}
@@ -55,8 +55,8 @@ module _ (tables : TablesValue) (w : Workspace) (finished : Maps) (from : Beginn
 
   -- ---- the end
 
-  at_end : (m : Map) (ds : List DefDiagnostic) (vs : List Visit) → answer.map ≡ with_diagnostics m ds → vs ≡ [] → IsAhead tables w finished from answer m vs
-  at_end m ds vs e over = subst (λ (xs : List Visit). IsAhead tables w finished from answer m xs) (sym over) (record {
+  at_end : (m : Map) (ds : List DefDiagnostic) (vs : List Task) → answer.map ≡ with_diagnostics m ds → vs ≡ [] → IsAhead tables w finished from answer m vs
+  at_end m ds vs e over = subst (λ (xs : List Task). IsAhead tables w finished from answer m xs) (sym over) (record {
     id = sym (ap (λ (x : Map). x.id) e);
     edition = sym (ap (λ (x : Map). x.crate_data.edition) e);
     fewer = omega (arith, as_long);
@@ -71,10 +71,10 @@ module _ (tables : TablesValue) (w : Workspace) (finished : Maps) (from : Beginn
 
   -- ---- the start
 
-  same_visits : (site : Site) (tree : Tree) → tree_visits site tree ≡ visits site (items_of tree)
+  same_visits : (site : Site) (tree : Tree) → tree_visits site tree ≡ visits_over site (items_of tree)
   same_visits site tree = go (is_enabled tree.attributes)
     where
-      go : (b : Bool) → (if b then visits site tree.items else []) ≡ visits site (if b then tree.items else no_items)
+      go : (b : Bool) → (if b then visits_over site tree.items else []) ≡ visits_over site (if b then tree.items else no_items)
       go true = refl
       go false = refl
 
@@ -82,8 +82,8 @@ module _ (tables : TablesValue) (w : Workspace) (finished : Maps) (from : Beginn
   root_lists q =
       let site : Site = root_site from.tree in
       let items : KeptForest = items_of (root_tree tables w from) in
-      let at : IsAhead tables w finished from answer (start_of tables w finished from).core.map (visits site items) =
-      subst (λ (vs : List Visit). IsAhead tables w finished from answer (start_of tables w finished from).core.map vs) (same_visits site (root_tree tables w from)) q in
+      let at : IsAhead tables w finished from answer (start_of tables w finished from).core.map (visits_over site items) =
+      subst (λ (vs : List Task). IsAhead tables w finished from answer (start_of tables w finished from).core.map vs) (same_visits site (root_tree tables w from)) q in
       let low : 0 < 1 = omega arith in
       let root : StaysAt (module_at answer.map 0) (new_module (origin_of from.start) visibilities.Public None) = at.stays 0 _ refl in
       let listed : declarations_of (module_at answer.map 0) ≡ altogether tables w finished from answer site items at.pending = at.lists 0 low ∙ gathered_at tables w finished from answer 0 site items at.pending in

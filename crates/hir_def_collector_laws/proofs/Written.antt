@@ -1,5 +1,5 @@
 -- Each import of a run is written in a tree that was asked for.
-use Rattle.std.proofs.Common.{◌≡◌, ◌∙◌, ◌<◌, ℕ, zero, suc, List, [], ◌∷◌, ◌++◌, Bool, true, false, Option, None, Some, map as list_map, inl, inr, refl, sym, ap, subst, arith, Contains}
+use Rattle.std.proofs.Common.{◌≡◌, ◌∙◌, ◌<◌, ◌||◌, ℕ, zero, suc, List, [], ◌∷◌, ◌++◌, length, Bool, true, false, Option, None, Some, map as list_map, inl, inr, refl, sym, ap, subst, arith, append_assoc, Contains}
 use Rattle.std.proofs.lemmas.List.Elements.{Contains-append_cases, Contains-append_left, Contains-append_right}
 use Rattle.hir_base.specs.declared.ids.Crate.{Crate}
 use Rattle.hir_base.specs.declared.ids.MapId.{MapId}
@@ -31,17 +31,18 @@ use Rattle.hir_def_collector.specs.declared.collector.site.Site.{Site}
 use Rattle.hir_def_collector.specs.declared.source_database.Dependency.{Dependency}
 use Rattle.hir_def_collector.specs.declared.source_database.Key.{Key}
 use Rattle.hir_def_collector.specs.declared.source_database.Key.TheVariants as keys
-use Rattle.hir_def_collector.specs.Changes.{Change, lists, makes, gives_variants, begins_paths, reaches, changes_imports, tells, goes_on, act}
+use Rattle.hir_def_collector.specs.Changes.{Change, lists, makes, gives_variants, begins_paths, reaches, changes_imports, adds_textual, takes_textual, defines, uses_macros, tells, goes_on, act}
 use Rattle.hir_def_collector.specs.Derivation.{CollectedValue}
 use Rattle.hir_def_collector.specs.Imports.{crate_import, crate_named, reached_import}
 use Rattle.hir_def_collector.specs.Keys.{environment, tree_at}
+use Rattle.hir_def_collector.specs.Macros.{is_macro_use}
 use Rattle.hir_def_collector.specs.ModuleFiles.{ModuleFile, Search, file_key, file_tree}
 use Rattle.hir_def_collector.specs.Start.{Beginning, krate_of, root_key, root_site, root_tree, start_of, tree_visits}
-use Rattle.hir_def_collector.specs.State.{State, Visit, import_state, visits}
-use Rattle.hir_def_collector.specs.Steps.{Rule, drops_item, passes_over, declares_item, declares_enum, lists_constant, lists_impl, opens_module, opens_file, drops_file, misses_file, enters_block, reaches_imports, reaches_crate, resolves_imports, May, Opens, Sees, Step, Steps, acts, asking, inside_block, inside_file, inside_module, keys_read, more, none, path_of, reads, search_readings, visits_inside}
+use Rattle.hir_def_collector.specs.State.{State, Task, Visit, visits, closes, import_state, visits_over}
+use Rattle.hir_def_collector.specs.Steps.{Rule, drops_item, passes_over, defines_rules, defines_macro, closes_module, closing, declares_item, declares_enum, lists_constant, lists_impl, opens_module, opens_file, drops_file, misses_file, enters_block, reaches_imports, reaches_crate, resolves_imports, May, Opens, Sees, Step, Steps, acts, asking, inside_block, inside_file, inside_module, keys_read, more, none, path_of, reads, search_readings, visits_in_file, visits_inside}
 use Rattle.hir_def_collector.specs.Workspace.{Workspace, dependencies_in}
 use Rattle.hir_def_collector.proofs.Asks.{only, still_asked-Step}
-use Rattle.hir_def_collector.proofs.Changes.{AllFine, Keeps, Keeps-act, asked-Step, perform_keeps}
+use Rattle.hir_def_collector.proofs.Changes.{AllFine, Keeps, Keeps-act, asked-Step, fine_macro, fine_reporting, perform_keeps}
 use Rattle.hir_def_collector.proofs.ImportEdits.{imports_after}
 use Rattle.hir_def_collector.proofs.ModuleFiles.{found_read}
 use Rattle.hir_def_collector_laws.specs.Imports.{IsImport}
@@ -67,9 +68,10 @@ module _ (tables : TablesValue) (w : Workspace) (from : Beginning) (answer : Col
   Placed id tree i = IsWritten tables w answer.asked (key_in id tree) i
 
   -- each visit is of an item that is written in its tree
-  abbrev pub ArePlaced : List Visit → Type 0
+  abbrev pub ArePlaced : List Task → Type 0
   ArePlaced [] = Unit {0}
-  ArePlaced (v ∷ vs) = Placed own v.site.tree v.item × ArePlaced vs
+  ArePlaced (visits v ∷ ts) = Placed own v.site.tree v.item × ArePlaced ts
+  ArePlaced (closes parent child ∷ ts) = ArePlaced ts
 
   -- each import is written
   abbrev pub AreImports : List ImportDirective → Type 0
@@ -95,16 +97,27 @@ module _ (tables : TablesValue) (w : Workspace) (from : Beginning) (answer : Col
 
   -- ---- lists
 
-  placed_before : (s : Site) (is : KeptForest) (rest : List Visit) → ((i : KeptItem) → IsIn i is → Placed own s.tree i) → ArePlaced rest → ArePlaced (visits s is ++ rest)
+  placed_before : (s : Site) (is : KeptForest) (rest : List Task) → ((i : KeptItem) → IsIn i is → Placed own s.tree i) → ArePlaced rest → ArePlaced (visits_over s is ++ rest)
   placed_before s no_items rest all f = f
   placed_before s (item i is) rest all f = (all i (first is), placed_before s is rest (λ j h. all j (behind i is h)) f)
 
-  placed_visits : (s : Site) (is : KeptForest) → ((i : KeptItem) → IsIn i is → Placed own s.tree i) → ArePlaced (visits s is)
+  placed_visits : (s : Site) (is : KeptForest) → ((i : KeptItem) → IsIn i is → Placed own s.tree i) → ArePlaced (visits_over s is)
   placed_visits s no_items all = tt
   placed_visits s (item i is) all = (all i (first is), placed_visits s is (λ j h. all j (behind i is h)))
 
-  pub placed_next : (vs : List Visit) (v : Visit) (rest : List Visit) → ArePlaced vs → vs ≡ v ∷ rest → Placed own v.site.tree v.item × ArePlaced rest
-  placed_next vs v rest f e = subst ArePlaced e f
+  pub placed_next : (ts : List Task) (v : Visit) (rest : List Task) → ArePlaced ts → ts ≡ visits v ∷ rest → Placed own v.site.tree v.item × ArePlaced rest
+  placed_next ts v rest f e = subst ArePlaced e f
+
+  -- a module that is closed comes before others, and visits of one site before it
+  placed_closing : (marked : Bool) (parent child : ℕ) (rest : List Task) → ArePlaced rest → ArePlaced (closing marked parent child ++ rest)
+  placed_closing true parent child rest f = f
+  placed_closing false parent child rest f = f
+
+  placed_closed : (s : Site) (is : KeptForest) (marked : Bool) (parent child : ℕ) (rest : List Task) → ((i : KeptItem) → IsIn i is → Placed own s.tree i) → ArePlaced rest
+      → ArePlaced ((visits_over s is ++ closing marked parent child) ++ rest)
+  placed_closed s is marked parent child rest all f =
+      subst ArePlaced (sym (append_assoc (visits_over s is) (closing marked parent child) rest))
+      (placed_before s is (closing marked parent child ++ rest) all (placed_closing marked parent child rest f))
 
   placed_inside : {head : Head} {kind : Holder} {items : KeptForest} (tree : TreeId) → is_enabled head.attributes ≡ true → Placed own tree (holder head kind items) → (i : KeptItem) → IsIn i items → Placed own tree i
   placed_inside tree on p i h = record { key_asked = p.key_asked; top = p.top; within = deeper on h (tree_at tables w (key_in own tree)).tree.items p.within }
@@ -186,6 +199,10 @@ module _ (tables : TablesValue) (w : Workspace) (from : Beginning) (answer : Col
   IsFine s (begins_paths r) = Unit {0}
   IsFine s (reaches rs) = AreImports rs
   IsFine s (changes_imports c) = IsFineImport s c
+  IsFine s (adds_textual home name makro) = Unit {0}
+  IsFine s (takes_textual home from_) = Unit {0}
+  IsFine s (defines node makro) = Unit {0}
+  IsFine s (uses_macros macros by) = Unit {0}
   IsFine s (tells d) = Unit {0}
   IsFine s (goes_on vs) = ArePlaced vs
 
@@ -235,6 +252,10 @@ module _ (tables : TablesValue) (w : Workspace) (from : Beginning) (answer : Col
     globs = more_imports s.core.reached rs s.globs.edges f.globs;
   }
   written-act s (changes_imports c) f fine = written-imports s c f fine
+  written-act s (adds_textual home name makro) f fine = same_but s _ (Keeps-act s (adds_textual home name makro)) refl refl refl f
+  written-act s (takes_textual home from_) f fine = same_but s _ (Keeps-act s (takes_textual home from_)) refl refl refl f
+  written-act s (defines node makro) f fine = same_but s _ (Keeps-act s (defines node makro)) refl refl refl f
+  written-act s (uses_macros macros by) f fine = same_but s _ (Keeps-act s (uses_macros macros by)) refl refl refl f
   written-act s (tells d) f fine = same_but s _ (Keeps-act s (tells d)) refl refl refl f
   written-act s (goes_on vs) f fine = record { id = f.id; dependencies = f.dependencies; visits = fine; imports = f.imports; globs = f.globs }
 
@@ -242,20 +263,21 @@ module _ (tables : TablesValue) (w : Workspace) (from : Beginning) (answer : Col
 
   module _ (here : own.krate ≡ krate_of from.start) (finished : Maps) (s : State) (f : IsAllWritten s) where
     -- the next item is written in its tree, and so is each that stays
-    next : (v : Visit) (rest : List Visit) → s.agenda ≡ v ∷ rest → Placed own v.site.tree v.item
+    next : (v : Visit) (rest : List Task) → s.agenda ≡ visits v ∷ rest → Placed own v.site.tree v.item
     next v rest e = (placed_next s.agenda v rest f.visits e).0
 
-    left : (v : Visit) (rest : List Visit) → s.agenda ≡ v ∷ rest → ArePlaced rest
+    left : (v : Visit) (rest : List Task) → s.agenda ≡ visits v ∷ rest → ArePlaced rest
     left v rest e = (placed_next s.agenda v rest f.visits e).1
 
     -- the items of a module that is written where it is declared
-    module_inside : (site : Site) (head : Head) (name : List ℕ) (items : KeptForest) (rest : List Visit) (dir : Option Directory) → is_enabled head.attributes ≡ true
-        → Placed own site.tree (holder head (inline_module name) items) → ArePlaced rest → ArePlaced (visits_inside s.core.map site dir items ++ rest)
+    module_inside : (site : Site) (head : Head) (name : List ℕ) (items : KeptForest) (rest : List Task) (dir : Option Directory) → is_enabled head.attributes ≡ true
+        → Placed own site.tree (holder head (inline_module name) items) → ArePlaced rest → ArePlaced (visits_inside s.core.map site head dir items ++ rest)
     module_inside site head name items rest None on p g = g
-    module_inside site head name items rest (Some dir) on p g = placed_before (inside_module s.core.map site dir) items rest (placed_inside site.tree on p) g
+    module_inside site head name items rest (Some dir) on p g =
+        placed_closed (inside_module s.core.map site dir) items (is_macro_use head.attributes) site.home (length s.core.map.modules) rest (placed_inside site.tree on p) g
 
     -- those of a file
-    file_inside : (site : Site) (head : Head) (name : List ℕ) (search : Search) (file : ModuleFile) (rest : List Visit) → Opens s site head name search file rest
+    file_inside : (site : Site) (head : Head) (name : List ℕ) (search : Search) (file : ModuleFile) (rest : List Task) → Opens s site head name search file rest
         → Sees (environment tables w) finished (search_readings s.core.map search) → ((key : TreeKey) → Contains (keys_read (search_readings s.core.map search)) (keys.Tree key) → Contains answer.asked (keys.Tree key))
         → (i : KeptItem) → IsIn i file.tree.items → Placed own (file_tree s.core.map.crate_data.edition file.id) i
     file_inside site head name search file rest may sees read i h =
@@ -303,23 +325,29 @@ module _ (tables : TablesValue) (w : Workspace) (from : Beginning) (answer : Col
     all_fine : (r : Rule) → May finished s r → Sees (environment tables w) finished (reads s r)
         → ((key : TreeKey) → Contains (keys_read (reads s r)) (keys.Tree key) → Contains answer.asked (keys.Tree key)) → AllFine IsFine (asking s r) (acts finished s r)
     all_fine (drops_item v report rest) may sees read = (left v rest may.next, (tt, tt))
-    all_fine (passes_over site head l rest) may sees read = (left _ rest may.here.next, tt)
     all_fine (declares_item v d rest) may sees read = (left v rest may.here.next, (tt, (tt, tt)))
     all_fine (declares_enum site head name found rest) may sees read = (left _ rest may.next, (tt, (tt, (tt, tt))))
     all_fine (lists_constant site head rest) may sees read = (left _ rest may.next, (tt, tt))
     all_fine (lists_impl site head of_trait rest) may sees read = (left _ rest may.next, (tt, tt))
     all_fine (opens_module site head name items rest) may sees read =
-        (tt, (module_inside site head name items rest (inline_directory site.dir name (path_of head)) may.enabled (next _ rest may.next) (left _ rest may.next), (tt, (tt, tt))))
+        (tt, (tt, (module_inside site head name items rest (inline_directory site.dir name (path_of head)) may.enabled (next _ rest may.next) (left _ rest may.next), (tt, (tt, tt)))))
     all_fine (opens_file site head name search file rest) may sees read =
-        (tt, (placed_before (inside_file s.core.map file) file.tree.items rest (file_inside site head name search file rest may sees read) (left _ rest may.looks.here.next), (tt, (tt, tt))))
+        let placed : ArePlaced (visits_in_file s.core.map site head file ++ rest) =
+        placed_closed (inside_file s.core.map file) file.tree.items (is_macro_use head.attributes || is_macro_use file.tree.attributes) site.home (length s.core.map.modules) rest
+        (file_inside site head name search file rest may sees read) (left _ rest may.looks.here.next) in
+        (tt, (tt, (placed, (tt, (tt, tt)))))
     all_fine (drops_file site head name search report rest) may sees read = (left _ rest may.looks.here.next, (tt, tt))
-    all_fine (misses_file site head name search report rest) may sees read = (tt, (left _ rest may.looks.here.next, (tt, (tt, (tt, tt)))))
+    all_fine (misses_file site head name search report rest) may sees read = (tt, (tt, (left _ rest may.looks.here.next, (tt, (tt, (tt, tt))))))
     all_fine (enters_block site head items rest) may sees read =
         (placed_before (inside_block s.core.map site head) items rest (placed_inside site.tree may.enabled (next _ rest may.next)) (left _ rest may.next), (tt, tt))
     all_fine (reaches_imports site head tree rest) may sees read =
         (left _ rest may.next, (all_leaves site head may.enabled s.core.map.id f.id tree (next _ rest may.next), (tt, tt)))
     all_fine (reaches_crate site head name alias rest) may sees read =
-        (left _ rest may.next, (tt, ((one_crate site head may.enabled s.core.map f.id here name alias (next _ rest may.next) s.core.dependencies f.dependencies, tt), (tt, tt))))
+        (left _ rest may.next, (tt, (tt, ((one_crate site head may.enabled s.core.map f.id here name alias (next _ rest may.next) s.core.dependencies f.dependencies, tt), (tt, tt)))))
+    all_fine (defines_rules site head name expander helpers rest) may sees read = (left _ rest may.next, (tt, (tt, fine_macro IsFine _ _ expander (λ t. tt) head name _ (λ t. tt) _)))
+    all_fine (defines_macro site head name expander helpers rest) may sees read = (left _ rest may.next, (tt, (tt, (tt, fine_reporting IsFine _ _ expander (λ t. tt) _))))
+    all_fine (closes_module parent child rest) may sees read = (subst ArePlaced may f.visits, (tt, tt))
+    all_fine (passes_over site head l rest) may sees read = (left _ rest may.here.next, tt)
     all_fine (resolves_imports rule) may sees read = imports_fine rule may
 
   -- ---- steps

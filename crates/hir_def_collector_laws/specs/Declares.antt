@@ -14,7 +14,7 @@ use Rattle.hir_def_map.specs.declared.nameres.origin.ModuleOrigin.{ModuleOrigin}
 use Rattle.hir_def_collector.specs.declared.collector.site.Site.{Site}
 use Rattle.hir_def_collector.specs.Causes.{declarations_of}
 use Rattle.hir_def_collector.specs.Derivation.{CollectedValue}
-use Rattle.hir_def_collector.specs.ItemIds.{const_id, enum_id, function_id, static_id, struct_id, trait_id, type_alias_id, union_id}
+use Rattle.hir_def_collector.specs.ItemIds.{const_id, enum_id, function_id, macro_def_id, static_id, struct_id, trait_id, type_alias_id, union_id}
 use Rattle.hir_def_collector.specs.Items.{file_origin, inline_origin}
 use Rattle.hir_def_collector.specs.Keys.{environment}
 use Rattle.hir_def_collector.specs.ModuleFiles.{IsNumbered, IsSearch, ModuleFile, Search, module_file}
@@ -31,7 +31,8 @@ definitions_of m s h (constant (Some name)) = definitions.ConstId (const_id m s 
 definitions_of m s h (static_item name) = definitions.StaticId (static_id m s h.id) ∷ []
 definitions_of m s h (trait_item name) = definitions.TraitId (trait_id m s h.id) ∷ []
 definitions_of m s h (type_alias name) = definitions.TypeAliasId (type_alias_id m s h.id) ∷ []
--- a `use`, an `extern crate`, a constant without a name, an impl or a macro is no such definition
+definitions_of m s h (macro_def name expander helpers) = definitions.MacroId (macro_def_id m s h.id expander) ∷ []
+-- a `use`, an `extern crate`, a constant without a name, an impl, a macro call or a `macro_rules` is no such definition
 definitions_of m s h (import tree) = []
 definitions_of m s h (extern_crate name alias) = []
 definitions_of m s h (constant None) = []
@@ -39,7 +40,6 @@ definitions_of m s h (implementation of_trait) = []
 definitions_of m s h (outline_module name) = []
 definitions_of m s h (macro_call path) = []
 definitions_of m s h (macro_rules name expander helpers) = []
-definitions_of m s h (macro_def name expander helpers) = []
 
 -- a module of the map that is declared at a site
 pub record IsModuleOf (m : Map) (s : Site) (origin : ModuleOrigin) (number : ℕ) : Type 0 where

@@ -4,17 +4,22 @@ ghost use Rattle.hir_item_tree.specs.Source.{source_view};
 ghost use Rattle.hir_tables.specs.SourcePlaces.{source_value};
 ghost use Rattle.hir_def_collector_tests.specs.Crates.{AreTheirs, source_in};
 
+mod macros;
+
 use hir_base::ast_id::{EditionedFileId, FileId, HirFileId};
 use hir_base::cfg_options::CfgOptions;
 use hir_base::edition::Edition;
 use hir_base::file_path::FilePath;
 use hir_base::ids::{Crate, ItemContainerId, MapId, ModuleDefId};
+use hir_base::macro_kind::ExpansionKey;
 use hir_base::name::Name;
 use hir_crate_graph::crate_set::CrateSet;
 use hir_crate_graph::transitive::TransitiveDependencies;
 use hir_def_collector::collector::collected::Collected;
 use hir_def_collector::collector::{Start, collect_defs};
-use hir_def_collector::source_database::{Config, CrateRoot, Dependency, Key, SourceDatabase};
+use hir_def_collector::source_database::{
+    Config, CrateRoot, Dependency, ExpansionLook, Key, SourceDatabase,
+};
 use hir_def_map::nameres::DefMap;
 use hir_def_map::world::World;
 use hir_item_tree::source::Source;
@@ -78,6 +83,14 @@ impl SourceDatabase for Crates {
 
     fn present(&self, _krate: Crate, source: SourcePlace<'_>) -> bool {
         file_at(&self.files, source).is_some()
+    }
+
+    fn expansion(&self, _key: &ExpansionKey) -> ExpansionLook<'_> {
+        ExpansionLook {
+            present: false,
+            error: None,
+            inner: &[],
+        }
     }
 }
 

@@ -25,7 +25,8 @@ use Rattle.hir_wire.specs.declared.command.MacroStyle.{MacroStyle}
 use Rattle.hir_wire.specs.declared.reply.Status.TheVariants as status
 use Rattle.hir_session.specs.declared.error.QueryError.{QueryError}
 use Rattle.hir_session.specs.Crates.{CrateValue, transitive_in, follows_in, id_of}
-use Rattle.hir_session.specs.Files.{Files}
+use Rattle.hir_session.specs.SourceEdits.{edit_of, edited}
+use Rattle.hir_session.specs.SourceTable.{SourceTable}
 use Rattle.hir_session.specs.SessionState.{SessionState, Resolution, workspace_of, dependencies_of, finished_of, follows, read_of, kept_of, is_marked, IsCurrent, IsSound}
 use Rattle.hir_crate_graph.specs.Dependencies.{DependsOn}
 use Rattle.hir_crate_graph.specs.Dependencies.DependsOn.{directly, through}
@@ -35,7 +36,7 @@ use Rattle.hir_session.specs.Marks.{IsAltered, IsTouched}
 use Rattle.hir_session.specs.Marks.IsTouched.{before, asked_for}
 use Rattle.hir_session.specs.Due.{IsBehind, IsAskedBehind}
 use Rattle.hir_session.specs.Due.IsBehind.{itself, next}
-use Rattle.hir_session.specs.Changes.{Becomes, Applies, Resolves, edited_files, with_files}
+use Rattle.hir_session.specs.Changes.{Becomes, Applies, Resolves, with_sources}
 use Rattle.hir_session.specs.Status.{map_of, module_below, module_in_kept, status_of}
 use Rattle.hir_session.specs.Answers.{answer_by, answer_from, answer_of}
 use Rattle.hir_session.specs.Histories.{History, WasAltered, DifferOnlyWhereAltered}
@@ -64,7 +65,7 @@ pub record IsClosed (s : SessionState) : Type 0 where
   pub closed : (k d : MapId) → is_marked s k ≡ false → Contains (follows s k) d → is_marked s d ≡ false
 
 -- so it is after an edit
-pub closed_after : {old new : SessionState} {files : Files} → Becomes old files new → IsClosed new
+pub closed_after : {old new : SessionState} {sources : SourceTable} → Becomes old sources new → IsClosed new
 closed_after {old} {new} is = record {
   closed = λ k d off among. on_bool (is_marked new d)
       (λ on. clash (is.all k (depends k d (subst (λ (cs : List CrateValue). Contains (follows_in cs k) d) is.crates among) (is.only d on))) off)
@@ -87,14 +88,14 @@ what_marked w same (depends j d among sp) behind =
     what_marked w same sp (next j d behind (subst (λ (cs : List CrateValue). Contains (follows_in cs j) d) same.crates among))
 
 -- the workspace that an accepted edit leaves is the edited one
-workspace-becomes : {old new : SessionState} {files : Files} → Becomes old files new → workspace_of new ≡ workspace_of (with_files old files)
-workspace-becomes is = rw (is.crates, is.files_are) refl
+workspace-becomes : {old new : SessionState} {sources : SourceTable} → Becomes old sources new → workspace_of new ≡ workspace_of (with_sources old sources)
+workspace-becomes is = rw (is.crates, is.sources_are) refl
 
 -- an edit leaves all that is behind the crate as it was, or alters a key that was asked for there
 pub same_after_edit : {from mid to : SessionState} {k : MapId} (e : EditValue) → IsSame from mid k → Applies mid e to
     → IsSame from to k ⊎ ((key : Key) × IsAskedBehind from k key × IsAltered mid.tables (workspace_of mid) (workspace_of to) key)
 same_after_edit {from} {mid} {to} {k} e same is = on_bool (is_marked to k)
-    (λ on. let hit = what_marked (workspace_of (with_files mid (edited_files mid e))) same (is.only k on) itself in
+    (λ on. let hit = what_marked (workspace_of (with_sources mid (edited mid.sources (edit_of e)))) same (is.only k on) itself in
     inr (hit.0, hit.1, λ h. hit.2 (subst (λ (w : Workspace). look mid.tables w no_maps hit.0 ≡ look mid.tables (workspace_of mid) no_maps hit.0) (workspace-becomes is) h)))
     (λ still.
     let off = λ (j : MapId) (behind : IsBehind from k j). unmarked_still (is.crates ∙ same.crates) (closed_after is) still behind in
@@ -152,45 +153,45 @@ on_option : {A X : Type 0} (o : Option X) → (o ≡ None → A) → ((x : X) �
 on_option None f g = f refl
 on_option (Some x) f g = g x refl
 
--- what a query is answered over these crates, this table of files and what is kept
-abbrev answer_over : (place : PlaceValue) (path : Path) (shadow : Shadow) (style : Option MacroStyle) → List CrateValue → List (List ℕ) → Maps → Option Resolution → Result Answer QueryError
-answer_over place path shadow style crates files read kept =
+-- what a query is answered over these crates, these tables and what is kept
+abbrev answer_over : (place : PlaceValue) (path : Path) (shadow : Shadow) (style : Option MacroStyle) → List CrateValue → TablesValue → Maps → Option Resolution → Result Answer QueryError
+answer_over place path shadow style crates tables read kept =
     answer_by
     (if nat_lt place.krate.0 (length crates) then
     (if is_none kept then status.Stale else (if is_some (module_in_kept kept place.elements) then status.Current else status.Unknown)) else
     status.Unknown)
-    (answer_from files read kept (module_in_kept kept place.elements) path shadow style)
+    (answer_from tables read kept (module_in_kept kept place.elements) path shadow style)
 
 module _ {from to : SessionState} (place : PlaceValue) (path : Path) (shadow : Shadow) (style : Option MacroStyle) (sound : IsSound from) (same : IsSame from to (map_of place)) where
-  -- but for the table of files a query has the same answer
-  over_files : answer_of to place path shadow style ≡ answer_over place path shadow style from.crates to.tables.files (read_of from (map_of place)) (kept_of from (map_of place))
-  over_files = λ i. answer_over place path shadow style (same.crates i) to.tables.files (same_read place.krate.0 sound same i) (same.kept (map_of place) itself i)
+  -- but for the tables a query has the same answer
+  over_tables : answer_of to place path shadow style ≡ answer_over place path shadow style from.crates to.tables (read_of from (map_of place)) (kept_of from (map_of place))
+  over_tables = λ i. answer_over place path shadow style (same.crates i) to.tables (same_read place.krate.0 sound same i) (same.kept (map_of place) itself i)
 
   -- where the tables are the same it has the same answer
   pub alike_answer : to.tables ≡ from.tables → answer_of to place path shadow style ≡ answer_of from place path shadow style
-  alike_answer tables = over_files ∙ ap (λ (t : TablesValue). answer_over place path shadow style from.crates t.files (read_of from (map_of place)) (kept_of from (map_of place))) tables
+  alike_answer tables = over_tables ∙ ap (λ (t : TablesValue). answer_over place path shadow style from.crates t (read_of from (map_of place)) (kept_of from (map_of place))) tables
 
   module _ (runs : RunsBindFromSources) (answers : PathsAnswerFromSources) (leads : PathsLeadToWhatIsThere) (off : is_marked from (map_of place) ≡ false) where
     abbrev now : IsCurrent from (map_of place)
     now = sound.current (map_of place) off
 
     found_answer : (o : Option ModuleId) → module_below now.found.map (root_of now.found.map.id) place.elements ≡ o
-        → answer_from to.tables.files (read_of from (map_of place)) (Some now.found) o path shadow style ≡ answer_from from.tables.files (read_of from (map_of place)) (Some now.found) o path shadow style
+        → answer_from to.tables (read_of from (map_of place)) (Some now.found) o path shadow style ≡ answer_from from.tables (read_of from (map_of place)) (Some now.found) o path shadow style
     found_answer None s = refl
     found_answer (Some m) s = ap (λ (a : Answer). Ok a)
-        (kept_answer from.tables.files to.tables.files same.tables.files (overlay (read_of from (map_of place)) now.found.map) now.found.local m path shadow style
+        (kept_answer from.tables to.tables same.tables (overlay (read_of from (map_of place)) now.found.map) now.found.local m path shadow style
         (whole runs answers leads from sound place.krate.0 off place.elements m path shadow style s))
 
-    kept_answer_from : answer_from to.tables.files (read_of from (map_of place)) (kept_of from (map_of place)) (module_in_kept (kept_of from (map_of place)) place.elements) path shadow style
-        ≡ answer_from from.tables.files (read_of from (map_of place)) (kept_of from (map_of place)) (module_in_kept (kept_of from (map_of place)) place.elements) path shadow style
+    kept_answer_from : answer_from to.tables (read_of from (map_of place)) (kept_of from (map_of place)) (module_in_kept (kept_of from (map_of place)) place.elements) path shadow style
+        ≡ answer_from from.tables (read_of from (map_of place)) (kept_of from (map_of place)) (module_in_kept (kept_of from (map_of place)) place.elements) path shadow style
     kept_answer_from = subst
-        (λ (o : Option Resolution). answer_from to.tables.files (read_of from (map_of place)) o (module_in_kept o place.elements) path shadow style
-        ≡ answer_from from.tables.files (read_of from (map_of place)) o (module_in_kept o place.elements) path shadow style) (sym now.is)
+        (λ (o : Option Resolution). answer_from to.tables (read_of from (map_of place)) o (module_in_kept o place.elements) path shadow style
+        ≡ answer_from from.tables (read_of from (map_of place)) o (module_in_kept o place.elements) path shadow style) (sym now.is)
         (found_answer (module_below now.found.map (root_of now.found.map.id) place.elements) refl)
 
     -- and so it has where they grew
     pub same_answer : answer_of to place path shadow style ≡ answer_of from place path shadow style
-    same_answer = over_files ∙ ap (answer_by (status_of from place)) kept_answer_from
+    same_answer = over_tables ∙ ap (answer_by (status_of from place)) kept_answer_from
 
 pub differ_only : RunsBindFromSources → PathsAnswerFromSources → PathsLeadToWhatIsThere → DifferOnlyWhereAltered
 differ_only runs answers leads from to place path shadow style sound off h = elim (same_or_altered sound off h) [

@@ -69,7 +69,7 @@ pub record IsRefreshing (old new : SessionState) (done : List PlaceValue) (k : �
 
 pub refreshing-start : (s : SessionState) → IsSound s → IsRefreshing s s [] 0
 refreshing-start s sound = record {
-  so_far = record { crates = refl; tables = KeepsTables-refl _; files = refl; due = refl; others = λ id off. refl; sound = sound };
+  so_far = record { crates = refl; tables = KeepsTables-refl _; sources = refl; due = refl; others = λ id off. refl; sound = sound };
   below = λ j h. absurd (omega arith);
 }
 
@@ -91,7 +91,7 @@ refreshing-more {old} {mid} {done} k r new p sound within on is =
       so_far = record {
         crates = is.crates ∙ p.so_far.crates;
         tables = KeepsTables-trans _ _ _ p.so_far.tables is.tables;
-        files = is.files ∙ p.so_far.files;
+        sources = is.sources ∙ p.so_far.sources;
         due = p.so_far.due
             ∙ ap (λ (ids : List MapId). done ++ map root_place ids) (due_first mid new k r within p.below on is)
             ∙ sym (append_assoc done (root_place (id_of k) ∷ []) (due_places new));
@@ -113,7 +113,7 @@ refreshing-grown {old} {mid} {new} {done} k p grown =
       so_far = record {
         crates = grown.crates ∙ p.so_far.crates;
         tables = KeepsTables-trans _ _ _ p.so_far.tables grown.tables;
-        files = grown.files ∙ p.so_far.files;
+        sources = grown.sources ∙ p.so_far.sources;
         due = p.so_far.due ∙ (λ i. done ++ map root_place (filter (λ (id : MapId). is_none (kept_in (sym grown.kept i) id)) (places_from 0 (sym grown.crates i))));
         others = λ id off. ap (λ (kept : Resolutions). kept_in kept id) grown.kept ∙ p.so_far.others id off;
         sound = grown.sound;

@@ -1,28 +1,25 @@
--- What an edit of a file marks, and what it leaves.
+-- What an edit of a source marks, and what it leaves.
 use Rattle.std.specs.Prelude.{is_some}
-use Rattle.std.specs.Option.{option_and_then}
-use Rattle.std.proofs.Common.{◌≡◌, ◌≢◌, ℕ, nat_eq, Bool, true, false, nat_lt, if◌then◌else◌, length, Option, Some, None, Err, refl, sym, subst, ap, ◌∙◌, Contains, List}
-use Rattle.std.specs.Cmp.Lexicographic.{bytes_decides, pointwise}
+use Rattle.std.proofs.Common.{◌≡◌, ◌≢◌, ℕ, Bool, true, false, nat_lt, if◌then◌else◌, length, Option, Some, None, Err, refl, sym, subst, ap, ◌∙◌, Contains, List, option_map}
 use Rattle.hir_base.specs.CfgOptions.{is_set}
 use Rattle.hir_base.specs.ModPath.{Path}
 use Rattle.hir_base.specs.Place.{PlaceValue}
-use Rattle.hir_base.specs.declared.ast_id.AstKind.TheVariants.{Enum}
-use Rattle.hir_item_tree.specs.SideLists.{SideEntry, entry_of, entry_variants}
-use Rattle.hir_item_tree.specs.declared.tree_id.TreeKey.{TreeKey}
-use Rattle.hir_item_tree.specs.SyntaxIds.{node_id}
-use Rattle.hir_tables.specs.Tables.{KeepsTables, TablesValue}
-use Rattle.hir_tables.proofs.Growth.{KeepsTables-refl}
-use Rattle.hir_base.specs.declared.ids.Crate.{Crate}
+use Rattle.hir_base.specs.declared.ast_id.EntryId.{EntryId}
 use Rattle.hir_base.specs.declared.ids.MapId.{MapId}
 use Rattle.hir_item_tree.specs.BodyTexts.{BodyTextsLeaveTheSides, BodyTextsLeaveTheTree, source_without_bodies}
-use Rattle.hir_item_tree.specs.ItemTree.{Tree}
 use Rattle.hir_item_tree.specs.Source.{SourceValue}
+use Rattle.hir_item_tree.specs.SourceTree.{SourceTreeValue}
+use Rattle.hir_item_tree.specs.declared.tree_id.TreeKey.{TreeKey}
+use Rattle.hir_tables.specs.SourcePlaces.{ExpansionValue, SourcePlaceValue, expansion, file}
+use Rattle.hir_tables.specs.Tables as numbers
+use Rattle.hir_tables.specs.Tables.{KeepsTables, TablesValue, source_of}
+use Rattle.hir_tables.proofs.Growth.{KeepsTables-refl}
 use Rattle.hir_def_map.specs.Overlay.{no_maps}
-use Rattle.hir_def_collector.specs.Workspace.{Workspace}
-use Rattle.hir_def_collector.specs.Keys.{Look, enum_tree, look, of_map, of_tree, of_variants}
+use Rattle.hir_def_collector.specs.Workspace.{EntryLook, Workspace}
+use Rattle.hir_def_collector.specs.Keys.{Look, look, of_entry, of_input, of_map, of_text, of_tree, of_variants}
 use Rattle.hir_def_collector.specs.declared.source_database.Key.{Key}
 use Rattle.hir_def_collector.specs.declared.source_database.Key.TheVariants as keys
-use Rattle.hir_wire.specs.Edits.{set_file, remove_file}
+use Rattle.hir_wire.specs.Edits.{EntryValue}
 use Rattle.hir_wire.specs.declared.command.Shadow.{Shadow}
 use Rattle.hir_wire.specs.declared.command.MacroStyle.{MacroStyle}
 use Rattle.hir_wire.specs.declared.reply.Status.TheVariants as status
@@ -30,19 +27,24 @@ use Rattle.hir_session.specs.declared.error.QueryError.TheVariants as error
 use Rattle.hir_session.specs.Status.{map_of}
 use Rattle.hir_session.specs.Answers.{answer_by, answer_of}
 use Rattle.hir_session.specs.Crates.{CrateValue, crate_in, options_in}
-use Rattle.hir_session.specs.Files.{Files, file_at, front_in, path_in, edited_at, tree_under, workspace_in}
+use Rattle.hir_session.specs.Entries.{entry_at, look_of, source_of as source_in_entry}
+use Rattle.hir_session.specs.Files.{file_at}
+use Rattle.hir_session.specs.KeySources.{key_place, key_tree}
 use Rattle.hir_session.specs.SessionState.{SessionState, Resolution, workspace_of, follows, kept_of, is_marked, IsSound}
+use Rattle.hir_session.specs.SourceEdits.{SourceEditValue, IsSeenAlike, edit_of, edited, of_expansion, of_file, place_of, source_by}
+use Rattle.hir_session.specs.SourceTable.{SourceTable, front_in, source_at, tree_under, workspace_in}
+use Rattle.hir_session.specs.SourceTrees.{is_place}
 use Rattle.hir_session.specs.Spread.{Spread}
 use Rattle.hir_session.specs.Spread.Spread.{here, depends}
 use Rattle.hir_session.specs.Marks.{IsTouched}
 use Rattle.hir_session.specs.Marks.IsTouched.{before, asked_for}
-use Rattle.hir_session.specs.EditedFiles.{asked_under, is_path, seen_at}
+use Rattle.hir_session.specs.EditedSources.{seen_at}
 use Rattle.hir_session.specs.Changes.{Becomes}
 use Rattle.hir_session.specs.Due.{IsBehind}
-use Rattle.hir_session.specs.Laws.{AnswersAlike, BodyEditsMarkNothing, BodyEditsLeaveAnswers, SetAbsentFileMarks, RemovePresentFileMarks, RemoveAbsentFileMarksNothing, RemoveAbsentFileLeavesAnswers, UnaskedFilesMarkNothing, UnaskedFilesLeaveAnswers, IsUnasked, key_path}
+use Rattle.hir_session.specs.Laws.{AnswersAlike, BodyEditsMarkNothing, BodyEditsLeaveAnswers, SetAbsentFileMarks, RemovePresentFileMarks, RemoveAbsentFileMarksNothing, RemoveAbsentFileLeavesAnswers, SetAbsentExpansionMarks, RemovePresentExpansionMarks, RemoveAbsentExpansionMarksNothing, RemoveAbsentExpansionLeavesAnswers, UnaskedSourcesMarkNothing, UnaskedSourcesLeaveAnswers, IsUnasked}
 use Rattle.hir_session.proofs.Differ.{alike_answer, unmarked_behind}
 use Rattle.hir_session.proofs.Truth.{clash, on_bool}
-use Rattle.hir_session.proofs.FileLemmas.{look-other, look-same, look-differs}
+use Rattle.hir_session.proofs.SourceLemmas.{beside-differs, look-apart, look-differs, look-same, no_value, one_value, place_same, same_place, treeless-same}
 
 -- each key that a run asked for sees what it saw
 abbrev AreUnaltered : SessionState → Workspace → Type 0
@@ -57,39 +59,50 @@ unspread {s} sound same (depends k d among sp) = on_bool (is_marked s k)
     (λ off. clash (unspread sound same sp) (sound.closed k d off among))
 
 -- an edit that leaves each such key as it was changes no mark
-unaltered_marks : {old new : SessionState} {files : Files} → IsSound old → Becomes old files new
-    → AreUnaltered old (workspace_in old.crates files) → (k : MapId) → is_marked new k ≡ is_marked old k
+unaltered_marks : {old new : SessionState} {sources : SourceTable} → IsSound old → Becomes old sources new
+    → AreUnaltered old (workspace_in old.crates sources) → (k : MapId) → is_marked new k ≡ is_marked old k
 unaltered_marks {old} {new} sound is same k = on_bool (is_marked new k)
     (λ on. on ∙ sym (unspread sound same (is.only k on)))
     (λ off. on_bool (is_marked old k)
     (λ on. clash (is.all k (here k (before on))) off)
     (λ too. off ∙ sym too))
 
--- an edit of a file after which each key that asks for it sees what it saw leaves each key as it was
-same_looks : (s : SessionState) (path : List ℕ) (there : Option SourceValue)
-    → ((k : ℕ) (key : Key) → seen_at (tree_under s.crates k (Some path) there) key ≡ seen_at (tree_under s.crates k (Some path) (file_at s.files path)) key)
-    → (key : Key) → look s.tables (workspace_in s.crates (edited_at s.files path there)) no_maps key ≡ look s.tables (workspace_of s) no_maps key
-same_looks s path there same key = go (asked_under s.tables path key) refl
+-- an edit after which each key that asks for the source sees what it saw leaves each key as it was
+same_looks : (s : SessionState) (edit : SourceEditValue)
+    → ((k : ℕ) (key : Key) → seen_at (tree_under s.crates k (place_of edit) (source_by edit)) key ≡ seen_at (tree_under s.crates k (place_of edit) (source_at s.sources (place_of edit))) key)
+    → IsSeenAlike s.sources edit
+    → (key : Key) → look s.tables (workspace_in s.crates (edited s.sources edit)) no_maps key ≡ look s.tables (workspace_of s) no_maps key
+same_looks s edit same alike key = go (key_place s.tables key) refl
   where
-    go : (o : Option Crate) → asked_under s.tables path key ≡ o
-        → look s.tables (workspace_in s.crates (edited_at s.files path there)) no_maps key ≡ look s.tables (workspace_of s) no_maps key
-    go None is = look-other s.crates s.tables s.files path there key is
-    go (Some krate) is = look-same s.crates s.tables s.files path there key krate _ _ is refl refl (same krate.0 key)
+    by : (o : Option TreeKey) → key_tree key ≡ o → key_place s.tables key ≡ Some (place_of edit)
+        → look s.tables (workspace_in s.crates (edited s.sources edit)) no_maps key ≡ look s.tables (workspace_of s) no_maps key
+    by None is asks = treeless-same s.crates s.tables s.sources edit key is asks alike
+    by (Some tree) is asks = look-same s.crates s.tables s.sources edit key tree is asks _ _ refl refl (same tree.krate.0 key)
 
--- the tree of a file of this path is asked for under the key's crate
-asks : (tables : TablesValue) (path : List ℕ) (key : TreeKey) → path_in tables key.id ≡ Some path → asked_under tables path (keys.Tree key) ≡ Some key.krate
-asks tables path key at =
-    let on : is_path path (path_in tables key.id) ≡ true = subst (λ (o : Option (List ℕ)). is_path path o ≡ true) (sym at) ((bytes_decides path path).1 refl) in
-    rw on refl
+    go : (o : Option SourcePlaceValue) → key_place s.tables key ≡ o
+        → look s.tables (workspace_in s.crates (edited s.sources edit)) no_maps key ≡ look s.tables (workspace_of s) no_maps key
+    go None is = look-apart s.crates s.tables s.sources edit key (λ at. no_value (sym is ∙ at))
+    go (Some q) is = on_bool (is_place (place_of edit) q)
+        (λ on. by (key_tree key) refl (is ∙ ap (λ (p : SourcePlaceValue). Some p) (sym (place_same (place_of edit) q on))))
+        (λ off. look-apart s.crates s.tables s.sources edit key (λ at. clash (same_place edit q (one_value (sym at ∙ is))) off))
 
 -- a file whose trees become others marks what asked for it
 altered_marks : {old new : SessionState} (path : List ℕ) (there : Option SourceValue) (k : MapId) (found : Resolution) (key : TreeKey)
-    → (seen_at (tree_under old.crates key.krate.0 (Some path) there) (keys.Tree key) ≢ seen_at (tree_under old.crates key.krate.0 (Some path) (file_at old.files path)) (keys.Tree key))
-    → Becomes old (edited_at old.files path there) new → kept_of old k ≡ Some found → Contains found.asked (keys.Tree key)
-    → path_in old.tables key.id ≡ Some path → is_marked new k ≡ true
+    → (seen_at (tree_under old.crates key.krate.0 (file path) there) (keys.Tree key) ≢ seen_at (tree_under old.crates key.krate.0 (file path) (file_at old.sources.files path)) (keys.Tree key))
+    → Becomes old (edited old.sources (of_file path there)) new → kept_of old k ≡ Some found → Contains found.asked (keys.Tree key)
+    → source_of old.tables key.id ≡ Some (file path) → is_marked new k ≡ true
 altered_marks {old} {new} path there k found key other is kept asked at =
     is.all k (here k (asked_for (keys.Tree key) found kept asked
-    (look-differs old.crates old.tables old.files path there (keys.Tree key) key.krate _ _ (asks old.tables path key at) refl refl other)))
+    (look-differs old.crates old.tables old.sources (of_file path there) (keys.Tree key) key refl at _ _ refl refl other)))
+
+-- so does an expansion that is no longer seen as it was
+unlike_marks : {old new : SessionState} (key : ExpansionValue) (there : Option EntryValue) (k : MapId) (found : Resolution) (number : EntryId)
+    → ¬ IsSeenAlike old.sources (of_expansion key there)
+    → Becomes old (edited old.sources (of_expansion key there)) new → kept_of old k ≡ Some found → Contains found.asked (keys.Expansion number)
+    → numbers.entry_at old.tables number ≡ Some key → is_marked new k ≡ true
+unlike_marks {old} {new} key there k found number ne is kept asked at =
+    is.all k (here k (asked_for (keys.Expansion number) found kept asked
+    (beside-differs old.crates old.tables old.sources (of_expansion key there) number (ap (λ (o : Option ExpansionValue). option_map expansion o) at) ne)))
 
 -- a marked place has an answer that tells of no more than its crate's number
 stale_answer : (s : SessionState) (place : PlaceValue) (path : Path) (shadow : Shadow) (style : Option MacroStyle) → is_marked s (map_of place) ≡ true
@@ -99,7 +112,7 @@ stale_answer s place path shadow style on = on_bool (nat_lt place.krate.0 (lengt
     (λ not_there. rw not_there refl)
 
 -- and no answer
-unaltered_answers : {old new : SessionState} {files : Files} → IsSound old → Becomes old files new → AreUnaltered old (workspace_in old.crates files) → AnswersAlike old new
+unaltered_answers : {old new : SessionState} {sources : SourceTable} → IsSound old → Becomes old sources new → AreUnaltered old (workspace_in old.crates sources) → AnswersAlike old new
 unaltered_answers {old} {new} sound is same place path shadow style = on_bool (is_marked old (map_of place))
     (λ on. stale_answer new place path shadow style (unaltered_marks sound is same (map_of place) ∙ on)
     ∙ ap (λ (cs : List CrateValue). answer_by (if nat_lt place.krate.0 (length cs) then status.Stale else status.Unknown) (Err error.UnknownPlace)) is.crates
@@ -113,26 +126,33 @@ unaltered_answers {old} {new} sound is same place path shadow style = on_bool (i
       kept = λ j behind. is.kept j (still j behind);
     }) is.tables)
 
--- what is seen of a source with other bodies is the same
-same_seen : BodyTextsLeaveTheTree → BodyTextsLeaveTheSides → (crates : List CrateValue) (path : List ℕ) (was source : SourceValue) → source_without_bodies was ≡ source_without_bodies source → (k : ℕ) (key : Key)
-    → seen_at (tree_under crates k (Some path) (Some source)) key ≡ seen_at (tree_under crates k (Some path) (Some was)) key
-same_seen law sides crates path was source alike k (keys.Tree key) =
-    ap (λ (t : Tree). of_tree (record { present = true; tree = t })) (law (is_set (options_in crates k)) (front_in (crate_in crates k) (Some path)) source was (sym alike))
-same_seen law sides crates path was source alike k (keys.Variants id) =
-    ap (λ (es : List SideEntry). of_variants (option_and_then entry_variants (entry_of (node_id Enum id.loc.id) es))) (sides (is_set (options_in crates k)) source was (sym alike))
-same_seen law sides crates path was source alike k (keys.Map id) = refl
+-- what a source has with other bodies is the same
+same_tree : BodyTextsLeaveTheTree → BodyTextsLeaveTheSides → (crates : List CrateValue) (place : SourcePlaceValue) (was source : SourceValue) → source_without_bodies was ≡ source_without_bodies source → (k : ℕ)
+    → tree_under crates k place (Some source) ≡ tree_under crates k place (Some was)
+same_tree law sides crates place was source alike k = λ i. record {
+  present = true;
+  tree = law (is_set (options_in crates k)) (front_in (crate_in crates k) place) source was (sym alike) i;
+  sides = sides (is_set (options_in crates k)) source was (sym alike) i;
+}
 
 -- a file that is set to a source with other bodies leaves each key as it was
-same_but_bodies : BodyTextsLeaveTheTree → BodyTextsLeaveTheSides → (s : SessionState) (path : List ℕ) (was source : SourceValue) → file_at s.files path ≡ Some was
+same_but_bodies : BodyTextsLeaveTheTree → BodyTextsLeaveTheSides → (s : SessionState) (path : List ℕ) (was source : SourceValue) → file_at s.sources.files path ≡ Some was
     → source_without_bodies was ≡ source_without_bodies source
-    → (key : Key) → look s.tables (workspace_in s.crates (edited_at s.files path (Some source))) no_maps key ≡ look s.tables (workspace_of s) no_maps key
-same_but_bodies law sides s path was source is_was alike = same_looks s path (Some source) (λ k key.
-    same_seen law sides s.crates path was source alike k key ∙ ap (λ (o : Option SourceValue). seen_at (tree_under s.crates k (Some path) o) key) (sym is_was))
+    → (key : Key) → look s.tables (workspace_in s.crates (edited s.sources (of_file path (Some source)))) no_maps key ≡ look s.tables (workspace_of s) no_maps key
+same_but_bodies law sides s path was source is_was alike = same_looks s (of_file path (Some source)) (λ k key.
+    ap (λ (t : SourceTreeValue). seen_at t key) (same_tree law sides s.crates (file path) was source alike k ∙ ap (λ (o : Option SourceValue). tree_under s.crates k (file path) o) (sym is_was))) tt
 
 -- a file that is removed where none is leaves each key as it was
-same_without : (s : SessionState) (path : List ℕ) → file_at s.files path ≡ None
-    → (key : Key) → look s.tables (workspace_in s.crates (edited_at s.files path None)) no_maps key ≡ look s.tables (workspace_of s) no_maps key
-same_without s path absent = same_looks s path None (λ k key. ap (λ (o : Option SourceValue). seen_at (tree_under s.crates k (Some path) o) key) (sym absent))
+same_without : (s : SessionState) (path : List ℕ) → file_at s.sources.files path ≡ None
+    → (key : Key) → look s.tables (workspace_in s.crates (edited s.sources (of_file path None))) no_maps key ≡ look s.tables (workspace_of s) no_maps key
+same_without s path absent = same_looks s (of_file path None) (λ k key. ap (λ (o : Option SourceValue). seen_at (tree_under s.crates k (file path) o) key) (sym absent)) tt
+
+-- so does an expansion
+same_without_expansion : (s : SessionState) (key : ExpansionValue) → entry_at s.sources.entries key ≡ None
+    → (k : Key) → look s.tables (workspace_in s.crates (edited s.sources (of_expansion key None))) no_maps k ≡ look s.tables (workspace_of s) no_maps k
+same_without_expansion s key absent = same_looks s (of_expansion key None)
+    (λ n k. ap (λ (o : Option EntryValue). seen_at (tree_under s.crates n (expansion key) (source_in_entry o)) k) (sym absent))
+    (ap (λ (o : Option EntryValue). look_of o) absent)
 
 pub body_edits_mark_nothing : BodyTextsLeaveTheTree → BodyTextsLeaveTheSides → BodyEditsMarkNothing
 body_edits_mark_nothing law sides old new path was source sound is_was alike is =
@@ -148,50 +168,64 @@ remove_absent_file_marks_nothing old new path sound absent is = unaltered_marks 
 pub remove_absent_file_leaves_answers : RemoveAbsentFileLeavesAnswers
 remove_absent_file_leaves_answers old new path sound absent is = unaltered_answers sound is (λ id r key kept has. same_without old path absent key)
 
+pub remove_absent_expansion_marks_nothing : RemoveAbsentExpansionMarksNothing
+remove_absent_expansion_marks_nothing old new key sound absent is = unaltered_marks sound is (λ id r k kept has. same_without_expansion old key absent k)
+
+pub remove_absent_expansion_leaves_answers : RemoveAbsentExpansionLeavesAnswers
+remove_absent_expansion_leaves_answers old new key sound absent is = unaltered_answers sound is (λ id r k kept has. same_without_expansion old key absent k)
+
+-- ---- what is there, and what isn't
+
 -- whether what is seen is there
 is_there : Look → Bool
 is_there (of_tree t) = t.present
 is_there (of_variants vs) = false
+is_there (of_text text) = false
+is_there (of_input text) = false
+is_there (of_entry e) = false
 is_there (of_map m) = false
 
 -- what is there is not absent
-there_is_none : (crates : List CrateValue) (key : TreeKey) (path : List ℕ) (x : SourceValue) (o : Option SourceValue) → o ≡ None
-    → seen_at (tree_under crates key.krate.0 (Some path) (Some x)) (keys.Tree key) ≢ seen_at (tree_under crates key.krate.0 (Some path) o) (keys.Tree key)
+there_is_none : (crates : List CrateValue) (key : TreeKey) (place : SourcePlaceValue) (x : SourceValue) (o : Option SourceValue) → o ≡ None
+    → seen_at (tree_under crates key.krate.0 place (Some x)) (keys.Tree key) ≢ seen_at (tree_under crates key.krate.0 place o) (keys.Tree key)
 unfolding is_there
-there_is_none crates key path x o absent h = clash (sym (ap is_there h)) (ap (λ (p : Option SourceValue). is_some p) absent)
+there_is_none crates key place x o absent h = clash (sym (ap is_there h)) (ap (λ (p : Option SourceValue). is_some p) absent)
 
 -- nor the other way round
-none_is_there : (crates : List CrateValue) (key : TreeKey) (path : List ℕ) (x : SourceValue) (o : Option SourceValue) → o ≡ Some x
-    → seen_at (tree_under crates key.krate.0 (Some path) None) (keys.Tree key) ≢ seen_at (tree_under crates key.krate.0 (Some path) o) (keys.Tree key)
+none_is_there : (crates : List CrateValue) (key : TreeKey) (place : SourcePlaceValue) (x : SourceValue) (o : Option SourceValue) → o ≡ Some x
+    → seen_at (tree_under crates key.krate.0 place None) (keys.Tree key) ≢ seen_at (tree_under crates key.krate.0 place o) (keys.Tree key)
 unfolding is_there
-none_is_there crates key path x o there h = clash (ap (λ (p : Option SourceValue). is_some p) there) (sym (ap is_there h))
+none_is_there crates key place x o there h = clash (ap (λ (p : Option SourceValue). is_some p) there) (sym (ap is_there h))
 
 pub set_absent_file_marks : SetAbsentFileMarks
 set_absent_file_marks old new path source k found key absent is kept asked at =
-    altered_marks path (Some source) k found key (there_is_none old.crates key path source (file_at old.files path) absent) is kept asked at
+    altered_marks path (Some source) k found key (there_is_none old.crates key (file path) source (file_at old.sources.files path) absent) is kept asked at
 
 pub remove_present_file_marks : RemovePresentFileMarks
 remove_present_file_marks old new path was k found key there is kept asked at =
-    altered_marks path None k found key (none_is_there old.crates key path was (file_at old.files path) there) is kept asked at
+    altered_marks path None k found key (none_is_there old.crates key (file path) was (file_at old.sources.files path) there) is kept asked at
 
--- a file for which no run asked leaves each key that one asked for as it was
-unasked_looks : (s : SessionState) (path : List ℕ) (there : Option SourceValue) → IsUnasked s path → AreUnaltered s (workspace_in s.crates (edited_at s.files path there))
-unasked_looks s path there none id r key kept has = look-other s.crates s.tables s.files path there key (not_asked key (none.each id r key kept has))
-  where
-    off : (o : Option (List ℕ)) → o ≢ Some path → is_path path o ≡ false
-    off None ne = refl
-    off (Some q) ne = on_bool (pointwise nat_eq q path) (λ on. absurd (ne (ap (λ (p : List ℕ). Some p) ((bytes_decides q path).0 on)))) (λ e. e)
+-- an expansion that is there isn't seen as one that is absent
+looks_apart : (o : Option EntryValue) (e : EntryValue) → o ≡ None → look_of o ≢ look_of (Some e)
+looks_apart o e absent h = clash (sym (ap (λ (l : EntryLook). l.present) h)) (ap (λ (x : Option EntryValue). (look_of x).present) absent)
 
-    not_asked : (key : Key) → key_path s.tables key ≢ Some path → asked_under s.tables path key ≡ None
-    not_asked (keys.Tree k) ne = let apart = off (path_in s.tables k.id) ne in rw apart refl
-    not_asked (keys.Variants e) ne = let apart = off (path_in s.tables (enum_tree e)) ne in rw apart refl
-    not_asked (keys.Map m) ne = refl
+pub set_absent_expansion_marks : SetAbsentExpansionMarks
+set_absent_expansion_marks old new key entry k found number absent is kept asked at =
+    unlike_marks key (Some entry) k found number (looks_apart (entry_at old.sources.entries key) entry absent) is kept asked at
+
+pub remove_present_expansion_marks : RemovePresentExpansionMarks
+remove_present_expansion_marks old new key was k found number there is kept asked at =
+    unlike_marks key None k found number (λ h. looks_apart None was refl (sym h ∙ ap (λ (o : Option EntryValue). look_of o) there)) is kept asked at
+
+-- ---- sources for which no run asked
+
+-- such a one leaves each key that a run asked for as it was
+unasked_looks : (s : SessionState) (edit : SourceEditValue) → IsUnasked s (place_of edit) → AreUnaltered s (workspace_in s.crates (edited s.sources edit))
+unasked_looks s edit none id r key kept has = look-apart s.crates s.tables s.sources edit key (none.each id r key kept has)
 
 -- so it marks nothing
-pub unasked_files_mark_nothing : UnaskedFilesMarkNothing
-unasked_files_mark_nothing old new (set_file path source) sound none is = unaltered_marks sound is (unasked_looks old path (Some source) none)
-unasked_files_mark_nothing old new (remove_file path) sound none is = unaltered_marks sound is (unasked_looks old path None none)
+pub unasked_sources_mark_nothing : UnaskedSourcesMarkNothing
+unasked_sources_mark_nothing old new edit sound none is = unaltered_marks sound is (unasked_looks old (edit_of edit) none)
 
-pub unasked_files_leave_answers : UnaskedFilesLeaveAnswers
-unasked_files_leave_answers old new (set_file path source) sound none is = unaltered_answers sound is (unasked_looks old path (Some source) none)
-unasked_files_leave_answers old new (remove_file path) sound none is = unaltered_answers sound is (unasked_looks old path None none)
+pub unasked_sources_leave_answers : UnaskedSourcesLeaveAnswers
+unasked_sources_leave_answers old new edit sound none is = unaltered_answers sound is (unasked_looks old (edit_of edit) none)

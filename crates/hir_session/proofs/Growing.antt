@@ -1,7 +1,6 @@
 -- An answer that leaves nothing out stays as tables grow.
-use Rattle.std.proofs.Common.{◌≡◌, ◌⊎◌, inl, inr, ℕ, true, is_some, List, Option, None, Some, option_map, slice_get, refl, sym, ap, ◌∙◌}
+use Rattle.std.proofs.Common.{◌≡◌, ◌⊎◌, inl, inr, ℕ, zero, suc, true, is_some, List, Option, None, Some, option_map, slice_get, refl, sym, ap, ◌∙◌, subst}
 use Rattle.std.specs.Option.{option_and_then}
-use Rattle.hir_base.specs.Locations.{KeepsNumbers}
 use Rattle.hir_base.specs.ModPath.{Path}
 use Rattle.hir_base.specs.declared.ast_id.BlockId.{BlockId}
 use Rattle.hir_base.specs.declared.ast_id.HirFileId.{HirFileId}
@@ -13,6 +12,7 @@ use Rattle.hir_base.specs.declared.ids.Crate.{Crate}
 use Rattle.hir_base.specs.declared.ids.ModuleDefId.{ModuleDefId}
 use Rattle.hir_base.specs.declared.ids.ModuleDefId.TheVariants as def
 use Rattle.hir_base.specs.declared.ids.ModuleId.{ModuleId}
+use Rattle.hir_base.specs.declared.macro_kind.MacroCallLoc.{MacroCallLoc}
 use Rattle.hir_base.specs.declared.macro_kind.MacroId.{MacroId}
 use Rattle.hir_base.specs.declared.macro_kind.MacroId.TheVariants as macro
 use Rattle.hir_scope.specs.PerNs.{Item}
@@ -22,6 +22,8 @@ use Rattle.hir_scope.specs.declared.imports.ImportOrGlob.{ImportOrGlob}
 use Rattle.hir_scope.specs.declared.imports.ImportOrGlob.TheVariants as value_import
 use Rattle.hir_scope.specs.declared.visibility.Visibility.{Visibility}
 use Rattle.hir_scope.specs.declared.visibility.Visibility.TheVariants as vis
+use Rattle.hir_tables.specs.Tables.{TablesValue, KeepsTables, call_at}
+use Rattle.hir_def_map.specs.Diagnostics.{call_node}
 use Rattle.hir_def_map.specs.Scoping.{resolution_of}
 use Rattle.hir_def_map.specs.State.{Local, ModuleValue}
 use Rattle.hir_def_map.specs.Overlay.{Maps, module_in}
@@ -36,7 +38,8 @@ use Rattle.hir_wire.specs.declared.command.MacroStyle.{MacroStyle}
 use Rattle.hir_wire.specs.declared.command.Shadow.{Shadow}
 use Rattle.hir_session.specs.Answers.{answer_in, asking_of}
 use Rattle.hir_session.specs.LeavesOut.{LeavesNothingOut}
-use Rattle.hir_session.specs.SourceItems.{adt_definition, answered_macro, answered_type, answered_value, definition_of, file_path, file_source, import_source, item_in, item_of, macro_definition, maybe_source, module_by, module_definition, source_of, together, use_source, value_import_source, visibility_source}
+use Rattle.hir_session.specs.SourceCalls.{and_call, file_source, most_calls, source_call, source_of, source_of_call, source_within}
+use Rattle.hir_session.specs.SourceItems.{adt_definition, answered_macro, answered_type, answered_value, definition_of, import_source, item_in, item_of, macro_definition, maybe_source, module_by, module_definition, together, use_source, value_import_source, visibility_source}
 use Rattle.hir_session.proofs.Truth.{clash}
 
 -- what was there stays
@@ -62,18 +65,27 @@ all d e i j v w (inr a) (inl none) c = inl (ap (λ (x : Option (Option ImportSou
 all d e i j v w (inr a) (inr b) (inl none) = inl (ap (together d i) none ∙ no_visibility d i)
 all d e i j v w (inr a) (inr b) (inr c) = inr (λ k. together (a k) (b k) (c k))
 
-module _ (few more : List (List ℕ)) (keeps : KeepsNumbers few more) where
-  path_stays : (file : HirFileId) → Stays (file_path few file) (file_path more file)
-  path_stays (File f) = go (slice_get few f.file_id.0) refl
+module _ (few more : TablesValue) (keeps : KeepsTables few more) where
+  within_stays : (n : ℕ) (file : HirFileId) (block : Option BlockId) → Stays (source_within n few file block) (source_within n more file block)
+  within_stays n file (Some b) = inl refl
+  within_stays n (File f) None = mapped file_source (slice_get few.files f.file_id.0) (slice_get more.files f.file_id.0) (go (slice_get few.files f.file_id.0) refl)
     where
-      go : (o : Option (List ℕ)) → slice_get few f.file_id.0 ≡ o → Stays (slice_get few f.file_id.0) (slice_get more f.file_id.0)
+      go : (o : Option (List ℕ)) → slice_get few.files f.file_id.0 ≡ o → Stays (slice_get few.files f.file_id.0) (slice_get more.files f.file_id.0)
       go None s = inl s
-      go (Some q) s = inr (keeps f.file_id.0 q s ∙ sym s)
-  path_stays (Macro call) = inl refl
+      go (Some q) s = inr (keeps.files f.file_id.0 q s ∙ sym s)
+  within_stays zero (Macro c) None = inl refl
+  within_stays (suc n) (Macro c) None = go (call_at few c) refl
+    where
+      go : (o : Option MacroCallLoc) → call_at few c ≡ o → Stays (source_of_call n few (call_at few c)) (source_of_call n more (call_at more c))
+      go None s = inl (ap (source_of_call n few) s)
+      go (Some call) s =
+          subst (λ (o : Option MacroCallLoc). Stays (source_of_call n few o) (source_of_call n more (call_at more c))) (sym s)
+          (subst (λ (o : Option MacroCallLoc). Stays (source_of_call n few (Some call)) (source_of_call n more o)) (sym (keeps.calls c.0 call s))
+          (mapped (and_call (source_call call.kind)) (source_within n few (call_node call.kind).file_id (call_node call.kind).block) (source_within n more (call_node call.kind).file_id (call_node call.kind).block)
+          (within_stays n (call_node call.kind).file_id (call_node call.kind).block)))
 
   source_stays : (file : HirFileId) (block : Option BlockId) → Stays (source_of few file block) (source_of more file block)
-  source_stays file None = mapped file_source (file_path few file) (file_path more file) (path_stays file)
-  source_stays file (Some b) = inl refl
+  source_stays file block = within_stays (most_calls file) file block
 
   item_stays : (krate : Crate) (kind : SourceKind) (file : HirFileId) (block : Option BlockId) (id : SyntaxId) → Stays (item_of few krate kind file block id) (item_of more krate kind file block id)
   item_stays krate kind file block id = mapped (item_in krate kind id) (source_of few file block) (source_of more file block) (source_stays file block)

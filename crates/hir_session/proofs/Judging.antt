@@ -1,38 +1,35 @@
 -- The places that were judged so far, and the keys of one.
-use Rattle.std.proofs.Common.{◌≡◌, ◌≢◌, Some, None, Bool, if◌then◌else◌, ◌⊎◌, inl, inr, ℕ, zero, suc, ◌+◌, ◌<◌, ◌≤◌, true, false, is_some, List, [], ◌∷◌, ◌++◌, length, slice_index_or, arith, Option, refl, sym, ap, ◌∙◌, subst, Contains, map}
+use Rattle.std.proofs.Common.{◌≡◌, ◌≢◌, Some, None, ◌⊎◌, inl, inr, ℕ, zero, suc, ◌+◌, ◌<◌, ◌≤◌, true, false, is_some, List, [], ◌∷◌, ◌++◌, length, slice_index_or, arith, Option, refl, sym, ap, ◌∙◌, subst, Contains, map}
 use Rattle.std.specs.List.{list_any}
-use Rattle.std.proofs.lemmas.Bool.{eqb-true}
 use Rattle.std.proofs.lemmas.Map.Lookups.{CmpEqualImpliesEq}
 use Rattle.std.proofs.lemmas.Map.Views.{btree_set_contains_iff}
 use Rattle.std.specs.BTreeSet.{BTreeSet}
 use Rattle.std.specs.Ordering.{is_eq}
 use Rattle.std.proofs.lemmas.List.Elements.{Contains-append_left, Contains-append_right, Contains-append_cases}
-use Rattle.hir_base.specs.declared.ast_id.BlockId.{BlockId}
-use Rattle.hir_base.specs.declared.ast_id.HirFileId.{HirFileId}
-use Rattle.hir_base.specs.declared.ast_id.HirFileId.TheVariants.{File, Macro}
 use Rattle.hir_base.specs.declared.ids.MapId.{MapId}
 use Rattle.hir_base.specs.contracts.ids.MapIdOrd.TheImpl as map_order
 use Rattle.hir_base.specs.contracts.ids.MapIdOrd.TheImpl.Laws.{total-law as order_total}
-use Rattle.hir_item_tree.specs.Source.{SourceValue}
 use Rattle.hir_def_map.specs.Overlay.{no_maps}
 use Rattle.hir_base.specs.declared.ids.Crate.{Crate}
-use Rattle.hir_tables.specs.Tables.{TablesValue, file_at}
-use Rattle.hir_base.specs.declared.ast_id.FileId.{FileId}
+use Rattle.hir_tables.specs.Tables.{TablesValue}
 use Rattle.hir_def_collector.specs.Asked.{IsOwnPart}
-use Rattle.hir_def_collector.specs.Keys.{AgreeOn, enum_tree, look, map_keys}
+use Rattle.hir_def_collector.specs.Keys.{AgreeOn, look, map_keys}
 use Rattle.hir_def_collector.specs.declared.source_database.Key.{Key}
-use Rattle.hir_def_collector.specs.declared.source_database.Key.TheVariants as keys
 use Rattle.hir_def_collector.specs.Workspace.{Workspace}
 use Rattle.hir_session.specs.Crates.{CrateValue}
 use Rattle.hir_session.specs.Kept.{Resolutions, kept_in}
-use Rattle.hir_session.specs.Askers.{asked_file, file_of, is_in}
-use Rattle.hir_session.specs.Files.{Files, edited_at, path_in, workspace_in}
+use Rattle.hir_session.specs.Askers.{is_in}
 use Rattle.hir_session.specs.SessionState.{Resolution}
-use Rattle.hir_session.specs.EditedFiles.{AreHit, AreJudged, HasAltered, IsAsked, IsJudged, IsNoted, IsNumberOf, asked_under, is_path}
-use Rattle.hir_session.specs.EditedFiles.IsJudged.{hit, missed}
-use Rattle.hir_session.specs.EditedFiles.IsNoted.{hit as noted, missed as unnoted}
+use Rattle.hir_session.specs.SourceEdits.{SourceEditValue, edited, place_of}
+use Rattle.hir_session.specs.SourceNumbers.{IsNumberOf, asked_number, asks, place_at}
+use Rattle.hir_session.specs.SourceTable.{SourceTable, workspace_in}
+use Rattle.hir_session.specs.EditedSources.{AreHit, AreJudged, HasAltered, IsAsked, IsJudged, IsNoted}
+use Rattle.hir_session.specs.EditedSources.IsJudged.{hit, missed}
+use Rattle.hir_session.specs.EditedSources.IsNoted.{hit as noted, missed as unnoted}
+use Rattle.hir_session.specs.declared.source_number.SourceNumber.{SourceNumber}
 use Rattle.hir_session.proofs.Depending.{any-found, found-any}
-use Rattle.hir_session.proofs.FileLemmas.{agrees_unnumbered, call_apart, look-other, numbered_tree}
+use Rattle.hir_session.proofs.NumberLemmas.{is-number, unasked-place, unnumbered-place}
+use Rattle.hir_session.proofs.SourceLemmas.{look-apart}
 use Rattle.hir_session.proofs.Ids.{equal_id}
 use Rattle.hir_session.proofs.Truth.{clash, on_bool, on_same}
 
@@ -81,13 +78,17 @@ judging-more tables v w kept ids at old new so_far (missed alike is) = subst (λ
   ];
 })
 
--- no run names a file without a number
-pub unnumbered_hit : (crates : List CrateValue) (tables : TablesValue) (F : Files) (path : List ℕ) (there : Option SourceValue) (kept : Resolutions) (hits : List MapId) → hits ≡ []
-    → ((id : FileId) → file_at tables id ≢ Some path) → AreHit tables (workspace_in crates F) (workspace_in crates (edited_at F path there)) kept hits
-unnumbered_hit crates tables F path there kept hits none apart =
-    subst (λ (ids : List MapId). AreHit tables (workspace_in crates F) (workspace_in crates (edited_at F path there)) kept ids) (sym none) (record {
+-- no run names a source without a number
+pub unnumbered_hit : (crates : List CrateValue) (tables : TablesValue) (t : SourceTable) (edit : SourceEditValue) (kept : Resolutions) (hits : List MapId) → hits ≡ []
+    → ((number : SourceNumber) → place_at tables number ≢ Some (place_of edit)) → AreHit tables (workspace_in crates t) (workspace_in crates (edited t edit)) kept hits
+unnumbered_hit crates tables t edit kept hits none apart =
+    subst (λ (ids : List MapId). AreHit tables (workspace_in crates t) (workspace_in crates (edited t edit)) kept ids) (sym none) (record {
       asked = λ id among. absurd (let past : among.0 < 0 = among.1 in omega arith);
-      missed = λ id r is. inr (agrees_unnumbered crates tables F path there r.asked apart);
+      missed = λ id r is. inr (record {
+        crates = refl;
+        config = λ krate. refl;
+        same = λ key among. look-apart crates tables t edit key (unnumbered-place tables (place_of edit) apart key);
+      });
     })
 
 -- ---- the keys of a run
@@ -111,7 +112,7 @@ module _ (tables : TablesValue) (v w : Workspace) (keys : List Key) where
       (λ ne. before j key (omega arith))
 
 -- all keys of a list are unaltered
-pub agrees_all : (crates : List CrateValue) (tables : TablesValue) (F G : Files) (keys : List Key) (k : ℕ) → length keys ≤ k
+pub agrees_all : (crates : List CrateValue) (tables : TablesValue) (F G : SourceTable) (keys : List Key) (k : ℕ) → length keys ≤ k
     → ((j : ℕ) (key : Key) → j < k → look tables (workspace_in crates G) no_maps (slice_index_or keys j key) ≡ look tables (workspace_in crates F) no_maps (slice_index_or keys j key))
     → AgreeOn tables keys (workspace_in crates F) no_maps (workspace_in crates G) no_maps
 agrees_all crates tables F G keys k all same = record {
@@ -123,19 +124,16 @@ agrees_all crates tables F G keys k all same = record {
       (same among.0 key (omega arith));
 }
 
--- so they are where none asks for the file
-pub agrees_unasked : (crates : List CrateValue) (tables : TablesValue) (F : Files) (path : List ℕ) (there : Option SourceValue) (keys : List Key)
-    → list_any (λ (key : Key). is_some (asked_under tables path key)) keys ≡ false
-    → AgreeOn tables keys (workspace_in crates F) no_maps (workspace_in crates (edited_at F path there)) no_maps
-agrees_unasked crates tables F path there keys none = record {
+-- so they are where none asks for what is edited
+agrees_unasked : (crates : List CrateValue) (tables : TablesValue) (t : SourceTable) (edit : SourceEditValue) (number : SourceNumber) (keys : List Key)
+    → IsNumberOf tables (place_of edit) number → list_any (asks tables number) keys ≡ false
+    → AgreeOn tables keys (workspace_in crates t) no_maps (workspace_in crates (edited t edit)) no_maps
+agrees_unasked crates tables t edit number keys numbered none = record {
   crates = refl;
   config = λ krate. refl;
-  same = λ key among. look-other crates tables F path there key (none_here (asked_under tables path key) (λ asked. clash (any-found (λ (key : Key). is_some (asked_under tables path key)) keys key among asked) none));
+  same = λ key among. look-apart crates tables t edit key (unasked-place tables (place_of edit) number numbered key
+      (on_bool (asks tables number key) (λ on. clash (any-found (asks tables number) keys key among on) none) (λ off. off)));
 }
-  where
-    none_here : (o : Option Crate) → (is_some o ≡ true → ⊥) → o ≡ None
-    none_here None apart = refl
-    none_here (Some c) apart = absurd (apart refl)
 
 -- ---- all keys that a run asked for
 
@@ -164,12 +162,6 @@ altered_of_own tables own all v w part found = record {
   altered = found.altered;
 }
 
--- none is noted where none of the keys asks for the file
-pub unasked_noted : (crates : List CrateValue) (tables : TablesValue) (F : Files) (path : List ℕ) (there : Option SourceValue) (keys : List Key) (id : MapId) (hits : List MapId)
-    → list_any (λ (key : Key). is_some (asked_under tables path key)) keys ≡ false
-    → IsNoted tables (workspace_in crates F) (workspace_in crates (edited_at F path there)) keys id hits hits
-unasked_noted crates tables F path there keys id hits none = unnoted (agrees_unasked crates tables F path there keys none) refl
-
 -- a place with no keys but these
 pub judged_by : (tables : TablesValue) (v w : Workspace) (r : Resolution) (own : List Key) (id : MapId) (old new : List MapId) → IsOwnPart own r.asked
     → IsNoted tables v w own id old new → IsJudged tables v w (Some r) id old new
@@ -180,40 +172,19 @@ judged_by tables v w r own id old new part (unnoted agree is) =
 
 -- ---- those that were not judged
 
--- a key of the file asks for it by its number
-of_number : (tables : TablesValue) (path : List ℕ) (number : FileId) (id : HirFileId) (b : Option BlockId) → IsNumberOf tables path number
-    → is_path path (path_in tables (record { file = id; block = b })) ≡ true → file_of id b ≡ Some number
-of_number tables path number (File f) None numbered is =
-    let same : f.file_id.0 ≡ number.0 = eqb-true f.file_id.0 number.0 (numbered_tree tables path number f None numbered ∙ is) in
-    λ i. Some (record { 0 = same i })
-of_number tables path number (File f) (Some b) numbered is = clash (numbered_tree tables path number f (Some b) numbered ∙ is) refl
-of_number tables path number (Macro call) b numbered is = clash is (call_apart tables path call b)
-
-asks : (b : Bool) (c : Crate) → is_some (if b then Some c else None) ≡ true → b ≡ true
-asks true c on = refl
-asks false c on = clash on refl
-
-asks_by_number : (tables : TablesValue) (path : List ℕ) (number : FileId) (key : Key) → IsNumberOf tables path number
-    → is_some (asked_under tables path key) ≡ true → asked_file key ≡ Some number
-asks_by_number tables path number (keys.Tree key) numbered is =
-    of_number tables path number key.id.file key.id.block numbered (asks (is_path path (path_in tables key.id)) key.krate is)
-asks_by_number tables path number (keys.Variants id) numbered is =
-    of_number tables path number id.loc.file_id id.loc.block numbered (asks (is_path path (path_in tables (enum_tree id))) id.loc.container.map.krate is)
-asks_by_number tables path number (keys.Map id) numbered is = clash is refl
-
--- where each place whose run asked for the file was judged, those are hit that were
-pub all_judged : (crates : List CrateValue) (tables : TablesValue) (F : Files) (path : List ℕ) (there : Option SourceValue) (kept : Resolutions) (number : FileId) (ids hits : List MapId)
-    → IsNumberOf tables path number
-    → ((id : MapId) (r : Resolution) (key : Key) → kept_in kept id ≡ Some r → Contains r.asked key → asked_file key ≡ Some number → Contains ids id)
-    → AreJudged tables (workspace_in crates F) (workspace_in crates (edited_at F path there)) kept ids hits
-    → AreHit tables (workspace_in crates F) (workspace_in crates (edited_at F path there)) kept hits
-all_judged crates tables F path there kept number ids hits numbered all judged = record {
+-- where each place whose run asked for the source was judged, those are hit that were
+pub all_judged : (crates : List CrateValue) (tables : TablesValue) (t : SourceTable) (edit : SourceEditValue) (kept : Resolutions) (number : SourceNumber) (ids hits : List MapId)
+    → IsNumberOf tables (place_of edit) number
+    → ((id : MapId) (r : Resolution) (key : Key) → kept_in kept id ≡ Some r → Contains r.asked key → asked_number tables key ≡ Some number → Contains ids id)
+    → AreJudged tables (workspace_in crates t) (workspace_in crates (edited t edit)) kept ids hits
+    → AreHit tables (workspace_in crates t) (workspace_in crates (edited t edit)) kept hits
+all_judged crates tables t edit kept number ids hits numbered all judged = record {
   asked = judged.asked;
-  missed = λ id r is. on_bool (list_any (λ (key : Key). is_some (asked_under tables path key)) r.asked)
+  missed = λ id r is. on_bool (list_any (asks tables number) r.asked)
       (λ some.
-      let found = found-any (λ (key : Key). is_some (asked_under tables path key)) r.asked some in
-      judged.missed id r (all id r found.0 is found.1 (asks_by_number tables path number found.0 numbered found.2)) is)
-      (λ none. inr (agrees_unasked crates tables F path there r.asked none));
+      let found = found-any (asks tables number) r.asked some in
+      judged.missed id r (all id r found.0 is found.1 (is-number tables (place_of edit) number numbered (asked_number tables found.0) found.2)) is)
+      (λ none. inr (agrees_unasked crates tables t edit number r.asked numbered none));
 }
 
 -- no two ids are tied

@@ -73,22 +73,6 @@ kept_from maps runs id map local run is_map is_local is_run =
     ∙ at_found (found_in maps id) (run_in runs id)
     ∙ sym (kept_at maps runs id)
 
--- a key that what is kept of a place asked for is one of its run
-pub asked_by_run : (maps : Store) (runs : Runs) (id : MapId) (r : CollectedValue) (key : Key) → kept_in (resolutions_in maps runs) id ≡ Some r → Contains r.asked key
-    → (run : KeptRun) × (run_in runs id ≡ Some run) × Contains run.asked key
-asked_by_run maps runs id r key is among = go (found_in maps id) (run_in runs id) refl (sym (kept_at maps runs id) ∙ is)
-  where
-    go : (o : Option Finished) (known : Option KeptRun) → run_in runs id ≡ known → option_map (λ (f : Finished). resolution_at f known) o ≡ Some r
-        → (run : KeptRun) × (run_in runs id ≡ Some run) × Contains run.asked key
-    go None known at same = absurd (let wrong : ⊥ = cc in wrong)
-    go (Some f) None at same =
-        let found : resolution_at f None ≡ r = cc in
-        let none : Contains [] key = subst (λ (x : CollectedValue). Contains x.asked key) (sym found) among in
-        absurd (let past : none.0 < 0 = none.1 in omega arith)
-    go (Some f) (Some run) at same =
-        let found : resolution_at f (Some run) ≡ r = cc in
-        (run, at, subst (λ (x : CollectedValue). Contains x.asked key) (sym found) among)
-
 -- ---- none
 
 not_found : (o : Option Finished) → option_map placed_of o ≡ None → o ≡ None

@@ -70,7 +70,8 @@ use Rattle.hir_crate_graph.specs.CrateSet.{has_crate}
 use Rattle.hir_session.specs.Crates.{transitive_in, crate_in, id_of, root_of as root_of_crate, tree_of_root}
 use Rattle.hir_session.specs.LeavesOut.{LeavesNothingOut}
 use Rattle.hir_session.specs.SessionState.{SessionState, Resolution, finished_of, is_marked, read_of, beginning_of, workspace_of, IsSound}
-use Rattle.hir_session.specs.SourceItems.{adt_definition, answered_macro, answered_type, answered_value, definition_of, file_source, import_source, item_of, macro_definition, maybe_source, module_by, module_definition, source_of, together, value_import_source, visibility_source}
+use Rattle.hir_session.specs.SourceCalls.{file_source, source_of}
+use Rattle.hir_session.specs.SourceItems.{adt_definition, answered_macro, answered_type, answered_value, definition_of, import_source, item_of, macro_definition, maybe_source, module_by, module_definition, together, value_import_source, visibility_source}
 use Rattle.hir_session.specs.Status.{module_below}
 use Rattle.hir_session.proofs.Names.{among_at, among_there}
 use Rattle.hir_session.proofs.Resolving.{behind_current, behind_extends, behind_whole, own_absent, root_means, stands_on_whole}
@@ -144,39 +145,39 @@ module _ (runs : RunsBindFromSources) (s : SessionState) (sound : IsSound s) (t 
 
 -- ---- source items of what such a test doesn't hold of
 
-module _ (paths : List (List ℕ)) (maps : Maps) where
+module _ (tables : TablesValue) (maps : Maps) where
   -- the test of what has no source item
   abbrev pub unsourced : SourceTest
-  unsourced = record { holder = λ file block. not (is_some (source_of paths file block)); shown = λ m. is_missing maps (named.Module m) }
+  unsourced = record { holder = λ file block. not (is_some (source_of tables file block)); shown = λ m. is_missing maps (named.Module m) }
 
   item_there : (krate : Crate) (kind : SourceKind) (held : HirFileId) (block : Option BlockId) (id : SyntaxId) → unsourced.holder held block ≡ false
-      → is_some (item_of paths krate kind held block id) ≡ true
-  item_there krate kind held block id f = mapped_some _ (source_of paths held block) ∙ present (is_some (source_of paths held block)) f
+      → is_some (item_of tables krate kind held block id) ≡ true
+  item_there krate kind held block id f = mapped_some _ (source_of tables held block) ∙ present (is_some (source_of tables held block)) f
 
-  by_origin : (krate : Crate) (o : ModuleOrigin) → on_origin unsourced o ≡ false → is_some (module_by paths krate o) ≡ true
+  by_origin : (krate : Crate) (o : ModuleOrigin) → on_origin unsourced o ≡ false → is_some (module_by tables krate o) ≡ true
   by_origin krate (origin.CrateRoot root) f = refl
   by_origin krate (origin.File is_mod_rs at tree number) f = item_there krate _ at.file_id tree.block at.id f
   by_origin krate (origin.Inline tree at) f = item_there krate _ at.file_id tree.block at.id f
   by_origin krate (origin.BlockExpr id block) f = absurd (true≢false f)
 
-  adt_there : (a : AdtId) → on_adt unsourced a ≡ false → is_some (adt_definition paths a) ≡ true
+  adt_there : (a : AdtId) → on_adt unsourced a ≡ false → is_some (adt_definition tables a) ≡ true
   adt_there (adt.StructId i) f = item_there i.loc.container.map.krate _ i.loc.file_id i.loc.block i.loc.id f
   adt_there (adt.UnionId i) f = item_there i.loc.container.map.krate _ i.loc.file_id i.loc.block i.loc.id f
   adt_there (adt.EnumId i) f = item_there i.loc.container.map.krate _ i.loc.file_id i.loc.block i.loc.id f
 
-  macro_there : (m : MacroId) → on_macro unsourced m ≡ false → is_some (macro_definition paths m) ≡ true
+  macro_there : (m : MacroId) → on_macro unsourced m ≡ false → is_some (macro_definition tables m) ≡ true
   macro_there (macro.Macro2Id i) f = item_there i.loc.container.map.krate _ i.loc.file_id i.loc.block i.loc.id f
   macro_there (macro.MacroRulesId i) f = item_there i.loc.container.map.krate _ i.loc.file_id i.loc.block i.loc.id f
   macro_there (macro.ProcMacroId i) f = item_there i.loc.container.map.krate _ i.loc.file_id i.loc.block i.loc.id f
 
-  import_there : (i : ImportOrExternCrate) → on_import unsourced i ≡ false → is_some (import_source paths i) ≡ true
-  import_there (import.Glob g) f = mapped_some _ (source_of paths g.use_.loc.file_id g.use_.loc.block) ∙ present _ f
-  import_there (import.Import i) f = mapped_some _ (source_of paths i.use_.loc.file_id i.use_.loc.block) ∙ present _ f
-  import_there (import.ExternCrate i) f = mapped_some _ (source_of paths i.loc.file_id i.loc.block) ∙ present _ f
+  import_there : (i : ImportOrExternCrate) → on_import unsourced i ≡ false → is_some (import_source tables i) ≡ true
+  import_there (import.Glob g) f = mapped_some _ (source_of tables g.use_.loc.file_id g.use_.loc.block) ∙ present _ f
+  import_there (import.Import i) f = mapped_some _ (source_of tables i.use_.loc.file_id i.use_.loc.block) ∙ present _ f
+  import_there (import.ExternCrate i) f = mapped_some _ (source_of tables i.loc.file_id i.loc.block) ∙ present _ f
 
-  value_import_there : (i : ImportOrGlob) → on_value_import unsourced i ≡ false → is_some (value_import_source paths i) ≡ true
-  value_import_there (value_import.Glob g) f = mapped_some _ (source_of paths g.use_.loc.file_id g.use_.loc.block) ∙ present _ f
-  value_import_there (value_import.Import i) f = mapped_some _ (source_of paths i.use_.loc.file_id i.use_.loc.block) ∙ present _ f
+  value_import_there : (i : ImportOrGlob) → on_value_import unsourced i ≡ false → is_some (value_import_source tables i) ≡ true
+  value_import_there (value_import.Glob g) f = mapped_some _ (source_of tables g.use_.loc.file_id g.use_.loc.block) ∙ present _ f
+  value_import_there (value_import.Import i) f = mapped_some _ (source_of tables i.use_.loc.file_id i.use_.loc.block) ∙ present _ f
 
   maybe_there : {I : Type 0} (source : I → Option ImportSource) (test : I → Bool) → ((i : I) → test i ≡ false → is_some (source i) ≡ true)
       → (o : Option I) → on_some test o ≡ false → is_some (maybe_source source o) ≡ true
@@ -191,25 +192,25 @@ module _ (paths : List (List ℕ)) (maps : Maps) where
   all_there (Some d) (Some i) (Some v) f g h = refl
 
   module _ (nowhere : HoldsNowhere unsourced maps) where
-    pub module_shown : (m : ModuleId) → ModuleIsThere maps m → is_some (module_definition paths maps m) ≡ true
+    pub module_shown : (m : ModuleId) → ModuleIsThere maps m → is_some (module_definition tables maps m) ≡ true
     module_shown m there = go (maps m.map) refl there
       where
         found : (placed : Placed) → HoldsNowhereIn unsourced placed.map → (o : Option ModuleValue) → module_at placed.map m.index ≡ o → is_some o ≡ true
-            → is_some (option_and_then (λ (v : ModuleValue). module_by paths m.map.krate v.origin) o) ≡ true
+            → is_some (option_and_then (λ (v : ModuleValue). module_by tables m.map.krate v.origin) o) ≡ true
         found placed none None e f = f
         found placed none (Some v) e f = by_origin m.map.krate v.origin (none_at (λ (x : ModuleValue). on_origin unsourced x.origin) placed.map.modules none.origins m.index v e)
 
         go : (o : Option Placed) → maps m.map ≡ o → is_some (option_and_then (λ (p : Placed). module_at p.map m.index) o) ≡ true
-            → is_some (option_and_then (λ (v : ModuleValue). module_by paths m.map.krate v.origin) (option_and_then (λ (p : Placed). module_at p.map m.index) o)) ≡ true
+            → is_some (option_and_then (λ (v : ModuleValue). module_by tables m.map.krate v.origin) (option_and_then (λ (p : Placed). module_at p.map m.index) o)) ≡ true
         go None e f = f
         go (Some placed) e f = found placed (nowhere m.map placed e) (module_at placed.map m.index) refl f
 
-    visible : (v : Visibility) → on_visibility unsourced v ≡ false → is_some (visibility_source paths maps v) ≡ true
+    visible : (v : Visibility) → on_visibility unsourced v ≡ false → is_some (visibility_source tables maps v) ≡ true
     visible vis.Public f = refl
     visible (vis.PubCrate c) f = refl
-    visible (vis.Module m written) f = mapped_some _ (module_definition paths maps m) ∙ module_shown m (present (is_some (module_in maps m)) f)
+    visible (vis.Module m written) f = mapped_some _ (module_definition tables maps m) ∙ module_shown m (present (is_some (module_in maps m)) f)
 
-    def_there : (d : ModuleDefId) → on_def unsourced d ≡ false → ((m : ModuleId) → d ≡ def.ModuleId m → ModuleIsThere maps m) → is_some (definition_of paths maps d) ≡ true
+    def_there : (d : ModuleDefId) → on_def unsourced d ≡ false → ((m : ModuleId) → d ≡ def.ModuleId m → ModuleIsThere maps m) → is_some (definition_of tables maps d) ≡ true
     def_there (def.ModuleId m) f there = module_shown m (there m refl)
     def_there (def.FunctionId i) f there = item_there _ _ i.loc.file_id i.loc.block i.loc.id f
     def_there (def.AdtId i) f there = adt_there i f
@@ -245,46 +246,46 @@ module _ (paths : List (List ℕ)) (maps : Maps) where
     of_import d v i f = not_second v i (not_second d (v || i) f)
 
     types : (o : Option (Item ModuleDefId ImportOrExternCrate)) → on_some (on_type unsourced) o ≡ false → TypeIsThere maps o
-        → is_some (option_and_then (answered_type paths maps) o) ≡ is_some o
+        → is_some (option_and_then (answered_type tables maps) o) ≡ is_some o
     types None f there = refl
     types (Some i) f there =
         let d = on_def unsourced i.def in
         let v = on_visibility unsourced i.vis in
         let by = on_some (on_import unsourced) i.import in
-        all_there (definition_of paths maps i.def) (maybe_source (import_source paths) i.import) (visibility_source paths maps i.vis)
+        all_there (definition_of tables maps i.def) (maybe_source (import_source tables) i.import) (visibility_source tables maps i.vis)
         (def_there i.def (of_def d v by f) (λ m e. present (is_some (module_in maps m)) (subst (λ (x : ModuleDefId). IsThere maps x) e there)))
-        (maybe_there (import_source paths) (on_import unsourced) import_there i.import (of_import d v by f))
+        (maybe_there (import_source tables) (on_import unsourced) import_there i.import (of_import d v by f))
         (visible i.vis (of_vis d v by f))
 
     values : (o : Option (Item ModuleDefId ImportOrGlob)) → on_some (on_value unsourced) o ≡ false
-        → is_some (option_and_then (answered_value paths maps) o) ≡ is_some o
+        → is_some (option_and_then (answered_value tables maps) o) ≡ is_some o
     values None f = refl
     values (Some i) f =
         let d = on_value_def unsourced i.def in
         let v = on_visibility unsourced i.vis in
         let by = on_some (on_value_import unsourced) i.import in
         let none : on_value_def unsourced i.def ≡ false = of_def d v by f in
-        all_there (definition_of paths maps i.def) (maybe_source (value_import_source paths) i.import) (visibility_source paths maps i.vis)
+        all_there (definition_of tables maps i.def) (maybe_source (value_import_source tables) i.import) (visibility_source tables maps i.vis)
         (def_there i.def (value_def i.def none) (λ m e. absurd (true≢false (subst (λ (x : ModuleDefId). on_value_def unsourced x ≡ false) e none))))
-        (maybe_there (value_import_source paths) (on_value_import unsourced) value_import_there i.import (of_import d v by f))
+        (maybe_there (value_import_source tables) (on_value_import unsourced) value_import_there i.import (of_import d v by f))
         (visible i.vis (of_vis d v by f))
 
     macros : (o : Option (Item MacroId ImportOrExternCrate)) → on_some (on_macro_item unsourced) o ≡ false
-        → is_some (option_and_then (answered_macro paths maps) o) ≡ is_some o
+        → is_some (option_and_then (answered_macro tables maps) o) ≡ is_some o
     macros None f = refl
     macros (Some i) f =
         let d = on_macro unsourced i.def in
         let v = on_visibility unsourced i.vis in
         let by = on_some (on_import unsourced) i.import in
-        all_there (macro_definition paths i.def) (maybe_source (import_source paths) i.import) (visibility_source paths maps i.vis)
+        all_there (macro_definition tables i.def) (maybe_source (import_source tables) i.import) (visibility_source tables maps i.vis)
         (macro_there i.def (of_def d v by f))
-        (maybe_there (import_source paths) (on_import unsourced) import_there i.import (of_import d v by f))
+        (maybe_there (import_source tables) (on_import unsourced) import_there i.import (of_import d v by f))
         (visible i.vis (of_vis d v by f))
 
 -- ---- the trees that runs asked for
 
 -- the path of a file that a number means
-file_there : (tables : TablesValue) (f : EditionedFileId) → IsSome (source_of_tree tables (record { file = File f; block = None })) → is_some (source_of tables.files (File f) None) ≡ true
+file_there : (tables : TablesValue) (f : EditionedFileId) → IsSome (source_of_tree tables (record { file = File f; block = None })) → is_some (source_of tables (File f) None) ≡ true
 file_there tables f means = go (slice_get tables.files f.file_id.0) means
   where
     go : (o : Option (List ℕ)) → IsSome (option_map file o) → is_some (option_map file_source o) ≡ true
@@ -292,13 +293,13 @@ file_there tables f means = go (slice_get tables.files f.file_id.0) means
     go (Some path) h = refl
 
 of_file : (tables : TablesValue) (id : TreeId) (f : EditionedFileId) → id ≡ record { file = File f; block = None } → IsSome (source_of_tree tables id)
-    → is_some (source_of tables.files id.file id.block) ≡ true
-of_file tables id f is means = subst (λ (x : TreeId). is_some (source_of tables.files x.file x.block) ≡ true) (sym is)
+    → is_some (source_of tables id.file id.block) ≡ true
+of_file tables id f is means = subst (λ (x : TreeId). is_some (source_of tables x.file x.block) ≡ true) (sym is)
     (file_there tables f (subst (λ (x : TreeId). IsSome (source_of_tree tables x)) is means))
 
 -- a tree for which there is a cause is of a file of the table, where the run begins with one
 by_cause : (tables : TablesValue) (w : Workspace) (finished : Maps) (from : Beginning) (last : State) (root : EditionedFileId) → from.tree ≡ tree_of_root root → (key : TreeKey)
-    → IsSome (source_of_tree tables key.id) → HasCause tables w finished from last (keys.Tree key) → is_some (source_of tables.files key.id.file key.id.block) ≡ true
+    → IsSome (source_of_tree tables key.id) → HasCause tables w finished from last (keys.Tree key) → is_some (source_of tables key.id.file key.id.block) ≡ true
 by_cause tables w finished from last root begins key means (root_tree is) =
     let same : key ≡ tree_key from.start from.tree = cc in
     of_file tables key.id root (ap (λ (k : TreeKey). k.id) same ∙ begins) means
@@ -310,7 +311,7 @@ by_cause tables w finished from last root begins key means (dependency krate amo
 
 -- a tree that the run for a current crate asked for is of a file of the table
 pub asked_there : (s : SessionState) (sound : IsSound s) (j : ℕ) (off : is_marked s (id_of j) ≡ false) (key : TreeKey) → Contains (current_of s sound j off).asked (keys.Tree key)
-    → is_some (source_of s.tables.files key.id.file key.id.block) ≡ true
+    → is_some (source_of s.tables key.id.file key.id.block) ≡ true
 asked_there s sound j off key asked =
     let now = sound.current (id_of j) off in
     let ended : Ends s.tables (workspace_of s) (finished_of s) (beginning_of s (id_of j)) now.found = now.gives.resolved.ends (workspace_of s) (finished_of s) AgreeOn-refl in
@@ -353,17 +354,17 @@ module _ (finished : Maps) (map : Map) (names : HasNoDanglingReference (overlay 
 abbrev pub maps_behind : (s : SessionState) (sound : IsSound s) (k : ℕ) → is_marked s (id_of k) ≡ false → Maps
 maps_behind s sound k off = overlay (read_of s (id_of k)) (current_of s sound k off).map
 
--- what they bind, and the crates with which its paths may begin, have sources
+-- what they bind, and the crates with which its tables may begin, have sources
 pub record IsSourced (s : SessionState) (maps : Maps) (r : Resolution) : Type 0 where
-  pub bound : HoldsNowhere (unsourced s.tables.files maps) maps
-  pub begun : HoldsOfNoExtern (unsourced s.tables.files maps) r.local
+  pub bound : HoldsNowhere (unsourced s.tables maps) maps
+  pub begun : HoldsOfNoExtern (unsourced s.tables maps) r.local
 
 pub sourced : RunsBindFromSources → (s : SessionState) (sound : IsSound s) (k : ℕ) (off : is_marked s (id_of k) ≡ false)
     → IsSourced s (maps_behind s sound k off) (current_of s sound k off)
 sourced runs s sound k off =
     let r : Resolution = current_of s sound k off in
     let maps : Maps = maps_behind s sound k off in
-    let test : SourceTest = unsourced s.tables.files maps in
+    let test : SourceTest = unsourced s.tables maps in
     let written : (j : ℕ) (off : is_marked s (id_of j) ≡ false) (key : TreeKey) → Contains (current_of s sound j off).asked (keys.Tree key) → test.holder key.id.file key.id.block ≡ false =
     λ j off key asked. ap not (asked_there s sound j off key asked) in
     let shows : (m : ModuleId) → ModuleIsThere maps m → test.shown m ≡ false = λ m there. ap not there in
@@ -379,12 +380,12 @@ pub whole : RunsBindFromSources → PathsAnswerFromSources → PathsLeadToWhatIs
     → module_below (current_of s sound k off).map (root_of (current_of s sound k off).map.id) elements ≡ Some at
     → LeavesNothingOut
     (resolution_of (overlay (read_of s (id_of k)) (current_of s sound k off).map) (asking_of (current_of s sound k off).local shadow style) at path).resolved_def
-    (answer_in s.tables.files (overlay (read_of s (id_of k)) (current_of s sound k off).map) (current_of s sound k off).local at path shadow style)
+    (answer_in s.tables (overlay (read_of s (id_of k)) (current_of s sound k off).map) (current_of s sound k off).local at path shadow style)
 whole runs answers leads s sound k off elements at path shadow style is =
     let now = sound.current (id_of k) off in
     let r : Resolution = now.found in
     let maps : Maps = overlay (read_of s (id_of k)) r.map in
-    let test : SourceTest = unsourced s.tables.files maps in
+    let test : SourceTest = unsourced s.tables maps in
     let written : IsSourced s maps r = sourced runs s sound k off in
     let asking : Asking = asking_of r.local shadow style in
     let apart = own_apart s sound k off in
@@ -394,7 +395,7 @@ whole runs answers leads s sound k off elements at path shadow style is =
     let none : HoldsOfNone test (resolution_of maps asking at path).resolved_def = answers test maps asking at path written.bound written.begun in
     let lead : AreThere maps (resolution_of maps asking at path).resolved_def = leads maps asking at path closed (LocalIsThere-begins maps r.local now.gives.begins) there in
     record {
-      types = types s.tables.files maps written.bound (resolution_of maps asking at path).resolved_def.types none.types lead;
-      values = values s.tables.files maps written.bound (resolution_of maps asking at path).resolved_def.values none.values;
-      macros = macros s.tables.files maps written.bound (resolution_of maps asking at path).resolved_def.macros none.macros;
+      types = types s.tables maps written.bound (resolution_of maps asking at path).resolved_def.types none.types lead;
+      values = values s.tables maps written.bound (resolution_of maps asking at path).resolved_def.values none.values;
+      macros = macros s.tables maps written.bound (resolution_of maps asking at path).resolved_def.macros none.macros;
     }

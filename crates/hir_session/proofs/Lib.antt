@@ -3,7 +3,6 @@ pub mod LowerLaws
 pub mod Depending
 pub mod Transitive
 pub mod Ids
-pub mod Noting
 pub mod KeptLemmas
 pub mod Names
 pub mod Worlds
@@ -17,7 +16,13 @@ pub mod Verdicts
 pub mod Judging
 pub mod EntryLemmas
 pub mod OptionLemmas
-pub mod FileLemmas
+pub mod Lookups
+pub mod Expansions
+pub mod SourceLemmas
+pub mod TreeLemmas
+pub mod CallLemmas
+pub mod NumberLemmas
+pub mod Asking
 pub mod Changing
 pub mod Current
 pub mod LeftOut

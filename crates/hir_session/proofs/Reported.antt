@@ -12,7 +12,9 @@ use Rattle.hir_base.specs.declared.ast_id.BlockId.{BlockId}
 use Rattle.hir_base.specs.declared.ast_id.HirFileId.{HirFileId}
 use Rattle.hir_base.specs.declared.ast_id.SyntaxId.{SyntaxId}
 use Rattle.hir_base.specs.declared.cfg.CfgAtom.{CfgAtom}
+use Rattle.hir_base.specs.declared.ids.MacroId.{MacroId}
 use Rattle.hir_base.specs.declared.ids.MapId.{MapId}
+use Rattle.hir_base.specs.declared.macro_kind.MacroExpander.{MacroExpander}
 use Rattle.hir_item_tree.specs.Collected.{is_enabled}
 use Rattle.hir_item_tree.specs.Imports.{imports_of}
 use Rattle.hir_item_tree.specs.KeptForest.{Head, KeptForest, item, no_items}
@@ -22,35 +24,39 @@ use Rattle.hir_use_tree.specs.declared.imports.Import.{Import}
 use Rattle.hir_mod_dir.specs.Directory.{Directory}
 use Rattle.hir_mod_dir.specs.ModuleFiles.{inline_directory}
 use Rattle.hir_tables.specs.Tables.{TablesValue}
+use Rattle.hir_scope.specs.PerNs.{macros_only}
+use Rattle.hir_scope.specs.declared.visibility.Visibility.TheVariants as visibilities
 use Rattle.hir_def_map.proofs.NoneOf.{neither, not_first, not_second}
 use Rattle.hir_def_map.specs.Diagnostics.{diagnostic_view, node_of as node_about}
 use Rattle.hir_def_map.specs.Overlay.{Maps}
 use Rattle.hir_def_map.specs.State.{Map, numbered}
 use Rattle.hir_def_map.specs.declared.nameres.diagnostics.DefDiagnostic.{DefDiagnostic}
 use Rattle.hir_def_map.specs.declared.nameres.diagnostics.DefDiagnosticKind.TheVariants as kinds
+use Rattle.hir_import_resolution.specs.Changes.{pushes}
 use Rattle.hir_import_resolution.specs.Directives.{TakenValue, is_untaken}
 use Rattle.hir_import_resolution.specs.Rules.{acts as import_acts}
 use Rattle.hir_import_resolution.specs.State.{ImportState}
 use Rattle.hir_import_resolution.specs.declared.directive.ImportDirective.{ImportDirective}
 use Rattle.hir_import_resolution.specs.declared.directive.ImportSource.{ImportSource}
 use Rattle.hir_import_resolution.specs.declared.directive.ImportSource.TheVariants as sources
-use Rattle.hir_def_collector.specs.Changes.{Change, lists, makes, gives_variants, begins_paths, reaches, changes_imports, tells, goes_on, act, perform}
+use Rattle.hir_def_collector.specs.Changes.{Change, adds_textual, takes_textual, defines, uses_macros, lists, makes, gives_variants, begins_paths, reaches, changes_imports, tells, goes_on, act, perform}
 use Rattle.hir_def_collector.specs.Derivation.{CollectedValue, Ends}
 use Rattle.hir_def_collector.specs.Imports.{reached_import}
-use Rattle.hir_def_collector.specs.ItemIds.{module_id, node_of, use_id}
-use Rattle.hir_def_collector.specs.Items.{inline_origin}
+use Rattle.hir_def_collector.specs.ItemIds.{macro_def_id, macro_rules_id, module_id, node_of, use_id}
+use Rattle.hir_def_collector.specs.Items.{inline_origin, own_visibility}
 use Rattle.hir_def_collector.specs.Keys.{Environment, environment, map_keys}
+use Rattle.hir_def_collector.specs.Macros.{is_exported, is_macro_use, macro_declaration}
 use Rattle.hir_def_collector.specs.ModuleFiles.{file_key}
-use Rattle.hir_def_collector.specs.Reports.{IsUnconfigured, begins_with, crates_among, leftover_diagnostics, report_by, reports_of, unresolved_among}
+use Rattle.hir_def_collector.specs.Reports.{IsUnconfigured, begins_with, crates_among, is_unimplemented, leftover_diagnostics, report_by, reports_of, unimplemented_macro, unresolved_among}
 use Rattle.hir_def_collector.specs.Start.{Beginning, begin_of, krate_of, read_by, root_key, root_site, root_tree, start_of, tree_key}
-use Rattle.hir_def_collector.specs.State.{State, Visit, import_state, visits}
-use Rattle.hir_def_collector.specs.Steps.{Rule, drops_item, passes_over, declares_item, declares_enum, lists_constant, lists_impl, opens_module, opens_file, drops_file, misses_file, enters_block, reaches_imports, reaches_crate, resolves_imports, May, acts, asking, inside_block, inside_file, inside_module, keys_read, making, path_of, reads, visits_inside, Step, Steps, none, more}
+use Rattle.hir_def_collector.specs.State.{State, Task, Visit, visits, closes, import_state, visits_over}
+use Rattle.hir_def_collector.specs.Steps.{Rule, drops_item, passes_over, defines_rules, defines_macro, closes_module, closing, declaring, exporting, reporting, declares_item, declares_enum, lists_constant, lists_impl, opens_module, opens_file, drops_file, misses_file, enters_block, reaches_imports, reaches_crate, resolves_imports, May, acts, asking, inside_block, inside_file, inside_module, keys_read, making, path_of, reads, visits_inside, Step, Steps, none, more}
 use Rattle.hir_def_collector.specs.Workspace.{Workspace, transitive_dependencies_in}
 use Rattle.hir_def_collector.specs.declared.collector.site.Site.{Site}
 use Rattle.hir_def_collector.specs.declared.source_database.Key.{Key}
 use Rattle.hir_def_collector.specs.declared.source_database.Key.TheVariants as keys
 use Rattle.hir_def_collector.proofs.Asks.{still_asked, still_asked-Step}
-use Rattle.hir_def_collector.proofs.Changes.{AllFine, Keeps-act, all_fine, asked-Step, perform_keeps}
+use Rattle.hir_def_collector.proofs.Changes.{AllFine, Keeps-act, all_fine, asked-Step, fine-append, perform_keeps}
 use Rattle.hir_def_collector.proofs.Grows.{Grows-act, Grows-perform}
 use Rattle.hir_def_collector.proofs.Holds.{in_range-start}
 use Rattle.hir_def_collector.proofs.ImportEdits.{Edit, edit_of, edited, imports_after, map_after}
@@ -82,8 +88,9 @@ module _ (unwritten : HirFileId → Option BlockId → Bool) where
   AreReports id count [] = Unit {0}
   AreReports id count (d ∷ ds) = IsReport id count d × AreReports id count ds
 
-  abbrev on_site : Visit → Bool
-  on_site v = unwritten v.site.tree.file v.site.tree.block
+  abbrev on_site : Task → Bool
+  on_site (visits v) = unwritten v.site.tree.file v.site.tree.block
+  on_site (closes parent child) = false
 
   abbrev of_source : ImportSource → Bool
   of_source (sources.Use id kind) = unwritten id.use_.loc.file_id id.use_.loc.block
@@ -114,9 +121,9 @@ module _ (unwritten : HirFileId → Option BlockId → Bool) where
   reports_joined id n [] ys f g = g
   reports_joined id n (x ∷ xs) ys f g = (f.0, reports_joined id n xs ys f.1 g)
 
-  site_visits : (s : Site) → unwritten s.tree.file s.tree.block ≡ false → (is : KeptForest) → list_any on_site (visits s is) ≡ false
+  site_visits : (s : Site) → unwritten s.tree.file s.tree.block ≡ false → (is : KeptForest) → list_any on_site (visits_over s is) ≡ false
   site_visits s f no_items = refl
-  site_visits s f (item i is) = neither (unwritten s.tree.file s.tree.block) (list_any on_site (visits s is)) f (site_visits s f is)
+  site_visits s f (item i is) = neither (unwritten s.tree.file s.tree.block) (list_any on_site (visits_over s is)) f (site_visits s f is)
 
   use_imports : (m : Map) (s : Site) (head : Head) → unwritten s.tree.file s.tree.block ≡ false → (is : List Import)
       → list_any on_reached (list_map (reached_import s.home (use_id m s head.id) head.visibility) is) ≡ false
@@ -134,6 +141,10 @@ module _ (unwritten : HirFileId → Option BlockId → Bool) where
   StaysReported s (begins_paths r) = Unit {0}
   StaysReported s (reaches rs) = list_any on_reached rs ≡ false
   StaysReported s (changes_imports c) = Unit {0}
+  StaysReported s (adds_textual home name makro) = Unit {0}
+  StaysReported s (takes_textual home from) = Unit {0}
+  StaysReported s (defines node makro) = Unit {0}
+  StaysReported s (uses_macros macros by) = Unit {0}
   StaysReported s (tells d) = IsReport s.core.map.id (length s.core.map.modules) d
   StaysReported s (goes_on vs) = list_any on_site vs ≡ false
 
@@ -164,6 +175,12 @@ module _ (unwritten : HirFileId → Option BlockId → Bool) where
         visits = p.visits;
         reached = subst (λ (rs : List ImportDirective). list_any on_reached rs ≡ false) (sym (imports_after i c)) p.reached;
       }
+  reported-act s (adds_textual home name makro) p fine =
+      record { reports = in_larger s (act s (adds_textual home name makro)).core.map refl refl (Grows-act s (adds_textual home name makro)).longer p; visits = p.visits; reached = p.reached }
+  reported-act s (takes_textual home from) p fine =
+      record { reports = in_larger s (act s (takes_textual home from)).core.map refl refl (Grows-act s (takes_textual home from)).longer p; visits = p.visits; reached = p.reached }
+  reported-act s (defines node makro) p fine = record { reports = p.reports; visits = p.visits; reached = p.reached }
+  reported-act s (uses_macros macros by) p fine = record { reports = p.reports; visits = p.visits; reached = p.reached }
   reported-act s (tells d) p fine = record {
     reports = reports_joined s.core.map.id (length s.core.map.modules) s.core.map.diagnostics (d ∷ []) p.reports (fine, tt);
     visits = p.visits;
@@ -175,48 +192,86 @@ module _ (unwritten : HirFileId → Option BlockId → Bool) where
 
   module _ (s : State) (inside : IsInRange s) (p : IsReported s) where
     -- the next item, and what stays behind it
-    next_clear : (v : Visit) (rest : List Visit) → s.agenda ≡ v ∷ rest → list_any on_site (v ∷ rest) ≡ false
-    next_clear v rest next = subst (λ (vs : List Visit). list_any on_site vs ≡ false) next p.visits
+    next_clear : (v : Visit) (rest : List Task) → s.agenda ≡ visits v ∷ rest → list_any on_site (visits v ∷ rest) ≡ false
+    next_clear v rest next = subst (λ (vs : List Task). list_any on_site vs ≡ false) next p.visits
 
-    file : (v : Visit) (rest : List Visit) → s.agenda ≡ v ∷ rest → unwritten v.site.tree.file v.site.tree.block ≡ false
-    file v rest next = not_first (on_site v) (list_any on_site rest) (next_clear v rest next)
+    file : (v : Visit) (rest : List Task) → s.agenda ≡ visits v ∷ rest → unwritten v.site.tree.file v.site.tree.block ≡ false
+    file v rest next = not_first (on_site (visits v)) (list_any on_site rest) (next_clear v rest next)
 
-    left : (v : Visit) (rest : List Visit) → s.agenda ≡ v ∷ rest → list_any on_site rest ≡ false
-    left v rest next = not_second (on_site v) (list_any on_site rest) (next_clear v rest next)
+    left : (v : Visit) (rest : List Task) → s.agenda ≡ visits v ∷ rest → list_any on_site rest ≡ false
+    left v rest next = not_second (on_site (visits v)) (list_any on_site rest) (next_clear v rest next)
 
-    low : (v : Visit) (rest : List Visit) → s.agenda ≡ v ∷ rest → v.site.home < length s.core.map.modules
+    low : (v : Visit) (rest : List Task) → s.agenda ≡ visits v ∷ rest → v.site.home < length s.core.map.modules
     low v rest next = next_home s inside v rest next
 
     -- an item that is left out is reported so
-    unconfigured : (v : Visit) (rest : List Visit) → s.agenda ≡ v ∷ rest → (kind : AstKind) (at : SyntaxId) (condition : Cfg) (d : DefDiagnostic)
+    unconfigured : (v : Visit) (rest : List Task) → s.agenda ≡ visits v ∷ rest → (kind : AstKind) (at : SyntaxId) (condition : Cfg) (d : DefDiagnostic)
         → IsUnconfigured (module_id s.core.map v.site.home) (node_of v.site.tree kind at) condition s.core.options d → IsReport s.core.map.id (length s.core.map.modules) d
     unconfigured v rest next kind at condition d told =
         subst (IsReport s.core.map.id (length s.core.map.modules)) (sym told.is) (record { own = refl; below = low v rest next; written = file v rest next })
 
-    inside_clear : (site : Site) (dir : Option Directory) (items : KeptForest) (rest : List Visit) → unwritten site.tree.file site.tree.block ≡ false → list_any on_site rest ≡ false
-        → list_any on_site (visits_inside s.core.map site dir items ++ rest) ≡ false
-    inside_clear site None items rest own clear = clear
-    inside_clear site (Some dir) items rest own clear =
-        none_joined on_site (visits (inside_module s.core.map site dir) items) rest (site_visits (inside_module s.core.map site dir) own items) clear
+    -- a module that is closed is written nowhere
+    closing_clear : (marked : Bool) (parent child : ℕ) → list_any on_site (closing marked parent child) ≡ false
+    closing_clear true parent child = refl
+    closing_clear false parent child = refl
+
+    closed_clear : (site : Site) (items : KeptForest) (marked : Bool) (parent child : ℕ) (rest : List Task) → unwritten site.tree.file site.tree.block ≡ false → list_any on_site rest ≡ false
+        → list_any on_site ((visits_over site items ++ closing marked parent child) ++ rest) ≡ false
+    closed_clear site items marked parent child rest own clear =
+        none_joined on_site (visits_over site items ++ closing marked parent child) rest
+        (none_joined on_site (visits_over site items) (closing marked parent child) (site_visits site own items) (closing_clear marked parent child)) clear
+
+    inside_clear : (site : Site) (head : Head) (dir : Option Directory) (items : KeptForest) (rest : List Task) → unwritten site.tree.file site.tree.block ≡ false → list_any on_site rest ≡ false
+        → list_any on_site (visits_inside s.core.map site head dir items ++ rest) ≡ false
+    inside_clear site head None items rest own clear = clear
+    inside_clear site head (Some dir) items rest own clear =
+        closed_clear (inside_module s.core.map site dir) items (is_macro_use head.attributes) site.home (length s.core.map.modules) rest own clear
+
+    -- a macro that nothing can expand is reported so
+    macro_reported : (t : State) (site : Site) (node : AstId) (expander : MacroExpander) → t.core.map.id ≡ s.core.map.id → length s.core.map.modules ≤ length t.core.map.modules
+        → site.home < length s.core.map.modules → unwritten node.file_id node.block ≡ false → AllFine StaysReported t (reporting (module_id s.core.map site.home) node expander)
+    macro_reported t site node expander same longer here own = go (is_unimplemented expander)
+      where
+        told : IsReport t.core.map.id (length t.core.map.modules) (unimplemented_macro (module_id s.core.map site.home) node)
+        told = record { own = sym same; below = (let within : site.home < length t.core.map.modules = omega arith in within); written = own }
+
+        go : (b : Bool) → AllFine StaysReported t (cond b (tells (unimplemented_macro (module_id s.core.map site.home) node) ∷ []) [])
+        go true = (told, tt)
+        go false = tt
+
+    macro_exported : (t : State) (head : Head) (name : List ℕ) (makro : MacroId) → AllFine StaysReported t (exporting head name makro)
+    macro_exported t head name makro = go (is_exported head.attributes)
+      where
+        go : (b : Bool) → AllFine StaysReported t (cond b (changes_imports (pushes 0 (Some name) (macros_only makro visibilities.Public None) None) ∷ []) [])
+        go true = (tt, tt)
+        go false = tt
+
+    rules_reported : (t : State) (site : Site) (head : Head) (name : List ℕ) (makro : MacroId) (node : AstId) (expander : MacroExpander) → t.core.map.id ≡ s.core.map.id
+        → length s.core.map.modules ≤ length t.core.map.modules → site.home < length s.core.map.modules → unwritten node.file_id node.block ≡ false
+        → AllFine StaysReported t (exporting head name makro ++ reporting (module_id s.core.map site.home) node expander)
+    rules_reported t site head name makro node expander same longer here own =
+        let later : State = perform t (exporting head name makro) in
+        let more : length t.core.map.modules ≤ length later.core.map.modules = (Grows-perform (exporting head name makro) t).longer in
+        fine-append StaysReported (exporting head name makro) (reporting (module_id s.core.map site.home) node expander) t (macro_exported t head name makro)
+        (macro_reported later site node expander (id-perform (exporting head name makro) t ∙ same) (omega (arith, longer, more)) here own)
 
     -- the sources that a rule reads are clear of the test too
     stays_reported : (finished : Maps) (r : Rule) → May finished s r → ((key : TreeKey) → Contains (keys_read (reads s r)) (keys.Tree key) → unwritten key.id.file key.id.block ≡ false)
         → AllFine StaysReported (asking s r) (acts finished s r)
     stays_reported finished (drops_item v report rest) may read =
         (left v rest may.next, (unconfigured v rest may.next (item_kind v.item) (item_head v.item).id may.condition report may.reported, tt))
-    stays_reported finished (passes_over site head l rest) may read = (left _ rest may.here.next, tt)
     stays_reported finished (declares_item v d rest) may read = (left v rest may.here.next, (tt, (tt, tt)))
     stays_reported finished (declares_enum site head name found rest) may read = (left _ rest may.next, (tt, (tt, (tt, tt))))
     stays_reported finished (lists_constant site head rest) may read = (left _ rest may.next, (tt, tt))
     stays_reported finished (lists_impl site head of_trait rest) may read = (left _ rest may.next, (tt, tt))
     stays_reported finished (opens_module site head name items rest) may read =
-        (tt, (inside_clear site (inline_directory site.dir name (path_of head)) items rest (file _ rest may.next) (left _ rest may.next), (tt, (tt, tt))))
+        (tt, (tt, (inside_clear site head (inline_directory site.dir name (path_of head)) items rest (file _ rest may.next) (left _ rest may.next), (tt, (tt, tt)))))
     stays_reported finished (opens_file site head name search f rest) may read =
         let m : Map = s.core.map in
         let within : Site = inside_file m f in
         let own : unwritten within.tree.file within.tree.block ≡ false =
         read (file_key m.id.krate m.crate_data.edition f.id) (found_read m.id.krate m.crate_data.edition search.absent search.found f may.found) in
-        (tt, (none_joined on_site (visits within f.tree.items) rest (site_visits within own f.tree.items) (left _ rest may.looks.here.next), (tt, (tt, tt))))
+        (tt, (tt, (closed_clear within f.tree.items (is_macro_use head.attributes || is_macro_use f.tree.attributes) site.home (length m.modules) rest own (left _ rest may.looks.here.next), (tt, (tt, tt)))))
     stays_reported finished (drops_file site head name search report rest) may read =
         (left _ rest may.looks.here.next, (unconfigured _ rest may.looks.here.next nodes.Module head.id may.condition report may.reported, tt))
     stays_reported finished (misses_file site head name search report rest) may read =
@@ -229,13 +284,29 @@ module _ (unwritten : HirFileId → Option BlockId → Bool) where
         let within : site.home < length made.core.map.modules = omega arith in
         let told : IsReport made.core.map.id (length made.core.map.modules) report =
         subst (IsReport made.core.map.id (length made.core.map.modules)) (sym may.reported.is) (record { own = sym same; below = within; written = file _ rest may.looks.here.next }) in
-        (tt, (left _ rest may.looks.here.next, (tt, (tt, (told, tt)))))
+        (tt, (tt, (left _ rest may.looks.here.next, (tt, (tt, (told, tt))))))
     stays_reported finished (enters_block site head items rest) may read =
         let within : Site = inside_block s.core.map site head in
-        (none_joined on_site (visits within items) rest (site_visits within (file _ rest may.next) items) (left _ rest may.next), (tt, tt))
+        (none_joined on_site (visits_over within items) rest (site_visits within (file _ rest may.next) items) (left _ rest may.next), (tt, tt))
     stays_reported finished (reaches_imports site head tree rest) may read = (left _ rest may.next, (use_imports s.core.map site head (file _ rest may.next) (imports_of tree), (tt, tt)))
     stays_reported finished (reaches_crate site head name alias rest) may read =
-        (left _ rest may.next, (tt, (neither (unwritten site.tree.file site.tree.block) false (file _ rest may.next) refl, (tt, tt))))
+        (left _ rest may.next, (tt, (tt, (neither (unwritten site.tree.file site.tree.block) false (file _ rest may.next) refl, (tt, tt)))))
+    stays_reported finished (defines_rules site head name expander helpers rest) may read =
+        let makro : MacroId = macro_rules_id s.core.map site head.id expander in
+        let node : AstId = node_of site.tree nodes.MacroRules head.id in
+        let defined : State = perform (asking s (defines_rules site head name expander helpers rest)) (goes_on rest ∷ defines node makro ∷ adds_textual site.home name makro ∷ []) in
+        let longer : length s.core.map.modules ≤ length defined.core.map.modules =
+        (Grows-perform (goes_on rest ∷ defines node makro ∷ adds_textual site.home name makro ∷ []) (asking s (defines_rules site head name expander helpers rest))).longer in
+        (left _ rest may.next, (tt, (tt, rules_reported defined site head name makro node expander refl longer (low _ rest may.next) (file _ rest may.next))))
+    stays_reported finished (defines_macro site head name expander helpers rest) may read =
+        let makro : MacroId = macro_def_id s.core.map site head.id expander in
+        let node : AstId = node_of site.tree nodes.MacroDef head.id in
+        let changes : List Change = goes_on rest ∷ defines node makro ∷ declaring site.home (macro_declaration name makro (own_visibility finished s.core.local s.core.map site head)) in
+        let before : State = asking s (defines_macro site head name expander helpers rest) in
+        let longer : length s.core.map.modules ≤ length (perform before changes).core.map.modules = (Grows-perform changes before).longer in
+        (left _ rest may.next, (tt, (tt, (tt, macro_reported (perform before changes) site node expander (id-perform changes before) longer (low _ rest may.next) (file _ rest may.next)))))
+    stays_reported finished (closes_module parent child rest) may read = (subst (λ (ts : List Task). list_any on_site ts ≡ false) may p.visits, (tt, tt))
+    stays_reported finished (passes_over site head l rest) may read = (left _ rest may.here.next, tt)
     stays_reported finished (resolves_imports rule) may read = all_fine StaysReported (λ t c. tt) (import_acts finished (import_state s) rule) s
 
     reported-Step : (env : Environment) (finished : Maps) (new : State) → Step env finished s new → AreClear new → IsReported new
@@ -259,7 +330,7 @@ module _ (unwritten : HirFileId → Option BlockId → Bool) where
   first_reported finished tables w from written =
       let tree = root_tree tables w from in record { reports = tt; visits = go (is_enabled tree.attributes) tree.items; reached = refl }
     where
-      go : (b : Bool) (is : KeptForest) → list_any on_site (if b then visits (root_site from.tree) is else []) ≡ false
+      go : (b : Bool) (is : KeptForest) → list_any on_site (if b then visits_over (root_site from.tree) is else []) ≡ false
       go true is = site_visits (root_site from.tree) written is
       go false is = refl
 

@@ -194,7 +194,7 @@ module _ (looks : LooksStand) (meaning : AskedKeysHaveMeaning) (answers : Answer
   grown_of view seen sound = subst (λ (v : SessionState). Grows v (record s { tables = T })) seen (record {
     crates = refl;
     tables = keeps;
-    files = refl;
+    sources = refl;
     kept = refl;
     sound = grown_sound sound;
   })

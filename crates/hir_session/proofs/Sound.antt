@@ -3,7 +3,6 @@ use Rattle.std.proofs.Common.{◌≡◌, ◌≢◌, ◌⊎◌, inl, inr, ℕ, ze
 use Rattle.std.specs.Prelude.{is_none, map}
 use Rattle.hir_base.specs.declared.ids.Crate.{Crate}
 use Rattle.hir_base.specs.declared.ids.MapId.{MapId}
-use Rattle.hir_item_tree.specs.Source.{SourceValue}
 use Rattle.hir_def_map.specs.References.{refers_to}
 use Rattle.hir_def_map.specs.Removal.{Depends}
 use Rattle.hir_def_map.specs.Removal.Depends.{itself, through}
@@ -13,14 +12,15 @@ use Rattle.hir_def_collector.specs.Keys.{AgreeOn}
 use Rattle.hir_def_collector.specs.Workspace.{Workspace}
 use Rattle.hir_crate_graph.specs.CrateSet.{has_crate}
 use Rattle.hir_session.specs.Crates.{CrateValue, transitive_in, dependencies_in, follows_in, id_of}
-use Rattle.hir_session.specs.Files.{Files, edited_at, workspace_in}
+use Rattle.hir_session.specs.SourceEdits.{SourceEditValue, edited as made}
+use Rattle.hir_session.specs.SourceTable.{SourceTable, workspace_in}
 use Rattle.hir_session.specs.Kept.{Resolutions, kept_in, names_in, names_of, AreForgotten}
 use Rattle.hir_session.specs.SessionState.{SessionState, Resolution, workspace_of, finished_of, follows, kept_of, is_marked, IsResolutionOf, IsCurrent, IsPlace, IsSound}
 use Rattle.hir_session.specs.Spread.{Spread}
 use Rattle.hir_session.specs.Spread.Spread.{here, depends}
 use Rattle.hir_session.specs.Marks.{IsTouched}
 use Rattle.hir_session.specs.Marks.IsTouched.{before, asked_for}
-use Rattle.hir_session.specs.EditedFiles.{AreHit}
+use Rattle.hir_session.specs.EditedSources.{AreHit}
 use Rattle.hir_session.specs.Changes.{Becomes}
 use Rattle.hir_session.specs.Due.{Grows, Resolved}
 use Rattle.hir_session.proofs.Depending.{depended}
@@ -115,7 +115,7 @@ any_of P (x ∷ xs) each = elim (each x (zero, omega arith, refl)) [
 
 -- ---- an edit
 
-module _ (s : SessionState) (sound : IsSound s) (F : Files) (hits : List MapId) (K : Resolutions)
+module _ (s : SessionState) (sound : IsSound s) (F : SourceTable) (hits : List MapId) (K : Resolutions)
     (hit : AreHit s.tables (workspace_of s) (workspace_in s.crates F) s.kept hits) (forgotten : AreForgotten s.kept hits K) where
   abbrev edited : Workspace
   edited = workspace_in s.crates F
@@ -203,7 +203,7 @@ module _ (s : SessionState) (sound : IsSound s) (F : Files) (hits : List MapId) 
       (λ j d p among. closed_still (id_of j) (crate_map d) p (followed s.crates (id_of j) d among)) ((depended sound id.krate.0 c).0 behind) from)
 
   -- an edit leaves a sound session
-  pub applied_sound : IsSound (record s { files = F; kept = K })
+  pub applied_sound : IsSound (record s { sources = F; kept = K })
   applied_sound = record {
     few = sound.few;
     below = sound.below;
@@ -226,32 +226,32 @@ module _ (s : SessionState) (sound : IsSound s) (F : Files) (hits : List MapId) 
       ]
 
   -- and has its effect
-  pub becomes : Becomes s F (record s { files = F; kept = K })
+  pub becomes : Becomes s F (record s { sources = F; kept = K })
   becomes = record {
     crates = refl;
     tables = refl;
-    files_are = refl;
+    sources_are = refl;
     only = λ id on. gone_reached id (marked_none (kept_in K id) on);
     all = λ id sp. none_marked (kept_in K id) (reached_gone sp);
     kept = stays;
     sound = applied_sound;
   }
 
-module _ (s : SessionState) (file : List ℕ) (there : Option SourceValue) (hits : List MapId) (K : Resolutions) where
-  -- the session after an edit of one file
+module _ (s : SessionState) (edit : SourceEditValue) (hits : List MapId) (K : Resolutions) where
+  -- the session after an edit
   abbrev after : SessionState
-  after = record s { files = edited_at s.files file there; kept = K }
+  after = record s { sources = made s.sources edit; kept = K }
 
   -- it is sound
-  pub edited_sound : IsSound s → AreHit s.tables (workspace_of s) (workspace_in s.crates (edited_at s.files file there)) s.kept hits
+  pub edited_sound : IsSound s → AreHit s.tables (workspace_of s) (workspace_in s.crates (made s.sources edit)) s.kept hits
       → AreForgotten s.kept hits K → IsSound after
-  edited_sound sound hit forgotten = applied_sound s sound (edited_at s.files file there) hits K hit forgotten
+  edited_sound sound hit forgotten = applied_sound s sound (made s.sources edit) hits K hit forgotten
 
   -- and the edit has its effect
-  pub edited_becomes : (view : SessionState) → s ≡ view → IsSound s → AreHit s.tables (workspace_of s) (workspace_in s.crates (edited_at s.files file there)) s.kept hits
-      → AreForgotten s.kept hits K → Becomes view (edited_at view.files file there) after
+  pub edited_becomes : (view : SessionState) → s ≡ view → IsSound s → AreHit s.tables (workspace_of s) (workspace_in s.crates (made s.sources edit)) s.kept hits
+      → AreForgotten s.kept hits K → Becomes view (made view.sources edit) after
   edited_becomes view seen sound hit forgotten =
-      subst (λ (v : SessionState). Becomes v (edited_at v.files file there) after) seen (becomes s sound (edited_at s.files file there) hits K hit forgotten)
+      subst (λ (v : SessionState). Becomes v (made v.sources edit) after) seen (becomes s sound (made s.sources edit) hits K hit forgotten)
 
 -- ---- a resolution
 
@@ -265,7 +265,7 @@ pub resolved_of : (old s : SessionState) (K : Resolutions) (id : MapId) (r : Res
 resolved_of old s K id r grown own kept_here others = record {
   crates = grown.crates;
   tables = grown.tables;
-  files = grown.files;
+  sources = grown.sources;
   here = ap (kept_in K) (sym own) ∙ kept_here;
   others = λ j ne. others j (λ e. ne (e ∙ own)) ∙ ap (λ (kept : Resolutions). kept_in kept j) grown.kept;
 }
@@ -284,7 +284,7 @@ module _ (s : SessionState) (k : ℕ) (r : Resolution) (K : Resolutions) (sound 
 
   stays_resolved : (j : MapId) (x : Resolution) → ((c : Crate) → has_crate (transitive_in s.crates j.krate.0) c ≡ true → is_marked s (crate_map c) ≡ false) → IsResolutionOf s j x
       → IsResolutionOf (record s { kept = K }) j x
-  stays_resolved j x unmarked p = IsResolutionOf-stays s s.files K j x p
+  stays_resolved j x unmarked p = IsResolutionOf-stays s s.sources K j x p
       (λ c behind. kept_else (crate_map c) (λ e. clash on (ap (is_marked s) (sym e) ∙ unmarked c behind))) AgreeOn-refl
 
   -- what the crate stands on comes before it

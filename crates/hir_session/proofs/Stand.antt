@@ -31,17 +31,17 @@ on_option (Some x) f g = g x refl
 
 -- where the status is current, the answer is the one over what is kept
 pub answer_of-current : (s : SessionState) (place : PlaceValue) (path : Path) (shadow : Shadow) (style : Option MacroStyle) {r : Result Answer QueryError}
-    → status.Current ≡ status_of s place → answer_from s.tables.files (read_of s (map_of place)) (kept_of s (map_of place)) (module_of s place) path shadow style ≡ r
+    → status.Current ≡ status_of s place → answer_from s.tables (read_of s (map_of place)) (kept_of s (map_of place)) (module_of s place) path shadow style ≡ r
     → answer_of s place path shadow style ≡ r
 answer_of-current s place path shadow style current over =
-    ap (λ (now : Status). answer_by now (answer_from s.tables.files (read_of s (map_of place)) (kept_of s (map_of place)) (module_of s place) path shadow style)) (sym current) ∙ over
+    ap (λ (now : Status). answer_by now (answer_from s.tables (read_of s (map_of place)) (kept_of s (map_of place)) (module_of s place) path shadow style)) (sym current) ∙ over
 
 -- what is answered over what is kept
 pub given : (s : SessionState) (place : PlaceValue) (path : Path) (shadow : Shadow) (style : Option MacroStyle) (found : Resolution) (m : ModuleId) (maps : Maps) (a : Answer)
     → kept_of s (map_of place) ≡ Some found → module_below found.map (root_of found.map.id) place.elements ≡ Some m → maps ≡ overlay (read_of s (map_of place)) found.map
-    → a ≡ answer_in s.tables.files maps found.local m path shadow style → answer_kept s place path shadow style ≡ Ok a
+    → a ≡ answer_in s.tables maps found.local m path shadow style → answer_kept s place path shadow style ≡ Ok a
 given s place path shadow style found m maps a kept named over is =
-    rw kept (rw named (ap (λ (x : Answer). Ok x) (sym (is ∙ ap (λ (ms : Maps). answer_in s.tables.files ms found.local m path shadow style) over))))
+    rw kept (rw named (ap (λ (x : Answer). Ok x) (sym (is ∙ ap (λ (ms : Maps). answer_in s.tables ms found.local m path shadow style) over))))
 
 -- what is there gives the same
 pub constant : {A B : Type 0} {x y : B} (o : Option A) → Some x ≡ option_map (λ (_ : A). y) o → x ≡ y
@@ -72,8 +72,8 @@ stands runs answers leads s place path shadow style a sound h =
       asked_from = m;
       named = some;
       whole = subst (LeavesNothingOut (resolution_of (overlay (read_of s (map_of place)) now.found.map) (asking_of now.found.local shadow style) m path).resolved_def)
-          (sym (let e : a ≡ answer_in s.tables.files (overlay (read_of s (map_of place)) now.found.map) now.found.local m path shadow style = cc given in e))
+          (sym (let e : a ≡ answer_in s.tables (overlay (read_of s (map_of place)) now.found.map) now.found.local m path shadow style = cc given in e))
           (whole runs answers leads s sound place.krate.0 off place.elements m path shadow style some);
-      is = let e : a ≡ answer_in s.tables.files (overlay (read_of s (map_of place)) now.found.map) now.found.local m path shadow style = cc given in e;
+      is = let e : a ≡ answer_in s.tables (overlay (read_of s (map_of place)) now.found.map) now.found.local m path shadow style = cc given in e;
     })))
     (λ past. absurd (let wrong : ⊥ = cc (rw past at h) in wrong))

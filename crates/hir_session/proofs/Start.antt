@@ -9,7 +9,7 @@ use Rattle.hir_wire.specs.CommandValue.{CrateInputValue, crate_input_view}
 use Rattle.hir_wire.specs.declared.command.CrateInput.{CrateInput}
 use Rattle.hir_wire.specs.declared.command.Dependency.{Dependency as HandedIn}
 use Rattle.hir_session.specs.Crates.{CrateValue, crate_in, dependencies_in, no_crate}
-use Rattle.hir_session.specs.Files.{Files}
+use Rattle.hir_session.specs.SourceTable.{SourceTable}
 use Rattle.hir_session.specs.Kept.{Resolutions, kept_in}
 use Rattle.hir_session.specs.SessionState.{SessionState, Resolution, is_marked, IsSound}
 use Rattle.hir_session.specs.Refusals.{dependency_crates, has_late, first_out_of_order}
@@ -132,12 +132,12 @@ begins_sound inputs s few ordered is =
     }
 
 -- the parts of a session that begins
-pub begins_with : (inputs : List CrateInput) (crates : List CrateValue) (tables : TablesValue) (files : Files) (kept : Resolutions)
-    → AreMade (map crate_input_view inputs) crates → AreRooted tables crates → files ≡ [] → ((id : MapId) → kept_in kept id ≡ None)
-    → Begins (map crate_input_view inputs) (record { crates = crates; tables = tables; files = files; kept = kept })
-begins_with inputs crates tables files kept made rooted is_files is_kept = record {
+pub begins_with : (inputs : List CrateInput) (crates : List CrateValue) (tables : TablesValue) (sources : SourceTable) (kept : Resolutions)
+    → AreMade (map crate_input_view inputs) crates → AreRooted tables crates → sources ≡ record { files = []; entries = [] } → ((id : MapId) → kept_in kept id ≡ None)
+    → Begins (map crate_input_view inputs) (record { crates = crates; tables = tables; sources = sources; kept = kept })
+begins_with inputs crates tables sources kept made rooted none is_kept = record {
   crates = made;
   rooted = rooted;
-  files = is_files;
+  sources = none;
   kept = is_kept;
 }

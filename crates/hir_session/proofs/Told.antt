@@ -24,7 +24,8 @@ use Rattle.hir_session.specs.Crates.{id_of}
 use Rattle.hir_session.specs.Diagnostics.{diagnostic_source, diagnostic_with, diagnostics_in, diagnostics_of, node_in}
 use Rattle.hir_session.specs.DiagnosticsStand.{AreTold, DiagnosticsStand}
 use Rattle.hir_session.specs.SessionState.{SessionState, Resolution, beginning_of, finished_of, is_marked, kept_of, read_of, workspace_of, IsSound}
-use Rattle.hir_session.specs.SourceItems.{module_definition, source_of}
+use Rattle.hir_session.specs.SourceCalls.{source_of}
+use Rattle.hir_session.specs.SourceItems.{module_definition}
 use Rattle.hir_session.proofs.Differ.{unmarked_behind}
 use Rattle.hir_session.proofs.LeftOut.{IsSourced, asked_there, current_of, mapped_some, maps_behind, module_shown, present, sourced}
 use Rattle.hir_session.proofs.Reported.{AreReports, IsReport, ends_reported, reported_node}
@@ -34,7 +35,7 @@ use Rattle.hir_session.proofs.Worlds.{AgreeOn-refl}
 
 -- the test of what has no source item
 abbrev unwritten : SessionState → HirFileId → Option BlockId → Bool
-unwritten s file block = not (is_some (source_of s.tables.files file block))
+unwritten s file block = not (is_some (source_of s.tables file block))
 
 -- what a run for a current crate reported is in modules of its map, and about what is written in files of the table
 reported : (s : SessionState) (sound : IsSound s) (k : ℕ) (off : is_marked s (id_of k) ≡ false)
@@ -57,26 +58,26 @@ module _ (runs : RunsBindFromSources) (s : SessionState) (sound : IsSound s) (k 
   abbrev maps : Maps
   maps = maps_behind s sound k off
 
-  is_told : (d : DefDiagnostic) → IsReport (unwritten s) own.id (length own.modules) d → is_some (diagnostic_source s.tables.files maps (diagnostic_view d)) ≡ true
+  is_told : (d : DefDiagnostic) → IsReport (unwritten s) own.id (length own.modules) d → is_some (diagnostic_source s.tables maps (diagnostic_view d)) ≡ true
   is_told d report =
       let same : numbered own.id d.in_module.index ≡ d.in_module = λ i. record { map = sym report.own i; index = d.in_module.index } in
       let there : ModuleIsThere maps d.in_module = subst (ModuleIsThere maps) same (module_there (read_of s (id_of k)) own d.in_module.index report.below) in
       let written : IsSourced s maps (current_of s sound k off) = sourced runs s sound k off in
       let node = reported_node d in
-      both_there (diagnostic_view d).kind (module_definition s.tables.files maps d.in_module) (option_map (node_in node) (source_of s.tables.files node.file_id node.block))
-      (module_shown s.tables.files maps written.bound d.in_module there)
-      (mapped_some (node_in node) (source_of s.tables.files node.file_id node.block) ∙ present (is_some (source_of s.tables.files node.file_id node.block)) report.written)
+      both_there (diagnostic_view d).kind (module_definition s.tables maps d.in_module) (option_map (node_in node) (source_of s.tables node.file_id node.block))
+      (module_shown s.tables maps written.bound d.in_module there)
+      (mapped_some (node_in node) (source_of s.tables node.file_id node.block) ∙ present (is_some (source_of s.tables node.file_id node.block)) report.written)
 
   next_told : (o : Option Diagnostic) → is_some o ≡ true → (os : List (Option Diagnostic)) (ts : List Diagnostic) → os ≡ map (λ (t : Diagnostic). Some t) ts
       → o ∷ os ≡ map (λ (t : Diagnostic). Some t) (cons_option o ts)
   next_told None f os ts rest = absurd (true≢false (sym f))
   next_told (Some t) f os ts rest = ap (λ (xs : List (Option Diagnostic)). Some t ∷ xs) rest
 
-  each_told : (ds : List DefDiagnostic) → AreReports (unwritten s) own.id (length own.modules) ds → AreTold s.tables.files maps ds (diagnostics_in s.tables.files maps ds)
+  each_told : (ds : List DefDiagnostic) → AreReports (unwritten s) own.id (length own.modules) ds → AreTold s.tables maps ds (diagnostics_in s.tables maps ds)
   each_told [] reports = refl
   each_told (d ∷ ds) reports =
-      next_told (diagnostic_source s.tables.files maps (diagnostic_view d)) (is_told d reports.0)
-      (map (λ (d : DefDiagnostic). diagnostic_source s.tables.files maps (diagnostic_view d)) ds) (diagnostics_in s.tables.files maps ds) (each_told ds reports.1)
+      next_told (diagnostic_source s.tables maps (diagnostic_view d)) (is_told d reports.0)
+      (map (λ (d : DefDiagnostic). diagnostic_source s.tables maps (diagnostic_view d)) ds) (diagnostics_in s.tables maps ds) (each_told ds reports.1)
 
 -- diagnostics that are told stand
 pub tell : RunsBindFromSources → (s : SessionState) (krate : Crate) (told : List Diagnostic) → IsSound s → diagnostics_of s krate ≡ Ok told → DiagnosticsStand s krate told
@@ -87,13 +88,13 @@ tell runs s krate told sound h =
     (λ r some. let off : is_marked s (id_of krate.0) ≡ false = ap (λ (o : Option Resolution). is_none o) some in
     let now = sound.current (id_of krate.0) off in
     let over = rw (within, now.is) at h in
-    let is : diagnostics_in s.tables.files (overlay (read_of s (id_of krate.0)) now.found.map) now.found.map.diagnostics ≡ told = cc over in
+    let is : diagnostics_in s.tables (overlay (read_of s (id_of krate.0)) now.found.map) now.found.map.diagnostics ≡ told = cc over in
     record {
       found = now.found;
       kept = now.is;
       present = now.gives.resolved;
       behind = λ id b. sound.current id (unmarked_behind sound off b);
-      all = subst (AreTold s.tables.files (overlay (read_of s (id_of krate.0)) now.found.map) now.found.map.diagnostics) is
+      all = subst (AreTold s.tables (overlay (read_of s (id_of krate.0)) now.found.map) now.found.map.diagnostics) is
           (each_told runs s sound krate.0 off now.found.map.diagnostics (reported s sound krate.0 off));
     }))
     (λ past. absurd (let wrong : ⊥ = cc (rw past at h) in wrong))

@@ -19,7 +19,7 @@ use Rattle.hir_def_collector.specs.declared.source_database.Key.{Key}
 use Rattle.hir_def_collector.specs.declared.source_database.Key.TheVariants as keys
 use Rattle.hir_crate_graph.specs.CrateSet.{has_crate}
 use Rattle.hir_session.specs.Crates.{CrateValue, transitive_in}
-use Rattle.hir_session.specs.Files.{Files}
+use Rattle.hir_session.specs.SourceTable.{SourceTable}
 use Rattle.hir_session.specs.Kept.{Resolutions, finished_by, kept_in}
 use Rattle.hir_session.specs.SessionState.{SessionState, Resolution, workspace_of, beginning_of, finished_of, read_of, kept_of, IsResolved, IsResolutionOf}
 use Rattle.hir_crate_graph.specs.Dependencies.{DependsOn}
@@ -74,10 +74,10 @@ of_dependency (dependency c among is) = (c, among, is)
 
 -- ---- a session that changes
 
-module _ (s : SessionState) (F : Files) (K : Resolutions) where
-  -- the session with other files and other resolutions
+module _ (s : SessionState) (F : SourceTable) (K : Resolutions) where
+  -- the session with other sources and other resolutions
   abbrev pub changed : SessionState
-  changed = record s { files = F; kept = K }
+  changed = record s { sources = F; kept = K }
 
   -- what is kept of the crates on which a crate stands is as it was
   abbrev pub IsKeptBehind : MapId → Type 0

@@ -29,4 +29,4 @@ pub record AnswersStand (s : SessionState) (place : PlaceValue) (path : Path) (s
   pub named : module_below found.map (root_of found.map.id) place.elements ≡ Some asked_from
   -- and it has a source item wherever scoping gives something
   pub whole : LeavesNothingOut (resolution_of (overlay (read_of s (map_of place)) found.map) (asking_of found.local shadow style) asked_from path).resolved_def answer
-  pub is : answer ≡ answer_in s.tables.files (overlay (read_of s (map_of place)) found.map) found.local asked_from path shadow style
+  pub is : answer ≡ answer_in s.tables (overlay (read_of s (map_of place)) found.map) found.local asked_from path shadow style

@@ -47,10 +47,10 @@ pub record IsAdded (input : CrateInputValue) (old new : List CrateValue) (before
   pub longer : new ≡ old ++ made ∷ []
   pub kept : KeepsTables before after
 
--- the session is over these crates, without files, and nothing of it is resolved
+-- the session is over these crates, without sources, and nothing of it is resolved
 pub record Begins (inputs : List CrateInputValue) (s : SessionState) : Type 0 where
   pub crates : AreMade inputs s.crates
   -- two crates with one root file have one number for it
   pub rooted : AreRooted s.tables s.crates
-  pub files : s.files ≡ []
+  pub sources : s.sources ≡ record { files = []; entries = [] }
   pub kept : (id : MapId) → kept_of s id ≡ None

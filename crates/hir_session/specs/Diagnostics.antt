@@ -1,18 +1,15 @@
 -- What is told of what couldn't be resolved in a crate?
-use Rattle.std.specs.Prelude.{ℕ, nat_lt, List, length, Option, None, Some, option_map, Result, Ok, Err, if◌then◌else◌}
+use Rattle.std.specs.Prelude.{nat_lt, List, length, Option, None, Some, option_map, Result, Ok, Err, if◌then◌else◌}
 use Rattle.std.specs.List.{filter_map}
 use Rattle.hir_base.specs.Cfg.{cfg_text}
 use Rattle.hir_base.specs.declared.ast_id.AstId.{AstId}
 use Rattle.hir_base.specs.declared.ids.Crate.{Crate}
-use Rattle.hir_base.specs.declared.macro_kind.MacroCallKind.{MacroCallKind}
-use Rattle.hir_base.specs.declared.macro_kind.MacroCallKind.TheVariants as calls
+use Rattle.hir_tables.specs.Tables.{TablesValue}
 use Rattle.hir_def_map.specs.Diagnostics.{DiagnosticValue, KindValue, UnresolvedModule, UnresolvedExternCrate, UnresolvedImport, UnconfiguredCode, UnresolvedMacroCall, UnimplementedBuiltinMacro, InvalidDeriveTarget, MalformedDerive, MacroDefError, MacroError, diagnostic_view, node_of}
 use Rattle.hir_def_map.specs.Overlay.{Maps, overlay}
 use Rattle.hir_def_map.specs.declared.nameres.diagnostics.DefDiagnostic.{DefDiagnostic}
 use Rattle.hir_wire.specs.declared.answer.Definition.{Definition}
 use Rattle.hir_wire.specs.declared.answer.ItemSource.{ItemSource}
-use Rattle.hir_wire.specs.declared.answer.SourceCallKind.{SourceCallKind}
-use Rattle.hir_wire.specs.declared.answer.SourceCallKind.TheVariants as call
 use Rattle.hir_wire.specs.declared.answer.SourceItem.{SourceItem}
 use Rattle.hir_wire.specs.declared.answer.SourceKind.TheVariants as source
 use Rattle.hir_wire.specs.declared.diagnostic.Diagnostic.{Diagnostic}
@@ -22,21 +19,16 @@ use Rattle.hir_session.specs.declared.error.DiagnosticsError.{DiagnosticsError}
 use Rattle.hir_session.specs.declared.error.DiagnosticsError.TheVariants as error
 use Rattle.hir_session.specs.Crates.{id_of}
 use Rattle.hir_session.specs.SessionState.{SessionState, Resolution, kept_of, read_of}
-use Rattle.hir_session.specs.SourceItems.{module_definition, source_of}
+use Rattle.hir_session.specs.SourceCalls.{call_kind, source_of}
+use Rattle.hir_session.specs.SourceItems.{module_definition}
 
 -- a node, in what holds it
 abbrev pub node_in : AstId → ItemSource → SourceItem
 node_in node held = record { source = held; kind = source.Node node.kind; id = node.id }
 
 -- the source item of a node
-abbrev pub node_source : List (List ℕ) → AstId → Option SourceItem
-node_source paths node = option_map (node_in node) (source_of paths node.file_id node.block)
-
--- how a macro is called
-abbrev pub call_kind : MacroCallKind → SourceCallKind
-call_kind (calls.FnLike ast) = call.FnLike
-call_kind (calls.Derive ast attr index) = call.Derive attr.0 index
-call_kind (calls.Attr ast attr) = call.Attr attr.0
+abbrev pub node_source : TablesValue → AstId → Option SourceItem
+node_source tables node = option_map (node_in node) (source_of tables node.file_id node.block)
 
 -- what is wrong with an item
 abbrev pub kind_about : KindValue → SourceItem → DiagnosticKind
@@ -58,20 +50,20 @@ diagnostic_with kind (Some within) None = None
 diagnostic_with kind (Some within) (Some item) = Some (record { in_module = within; kind = kind_about kind item })
 
 -- a diagnostic of a map, in source items
-abbrev pub diagnostic_source : List (List ℕ) → Maps → DiagnosticValue → Option Diagnostic
-diagnostic_source paths maps d = diagnostic_with d.kind (module_definition paths maps d.in_module) (node_source paths (node_of d.kind))
+abbrev pub diagnostic_source : TablesValue → Maps → DiagnosticValue → Option Diagnostic
+diagnostic_source tables maps d = diagnostic_with d.kind (module_definition tables maps d.in_module) (node_source tables (node_of d.kind))
 
 -- diagnostics of a map, in source items and in their order
-abbrev pub diagnostics_in : List (List ℕ) → Maps → List DefDiagnostic → List Diagnostic
-diagnostics_in paths maps ds = filter_map (λ d. diagnostic_source paths maps (diagnostic_view d)) ds
+abbrev pub diagnostics_in : TablesValue → Maps → List DefDiagnostic → List Diagnostic
+diagnostics_in tables maps ds = filter_map (λ d. diagnostic_source tables maps (diagnostic_view d)) ds
 
 -- those of what is kept of a crate, beside the finished maps that it reads
-abbrev pub diagnostics_from : List (List ℕ) → Maps → Option Resolution → Result (List Diagnostic) DiagnosticsError
-diagnostics_from paths read None = Err error.StalePlace
-diagnostics_from paths read (Some r) = Ok (diagnostics_in paths (overlay read r.map) r.map.diagnostics)
+abbrev pub diagnostics_from : TablesValue → Maps → Option Resolution → Result (List Diagnostic) DiagnosticsError
+diagnostics_from tables read None = Err error.StalePlace
+diagnostics_from tables read (Some r) = Ok (diagnostics_in tables (overlay read r.map) r.map.diagnostics)
 
 -- those of a crate, or why they aren't told
 abbrev pub diagnostics_of : SessionState → Crate → Result (List Diagnostic) DiagnosticsError
 diagnostics_of s krate =
-    if nat_lt krate.0 (length s.crates) then diagnostics_from s.tables.files (read_of s (id_of krate.0)) (kept_of s (id_of krate.0)) else
+    if nat_lt krate.0 (length s.crates) then diagnostics_from s.tables (read_of s (id_of krate.0)) (kept_of s (id_of krate.0)) else
     Err error.UnknownCrate

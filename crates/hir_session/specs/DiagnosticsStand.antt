@@ -1,7 +1,8 @@
 -- What do the diagnostics of a crate stand on?
-use Rattle.std.specs.Prelude.{◌≡◌, ℕ, List, Some, map}
+use Rattle.std.specs.Prelude.{◌≡◌, List, Some, map}
 use Rattle.hir_base.specs.declared.ids.Crate.{Crate}
 use Rattle.hir_base.specs.declared.ids.MapId.{MapId}
+use Rattle.hir_tables.specs.Tables.{TablesValue}
 use Rattle.hir_def_map.specs.Diagnostics.{diagnostic_view}
 use Rattle.hir_def_map.specs.Overlay.{Maps, overlay}
 use Rattle.hir_def_map.specs.declared.nameres.diagnostics.DefDiagnostic.{DefDiagnostic}
@@ -12,8 +13,8 @@ use Rattle.hir_session.specs.Due.{IsBehind}
 use Rattle.hir_session.specs.SessionState.{SessionState, Resolution, workspace_of, finished_of, read_of, beginning_of, kept_of, IsCurrent, IsResolved}
 
 -- each diagnostic of a map is told, in source items and in their order, and nothing else is
-abbrev pub AreTold : List (List ℕ) → Maps → List DefDiagnostic → List Diagnostic → Type 0
-AreTold paths maps ds told = map (λ (d : DefDiagnostic). diagnostic_source paths maps (diagnostic_view d)) ds ≡ map (λ (t : Diagnostic). Some t) told
+abbrev pub AreTold : TablesValue → Maps → List DefDiagnostic → List Diagnostic → Type 0
+AreTold tables maps ds told = map (λ (d : DefDiagnostic). diagnostic_source tables maps (diagnostic_view d)) ds ≡ map (λ (t : Diagnostic). Some t) told
 
 -- what is told is all that is reported in a resolution in which a derivation from the present sources ends, beside the finished maps of the crates
 -- on which the crate stands
@@ -25,4 +26,4 @@ pub record DiagnosticsStand (s : SessionState) (krate : Crate) (told : List Diag
   -- and so is what stands behind the crate
   pub behind : (id : MapId) → IsBehind s (id_of krate.0) id → IsCurrent s id
   -- none is left out
-  pub all : AreTold s.tables.files (overlay (read_of s (id_of krate.0)) found.map) found.map.diagnostics told
+  pub all : AreTold s.tables (overlay (read_of s (id_of krate.0)) found.map) found.map.diagnostics told

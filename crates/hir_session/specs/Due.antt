@@ -29,7 +29,7 @@ due_places s = map root_place (due s)
 pub record Grows (old new : SessionState) : Type 0 where
   pub crates : new.crates ≡ old.crates
   pub tables : KeepsTables old.tables new.tables
-  pub files : new.files ≡ old.files
+  pub sources : new.sources ≡ old.sources
   pub kept : new.kept ≡ old.kept
   -- what isn't marked is what the import rules could have given just now
   pub sound : IsSound new
@@ -38,7 +38,7 @@ pub record Grows (old new : SessionState) : Type 0 where
 pub record Resolved (old : SessionState) (id : MapId) (r : Resolution) (new : SessionState) : Type 0 where
   pub crates : new.crates ≡ old.crates
   pub tables : KeepsTables old.tables new.tables
-  pub files : new.files ≡ old.files
+  pub sources : new.sources ≡ old.sources
   pub here : kept_of new id ≡ Some r
   pub others : (j : MapId) → j ≢ id → kept_of new j ≡ kept_of old j
 

@@ -1,15 +1,23 @@
--- What does the code make of an edited file? No public clause speaks of this.
-use Rattle.std.specs.Prelude.{◌≡◌, Some}
+-- What does the code make of an edited source? No public clause speaks of this.
+use Rattle.std.specs.Prelude.{◌≡◌}
+use Rattle.hir_base.specs.declared.ids.Crate.{Crate}
 use Rattle.hir_session.specs.declared.invalidate.Change.{Change}
-use Rattle.hir_session.specs.Files.{file_at, tree_under}
-use Rattle.hir_session.specs.Inputs.{FileEditValue, InputsValue}
+use Rattle.hir_session.specs.declared.invalidate.Changes.{Changes}
+use Rattle.hir_session.specs.Inputs.{InputsValue}
+use Rattle.hir_session.specs.SourceEdits.{SourceEditValue, place_of, source_by}
+use Rattle.hir_session.specs.SourceTable.{source_at, tree_under}
 use Rattle.hir_session.specs.SourceTrees.{CrateTrees, AreTreesOf}
 
--- so the file changes under the crate
-pub record IsChange (inputs : InputsValue) (edit : FileEditValue) (change : Change) : Type 0 where
-  pub old : change.old.value ≡ tree_under inputs.crates change.krate.0 (Some edit.path) (file_at inputs.files edit.path)
-  pub new : change.new.value ≡ tree_under inputs.crates change.krate.0 (Some edit.path) edit.new
+-- so the source changes under a crate
+pub record IsChange (inputs : InputsValue) (edit : SourceEditValue) (krate : Crate) (change : Change) : Type 0 where
+  pub before : change.before.value ≡ tree_under inputs.crates krate.0 (place_of edit) (source_at inputs.sources (place_of edit))
+  pub after : change.after.value ≡ tree_under inputs.crates krate.0 (place_of edit) (source_by edit)
 
--- these are what the file has under crates after the edit
-abbrev pub HasTreesOf : InputsValue → FileEditValue → CrateTrees → Type 0
-HasTreesOf inputs edit trees = AreTreesOf inputs.crates edit.path edit.new trees
+-- these are what the source has under crates after the edit
+abbrev pub HasTreesOf : InputsValue → SourceEditValue → CrateTrees → Type 0
+HasTreesOf inputs edit trees = AreTreesOf inputs.crates (place_of edit) (source_by edit) trees
+
+-- and these before it, beside those
+pub record AreChanges (inputs : InputsValue) (edit : SourceEditValue) (changes : Changes) : Type 0 where
+  pub before : AreTreesOf inputs.crates (place_of edit) (source_at inputs.sources (place_of edit)) changes.before
+  pub after : HasTreesOf inputs edit changes.after

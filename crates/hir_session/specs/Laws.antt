@@ -2,21 +2,26 @@
 use Rattle.std.specs.Prelude.{◌≡◌, ◌≢◌, ℕ, true, List, Option, Some, None, Contains}
 use Rattle.hir_base.specs.ModPath.{Path}
 use Rattle.hir_base.specs.Place.{PlaceValue}
+use Rattle.hir_base.specs.declared.ast_id.EntryId.{EntryId}
 use Rattle.hir_base.specs.declared.ids.MapId.{MapId}
 use Rattle.hir_item_tree.specs.BodyTexts.{source_without_bodies}
 use Rattle.hir_item_tree.specs.Source.{SourceValue}
 use Rattle.hir_item_tree.specs.declared.tree_id.TreeKey.{TreeKey}
-use Rattle.hir_tables.specs.Tables.{TablesValue}
-use Rattle.hir_def_collector.specs.Keys.{enum_tree}
+use Rattle.hir_tables.specs.SourcePlaces.{ExpansionValue, SourcePlaceValue, file}
+use Rattle.hir_tables.specs.Tables as numbers
+use Rattle.hir_tables.specs.Tables.{source_of}
 use Rattle.hir_def_collector.specs.declared.source_database.Key.{Key}
-use Rattle.hir_def_collector.specs.declared.source_database.Key.TheVariants.{Tree, Variants, Map}
-use Rattle.hir_wire.specs.Edits.{EditValue, set_file, remove_file}
+use Rattle.hir_def_collector.specs.declared.source_database.Key.TheVariants.{Tree, Expansion}
+use Rattle.hir_wire.specs.Edits.{EditValue, EntryValue, set_file, remove_file, set_expansion, remove_expansion}
 use Rattle.hir_wire.specs.declared.command.Shadow.{Shadow}
 use Rattle.hir_wire.specs.declared.command.MacroStyle.{MacroStyle}
 use Rattle.hir_session.specs.Answers.{answer_of}
-use Rattle.hir_session.specs.Files.{file_at, path_in}
+use Rattle.hir_session.specs.Entries.{entry_at}
+use Rattle.hir_session.specs.Files.{file_at}
+use Rattle.hir_session.specs.KeySources.{key_place}
 use Rattle.hir_session.specs.SessionState.{SessionState, Resolution, kept_of, is_marked, IsSound}
 use Rattle.hir_session.specs.Changes.{Applies}
+use Rattle.hir_session.specs.SourceEdits.{edit_of, place_of}
 pub use Rattle.hir_session.specs.Histories.{History, WasAltered, DifferOnlyWhereAltered}
 
 -- each query has the same answer in both
@@ -27,59 +32,76 @@ AnswersAlike old new = (place : PlaceValue) (path : Path) (shadow : Shadow) (sty
 -- a file that was there is set to a source that differs in the texts of bodies alone: no mark changes
 abbrev pub BodyEditsMarkNothing : Type 0
 BodyEditsMarkNothing = (old new : SessionState) (path : List ℕ) (was source : SourceValue) → IsSound old
-    → file_at old.files path ≡ Some was → source_without_bodies was ≡ source_without_bodies source → Applies old (set_file path source) new
+    → file_at old.sources.files path ≡ Some was → source_without_bodies was ≡ source_without_bodies source → Applies old (set_file path source) new
     → (id : MapId) → is_marked new id ≡ is_marked old id
 
 -- and no answer
 abbrev pub BodyEditsLeaveAnswers : Type 0
 BodyEditsLeaveAnswers = (old new : SessionState) (path : List ℕ) (was source : SourceValue) → IsSound old
-    → file_at old.files path ≡ Some was → source_without_bodies was ≡ source_without_bodies source → Applies old (set_file path source) new
+    → file_at old.sources.files path ≡ Some was → source_without_bodies was ≡ source_without_bodies source → Applies old (set_file path source) new
     → AnswersAlike old new
 
 -- a file that was absent is set, to an empty source too: each place whose run asked for it is marked
 abbrev pub SetAbsentFileMarks : Type 0
 SetAbsentFileMarks = (old new : SessionState) (path : List ℕ) (source : SourceValue) (id : MapId) (found : Resolution) (key : TreeKey)
-    → file_at old.files path ≡ None → Applies old (set_file path source) new
-    → kept_of old id ≡ Some found → Contains found.asked (Tree key) → path_in old.tables key.id ≡ Some path
+    → file_at old.sources.files path ≡ None → Applies old (set_file path source) new
+    → kept_of old id ≡ Some found → Contains found.asked (Tree key) → source_of old.tables key.id ≡ Some (file path)
     → is_marked new id ≡ true
 
 -- a file that was there is removed, an empty one too: each place whose run asked for it is marked
 abbrev pub RemovePresentFileMarks : Type 0
 RemovePresentFileMarks = (old new : SessionState) (path : List ℕ) (was : SourceValue) (id : MapId) (found : Resolution) (key : TreeKey)
-    → file_at old.files path ≡ Some was → Applies old (remove_file path) new
-    → kept_of old id ≡ Some found → Contains found.asked (Tree key) → path_in old.tables key.id ≡ Some path
+    → file_at old.sources.files path ≡ Some was → Applies old (remove_file path) new
+    → kept_of old id ≡ Some found → Contains found.asked (Tree key) → source_of old.tables key.id ≡ Some (file path)
     → is_marked new id ≡ true
 
 -- a file that isn't there is removed: no mark changes
 abbrev pub RemoveAbsentFileMarksNothing : Type 0
 RemoveAbsentFileMarksNothing = (old new : SessionState) (path : List ℕ) → IsSound old
-    → file_at old.files path ≡ None → Applies old (remove_file path) new → (id : MapId) → is_marked new id ≡ is_marked old id
+    → file_at old.sources.files path ≡ None → Applies old (remove_file path) new → (id : MapId) → is_marked new id ≡ is_marked old id
 
 -- and no answer
 abbrev pub RemoveAbsentFileLeavesAnswers : Type 0
 RemoveAbsentFileLeavesAnswers = (old new : SessionState) (path : List ℕ) → IsSound old
-    → file_at old.files path ≡ None → Applies old (remove_file path) new → AnswersAlike old new
+    → file_at old.sources.files path ≡ None → Applies old (remove_file path) new → AnswersAlike old new
 
--- the path of the file that a key asks for, if it asks for one
-abbrev pub key_path : TablesValue → Key → Option (List ℕ)
-key_path tables (Tree key) = path_in tables key.id
-key_path tables (Variants id) = path_in tables (enum_tree id)
-key_path tables (Map id) = None
+-- an expansion that was absent is set, to an empty source too: each place whose run asked for it is marked
+abbrev pub SetAbsentExpansionMarks : Type 0
+SetAbsentExpansionMarks = (old new : SessionState) (key : ExpansionValue) (entry : EntryValue) (id : MapId) (found : Resolution) (number : EntryId)
+    → entry_at old.sources.entries key ≡ None → Applies old (set_expansion key entry) new
+    → kept_of old id ≡ Some found → Contains found.asked (Expansion number) → numbers.entry_at old.tables number ≡ Some key
+    → is_marked new id ≡ true
 
--- no run of which something is kept asked for the file at the path
-pub record IsUnasked (s : SessionState) (path : List ℕ) : Type 0 where
-  pub each : (id : MapId) (found : Resolution) (key : Key) → kept_of s id ≡ Some found → Contains found.asked key → key_path s.tables key ≢ Some path
+-- an expansion that was there is removed, an empty one too: each place whose run asked for it is marked
+abbrev pub RemovePresentExpansionMarks : Type 0
+RemovePresentExpansionMarks = (old new : SessionState) (key : ExpansionValue) (was : EntryValue) (id : MapId) (found : Resolution) (number : EntryId)
+    → entry_at old.sources.entries key ≡ Some was → Applies old (remove_expansion key) new
+    → kept_of old id ≡ Some found → Contains found.asked (Expansion number) → numbers.entry_at old.tables number ≡ Some key
+    → is_marked new id ≡ true
 
--- the path of the file of an edit
-abbrev pub path_of_edit : EditValue → List ℕ
-path_of_edit (set_file path source) = path
-path_of_edit (remove_file path) = path
+-- an expansion that isn't there is removed: no mark changes
+abbrev pub RemoveAbsentExpansionMarksNothing : Type 0
+RemoveAbsentExpansionMarksNothing = (old new : SessionState) (key : ExpansionValue) → IsSound old
+    → entry_at old.sources.entries key ≡ None → Applies old (remove_expansion key) new → (id : MapId) → is_marked new id ≡ is_marked old id
 
--- an edit of a file for which no run asked: no mark changes
-abbrev pub UnaskedFilesMarkNothing : Type 0
-UnaskedFilesMarkNothing = (old new : SessionState) (edit : EditValue) → IsSound old → IsUnasked old (path_of_edit edit) → Applies old edit new
+-- and no answer
+abbrev pub RemoveAbsentExpansionLeavesAnswers : Type 0
+RemoveAbsentExpansionLeavesAnswers = (old new : SessionState) (key : ExpansionValue) → IsSound old
+    → entry_at old.sources.entries key ≡ None → Applies old (remove_expansion key) new → AnswersAlike old new
+
+-- no run of which something is kept asked for the source at the place
+pub record IsUnasked (s : SessionState) (place : SourcePlaceValue) : Type 0 where
+  pub each : (id : MapId) (found : Resolution) (key : Key) → kept_of s id ≡ Some found → Contains found.asked key → key_place s.tables key ≢ Some place
+
+-- the place of what is edited
+abbrev pub place_of_edit : EditValue → SourcePlaceValue
+place_of_edit edit = place_of (edit_of edit)
+
+-- an edit of a source for which no run asked: no mark changes
+abbrev pub UnaskedSourcesMarkNothing : Type 0
+UnaskedSourcesMarkNothing = (old new : SessionState) (edit : EditValue) → IsSound old → IsUnasked old (place_of_edit edit) → Applies old edit new
     → (id : MapId) → is_marked new id ≡ is_marked old id
 
 -- and no answer
-abbrev pub UnaskedFilesLeaveAnswers : Type 0
-UnaskedFilesLeaveAnswers = (old new : SessionState) (edit : EditValue) → IsSound old → IsUnasked old (path_of_edit edit) → Applies old edit new → AnswersAlike old new
+abbrev pub UnaskedSourcesLeaveAnswers : Type 0
+UnaskedSourcesLeaveAnswers = (old new : SessionState) (edit : EditValue) → IsSound old → IsUnasked old (place_of_edit edit) → Applies old edit new → AnswersAlike old new

@@ -1,5 +1,10 @@
 pub mod Crates
 pub mod Files
+pub mod Entries
+pub mod SourceTable
+pub mod SourceEdits
+pub mod KeySources
+pub mod SourceNumbers
 pub mod Inputs
 pub mod SourceTrees
 pub mod Askers
@@ -7,12 +12,13 @@ pub mod Kept
 pub mod KeptCodes
 pub mod SessionState
 pub mod SourceCodes
+pub mod TableCodes
 pub mod CrateCodes
 pub mod InputCodes
 pub mod Codes
 pub mod Spread
 pub mod Marks
-pub mod EditedFiles
+pub mod EditedSources
 pub mod Invalidated
 pub mod Due
 pub mod Nesting
@@ -21,6 +27,7 @@ pub mod Refusals
 pub mod Beginning
 pub mod Changes
 pub mod Status
+pub mod SourceCalls
 pub mod SourceItems
 pub mod Answers
 pub mod LeavesOut

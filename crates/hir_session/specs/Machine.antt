@@ -1,5 +1,5 @@
 -- How does a session answer commands and lines?
-use Rattle.std.specs.Prelude.{◌≡◌, ℕ, Bool, true, false, List, Option, None, Some, Result, Ok, Err, String, string_bytes}
+use Rattle.std.specs.Prelude.{◌≡◌, ℕ, Bool, true, false, List, length, Option, None, Some, Result, Ok, Err, String, string_bytes}
 use Rattle.std.specs.declared.alloc.Global.{Global}
 use Rattle.hir_base.specs.ModPath.{Path}
 use Rattle.hir_base.specs.Place.{PlaceValue}
@@ -98,9 +98,9 @@ read_reply read_error.Memory = reply.Memory
 -- what a command does to a session, and what is told of it
 pub data Moves (s : SessionState) (c : CommandValue) (answer : Reply) (t : SessionState) : Type 0 where
   -- the edit is accepted
-  applies : (e : EditValue) → c ≡ edit e → verdict_of_apply e ≡ Ok tt → Applies s e t → answer ≡ reply.Done → Moves s c answer t
+  applies : (e : EditValue) → c ≡ edit e → verdict_of_apply (length s.crates) e ≡ Ok tt → Applies s e t → answer ≡ reply.Done → Moves s c answer t
   -- the edit is refused, and nothing changes
-  refuses : (e : EditValue) (why : EditError) → c ≡ edit e → verdict_of_apply e ≡ Err why → t ≡ s → answer ≡ edit_reply why → Moves s c answer t
+  refuses : (e : EditValue) (why : EditError) → c ≡ edit e → verdict_of_apply (length s.crates) e ≡ Err why → t ≡ s → answer ≡ edit_reply why → Moves s c answer t
   -- all that was due is resolved, and listed
   refreshes : (done : List PlaceValue) → c ≡ refresh → Refreshes s done t → answer ≡ reply.Places done → Moves s c answer t
   -- some of it is, and the rest is still marked; it is too many only where the next run goes on for too long

@@ -1,8 +1,10 @@
 -- What are a session and an edit refused for?
 use Rattle.std.specs.Prelude.{◌≡◌, ℕ, ◌+◌, ◌^◌, Bool, ◌&&◌, not, nat_le, nat_lt, List, [], ◌∷◌, length, map, Option, Some, None, Result, Ok, Err, if◌then◌else◌}
-use Rattle.std.specs.List.{list_any}
+use Rattle.std.specs.List.{list_all, list_any}
 use Rattle.hir_base.specs.declared.ids.Crate.{Crate}
 use Rattle.hir_base.specs.declared.limit.Limit.TheVariants as limit
+use Rattle.hir_base.specs.declared.macro_kind.MacroText.{MacroText}
+use Rattle.hir_tables.specs.SourcePlaces.{ExpansionValue}
 use Rattle.hir_item_tree.specs.Source.{SourceValue}
 use Rattle.hir_item_tree.specs.Check.{verdict_of_check}
 use Rattle.hir_item_tree.specs.Limits.{are_deep, have_long_attribute}
@@ -12,7 +14,7 @@ use Rattle.hir_def_collector.specs.declared.collector.CollectError.{CollectError
 use Rattle.hir_def_collector.specs.declared.collector.CollectError.TheVariants as collect_error
 use Rattle.hir_wire.specs.CommandValue.{CrateInputValue}
 use Rattle.hir_wire.specs.declared.command.Dependency.{Dependency}
-use Rattle.hir_wire.specs.Edits.{EditValue, set_file, remove_file}
+use Rattle.hir_wire.specs.Edits.{EditValue, set_file, remove_file, set_expansion, remove_expansion}
 use Rattle.hir_session.specs.declared.error.NewSessionError.{NewSessionError}
 use Rattle.hir_session.specs.declared.error.NewSessionError.TheVariants as new_error
 use Rattle.hir_session.specs.declared.error.EditError.{EditError}
@@ -111,7 +113,17 @@ verdict_of_source source =
     if is_nested_too_deep source then Err (edit_error.TooLarge limit.Modules) else
     (if is_source_taken source then edit_result_of (verdict_of_check source) else Err edit_error.NotYet)
 
--- that the edit is accepted, or the first thing for which it is refused
-abbrev pub verdict_of_apply : EditValue → Result (Unit {0}) EditError
-verdict_of_apply (set_file path source) = verdict_of_source source
-verdict_of_apply (remove_file path) = Ok tt
+-- whether there are the crates that an expansion names, where there are so many
+abbrev pub are_known : ℕ → ExpansionValue → Bool
+are_known count key = nat_lt key.caller.0 count && (nat_lt key.called.krate.0 count && list_all (λ (m : MacroText). nat_lt m.krate.0 count) key.reached)
+
+-- what an expansion that is set is refused for
+abbrev pub verdict_of_expansion : ℕ → ExpansionValue → SourceValue → Result (Unit {0}) EditError
+verdict_of_expansion count key source = if are_known count key then verdict_of_source source else Err edit_error.UnknownCrate
+
+-- that the edit of a session over so many crates is accepted, or the first thing for which it is refused
+abbrev pub verdict_of_apply : ℕ → EditValue → Result (Unit {0}) EditError
+verdict_of_apply count (set_file path source) = verdict_of_source source
+verdict_of_apply count (remove_file path) = Ok tt
+verdict_of_apply count (set_expansion key entry) = verdict_of_expansion count key entry.source
+verdict_of_apply count (remove_expansion key) = Ok tt

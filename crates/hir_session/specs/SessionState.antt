@@ -10,30 +10,30 @@ use Rattle.hir_def_collector.specs.Keys.{AgreeOn}
 use Rattle.hir_def_collector.specs.Derivation.{CollectedValue, Ends}
 use Rattle.hir_def_collector.specs.Start.{Beginning}
 use Rattle.hir_session.specs.Crates.{CrateValue, beginning_in, transitive_in, crate_in, dependencies_in, follows_in}
-use Rattle.hir_session.specs.Files.{Files, workspace_in}
 use Rattle.hir_session.specs.Inputs.{InputsValue}
 use Rattle.hir_session.specs.Kept.{Resolutions, finished_by, kept_in}
+use Rattle.hir_session.specs.SourceTable.{SourceTable, workspace_in}
 use Rattle.hir_tables.specs.Tables.{TablesValue, file_at}
 
 -- what is kept of a place that was resolved: its map, the imports left over, and the keys that were asked for
 abbrev pub Resolution : Type 0
 Resolution = CollectedValue
 
--- the crates by number, what the numbers of files mean, the files that are there,
+-- the crates by number, what the numbers of sources mean, the files and the expansions that are there,
 -- and what is kept of the places that were resolved
 pub record SessionState : Type 0 where
   pub crates : List CrateValue
   pub tables : TablesValue
-  pub files : Files
+  pub sources : SourceTable
   pub kept : Resolutions
 
 -- the session over what is handed in, with these tables and resolutions
 abbrev pub state_of : InputsValue → TablesValue → Resolutions → SessionState
-state_of inputs tables kept = record { crates = inputs.crates; tables = tables; files = inputs.files; kept = kept }
+state_of inputs tables kept = record { crates = inputs.crates; tables = tables; sources = inputs.sources; kept = kept }
 
--- the workspace as it is now: a file that isn't there is not an empty one
+-- the workspace as it is now: a source that isn't there is not an empty one
 abbrev pub workspace_of : SessionState → Workspace
-workspace_of s = workspace_in s.crates s.files
+workspace_of s = workspace_in s.crates s.sources
 
 -- what a crate depends on
 abbrev pub dependencies_of : SessionState → ℕ → List Crate

@@ -80,7 +80,7 @@ fn maybe_import(
     tables: &Tables,
     by: Option<ImportOrExternCrate>,
 ) -> Result<Option<Option<ImportSource>>, AllocError>
-    ensures value { IfOk result (λ o. o ≡ maybe_source (import_source tables.now.files) by) }
+    ensures value { IfOk result (λ o. o ≡ maybe_source (import_source tables.now) by) }
 {
     match by {
         Some(by) => match import_at(alloc, tables, by)? {
@@ -97,7 +97,7 @@ fn maybe_value_import(
     tables: &Tables,
     by: Option<ImportOrGlob>,
 ) -> Result<Option<Option<ImportSource>>, AllocError>
-    ensures value { IfOk result (λ o. o ≡ maybe_source (value_import_source tables.now.files) by) }
+    ensures value { IfOk result (λ o. o ≡ maybe_source (value_import_source tables.now) by) }
 {
     match by {
         Some(by) => match value_import_at(alloc, tables, by)? {
@@ -115,7 +115,7 @@ fn type_at(
     maps: &DefMaps<'_>,
     item: Option<TypesItem>,
 ) -> Result<Option<AnswerItem>, AllocError>
-    ensures value { IfOk result (λ o. o ≡ option_and_then (answered_type tables.now.files (maps_of maps.now)) item) }
+    ensures value { IfOk result (λ o. o ≡ option_and_then (answered_type tables.now (maps_of maps.now)) item) }
 {
     match item {
         Some(item) => {
@@ -135,7 +135,7 @@ fn value_at(
     maps: &DefMaps<'_>,
     item: Option<ValuesItem>,
 ) -> Result<Option<AnswerItem>, AllocError>
-    ensures value { IfOk result (λ o. o ≡ option_and_then (answered_value tables.now.files (maps_of maps.now)) item) }
+    ensures value { IfOk result (λ o. o ≡ option_and_then (answered_value tables.now (maps_of maps.now)) item) }
 {
     match item {
         Some(item) => {
@@ -155,7 +155,7 @@ fn macro_item_at(
     maps: &DefMaps<'_>,
     item: Option<MacrosItem>,
 ) -> Result<Option<AnswerItem>, AllocError>
-    ensures value { IfOk result (λ o. o ≡ option_and_then (answered_macro tables.now.files (maps_of maps.now)) item) }
+    ensures value { IfOk result (λ o. o ≡ option_and_then (answered_macro tables.now (maps_of maps.now)) item) }
 {
     match item {
         Some(item) => {
@@ -179,7 +179,7 @@ pub fn answer_at(
     shadow: Shadow,
     style: Option<MacroStyle>,
 ) -> Result<Answer, AllocError>
-    ensures value { IfOk result (λ a. a ≡ answer_in tables.now.files (maps_of maps.now) local.now at path.now shadow style) }
+    ensures value { IfOk result (λ a. a ≡ answer_in tables.now (maps_of maps.now) local.now at path.now shadow style) }
 {
     let mode = ResolveMode::Other;
     let found = maps.resolve_path_fp_with_macro(

@@ -1,15 +1,16 @@
 //! A crate of a session.
 ghost use Rattle.std.specs.Prelude.{◌≡◌, [], option_map, unwrap_or};
 ghost use Rattle.hir_item_tree.specs.Attributes.{attributes_view};
+ghost use Rattle.hir_tables.specs.SourcePlaces.{source_value};
 ghost use Rattle.hir_def_collector.specs.Workspace.{config_view};
 ghost use Rattle.hir_session.specs.Crates.{root_of};
-ghost use Rattle.hir_session.specs.Files.{front_in};
+ghost use Rattle.hir_session.specs.SourceTable.{front_in};
 
 use hir_base::ast_id::{EditionedFileId, FileId};
 use hir_base::cfg_options::CfgOptions;
-use hir_base::file_path::FilePath;
 use hir_def_collector::source_database::{Config, CrateRoot};
 use hir_item_tree::raw_attr::RawAttr;
+use hir_tables::SourcePlace;
 use std::marker::Model;
 
 /// A crate: its root, what else it was handed in with, and the number of its root file.
@@ -67,19 +68,20 @@ impl CrateInfo {
         }
     }
 
-    /// The attributes that stand in front of those at the top of the file at a path, if any do.
-    pub fn front(&self, path: Option<&FilePath>) -> Option<&Vec<RawAttr>>
-        ensures value { attributes_view (unwrap_or (option_map (λ attrs. attrs.now.items) result) []) ≡ front_in self.now (option_map (λ p. p.now) path.entry) }
+    /// The attributes that stand in front of those at the top of the source at a place, if any do.
+    pub fn front(&self, place: SourcePlace<'_>) -> Option<&Vec<RawAttr>>
+        ensures value { attributes_view (unwrap_or (option_map (λ attrs. attrs.now.items) result) [])
+            ≡ front_in self.now (source_value place.entry) }
     {
-        match path {
-            Some(path) => {
+        match place {
+            SourcePlace::File(path) => {
                 if self.own.root == *path {
                     Some(&self.config.attributes)
                 } else {
                     None
                 }
             }
-            None => None,
+            SourcePlace::Block(_) | SourcePlace::Expansion(_) => None,
         }
     }
 

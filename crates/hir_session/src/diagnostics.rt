@@ -3,24 +3,23 @@ ghost use Rattle.std.specs.Prelude.{◌≡◌, IfOk};
 ghost use Rattle.hir_base.specs.Cfg.{cfg_text, cfg_view};
 ghost use Rattle.hir_def_map.specs.DefMaps.{maps_of};
 ghost use Rattle.hir_def_map.specs.Diagnostics.{diagnostic_view, kind_view};
-ghost use Rattle.hir_session.specs.Diagnostics.{call_kind, diagnostic_source, diagnostic_with, diagnostics_in, kind_about, node_source};
+ghost use Rattle.hir_session.specs.Diagnostics.{diagnostic_source, diagnostic_with, diagnostics_in, kind_about, node_source};
 
 use crate::source_items::definitions::module_at;
-use crate::source_items::source_at;
+use crate::source_items::source_calls::{how, source_at};
 use hir_base::ast_id::AstId;
 use hir_base::cfg::CfgExpr;
-use hir_base::macro_kind::MacroCallKind;
 use hir_base::text::Text;
 use hir_def_map::def_maps::DefMaps;
 use hir_def_map::nameres::diagnostics::{DefDiagnostic, DefDiagnosticKind};
 use hir_tables::Tables;
-use hir_wire::answer::{Definition, SourceCallKind, SourceItem, SourceKind};
+use hir_wire::answer::{Definition, SourceItem, SourceKind};
 use hir_wire::diagnostic::{CalledItem, Diagnostic, DiagnosticKind, Texts};
 use std::alloc::{AllocError, Global};
 
 /// The source item of a node.
 fn node_at(alloc: Global, tables: &Tables, node: AstId) -> Result<Option<SourceItem>, AllocError>
-    ensures value { IfOk result (λ o. o ≡ node_source tables.now.files node) }
+    ensures value { IfOk result (λ o. o ≡ node_source tables.now node) }
 {
     match source_at(alloc, tables, node.file_id, node.block)? {
         Some(source) => Ok(Some(SourceItem {
@@ -29,20 +28,6 @@ fn node_at(alloc: Global, tables: &Tables, node: AstId) -> Result<Option<SourceI
             id: node.id,
         })),
         None => Ok(None),
-    }
-}
-
-/// How a macro is called.
-fn how(call: MacroCallKind) -> SourceCallKind
-    ensures value { result ≡ call_kind call }
-{
-    match call {
-        MacroCallKind::FnLike { .. } => SourceCallKind::FnLike,
-        MacroCallKind::Derive { attr, index, .. } => SourceCallKind::Derive {
-            attr: attr.0,
-            index,
-        },
-        MacroCallKind::Attr { attr, .. } => SourceCallKind::Attr { attr: attr.0 },
     }
 }
 
@@ -144,7 +129,7 @@ fn diagnostic_at(
     maps: &DefMaps<'_>,
     found: &DefDiagnostic,
 ) -> Result<Option<Diagnostic>, AllocError>
-    ensures value { IfOk result (λ told. told ≡ diagnostic_source tables.now.files (maps_of maps.now) (diagnostic_view found.now)) }
+    ensures value { IfOk result (λ told. told ≡ diagnostic_source tables.now (maps_of maps.now) (diagnostic_view found.now)) }
 {
     let within = module_at(alloc, tables, maps, found.in_module)?;
     let item = node_at(alloc, tables, found.kind.ast_id())?;
@@ -158,7 +143,7 @@ pub fn diagnostics_at(
     maps: &DefMaps<'_>,
     found: &[DefDiagnostic],
 ) -> Result<Vec<Diagnostic>, AllocError>
-    ensures value { IfOk result (λ told. told.items ≡ diagnostics_in tables.now.files (maps_of maps.now) found.now) }
+    ensures value { IfOk result (λ told. told.items ≡ diagnostics_in tables.now (maps_of maps.now) found.now) }
 {
     let mut told = Vec::new(alloc);
     for diagnostic in found {

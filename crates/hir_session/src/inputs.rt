@@ -1,42 +1,48 @@
-//! What was handed in, and what files have under the crates that asked for them.
+//! What was handed in, and what sources have under the crates that asked for them.
 ghost use Rattle.std.specs.Prelude.{◌≡◌, ◌<◌, [], length, Err, IfOk, OnOk, OnErr, Some, None, option_map};
 ghost use Rattle.hir_item_tree.specs.Source.{source_view};
+ghost use Rattle.hir_tables.specs.SourcePlaces.{expansion_value, file, source_value};
 ghost use Rattle.hir_tables.specs.Tables.{KeepsTables};
+ghost use Rattle.hir_wire.specs.Edits.{entry_view};
 ghost use Rattle.hir_def_map.specs.World.{finished_in};
 ghost use Rattle.hir_def_collector.specs.Derivation.{IsOverlong, collected_view};
 ghost use Rattle.hir_session.specs.Crates.{beginning_in};
-ghost use Rattle.hir_session.specs.Files.{file_at, tree_under, with_file, without_file};
+ghost use Rattle.hir_session.specs.Entries.{with_entry, without_entry};
+ghost use Rattle.hir_session.specs.Files.{with_file, without_file};
 ghost use Rattle.hir_session.specs.Inputs.{workspace_by};
 ghost use Rattle.hir_session.specs.SessionState.{IsResolved};
+ghost use Rattle.hir_session.specs.SourceTable.{source_at, tree_under};
 ghost use Rattle.hir_session.specs.SourceTrees.{AreTreesOf};
 
 use crate::crates::Crates;
 use crate::error::RefreshError;
-use crate::files::Files;
+use crate::source_table::SourceTable;
 use crate::source_trees::{CrateTrees, SourceTrees, source_tree};
 use crate::sources::{Sources, collect};
 use hir_base::file_path::FilePath;
 use hir_base::ids::Crate;
+use hir_base::macro_kind::ExpansionKey;
 use hir_def_collector::collector::collected::Collected;
 use hir_def_map::world::World;
 use hir_item_tree::source::Source;
 use hir_item_tree::source_tree::SourceTree;
-use hir_tables::Tables;
+use hir_tables::{SourcePlace, Tables};
+use hir_wire::edit::ExpansionEntry;
 use std::alloc::{AllocError, Global};
 use std::marker::Model;
 use std::mem::replace;
 use std::rc::Rc;
 
-/// The crates and the files, and what the files have under the crates that asked for them.
+/// The crates and the sources, and what the sources have under the crates that asked for them.
 #[derive(Drop)]
 pub struct Inputs {
     crates: Crates,
-    files: Files,
+    sources: SourceTable,
     trees: SourceTrees,
 }
 
 impl Model for Inputs {
-    ghost use Rattle.hir_session.specs.Files.{workspace_in};
+    ghost use Rattle.hir_session.specs.SourceTable.{workspace_in};
     ghost use Rattle.hir_session.specs.InputCodes.{coded_inputs};
     ghost use Rattle.hir_session.specs.Inputs.{InputsValue};
     ghost use Rattle.hir_session.specs.SourceTrees.{AreCurrent};
@@ -45,19 +51,19 @@ impl Model for Inputs {
 
     ghost coded = { coded_inputs };
 
-    ghost view = { λ i. record { crates = i.crates; files = i.files } };
+    ghost view = { λ i. record { crates = i.crates; sources = i.sources } };
 
-    ghost invariant = { λ i. AreCurrent (workspace_in i.crates i.files) i.trees };
+    ghost invariant = { λ i. AreCurrent (workspace_in i.crates i.sources) i.trees };
 }
 
 impl Inputs {
-    /// These crates without files.
+    /// These crates without sources.
     pub fn new(alloc: Global, crates: Crates) -> Inputs
-        ensures value { result ≡ record { crates = crates; files = [] } }
+        ensures value { result ≡ record { crates = crates; sources = record { files = []; entries = [] } } }
     {
         Inputs {
             crates,
-            files: Files::new(alloc),
+            sources: SourceTable::new(alloc),
             trees: SourceTrees::new(alloc),
         }
     }
@@ -68,38 +74,38 @@ impl Inputs {
         &self.crates
     }
 
-    pub fn files(&self) -> &Files
-        ensures value { result.now ≡ self.now.files }
+    pub fn sources(&self) -> &SourceTable
+        ensures value { result.now ≡ self.now.sources }
     {
-        &self.files
+        &self.sources
     }
 
-    /// What a file has under a crate: as it is kept, or made anew.
+    /// What a source has under a crate: as it is kept, or made anew.
     pub fn tree(
         &self,
         alloc: Global,
         krate: Crate,
-        path: &FilePath,
+        place: SourcePlace<'_>,
     ) -> Result<Rc<SourceTree>, AllocError>
-        ensures value { IfOk result (λ t. t.value ≡ tree_under self.now.crates krate.0 (Some path.now) (file_at self.now.files path.now)) }
+        ensures value { IfOk result (λ t. t.value ≡ tree_under self.now.crates krate.0 (source_value place.entry) (source_at self.now.sources (source_value place.entry))) }
     {
-        match self.trees.get(path, krate) {
+        match self.trees.get(place, krate) {
             Some(tree) => Ok(tree.clone()?),
-            None => source_tree(alloc, &self.crates, krate, Some(path), self.files.get(path)),
+            None => source_tree(alloc, &self.crates, krate, place, self.sources.get(place)),
         }
     }
 
-    /// What a file has under a crate where it gets this source, or none.
+    /// What a source has under a crate where its place gets this one, or none.
     pub fn tree_with(
         &self,
         alloc: Global,
         krate: Crate,
-        path: &FilePath,
+        place: SourcePlace<'_>,
         source: Option<&Source>,
     ) -> Result<Rc<SourceTree>, AllocError>
-        ensures value { IfOk result (λ t. t.value ≡ tree_under self.now.crates krate.0 (Some path.now) (option_map (λ s. source_view s.now) source.entry)) }
+        ensures value { IfOk result (λ t. t.value ≡ tree_under self.now.crates krate.0 (source_value place.entry) (option_map (λ s. source_view s.now) source.entry)) }
     {
-        source_tree(alloc, &self.crates, krate, Some(path), source)
+        source_tree(alloc, &self.crates, krate, place, source)
     }
 
     /// Sets a file, which then has these under crates.
@@ -109,26 +115,47 @@ impl Inputs {
         source: Source,
         trees: CrateTrees,
     ) -> Result<(), AllocError>
-        requires trees { AreTreesOf self.old.crates path (Some (source_view source)) trees }
-        ensures ok { OnOk result (self.new ≡ record self.old { files = with_file self.old.files path (source_view source) }) }
+        requires trees { AreTreesOf self.old.crates (file path) (Some (source_view source)) trees }
+        ensures ok { OnOk result (self.new ≡ record self.old { sources = record self.old.sources { files = with_file self.old.sources.files path (source_view source) } }) }
         ensures err { OnErr result (self.new ≡ self.old) }
     {
         let at = path.clone()?;
-        self.files.set(path, source)?;
+        self.sources.set_file(path, source)?;
         self.trees.replace(&at, trees);
         Ok(())
     }
 
     /// Removes a file; an absent one has these under crates.
     pub fn remove_file(&mut self, path: &FilePath, trees: CrateTrees)
-        requires trees { AreTreesOf self.old.crates path.now None trees }
-        ensures value { self.new ≡ record self.old { files = without_file self.old.files path.now } }
+        requires trees { AreTreesOf self.old.crates (file path.now) None trees }
+        ensures value { self.new ≡ record self.old { sources = record self.old.sources { files = without_file self.old.sources.files path.now } } }
     {
-        self.files.remove(path);
+        self.sources.remove_file(path);
         self.trees.replace(path, trees);
     }
 
-    /// Resolves a crate over the present files, beside finished maps. What the files have under the crate is kept.
+    /// Sets an expansion. What it had under the crate that calls isn't kept.
+    pub fn set_expansion(
+        &mut self,
+        key: ExpansionKey,
+        entry: ExpansionEntry,
+    ) -> Result<(), AllocError>
+        ensures ok { OnOk result (self.new ≡ record self.old { sources = record self.old.sources { entries = with_entry self.old.sources.entries (expansion_value key) (entry_view entry) } }) }
+        ensures err { OnErr result (self.new ≡ self.old) }
+    {
+        self.trees.remove(&key);
+        self.sources.set_expansion(key, entry)
+    }
+
+    /// Removes an expansion. What it had under the crate that calls isn't kept.
+    pub fn remove_expansion(&mut self, key: &ExpansionKey)
+        ensures value { self.new ≡ record self.old { sources = record self.old.sources { entries = without_entry self.old.sources.entries (expansion_value key.now) } } }
+    {
+        self.trees.remove(key);
+        self.sources.remove_expansion(key);
+    }
+
+    /// Resolves a crate over the present sources, beside finished maps. What the sources have under the crate is kept.
     pub fn resolve(
         &mut self,
         alloc: Global,
@@ -147,7 +174,7 @@ impl Inputs {
         let trees = replace(&mut self.trees, SourceTrees::new(alloc));
         let mut sources = Sources {
             crates: &self.crates,
-            files: &self.files,
+            table: &self.sources,
             trees,
         };
         let found = collect(alloc, &mut sources, tables, world, k);

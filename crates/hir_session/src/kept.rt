@@ -7,14 +7,11 @@ ghost use Rattle.hir_def_map.specs.Insertion.{may_join};
 ghost use Rattle.hir_def_map.specs.References.{is_well_formed};
 ghost use Rattle.hir_def_map.specs.Removal.{Depends};
 ghost use Rattle.hir_def_map.specs.Overlay.{with_map};
-ghost use Rattle.hir_def_collector.specs.Derivation.{CollectedValue, collected_view};
-ghost use Rattle.hir_def_collector.specs.declared.source_database.Key.{Key};
+ghost use Rattle.hir_def_collector.specs.Derivation.{collected_view};
 ghost use Rattle.hir_def_map.specs.World.{finished_in, local_in};
-ghost use Rattle.hir_session.specs.Askers.{asked_file, is_in};
 ghost use Rattle.hir_session.specs.Kept.{finished_by, kept_in, names_in, leftover_of, was_limited, asked_of, keys_of, resolution_from, resolution_of, AreForgotten};
 
 use crate::runs::{KeptRun, Runs};
-use hir_base::ast_id::FileId;
 use hir_base::ids::MapId;
 use hir_def_collector::collector::collected::{Asked, Collected};
 use hir_def_map::nameres::DefMap;
@@ -23,7 +20,6 @@ use hir_def_map::world::World;
 use hir_def_map::world::insert::InsertError;
 use hir_scope::imports::ImportOrExternCrate;
 use std::alloc::{AllocError, Global};
-use std::collections::BTreeSet;
 use std::marker::Model;
 
 /// What is kept of a place, as `Collected` has it.
@@ -148,14 +144,6 @@ impl Kept {
         ensures value { option_map resolution_of result ≡ kept_in self.now id }
     {
         joined(self.world.map(id), self.world.local(id), self.runs.get(id))
-    }
-
-    /// The places whose runs may have asked for a file. Each of which something is kept that asked for it is among them.
-    pub fn askers(&self, file: FileId) -> Option<&BTreeSet<MapId>>
-        ensures all { (id : MapId) (r : CollectedValue) (key : Key) → kept_in self.now id ≡ Some r → Contains r.asked key → asked_file key ≡ Some file
-            → is_in (option_map (λ ids. ids.now) result) id ≡ true }
-    {
-        self.runs.askers(file)
     }
 
     /// Keeps what was found of a place. Its map names only what is kept of others.

@@ -1,7 +1,7 @@
 //! What holds of all that a session does; each function's contract is a law.
 ghost use Rattle.hir_session.specs.Headline.{RepliesHoldTheHeadline};
 ghost use Rattle.hir_session.specs.Histories.{DifferOnlyWhereAltered, LinesBeginHistories};
-ghost use Rattle.hir_session.specs.Laws.{BodyEditsMarkNothing, BodyEditsLeaveAnswers, SetAbsentFileMarks, RemovePresentFileMarks, RemoveAbsentFileMarksNothing, RemoveAbsentFileLeavesAnswers, UnaskedFilesMarkNothing, UnaskedFilesLeaveAnswers};
+ghost use Rattle.hir_session.specs.Laws.{BodyEditsMarkNothing, BodyEditsLeaveAnswers, SetAbsentFileMarks, RemovePresentFileMarks, RemoveAbsentFileMarksNothing, RemoveAbsentFileLeavesAnswers, SetAbsentExpansionMarks, RemovePresentExpansionMarks, RemoveAbsentExpansionMarksNothing, RemoveAbsentExpansionLeavesAnswers, UnaskedSourcesMarkNothing, UnaskedSourcesLeaveAnswers};
 
 use hir_def_collector::laws::runs_bind_from_sources;
 use hir_def_map::laws::{paths_answer_from_sources, paths_lead_to_what_is_there};
@@ -55,8 +55,24 @@ pub fn remove_absent_file_marks_nothing()
     ensures answers { RemoveAbsentFileLeavesAnswers }
 {}
 
-/// An edit of a file for which no run asked leaves every mark and every answer as it is.
-pub fn unasked_files_mark_nothing()
-    ensures law { UnaskedFilesMarkNothing }
-    ensures answers { UnaskedFilesLeaveAnswers }
+/// An expansion that was looked for and wasn't there makes stale what looked for it, once it is set.
+pub fn set_absent_expansion_marks()
+    ensures law { SetAbsentExpansionMarks }
+{}
+
+/// An expansion that was looked for and was there makes stale what looked for it, once it is removed.
+pub fn remove_present_expansion_marks()
+    ensures law { RemovePresentExpansionMarks }
+{}
+
+/// Removing an expansion that isn't there leaves every mark and every answer as it is.
+pub fn remove_absent_expansion_marks_nothing()
+    ensures law { RemoveAbsentExpansionMarksNothing }
+    ensures answers { RemoveAbsentExpansionLeavesAnswers }
+{}
+
+/// An edit of a source for which no run asked leaves every mark and every answer as it is.
+pub fn unasked_sources_mark_nothing()
+    ensures law { UnaskedSourcesMarkNothing }
+    ensures answers { UnaskedSourcesLeaveAnswers }
 {}

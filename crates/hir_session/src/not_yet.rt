@@ -80,15 +80,16 @@ fn is_node_taken(node: &Node) -> bool
         | NodeKind::Union { .. }
         | NodeKind::Const { .. }
         | NodeKind::Static { .. }
-        | NodeKind::TypeAlias { .. } => true,
+        | NodeKind::TypeAlias { .. }
+        | NodeKind::MacroRules { .. }
+        | NodeKind::MacroDef { .. } => true,
         NodeKind::ExternBlock { nodes } => are_nodes_taken(nodes),
         NodeKind::Trait { items, .. } | NodeKind::Impl { items, .. } => are_nodes_taken(items),
         NodeKind::Module { nodes, .. } => match nodes {
             Some(nodes) => are_nodes_taken(nodes),
             None => true,
         },
-        NodeKind::MacroCall { .. } | NodeKind::MacroRules { .. } | NodeKind::MacroDef { .. } =>
-            false,
+        NodeKind::MacroCall { .. } => false,
     }
 }
 

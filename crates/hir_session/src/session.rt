@@ -1,66 +1,73 @@
 //! The session: what is handed in, and what is kept of each crate that was resolved.
 //!
-//! A run of the import rules for a crate notes each key that it asks for: what a file has under the crate, the variants of an
-//! enum, the map of a crate on which it depends. What it comes to is kept, with these keys.
+//! A run of the import rules for a crate notes each key that it asks for: what a file or an expansion has under the crate, the
+//! variants of an enum, the text of a macro and the input of a call, the map of a crate on which it depends. What it comes to
+//! is kept, with these keys.
 //!
-//! An edit of a file compares what the file has with what it gets, at the keys of those runs that asked for it. Where one is
-//! altered the place is marked, and so is each place that depends on it: what is kept of them is dropped, and that is all that
-//! a mark is. A refresh runs the import rules for the marked places, in the order of the crates' numbers, so that a run finds
+//! An edit of a source compares what the source has with what it gets, at the keys of those runs that asked for it. Where one
+//! is altered the place is marked, and so is each place that depends on it: what is kept of them is dropped, and that is all
+//! that a mark is. A refresh runs the import rules for the marked places, in the order of the crates' numbers, so that a run finds
 //! what it depends on.
 //!
 //! The one difficulty: no query looks at a source. What is kept of a place is right because it is what the import rules could
 //! have given just now, over the present sources: the invariant of a session says so of each place, and an edit or a refresh that ends
 //! early leaves it true.
-ghost use Rattle.std.specs.Prelude.{◌≡◌, ℕ, ◌<◌, ◌++◌, ◌∷◌, [], map, true, false, length, None, IfOk, OnOk, OnErr, IfErr, ◌≤◌, ◌⊎◌, Ok, Err};
+ghost use Rattle.std.specs.Prelude.{◌≡◌, ℕ, ◌<◌, ◌++◌, ◌∷◌, [], map, true, false, length, None, Some, IfOk, OnOk, OnErr, IfErr, ◌≤◌, ◌⊎◌, Ok, Err};
 ghost use Rattle.hir_base.specs.Refusal.{Gives};
 ghost use Rattle.hir_def_collector.specs.Derivation.{IsOverlong, collected_view};
 ghost use Rattle.hir_wire.specs.CommandValue.{crate_input_view};
-ghost use Rattle.hir_wire.specs.Edits.{edit_view};
+ghost use Rattle.hir_tables.specs.SourcePlaces.{expansion_value};
+ghost use Rattle.hir_wire.specs.Edits.{edit_view, entry_view};
 ghost use Rattle.hir_session.specs.Beginning.{Begins};
 ghost use Rattle.hir_item_tree.specs.Source.{source_view};
-ghost use Rattle.hir_session.specs.Files.{with_file, without_file};
+ghost use Rattle.hir_session.specs.SourceEdits.{edited, of_expansion, of_file};
 ghost use Rattle.hir_session.specs.Crates.{id_of};
 ghost use Rattle.hir_session.specs.SessionState.{SessionState, Resolution, workspace_of, finished_of, beginning_of, is_marked, IsResolutionOf, IsSound};
 ghost use Rattle.hir_session.specs.Due.{root_place, Grows, Resolved, HasOverlongRun};
-ghost use Rattle.hir_session.specs.Refusals.{first_out_of_order, verdict_of_new, IsNewMemory, verdict_of_apply, verdict_of_source, IsEditMemory};
+ghost use Rattle.hir_session.specs.Refusals.{first_out_of_order, verdict_of_new, IsNewMemory, verdict_of_apply, verdict_of_expansion, verdict_of_source, IsEditMemory};
 ghost use Rattle.hir_session.specs.Changes.{Becomes, Applies, Refreshes, RefreshesPartly};
 
 mod queries;
 
+use crate::askers::Askers;
 use crate::beginning::{crates_of, first_late};
-use crate::edited_file::FileEdit;
 use crate::error::{EditError, NewSessionError, RefreshError};
 use crate::front::{has_deep_condition, has_long_path};
 use crate::inputs::Inputs;
 use crate::invalidate::{Invalidation, invalidated};
 use crate::kept::Kept;
+use crate::known_crates::names_known;
 use crate::nesting::nests_too_deep;
 use crate::not_yet::{is_any_untaken, is_source_taken_now};
+use crate::source_edit::SourceEdit;
 use hir_base::file_path::FilePath;
 use hir_base::ids::{Crate, MapId};
 use hir_base::limit::Limit;
+use hir_base::macro_kind::ExpansionKey;
 use hir_base::place::Place;
 use hir_def_collector::collector::collected::Collected;
 use hir_item_tree::check::check;
 use hir_item_tree::source::Source;
 use hir_tables::Tables;
 use hir_wire::command::CrateInput;
-use hir_wire::edit::Edit;
+use hir_wire::edit::{Edit, ExpansionEntry};
 use std::alloc::{AllocError, Global};
 use std::marker::Model;
 
 /// The most crates that a session has.
 pub const MAX_CRATES: usize = 10000;
 
-/// Crates and files as they were handed in, and for each place that was resolved what its names stand for.
+/// Crates and sources as they were handed in, and for each place that was resolved what its names stand for.
 #[derive(Drop)]
 pub struct Session {
     inputs: Inputs,
     tables: Tables,
     kept: Kept,
+    askers: Askers,
 }
 
 impl Model for Session {
+    ghost use Rattle.hir_session.specs.Askers.{AreNoted};
     ghost use Rattle.hir_session.specs.SessionState.{SessionState, IsSound, state_of};
     ghost use Rattle.hir_session.specs.Codes.{coded_session};
 
@@ -70,7 +77,7 @@ impl Model for Session {
 
     ghost view = { λ s. state_of s.inputs s.tables s.kept };
 
-    ghost invariant = { λ s. IsSound (state_of s.inputs s.tables s.kept) };
+    ghost invariant = { λ s. IsSound (state_of s.inputs s.tables s.kept) × AreNoted s.tables s.kept s.askers };
 }
 
 /// Puts the place of a crate's root at the end.
@@ -98,7 +105,7 @@ fn check_source(alloc: Global, source: &Source) -> Result<(), EditError>
 }
 
 impl Session {
-    /// A session over these crates, numbered in this order, without files.
+    /// A session over these crates, numbered in this order, without sources.
     pub fn new(alloc: Global, inputs: Vec<CrateInput>) -> Result<Session, NewSessionError>
         ensures begins { IfOk result (λ s. Begins (map crate_input_view inputs.items) s) }
         ensures accepted { OnOk result (verdict_of_new (map crate_input_view inputs.items) ≡ Ok tt) }
@@ -126,10 +133,10 @@ impl Session {
 
     /// Sets a checked file, and drops what is kept of what that touches.
     fn keep_file(&mut self, alloc: Global, file: FilePath, source: Source) -> Result<(), AllocError>
-        ensures ok { OnOk result (Becomes self.old (with_file self.old.files file (source_view source)) self.new) }
+        ensures ok { OnOk result (Becomes self.old (edited self.old.sources (of_file file (Some (source_view source)))) self.new) }
         ensures err { OnErr result (self.new ≡ self.old) }
     {
-        let edit = FileEdit {
+        let edit = SourceEdit::File {
             path: &file,
             new: Some(&source),
         };
@@ -138,6 +145,7 @@ impl Session {
             &self.inputs,
             &self.tables,
             &self.kept,
+            &self.askers,
             edit,
         )?;
         self.inputs.set_file(file, source, trees)?;
@@ -147,10 +155,10 @@ impl Session {
 
     /// Removes a file, and drops what is kept of what that touches.
     fn remove_file(&mut self, alloc: Global, file: &FilePath) -> Result<(), AllocError>
-        ensures ok { OnOk result (Becomes self.old (without_file self.old.files file.now) self.new) }
+        ensures ok { OnOk result (Becomes self.old (edited self.old.sources (of_file file.now None)) self.new) }
         ensures err { OnErr result (self.new ≡ self.old) }
     {
-        let edit = FileEdit {
+        let edit = SourceEdit::File {
             path: file,
             new: None,
         };
@@ -159,9 +167,56 @@ impl Session {
             &self.inputs,
             &self.tables,
             &self.kept,
+            &self.askers,
             edit,
         )?;
         self.inputs.remove_file(file, trees);
+        self.kept.forget(&hits);
+        Ok(())
+    }
+
+    /// Sets a checked expansion, and drops what is kept of what that touches.
+    fn keep_expansion(
+        &mut self,
+        alloc: Global,
+        key: ExpansionKey,
+        entry: ExpansionEntry,
+    ) -> Result<(), AllocError>
+        ensures ok { OnOk result (Becomes self.old (edited self.old.sources (of_expansion (expansion_value key) (Some (entry_view entry)))) self.new) }
+        ensures err { OnErr result (self.new ≡ self.old) }
+    {
+        let edit = SourceEdit::Expansion {
+            key: &key,
+            new: Some(&entry),
+        };
+        let Invalidation { hits, trees: _ } = invalidated(
+            alloc,
+            &self.inputs,
+            &self.tables,
+            &self.kept,
+            &self.askers,
+            edit,
+        )?;
+        self.inputs.set_expansion(key, entry)?;
+        self.kept.forget(&hits);
+        Ok(())
+    }
+
+    /// Removes an expansion, and drops what is kept of what that touches.
+    fn remove_expansion(&mut self, alloc: Global, key: &ExpansionKey) -> Result<(), AllocError>
+        ensures ok { OnOk result (Becomes self.old (edited self.old.sources (of_expansion (expansion_value key.now) None)) self.new) }
+        ensures err { OnErr result (self.new ≡ self.old) }
+    {
+        let edit = SourceEdit::Expansion { key, new: None };
+        let Invalidation { hits, trees: _ } = invalidated(
+            alloc,
+            &self.inputs,
+            &self.tables,
+            &self.kept,
+            &self.askers,
+            edit,
+        )?;
+        self.inputs.remove_expansion(key);
         self.kept.forget(&hits);
         Ok(())
     }
@@ -174,7 +229,7 @@ impl Session {
         source: Source,
     ) -> Result<(), EditError>
         ensures answer { Gives IsEditMemory result (verdict_of_source (source_view source)) }
-        ensures ok { OnOk result (Becomes self.old (with_file self.old.files file (source_view source)) self.new) }
+        ensures ok { OnOk result (Becomes self.old (edited self.old.sources (of_file file (Some (source_view source)))) self.new) }
         ensures err { OnErr result (self.new ≡ self.old) }
     {
         check_source(alloc, &source)?;
@@ -182,15 +237,36 @@ impl Session {
         Ok(())
     }
 
+    /// Sets an expansion, as the edit of that name does. A refused expansion is dropped.
+    pub fn set_expansion(
+        &mut self,
+        alloc: Global,
+        key: ExpansionKey,
+        entry: ExpansionEntry,
+    ) -> Result<(), EditError>
+        ensures answer { Gives IsEditMemory result (verdict_of_expansion (length self.old.crates) (expansion_value key) (source_view entry.source)) }
+        ensures ok { OnOk result (Becomes self.old (edited self.old.sources (of_expansion (expansion_value key) (Some (entry_view entry)))) self.new) }
+        ensures err { OnErr result (self.new ≡ self.old) }
+    {
+        if !names_known(self.inputs.crates().len(), &key) {
+            return Err(EditError::UnknownCrate);
+        }
+        check_source(alloc, &entry.source)?;
+        self.keep_expansion(alloc, key, entry)?;
+        Ok(())
+    }
+
     /// Changes what is handed in, and marks what that touches. A refused edit is dropped.
     pub fn apply(&mut self, alloc: Global, edit: Edit) -> Result<(), EditError>
-        ensures answer { Gives IsEditMemory result (verdict_of_apply (edit_view edit)) }
+        ensures answer { Gives IsEditMemory result (verdict_of_apply (length self.old.crates) (edit_view edit)) }
         ensures ok { OnOk result (Applies self.old (edit_view edit) self.new) }
         ensures err { OnErr result (self.new ≡ self.old) }
     {
         match edit {
             Edit::SetFile { file, source } => self.set_file(alloc, file, source)?,
             Edit::RemoveFile { file } => self.remove_file(alloc, &file)?,
+            Edit::SetExpansion { key, entry } => self.set_expansion(alloc, key, entry)?,
+            Edit::RemoveExpansion { key } => self.remove_expansion(alloc, &key)?,
         }
         Ok(())
     }
@@ -225,6 +301,8 @@ impl Session {
         ensures err { OnErr result (Grows self.old self.new) }
     {
         let found = self.found_at(alloc, k)?;
+        self.askers
+            .note(&self.tables, &found.asked, MapId::of_crate(Crate(k)))?;
         self.kept.keep(found)?;
         Ok(())
     }
@@ -259,5 +337,6 @@ fn begin(alloc: Global, inputs: &Vec<CrateInput>) -> Result<Session, AllocError>
         inputs: Inputs::new(alloc, crates),
         tables,
         kept: Kept::new(alloc),
+        askers: Askers::new(alloc),
     })
 }

@@ -26,7 +26,7 @@ pub fn is_keyed(attr: &Attr, key: &str) -> bool
 }
 
 /// Whether there is an attribute of this name.
-fn says(attrs: &[Attr], key: &str) -> bool
+pub fn says(attrs: &[Attr], key: &str) -> bool
     ensures value { result ≡ says key.now (map numbered attrs.now) }
 {
     for attr in attrs {
@@ -105,7 +105,7 @@ fn push_listed(names: &mut Vec<Name>, input: &Option<AttrInput>) -> Result<(), A
 }
 
 /// The names that the attributes of a key list.
-fn listed(alloc: Global, attrs: &[Attr], key: &str) -> Result<Vec<Name>, AllocError>
+pub fn listed(alloc: Global, attrs: &[Attr], key: &str) -> Result<Vec<Name>, AllocError>
     ensures value { IfOk result (λ names. names.items ≡ listed_under key.now (map numbered attrs.now)) }
 {
     let mut names = Vec::new(alloc);

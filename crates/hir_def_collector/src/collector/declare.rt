@@ -28,8 +28,19 @@ use hir_item_tree::raw_visibility::RawVisibility;
 use hir_item_tree::shape::FieldsShape;
 use hir_scope::per_ns::{Item, PerNs};
 use hir_scope::visibility::Visibility;
+use std::alloc::AllocError;
 
-/// Lists a definition in its module, and binds its name there.
+/// Lists a definition in a module, and binds its name there.
+pub fn bind(run: &mut DefCollector, home: u32, declaration: Declaration) -> Result<(), AllocError>
+    ensures ok { OnOk result (run.new ≡ with_map run.old (with_declaration run.old.map home declaration)) }
+{
+    let Declaration { name, def, items } = declaration;
+    run.declare(home, def)?;
+    run.bind(home, name, items)?;
+    Ok(())
+}
+
+/// The same as the last part of a step.
 pub fn declare(
     run: &mut DefCollector,
     home: u32,
@@ -38,9 +49,7 @@ pub fn declare(
     ensures ok { OnOk result (run.new ≡ counted (with_map run.old (with_declaration run.old.map home declaration))) }
     ensures many { result ≡ Err CollectError.TooMany → STEP_LIMIT ≤ run.old.count }
 {
-    let Declaration { name, def, items } = declaration;
-    run.declare(home, def)?;
-    run.bind(home, name, items)?;
+    bind(run, home, declaration)?;
     run.tick()?;
     Ok(())
 }

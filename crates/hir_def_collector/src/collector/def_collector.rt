@@ -1,9 +1,9 @@
 //! Where a run stands, and what each change leaves.
-ghost use Rattle.std.specs.Prelude.{◌≡◌, ◌<◌, ◌≤◌, length, OnOk, IfOk};
+ghost use Rattle.std.specs.Prelude.{◌≡◌, ◌<◌, ◌≤◌, length, option_map, OnOk, IfOk};
 ghost use Rattle.std.specs.Prelude.{◌∷◌, [], Some};
 ghost use Rattle.hir_def_map.specs.State.{with_enum, with_module, new_id, new_module, with_declared, with_use, with_impl, with_extern_block, with_extern_crate, with_unnamed_const};
 ghost use Rattle.hir_def_map.specs.WorldParts.{part_of};
-ghost use Rattle.hir_def_map.specs.Macros.{with_diagnostic};
+ghost use Rattle.hir_def_map.specs.Macros.{with_diagnostic, with_macro_def};
 ghost use Rattle.hir_import_resolution.specs.Inner.State.{state_in};
 ghost use Rattle.hir_import_resolution.specs.Visibilities.{visibility_in};
 ghost use Rattle.hir_def_collector.specs.State.{at_rest, import_state, with_local, with_asked, with_map, with_imports, counted};
@@ -11,20 +11,23 @@ ghost use Rattle.hir_def_collector.specs.ItemIds.{container_of, module_id};
 ghost use Rattle.hir_def_collector.specs.Items.{bound_in, own_visibility};
 ghost use Rattle.hir_def_collector.specs.TreeReads.{head_of};
 ghost use Rattle.hir_def_collector.specs.Imports.{crate_named, dependency_named, extern_after};
+ghost use Rattle.hir_def_collector.specs.Macros.{macros_brought, other_scope, textual_at, with_macros_used, with_textual_macro, with_textual_scope};
 ghost use Rattle.hir_def_collector.specs.Start.{core_by};
 ghost use Rattle.hir_def_collector.specs.ModuleFiles.{file_key};
-ghost use Rattle.hir_def_collector.specs.Moves.{AreUntaken};
+ghost use Rattle.hir_def_collector.specs.Moves.{AreUntaken, begun};
 
+use crate::collector::macro_use::{root_scope, use_prelude_macros, use_wanted};
 use crate::collector::preludes::prelude;
 use crate::collector::site::{ItemHead, Site};
-use crate::collector::{CollectError, STEP_LIMIT, Start};
+use crate::collector::{CollectError, STEP_LIMIT, Start, textual};
 use crate::source_database::{Dependency, Key};
-use hir_base::ast_id::{EditionedFileId, FileId, HirFileId};
+use hir_base::ast_id::{AstId, EditionedFileId, FileId, HirFileId};
 use hir_base::cfg_options::CfgOptions;
 use hir_base::ids::{
     ConstId, Crate, EnumId, ExternBlockId, ExternCrateId, ImplId, ItemContainerId, MapId,
     ModuleDefId, ModuleId, UseId,
 };
+use hir_base::macro_kind::MacroId;
 use hir_base::name::Name;
 use hir_def_map::nameres::DefMap;
 use hir_def_map::nameres::crate_data::DefMapCrateData;
@@ -41,6 +44,7 @@ use hir_item_tree::raw_visibility::RawVisibility;
 use hir_item_tree::shape::ExternCrateName;
 use hir_item_tree::tree_id::{TreeId, TreeKey};
 use hir_scope::glob_imports::PerNsGlobImports;
+use hir_scope::item_scope::ItemScope;
 use hir_scope::per_ns::PerNs;
 use hir_scope::visibility::Visibility;
 use std::alloc::{AllocError, Global};
@@ -109,6 +113,7 @@ impl DefCollector {
         let mut map = DefMap::empty(alloc, krate, crate_data, root, None)?;
         let found = prelude(alloc, world, &map, &local)?;
         map.set_prelude(found);
+        use_prelude_macros(world, &mut map)?;
         let mut asked = Vec::new(alloc);
         asked.push(Key::Tree(TreeKey { krate, id: tree }))?;
         Ok(DefCollector {
@@ -206,7 +211,38 @@ impl DefCollector {
         Ok(())
     }
 
-    /// Makes a module.
+    /// Adds a macro to those in textual scope in a module: it comes last among those of its name.
+    pub fn define_textual(
+        &mut self,
+        home: u32,
+        name: Name,
+        makro: MacroId,
+    ) -> Result<(), AllocError>
+        requires in_range { home < length self.old.map.modules }
+        ensures ok { OnOk result (self.new ≡ with_map self.old (with_textual_macro self.old.map home name makro)) }
+    {
+        textual::define(&mut self.map, home, name, makro)?;
+        Ok(())
+    }
+
+    /// Lets a module take over the macros that are in textual scope in another.
+    pub fn take_textual(&mut self, home: u32, from: u32) -> Result<(), AllocError>
+        requires in_range { home < length self.old.map.modules }
+        ensures ok { OnOk result (self.new ≡ with_map self.old (with_textual_scope self.old.map home (textual_at self.old.map from))) }
+    {
+        textual::take(self.allocator(), &mut self.map, home, from)?;
+        Ok(())
+    }
+
+    /// Notes the macro that an item defines.
+    pub fn define_macro(&mut self, node: AstId, makro: MacroId) -> Result<(), AllocError>
+        ensures ok { OnOk result (self.new ≡ with_map self.old (with_macro_def self.old.map node makro)) }
+    {
+        self.map.add_macro_def(node, makro)?;
+        Ok(())
+    }
+
+    /// Makes a module, which begins with the macros that are in textual scope in the one around it.
     pub fn open(
         &mut self,
         home: u32,
@@ -216,12 +252,13 @@ impl DefCollector {
     ) -> Result<ModuleId, CollectError>
         requires in_range { home < length self.old.map.modules }
         ensures made { IfOk result (λ id. id ≡ new_id self.old.map) }
-        ensures ok { OnOk result (self.new ≡ with_map self.old (with_module self.old.map home name (new_module origin visibility (Some (module_id self.old.map home))))) }
+        ensures ok { OnOk result (self.new ≡ with_map self.old (begun self.old.map home name (new_module origin visibility (Some (module_id self.old.map home))))) }
         ensures many { result ≡ Err CollectError.TooMany → STEP_LIMIT ≤ length self.old.map.modules }
     {
         let parent = self.module_id(home);
         let module = ModuleData::new(self.allocator(), origin, visibility, Some(parent));
         let id = self.map.add_module(home, name, module)?;
+        self.take_textual(id.index, home)?;
         Ok(id)
     }
 
@@ -329,6 +366,41 @@ impl DefCollector {
             ExternCrateName::SelfCrate => Some(self.map.id().krate),
             ExternCrateName::Name(name) => dependency_named(&self.dependencies, name),
         }
+    }
+
+    /// What the root of the crate binds that an `extern crate` names, if it is another one.
+    fn other_scope<'a>(&self, world: WorldPart<'a>, name: &ExternCrateName) -> Option<&'a ItemScope>
+        ensures value { option_map (λ s. s.now) result ≡ other_scope (part_of world.entry) self.now.dependencies name.now }
+    {
+        match name {
+            ExternCrateName::SelfCrate => None,
+            ExternCrateName::Name(name) => {
+                let krate = dependency_named(&self.dependencies, name)?;
+                root_scope(world, krate)
+            }
+        }
+    }
+
+    /// Uses the macros that an `extern crate` brings into the macro-use prelude of a crate's map.
+    pub fn use_macros(
+        &mut self,
+        world: WorldPart<'_>,
+        head: ItemHead<'_>,
+        name: &ExternCrateName,
+        by: ExternCrateId,
+    ) -> Result<(), AllocError>
+        ensures ok { OnOk result (self.new ≡ with_map self.old (with_macros_used self.old.map
+            (macros_brought (part_of world.entry) self.old.map self.old.dependencies (head_of head.entry) name.now) (Some by))) }
+    {
+        if self.map.id().block.is_some() {
+            return Ok(());
+        }
+        let Some(scope) = self.other_scope(world, name) else {
+            return Ok(());
+        };
+        let attrs = head.attrs.attrs.as_slice();
+        use_wanted(self.allocator(), &mut self.map, scope, attrs, by)?;
+        Ok(())
     }
 
     /// Lets paths begin with the name of an `extern crate` of the crate's root module.

@@ -5,6 +5,7 @@ ghost use Rattle.hir_item_tree.specs.Imports.{imports_of};
 ghost use Rattle.hir_item_tree.specs.KeptForest.{extern_crate, leaf, import};
 ghost use Rattle.hir_item_tree.specs.UseTree.{use_tree_view};
 ghost use Rattle.hir_def_map.specs.Overlay.{Maps};
+ghost use Rattle.hir_def_map.specs.WorldParts.{part_of};
 ghost use Rattle.hir_def_collector.specs.Keys.{Environment};
 ghost use Rattle.hir_def_collector.specs.State.{counted, with_imports, with_local};
 ghost use Rattle.hir_def_collector.specs.Imports.{crate_import, extern_after, path_of_crate, reached_import};
@@ -18,6 +19,7 @@ use crate::collector::site::{ItemHead, Site};
 use crate::collector::{CollectError, STEP_LIMIT};
 use hir_base::ids::{ExternCrateId, ItemLoc, UseId};
 use hir_base::mod_path::{ModPath, PathKind};
+use hir_def_map::world::part::WorldPart;
 use hir_import_resolution::{ImportDirective, ImportSource};
 use hir_item_tree::expand::Import;
 use hir_item_tree::raw_visibility::RawVisibility;
@@ -161,18 +163,19 @@ fn crate_import(
 }
 
 /// Lists an `extern crate`, and notes it as an import; in the crate's root module paths may begin with its name from
-/// then on.
+/// then on. The macros come into the macro-use prelude that its `macro_use` attributes bring.
 ///
 /// After rust-analyzer's `ModCollector`, at an `extern crate`.
 pub fn reach_extern_crate(
     run: &mut DefCollector,
+    world: WorldPart<'_>,
     site: &Site,
     head: ItemHead<'_>,
     name: &ExternCrateName,
     alias: &Option<ImportAlias>,
 ) -> Result<(), CollectError>
     requires enabled { is_enabled (head_of head).attributes ≡ true }
-    ensures ok { OnOk result ((env : Environment) (finished : Maps) → Handles env finished run.old run.new (visit site.now (leaf (head_of head.entry) (extern_crate name.now alias.now))) []) }
+    ensures ok { OnOk result ((env : Environment) → Handles env (part_of world.entry) run.old run.new (visit site.now (leaf (head_of head.entry) (extern_crate name.now alias.now))) []) }
     ensures many { result ≡ Err CollectError.TooMany → STEP_LIMIT ≤ run.old.count }
 {
     let id = ExternCrateId {
@@ -184,9 +187,10 @@ pub fn reach_extern_crate(
         },
     };
     let import = crate_import(run, site, head, id, name, alias)?;
-    run.list_extern_crate(site.home, id)?;
     run.add_extern(&import)?;
+    run.use_macros(world, head, name, id)?;
     run.reach(import)?;
+    run.list_extern_crate(site.home, id)?;
     run.tick()?;
     Ok(())
 }

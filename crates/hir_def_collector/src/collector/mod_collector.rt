@@ -15,10 +15,11 @@ ghost use Rattle.hir_def_collector.specs.Keys.{Environment, source_in};
 ghost use Rattle.hir_def_collector.specs.ItemIds.{module_id, node_of};
 ghost use Rattle.hir_def_collector.specs.Items.{file_origin, inline_origin};
 ghost use Rattle.hir_def_collector.specs.Reports.{IsUnconfigured, IsUnresolvedModule};
+ghost use Rattle.hir_def_collector.specs.State.{visits};
 ghost use Rattle.hir_def_collector.specs.Steps.{inside_file, visit};
 ghost use Rattle.hir_def_collector.specs.TreeReads.{head_of, visits_at};
 ghost use Rattle.hir_def_collector.specs.Derivation.{IsFull};
-ghost use Rattle.hir_def_collector.specs.Moves.{Drops, GoesInside, Handles, IsHeld, MayTake, OnceGrown, TakesFile, Tells, Walks, WalksTooFar, found_view, is_single, opened, visits_of};
+ghost use Rattle.hir_def_collector.specs.Moves.{Drops, GoesInside, Handles, IsHeld, MayTake, OnceGrown, TakesFile, Tells, Walks, WalksTooFar, found_view, is_single, opened, tasks_of};
 
 use crate::collector::declaration::Declaration;
 use crate::collector::declare::{
@@ -29,6 +30,7 @@ use crate::collector::def_collector::DefCollector;
 use crate::collector::diagnostics::{unconfigured, unresolved_module};
 use crate::collector::enums::declare_enum;
 use crate::collector::imports::{reach_extern_crate, reach_use};
+use crate::collector::macros::{close, define_macro, define_rules, is_macro_use};
 use crate::collector::mod_resolution::{FoundFile, file_of, find_file, path_attr};
 use crate::collector::site::{ItemHead, Site, head_at};
 use crate::collector::{CollectError, STEP_LIMIT};
@@ -52,10 +54,18 @@ use std::rc::Rc;
 #[derive(Drop)]
 pub enum Inside<'a> {
     Nothing,
-    /// Those that an item holds.
-    Held { site: Site, ids: &'a [ModItemId] },
-    /// Those of a module's file.
-    File { site: Site, source: Rc<SourceTree> },
+    /// Those that an item holds, and whether that is a module marked `macro_use`.
+    Held {
+        site: Site,
+        ids: &'a [ModItemId],
+        macro_use: bool,
+    },
+    /// Those of a module's file, and whether the module is marked `macro_use`.
+    File {
+        site: Site,
+        source: Rc<SourceTree>,
+        macro_use: bool,
+    },
 }
 
 /// Lists a constant that has no name.
@@ -170,7 +180,7 @@ fn visit_inline<'a>(
     requires in_range { site.now.home < length run.old.map.modules }
     requires enabled { is_enabled (head_of head).attributes ≡ true }
     ensures ok { IfOk result (λ inside. (env : Environment) (items : List KeptItem) → Handles env (part_of world.entry) run.old run.new
-        (visit site.now (holder (head_of head.entry) (inline_module name.now) (items_at items (numbers_of ids.entry.now)))) (visits_of items inside)) }
+        (visit site.now (holder (head_of head.entry) (inline_module name.now) (items_at items (numbers_of ids.entry.now)))) (tasks_of site.now.home items inside)) }
     ensures within { IfOk result (λ inside. (tables : TablesValue) (w : Workspace) →
         GoesInside tables w run.old.map.id.krate (length run.new.map.modules) site.now (numbers_of ids.entry.now) inside) }
     ensures many { result ≡ Err CollectError.TooMany → IsFull run.old.count run.old.map }
@@ -197,6 +207,7 @@ fn visit_inline<'a>(
             level: site.level,
         },
         ids,
+        macro_use: is_macro_use(head.attrs),
     })
 }
 
@@ -303,9 +314,11 @@ fn take_file<'a>(
         return Ok(Inside::Nothing);
     }
     let site = open_file(run, world, site, head, name, &file)?;
+    let macro_use = is_macro_use(head.attrs) || is_macro_use(file.source.tree().top_level_attrs());
     Ok(Inside::File {
         site,
         source: file.source,
+        macro_use,
     })
 }
 
@@ -325,10 +338,10 @@ fn visit_outline<'a, D: SourceDatabase>(
     ensures kept { KeepsTables locations.old locations.new }
     ensures same { D.workspace db.new ≡ D.workspace db.old }
     ensures ok { IfOk result (λ inside. OnceGrown locations.new (D.workspace db.old) (λ env. (items : List KeptItem) → Handles env (part_of world.entry) run.old run.new
-        (visit site.now (leaf (head_of head.entry) (outline_module name.now))) (visits_of items inside))) }
+        (visit site.now (leaf (head_of head.entry) (outline_module name.now))) (tasks_of site.now.home items inside))) }
     ensures within { IfOk result (λ inside. GoesInside locations.new (D.workspace db.old) run.old.map.id.krate (length run.new.map.modules) site.now [] inside) }
     ensures many { result ≡ Err CollectError.TooMany → OnceGrown locations.new (D.workspace db.old)
-        (λ env. WalksTooFar env (part_of world.entry) run.old (visit site.now (leaf (head_of head.entry) (outline_module name.now)) ∷ [])) }
+        (λ env. WalksTooFar env (part_of world.entry) run.old (visits (visit site.now (leaf (head_of head.entry) (outline_module name.now))) ∷ [])) }
 {
     let path = path_attr(head.attrs.attrs.as_slice());
     let candidates = site.dir.candidates(run.allocator(), name, path)?;
@@ -358,7 +371,7 @@ fn enter<'a>(
     requires in_range { site.now.home < length run.old.map.modules }
     requires enabled { is_enabled (head_of head).attributes ≡ true }
     ensures ok { IfOk result (λ inside. (env : Environment) (finished : Maps) (items : List KeptItem) → Handles env finished run.old run.new
-        (visit site.now (holder (head_of head.entry) extern_block (items_at items (numbers_of ids.entry.now)))) (visits_of items inside)) }
+        (visit site.now (holder (head_of head.entry) extern_block (items_at items (numbers_of ids.entry.now)))) (tasks_of site.now.home items inside)) }
     ensures within { IfOk result (λ inside. (tables : TablesValue) (w : Workspace) →
         GoesInside tables w run.old.map.id.krate (length run.new.map.modules) site.now (numbers_of ids.entry.now) inside) }
     ensures many { result ≡ Err CollectError.TooMany → STEP_LIMIT ≤ run.old.count }
@@ -383,6 +396,7 @@ fn enter<'a>(
             level: site.level,
         },
         ids,
+        macro_use: false,
     })
 }
 
@@ -395,6 +409,7 @@ fn visit_leaf(
     head: ItemHead<'_>,
     item: ModItemKind<'_>,
 ) -> Result<(), CollectError>
+    requires in_range { site.now.home < length run.old.map.modules }
     requires enabled { is_enabled (head_of head).attributes ≡ true }
     requires single { is_single item ≡ true }
     ensures ok { OnOk result ((env : Environment)
@@ -414,9 +429,11 @@ fn visit_leaf(
         ModItemKind::Impl(item) => list_impl(run, site, head, item.of_trait),
         ModItemKind::TypeAlias(item) => declare_type_alias(run, world, site, head, item.name),
         ModItemKind::ExternCrate(item) => {
-            reach_extern_crate(run, site, head, item.name, item.alias)
+            reach_extern_crate(run, world, site, head, item.name, item.alias)
         }
-        ModItemKind::MacroCall(_) | ModItemKind::MacroRules(_) | ModItemKind::Macro2(_) => {
+        ModItemKind::MacroRules(item) => define_rules(run, site, head, item),
+        ModItemKind::Macro2(item) => define_macro(run, world, site, head, item),
+        ModItemKind::MacroCall(_) => {
             run.tick()?;
             Ok(())
         }
@@ -465,11 +482,11 @@ fn visit_item<'a, D: SourceDatabase>(
     ensures kept { KeepsTables locations.old locations.new }
     ensures same { D.workspace db.new ≡ D.workspace db.old }
     ensures ok { IfOk result (λ inside. OnceGrown locations.new (D.workspace db.old) (λ env. (items : List KeptItem) → Handles env (part_of world.entry) run.old run.new
-        (visit site.now (item_of items (head_of head.entry) (kind_content item.entry))) (visits_of items inside))) }
+        (visit site.now (item_of items (head_of head.entry) (kind_content item.entry))) (tasks_of site.now.home items inside))) }
     ensures within { IfOk result (λ inside. GoesInside locations.new (D.workspace db.old) run.old.map.id.krate (length run.new.map.modules) site.now
         (held_numbers (kind_content item.entry)) inside) }
     ensures many { result ≡ Err CollectError.TooMany → OnceGrown locations.new (D.workspace db.old) (λ env. (items : List KeptItem) →
-        WalksTooFar env (part_of world.entry) run.old (visit site.now (item_of items (head_of head.entry) (kind_content item.entry)) ∷ [])) }
+        WalksTooFar env (part_of world.entry) run.old (visits (visit site.now (item_of items (head_of head.entry) (kind_content item.entry))) ∷ [])) }
 {
     match item {
         ModItemKind::Mod(item) => match item.kind {
@@ -546,13 +563,23 @@ fn walk_item<D: SourceDatabase>(
     let inside = visit_item(run, db, world, locations, source, site, head, item)?;
     match inside {
         Inside::Nothing => Ok(()),
-        Inside::Held { site, ids } => {
-            walk_all(run, db, world, locations, source, &site, ids)?;
+        Inside::Held {
+            site: inner,
+            ids,
+            macro_use,
+        } => {
+            walk_all(run, db, world, locations, source, &inner, ids)?;
+            close(run, macro_use, site.home, inner.home)?;
             Ok(())
         }
-        Inside::File { site, source } => {
+        Inside::File {
+            site: inner,
+            source,
+            macro_use,
+        } => {
             let ids = source.tree().top_level_items();
-            walk_all(run, db, world, locations, &source, &site, ids)?;
+            walk_all(run, db, world, locations, &source, &inner, ids)?;
+            close(run, macro_use, site.home, inner.home)?;
             Ok(())
         }
     }

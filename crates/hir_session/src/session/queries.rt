@@ -28,6 +28,7 @@ use hir_def_map::def_maps::DefMaps;
 use hir_def_map::nameres::DefMap;
 use hir_def_map::world::part::WorldPart;
 use hir_item_tree::source::Source;
+use hir_tables::SourcePlace;
 use hir_wire::answer::Answer;
 use hir_wire::command::{MacroStyle, Shadow};
 use hir_wire::diagnostic::Diagnostics;
@@ -47,9 +48,9 @@ impl Session {
 
     /// The source of a file, as it was handed in; None where the file isn't there.
     pub fn source(&self, file: &FilePath) -> Option<&Source>
-        ensures value { option_map (λ s. source_view s.now) result ≡ file_at self.now.files file.now }
+        ensures value { option_map (λ s. source_view s.now) result ≡ file_at self.now.sources.files file.now }
     {
-        self.inputs.files().get(file)
+        self.inputs.sources().files().get(file)
     }
 
     /// How the answers at a place stand.
@@ -78,9 +79,9 @@ impl Session {
 
     /// The files that are there, in the order of their paths.
     pub fn files(&self) -> &Files
-        ensures value { result.now ≡ self.now.files }
+        ensures value { result.now ≡ self.now.sources.files }
     {
-        self.inputs.files()
+        self.inputs.sources().files()
     }
 
     /// What a path means over what is kept.
@@ -153,7 +154,7 @@ impl Session {
             return Err(TreeTextError::UnknownCrate);
         };
         let edition = info.config().edition;
-        let tree = self.inputs.tree(alloc, krate, file)?;
+        let tree = self.inputs.tree(alloc, krate, SourcePlace::File(file))?;
         let text = tree.tree().pretty_print(edition)?;
         Ok(text)
     }

@@ -33,7 +33,7 @@ fn module_with(
     krate: Crate,
     origin: ModuleOrigin,
 ) -> Result<Option<Definition>, AllocError>
-    ensures value { IfOk result (λ o. o ≡ module_by tables.now.files krate origin) }
+    ensures value { IfOk result (λ o. o ≡ module_by tables.now krate origin) }
 {
     match origin {
         ModuleOrigin::CrateRoot { .. } => Ok(Some(Definition::CrateRoot(krate))),
@@ -78,7 +78,7 @@ pub fn module_at(
     maps: &DefMaps<'_>,
     m: ModuleId,
 ) -> Result<Option<Definition>, AllocError>
-    ensures value { IfOk result (λ o. o ≡ module_definition tables.now.files (maps_of maps.now) m) }
+    ensures value { IfOk result (λ o. o ≡ module_definition tables.now (maps_of maps.now) m) }
 {
     match origin_at(maps, m) {
         Some(origin) => module_with(alloc, tables, m.map.krate, origin),
@@ -88,7 +88,7 @@ pub fn module_at(
 
 /// A struct, a union or an enum.
 fn adt_at(alloc: Global, tables: &Tables, adt: AdtId) -> Result<Option<Definition>, AllocError>
-    ensures value { IfOk result (λ o. o ≡ adt_definition tables.now.files adt) }
+    ensures value { IfOk result (λ o. o ≡ adt_definition tables.now adt) }
 {
     match adt {
         AdtId::StructId(i) => {
@@ -139,7 +139,7 @@ pub fn macro_at(
     tables: &Tables,
     makro: MacroId,
 ) -> Result<Option<Definition>, AllocError>
-    ensures value { IfOk result (λ o. o ≡ macro_definition tables.now.files makro) }
+    ensures value { IfOk result (λ o. o ≡ macro_definition tables.now makro) }
 {
     match makro {
         MacroId::Macro2Id(i) => {
@@ -194,7 +194,7 @@ fn held_item_at(
     block: Option<BlockId>,
     id: SyntaxId,
 ) -> Result<Option<Definition>, AllocError>
-    ensures value { IfOk result (λ o. o ≡ item_of tables.now.files (crate_of container) (SourceKind.Node kind) file block id) }
+    ensures value { IfOk result (λ o. o ≡ item_of tables.now (crate_of container) (SourceKind.Node kind) file block id) }
 {
     let krate = crate_at(container);
     item_at(
@@ -215,7 +215,7 @@ pub fn definition_at(
     maps: &DefMaps<'_>,
     def: ModuleDefId,
 ) -> Result<Option<Definition>, AllocError>
-    ensures value { IfOk result (λ o. o ≡ definition_of tables.now.files (maps_of maps.now) def) }
+    ensures value { IfOk result (λ o. o ≡ definition_of tables.now (maps_of maps.now) def) }
 {
     match def {
         ModuleDefId::ModuleId(m) => module_at(alloc, tables, maps, m),

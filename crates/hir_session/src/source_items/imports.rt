@@ -2,7 +2,7 @@
 ghost use Rattle.std.specs.Prelude.{◌≡◌, IfOk};
 ghost use Rattle.hir_session.specs.SourceItems.{use_source, import_source, value_import_source};
 
-use super::source_at;
+use super::source_calls::source_at;
 use hir_base::ids::UseId;
 use hir_scope::imports::{ImportOrExternCrate, ImportOrGlob};
 use hir_tables::Tables;
@@ -16,7 +16,7 @@ fn use_at(
     by: UseId,
     origin: ImportOrigin,
 ) -> Result<Option<ImportSource>, AllocError>
-    ensures value { IfOk result (λ o. o ≡ use_source tables.now.files by origin) }
+    ensures value { IfOk result (λ o. o ≡ use_source tables.now by origin) }
 {
     match source_at(alloc, tables, by.loc.file_id, by.loc.block)? {
         Some(source) => Ok(Some(ImportSource {
@@ -34,7 +34,7 @@ pub fn import_at(
     tables: &Tables,
     by: ImportOrExternCrate,
 ) -> Result<Option<ImportSource>, AllocError>
-    ensures value { IfOk result (λ o. o ≡ import_source tables.now.files by) }
+    ensures value { IfOk result (λ o. o ≡ import_source tables.now by) }
 {
     match by {
         ImportOrExternCrate::Glob(g) => use_at(alloc, tables, g.use_, ImportOrigin::Glob(g.idx)),
@@ -63,7 +63,7 @@ pub fn value_import_at(
     tables: &Tables,
     by: ImportOrGlob,
 ) -> Result<Option<ImportSource>, AllocError>
-    ensures value { IfOk result (λ o. o ≡ value_import_source tables.now.files by) }
+    ensures value { IfOk result (λ o. o ≡ value_import_source tables.now by) }
 {
     match by {
         ImportOrGlob::Glob(g) => use_at(alloc, tables, g.use_, ImportOrigin::Glob(g.idx)),

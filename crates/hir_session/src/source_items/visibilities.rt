@@ -27,7 +27,7 @@ pub fn visibility_at(
     maps: &DefMaps<'_>,
     visibility: Visibility,
 ) -> Result<Option<AnswerVisibility>, AllocError>
-    ensures value { IfOk result (λ o. o ≡ visibility_source tables.now.files (maps_of maps.now) visibility) }
+    ensures value { IfOk result (λ o. o ≡ visibility_source tables.now (maps_of maps.now) visibility) }
 {
     match visibility {
         Visibility::Public => Ok(Some(AnswerVisibility::Public)),

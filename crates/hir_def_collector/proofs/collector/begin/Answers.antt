@@ -1,4 +1,4 @@
-use Rattle.std.proofs.Common.{rules, ◌≡◌, ◌∙◌, Option, None, List, sym, ap, subst}
+use Rattle.std.proofs.Common.{rules, ◌≡◌, ◌∙◌, Option, sym, ap, subst}
 use Rattle.std.specs.Prelude.{IsSome, option_map}
 use Rattle.hir_base.specs.declared.ids.Crate.{Crate}
 use Rattle.hir_item_tree.specs.ItemTree.{Tree}
@@ -14,7 +14,6 @@ use Rattle.hir_def_collector.specs.State.{State, at_rest, joined}
 use Rattle.hir_def_collector.specs.Steps.{Steps, none}
 use Rattle.hir_def_collector.specs.Derivation.{IsSpent}
 use Rattle.hir_def_collector.proofs.Begun.{begun_absent, begun_grown, held_root, none_there, some_there}
-use Rattle.hir_def_collector.proofs.Numbers.{tables_stay}
 use Rattle.hir_def_collector.proofs.collector.begin.Goals as goal
 
 pub returns-then-is_none-clause-ok : goal.returns-then-is_none-clause-ok

@@ -1,6 +1,7 @@
--- A file without a number is named by no run.
+-- A source without a number is named by no run.
 use Rattle.std.proofs.Common.{ap, refl, Option, is_some}
-use Rattle.hir_base.specs.declared.ast_id.FileId.{FileId}
+use Rattle.hir_session.specs.declared.source_number.SourceNumber.{SourceNumber}
+use Rattle.hir_session.specs.SourceEdits.{edit_value}
 use Rattle.hir_session.proofs.Changing.{no_trees}
 use Rattle.hir_session.proofs.Judging.{unnumbered_hit}
 use Rattle.hir_session.proofs.Truth.{clash}
@@ -8,7 +9,7 @@ use Rattle.hir_session.proofs.invalidate.invalidated.Goals as goal
 
 pub returns-in-None : goal.returns-in-None
 returns-in-None c = record {
-  hit = unnumbered_hit c.args.inputs.now.crates c.args.tables.now c.args.inputs.now.files c.args.edit.path.now _ c.args.kept.now _ c.nothing_hit.ensures.none
-      (λ id h. clash (ap (λ (o : Option FileId). is_some o) ((c.in-None.ensures.value id).1 h)) refl);
+  hit = unnumbered_hit c.args.inputs.now.crates c.args.tables.now c.args.inputs.now.sources (edit_value c.args.edit) c.args.kept.now _ c.nothing_hit.ensures.none
+      (λ number h. clash (ap (λ (o : Option SourceNumber). is_some o) ((c.in-None.ensures.value number).1 (rw c.place.ensures.value h))) refl);
   trees = no_trees _ _ _ _ c.nothing_hit.ensures.empty;
 }

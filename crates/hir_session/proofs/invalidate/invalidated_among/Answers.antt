@@ -9,7 +9,7 @@ pub loop-id-init : goal.loop-id-init
 loop-id-init c = record {
   judged = rw c.new-hits.ensures.items (judging-start _ _ _ _);
   left = search rules;
-  trees = no_trees _ _ _ _ c.new-trees.ensures.empty;
+  changes = record { before = no_trees _ _ _ _ c.new.ensures.empty; after = no_trees _ _ _ _ c.new-2.ensures.empty };
 }
 
 pub loop-id-preserved : goal.loop-id-preserved
@@ -17,7 +17,7 @@ loop-id-preserved c = record {
   judged = judged-same (sym (one_behind _ c.loop-id.yielded c.in-Some.id))
       (judging-more _ _ _ _ _ c.in-Some.id.now _ _ c.loop-id.invariant.judged c.in_ok-judge.ensures.judged);
   left = rw (one_behind, append_assoc, ← c.in-Some.ensures.steps) c.loop-id.invariant.left;
-  trees = c.in_ok-judge.ensures.trees c.loop-id.invariant.trees;
+  changes = c.in_ok-judge.ensures.changes;
 }
 
 -- none is left
@@ -26,5 +26,5 @@ returns c = record {
   judged = judged-same
       (sym (append-nil _) ∙ ap (λ (rest : List MapId). map (λ i. i.now) c.loop-id.yielded ++ rest) (sym c.in-None.ensures.steps.0) ∙ c.loop-id.invariant.left)
       c.loop-id.invariant.judged;
-  trees = c.loop-id.invariant.trees;
+  trees = c.loop-id.invariant.changes.after;
 }

@@ -1,13 +1,14 @@
 use Rattle.std.proofs.Common.{◌≡◌, ◌++◌, map}
-use Rattle.hir_session.specs.EditedFiles.{AreJudged}
-use Rattle.hir_session.specs.Inputs.{edit_value, edited, workspace_by}
-use Rattle.hir_session.specs.Invalidated.{HasTreesOf}
+use Rattle.hir_session.specs.EditedSources.{AreJudged}
+use Rattle.hir_session.specs.Inputs.{workspace_after, workspace_by}
+use Rattle.hir_session.specs.Invalidated.{AreChanges}
+use Rattle.hir_session.specs.SourceEdits.{edit_value}
 use Rattle.hir_session.proofs.invalidate.invalidated_among.Given as goal
 
 -- the places so far were judged, and the others are left
 abbrev pub invariant-loop-id : goal.invariant-loop-id
 invariant-loop-id l = record {
-  judged : AreJudged l.file.tables.now (workspace_by l.file.inputs.now) (workspace_by (edited l.file.inputs.now (edit_value l.file.edit))) l.kept (map (λ i. i.now) l.yielded) l.hits.items;
+  judged : AreJudged l.source.tables.now (workspace_by l.source.inputs.now) (workspace_after l.source.inputs.now (edit_value l.source.edit)) l.kept (map (λ i. i.now) l.yielded) l.hits.items;
   left : map (λ i. i.now) l.yielded ++ l.id-iterator ≡ l.askers.keys;
-  trees : HasTreesOf l.file.inputs.now (edit_value l.file.edit) l.trees;
+  changes : AreChanges l.source.inputs.now (edit_value l.source.edit) l.changes;
 }

@@ -1,4 +1,4 @@
-use Rattle.std.proofs.Common.{List, Option, ◌∙◌, ap, refl}
+use Rattle.std.proofs.Common.{List, Option, ap, refl}
 use Rattle.hir_item_tree.specs.SourceTree.{SourceTreeValue, variants_of}
 use Rattle.hir_item_tree.specs.declared.side_lists.VariantItem.{VariantItem}
 use Rattle.hir_def_collector.specs.Keys.{of_variants}

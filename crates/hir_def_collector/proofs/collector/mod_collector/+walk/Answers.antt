@@ -1,11 +1,10 @@
-use Rattle.std.proofs.Common.{rules, ◌≡◌, ◌∙◌, ◌+◌, ◌*◌, ◌-◌, ◌<◌, ◌≤◌, ℕ, slice_get, [], ◌∷◌, List, Option, Some, None, length, min, inl, refl, sym, ap, subst, arith, slice_index_or}
+use Rattle.std.proofs.Common.{rules, ◌≡◌, ◌∙◌, ◌<◌, ◌≤◌, ℕ, slice_get, [], ◌∷◌, ◌++◌, List, Option, Some, length, inl, refl, sym, ap, subst, arith}
 use Rattle.std.proofs.lemmas.List.Elements.{All-map}
 use Rattle.std.specs.List.{All}
 use Rattle.std.specs.Option.{IfSome}
 use Rattle.std.specs.Prelude.{option_map}
 use Rattle.hir_base.specs.Cfg.{cfg_view}
 use Rattle.hir_base.specs.declared.cfg.CfgExpr.{CfgExpr}
-use Rattle.hir_base.specs.declared.ids.Crate.{Crate}
 use Rattle.hir_base.specs.declared.ids.MapId.{MapId}
 use Rattle.hir_item_tree.specs.ItemTree.{Tree}
 use Rattle.hir_item_tree.specs.KeptForest.{all_items}
@@ -14,25 +13,22 @@ use Rattle.hir_item_tree.specs.Rows.{numbers_of, held_numbers, item_of, items_at
 use Rattle.hir_item_tree.specs.SourceTree.{SourceTreeValue}
 use Rattle.hir_item_tree.specs.declared.rows.ModItemId.{ModItemId}
 use Rattle.hir_item_tree.specs.declared.tree_id.TreeId.{TreeId}
-use Rattle.hir_base.specs.declared.ast_id.AstKind.TheVariants as nodes
-use Rattle.hir_tables.specs.Tables.{KeepsTables}
 use Rattle.hir_tables.proofs.Growth.{KeepsTables-trans}
 use Rattle.hir_def_map.specs.WorldParts.{part_of}
 use Rattle.hir_def_map.specs.declared.nameres.diagnostics.DefDiagnosticKind.TheVariants as diagnostics
 use Rattle.hir_def_collector.specs.ItemIds.{module_id, node_of}
 use Rattle.hir_def_collector.specs.Workspace.{Workspace}
 use Rattle.hir_def_collector.specs.Keys.{environment}
-use Rattle.hir_def_collector.specs.Moves.{GoesInside, Handles, IsHeld, IsOfFile, IsWithin, OnceGrown, Walks, WalksTooFar, visits_of}
-use Rattle.hir_def_collector.specs.State.{Visit, visits}
-use Rattle.hir_def_collector.specs.Steps.{none, visit}
+use Rattle.hir_def_collector.specs.Moves.{GoesInside, Handles, IsHeld, IsOfFile, IsWithin, OnceGrown, Walks, WalksTooFar, tasks_of}
+use Rattle.hir_def_collector.specs.State.{Task, visits, visits_over}
+use Rattle.hir_def_collector.specs.Steps.{closing, none, visit}
 use Rattle.hir_def_collector.specs.TreeReads.{head_of, visits_at, above}
 use Rattle.hir_def_collector.specs.declared.collector.mod_collector.Inside.{Inside}
-use Rattle.hir_def_collector.specs.declared.collector.mod_collector.Inside.TheVariants.{Nothing, Held, File}
 use Rattle.hir_def_collector.proofs.Changes.{id-Step, id-Steps}
 use Rattle.hir_def_collector.proofs.Numbers.{tables_stay}
 use Rattle.hir_def_collector.proofs.Finding.{falls_inside, falls_to_file, falls_to_item}
 use Rattle.hir_def_collector.proofs.Outline.{held_grown}
-use Rattle.hir_def_collector.proofs.Walked.{All-below, All-same_numbers, Walks-all, Walks-first, WalksTo-next, WalksTo-none, WalksTooFar-inside, WalksTooFar-next, above_each, above_least, at_each, at_index, dropped_at, far_at, longer_after, visits_one}
+use Rattle.hir_def_collector.proofs.Walked.{All-below, All-same_numbers, Walks-all, Walks-append, Walks-first, WalksTo-next, WalksTo-none, WalksTooFar-behind, WalksTooFar-first, WalksTooFar-inside, WalksTooFar-next, above_each, above_least, at_each, at_index, dropped_at, far_at, longer_after, still_there, visits_one}
 use Rattle.hir_def_collector.proofs.collector.mod_collector.+walk.Goals as goal
 
 pub walk_all-loop-id-init : goal.walk_all-loop-id-init
@@ -123,7 +119,7 @@ walk_item-returns-in_err-drop_item-clause-many g t c = λ far_off grown k.
     let part = part_of c.args.world in
     let h = head_of c.head_at-head.result in
     let item = c.index-item.result in
-    let is : visits_at tree site (n ∷ []) ≡ visit site (item_of (all_items tree.items) h (kind_content item)) ∷ [] =
+    let is : visits_at tree site (n ∷ []) ≡ visits (visit site (item_of (all_items tree.items) h (kind_content item))) ∷ [] =
     visits_one tree site n h (kind_content item) c.requires.there
     (subst (λ (t : Tree). IfSome (slice_get (all_items t.items) n) (λ i. h ≡ item_head i)) c.tree.ensures.value c.head_at-head.ensures.value)
     (subst (λ (t : Tree). IfSome (slice_get (all_items t.items) n) (λ i. item_of (all_items t.items) (item_head i) (kind_content item) ≡ i)) c.tree-2.ensures.value c.index-item.ensures.value) in
@@ -142,7 +138,7 @@ walk_item-returns-in-Some-clause-ok g t c = λ grown k.
     let part = part_of c.args.world in
     let h = head_of c.head_at-head.result in
     let item = c.index-item.result in
-    let is : visits_at tree site (n ∷ []) ≡ visit site (item_of (all_items tree.items) h (kind_content item)) ∷ [] =
+    let is : visits_at tree site (n ∷ []) ≡ visits (visit site (item_of (all_items tree.items) h (kind_content item))) ∷ [] =
     visits_one tree site n h (kind_content item) c.requires.there
     (subst (λ (t : Tree). IfSome (slice_get (all_items t.items) n) (λ i. h ≡ item_head i)) c.tree.ensures.value c.head_at-head.ensures.value)
     (subst (λ (t : Tree). IfSome (slice_get (all_items t.items) n) (λ i. item_of (all_items t.items) (item_head i) (kind_content item) ≡ i)) c.tree-2.ensures.value c.index-item.ensures.value) in
@@ -158,11 +154,11 @@ walk_item-returns-in_err-inside-clause-many g t c = λ far_off grown k.
     let part = part_of c.args.world in
     let h = head_of c.head_at-head.result in
     let item = c.index-item.result in
-    let is : visits_at tree site (n ∷ []) ≡ visit site (item_of (all_items tree.items) h (kind_content item)) ∷ [] =
+    let is : visits_at tree site (n ∷ []) ≡ visits (visit site (item_of (all_items tree.items) h (kind_content item))) ∷ [] =
     visits_one tree site n h (kind_content item) c.requires.there
     (subst (λ (t : Tree). IfSome (slice_get (all_items t.items) n) (λ i. h ≡ item_head i)) c.tree.ensures.value c.head_at-head.ensures.value)
     (subst (λ (t : Tree). IfSome (slice_get (all_items t.items) n) (λ i. item_of (all_items t.items) (item_head i) (kind_content item) ≡ i)) c.tree-2.ensures.value c.index-item.ensures.value) in
-    subst (λ (vs : List Visit). WalksTooFar (environment grown w) part c.args.run.now vs) (sym is) (c.in_err-inside.ensures.many (search rules) grown k (all_items tree.items))
+    subst (λ (vs : List Task). WalksTooFar (environment grown w) part c.args.run.now vs) (sym is) (c.in_err-inside.ensures.many (search rules) grown k (all_items tree.items))
 
 pub walk_item-walk_all-requires : goal.walk_item-walk_all-requires
 walk_item-walk_all-requires g t c =
@@ -173,7 +169,7 @@ walk_item-walk_all-requires g t c =
     let part = part_of c.args.world in
     let h = head_of c.head_at-head.result in
     let item = c.index-item.result in
-    let is : visits_at tree site (n ∷ []) ≡ visit site (item_of (all_items tree.items) h (kind_content item)) ∷ [] =
+    let is : visits_at tree site (n ∷ []) ≡ visits (visit site (item_of (all_items tree.items) h (kind_content item))) ∷ [] =
     visits_one tree site n h (kind_content item) c.requires.there
     (subst (λ (t : Tree). IfSome (slice_get (all_items t.items) n) (λ i. h ≡ item_head i)) c.tree.ensures.value c.head_at-head.ensures.value)
     (subst (λ (t : Tree). IfSome (slice_get (all_items t.items) n) (λ i. item_of (all_items t.items) (item_head i) (kind_content item) ≡ i)) c.tree-2.ensures.value c.index-item.ensures.value) in
@@ -181,7 +177,7 @@ walk_item-walk_all-requires g t c =
     let mid = c.visit_item.new.run in
     let handles = c.in_ok-inside.ensures.ok now (tables_stay now) (all_items tree.items) in
     let own : mid.map.id ≡ c.args.run.now.map.id = id-Step (handles.step []) in
-    let inner = c.in-Held.site in
+    let inner = c.in-Held.inner in
     let ns = numbers_of c.in-Held.ids.now in
     let goes : IsWithin (length mid.map.modules) site inner × (ns ≡ held_numbers (kind_content item)) =
     subst (λ (o : Inside). GoesInside now w c.args.run.now.map.id.krate (length mid.map.modules) site (held_numbers (kind_content item)) o) c.in-Held.is c.in_ok-inside.ensures.within in
@@ -202,10 +198,6 @@ pub walk_item-returns-in_err-walk_all-in-Held-clause-kept : goal.walk_item-retur
 walk_item-returns-in_err-walk_all-in-Held-clause-kept g t c =
     KeepsTables-trans c.args.locations.now c.visit_item.new.locations c.walk_all.new.locations c.in_ok-inside.ensures.kept c.in_err-walk_all-in-Held.ensures.kept
 
-pub walk_item-returns-in_ok-walk_all-in-Held-clause-kept : goal.walk_item-returns-in_ok-walk_all-in-Held-clause-kept
-walk_item-returns-in_ok-walk_all-in-Held-clause-kept g t c =
-    KeepsTables-trans c.args.locations.now c.visit_item.new.locations c.walk_all.new.locations c.in_ok-inside.ensures.kept c.in_ok-walk_all-in-Held.ensures.kept
-
 pub walk_item-returns-in_err-walk_all-in-Held-clause-many : goal.walk_item-returns-in_err-walk_all-in-Held-clause-many
 walk_item-returns-in_err-walk_all-in-Held-clause-many g t c = λ far_off grown k.
     let n = c.args.id.0 in
@@ -215,7 +207,7 @@ walk_item-returns-in_err-walk_all-in-Held-clause-many g t c = λ far_off grown k
     let part = part_of c.args.world in
     let h = head_of c.head_at-head.result in
     let item = c.index-item.result in
-    let is : visits_at tree site (n ∷ []) ≡ visit site (item_of (all_items tree.items) h (kind_content item)) ∷ [] =
+    let is : visits_at tree site (n ∷ []) ≡ visits (visit site (item_of (all_items tree.items) h (kind_content item))) ∷ [] =
     visits_one tree site n h (kind_content item) c.requires.there
     (subst (λ (t : Tree). IfSome (slice_get (all_items t.items) n) (λ i. h ≡ item_head i)) c.tree.ensures.value c.head_at-head.ensures.value)
     (subst (λ (t : Tree). IfSome (slice_get (all_items t.items) n) (λ i. item_of (all_items t.items) (item_head i) (kind_content item) ≡ i)) c.tree-2.ensures.value c.index-item.ensures.value) in
@@ -223,52 +215,21 @@ walk_item-returns-in_err-walk_all-in-Held-clause-many g t c = λ far_off grown k
     let mid = c.visit_item.new.run in
     let handles = c.in_ok-inside.ensures.ok now (tables_stay now) (all_items tree.items) in
     let own : mid.map.id ≡ c.args.run.now.map.id = id-Step (handles.step []) in
-    let inner = c.in-Held.site in
+    let inner = c.in-Held.inner in
     let ns = numbers_of c.in-Held.ids.now in
     let goes : IsWithin (length mid.map.modules) site inner × (ns ≡ held_numbers (kind_content item)) =
     subst (λ (o : Inside). GoesInside now w c.args.run.now.map.id.krate (length mid.map.modules) site (held_numbers (kind_content item)) o) c.in-Held.is c.in_ok-inside.ensures.within in
-    let first : Handles (environment grown w) part c.args.run.now mid (visit site (item_of (all_items tree.items) h (kind_content item))) (visits_at tree inner ns) =
-    subst (λ (o : Inside). Handles (environment grown w) part c.args.run.now mid (visit site (item_of (all_items tree.items) h (kind_content item))) (visits_of (all_items tree.items) o)) c.in-Held.is
+    let first : Handles (environment grown w) part c.args.run.now mid (visit site (item_of (all_items tree.items) h (kind_content item))) (visits_at tree inner ns ++ closing c.in-Held.macro_use site.home inner.home) =
+    subst (λ (o : Inside). Handles (environment grown w) part c.args.run.now mid (visit site (item_of (all_items tree.items) h (kind_content item))) (tasks_of site.home (all_items tree.items) o)) c.in-Held.is
     (c.in_ok-inside.ensures.ok grown (KeepsTables-trans now c.walk_all.new.locations grown c.in_err-walk_all-in-Held.ensures.kept k) (all_items tree.items)) in
     let later : OnceGrown c.walk_all.new.locations w (λ env. WalksTooFar env part mid (visits_at tree inner ns)) =
     subst (λ (v : Workspace). OnceGrown c.walk_all.new.locations v (λ env. WalksTooFar env part mid (visits_at tree inner ns))) c.in_ok-inside.ensures.same (c.in_err-walk_all-in-Held.ensures.many (search rules)) in
-    WalksTooFar-inside c.args.run.now mid _ (visits_at tree site (n ∷ [])) (visits_at tree inner ns) is first (later grown k)
-
-pub walk_item-returns-in_ok-walk_all-in-Held-clause-ok : goal.walk_item-returns-in_ok-walk_all-in-Held-clause-ok
-walk_item-returns-in_ok-walk_all-in-Held-clause-ok g t c = λ grown k.
-    let n = c.args.id.0 in
-    let w = g.D.SourceDatabase.workspace c.args.db.now in
-    let site = c.args.site.now in
-    let tree = c.args.source.now.tree in
-    let part = part_of c.args.world in
-    let h = head_of c.head_at-head.result in
-    let item = c.index-item.result in
-    let is : visits_at tree site (n ∷ []) ≡ visit site (item_of (all_items tree.items) h (kind_content item)) ∷ [] =
-    visits_one tree site n h (kind_content item) c.requires.there
-    (subst (λ (t : Tree). IfSome (slice_get (all_items t.items) n) (λ i. h ≡ item_head i)) c.tree.ensures.value c.head_at-head.ensures.value)
-    (subst (λ (t : Tree). IfSome (slice_get (all_items t.items) n) (λ i. item_of (all_items t.items) (item_head i) (kind_content item) ≡ i)) c.tree-2.ensures.value c.index-item.ensures.value) in
-    let now = c.visit_item.new.locations in
-    let mid = c.visit_item.new.run in
-    let handles = c.in_ok-inside.ensures.ok now (tables_stay now) (all_items tree.items) in
-    let own : mid.map.id ≡ c.args.run.now.map.id = id-Step (handles.step []) in
-    let inner = c.in-Held.site in
-    let ns = numbers_of c.in-Held.ids.now in
-    let goes : IsWithin (length mid.map.modules) site inner × (ns ≡ held_numbers (kind_content item)) =
-    subst (λ (o : Inside). GoesInside now w c.args.run.now.map.id.krate (length mid.map.modules) site (held_numbers (kind_content item)) o) c.in-Held.is c.in_ok-inside.ensures.within in
-    let first : Handles (environment grown w) part c.args.run.now mid (visit site (item_of (all_items tree.items) h (kind_content item))) (visits_at tree inner ns) =
-    subst (λ (o : Inside). Handles (environment grown w) part c.args.run.now mid (visit site (item_of (all_items tree.items) h (kind_content item))) (visits_of (all_items tree.items) o)) c.in-Held.is
-    (c.in_ok-inside.ensures.ok grown (KeepsTables-trans now c.walk_all.new.locations grown c.in_ok-walk_all-in-Held.ensures.kept k) (all_items tree.items)) in
-    let later : OnceGrown c.walk_all.new.locations w (λ env. Walks env part mid c.walk_all.new.run (visits_at tree inner ns)) =
-    subst (λ (v : Workspace). OnceGrown c.walk_all.new.locations v (λ env. Walks env part mid c.walk_all.new.run (visits_at tree inner ns))) c.in_ok-inside.ensures.same c.in_ok-walk_all-in-Held.ensures.ok in
-    Walks-first c.args.run.now mid c.walk_all.new.run _ (visits_at tree site (n ∷ [])) (visits_at tree inner ns) is first (later grown k)
+    let behind = closing c.in-Held.macro_use site.home inner.home in
+    WalksTooFar-inside c.args.run.now mid _ (visits_at tree site (n ∷ [])) (visits_at tree inner ns ++ behind) is first (WalksTooFar-first mid (visits_at tree inner ns) behind (later grown k))
 
 pub walk_item-returns-in_err-walk_all-in-File-clause-kept : goal.walk_item-returns-in_err-walk_all-in-File-clause-kept
 walk_item-returns-in_err-walk_all-in-File-clause-kept g t c =
     KeepsTables-trans c.args.locations.now c.visit_item.new.locations c.walk_all-in-File.new.locations c.in_ok-inside.ensures.kept c.in_err-walk_all-in-File.ensures.kept
-
-pub walk_item-returns-in_ok-walk_all-in-File-clause-kept : goal.walk_item-returns-in_ok-walk_all-in-File-clause-kept
-walk_item-returns-in_ok-walk_all-in-File-clause-kept g t c =
-    KeepsTables-trans c.args.locations.now c.visit_item.new.locations c.walk_all-in-File.new.locations c.in_ok-inside.ensures.kept c.in_ok-walk_all-in-File.ensures.kept
 
 pub walk_item-returns-in_err-walk_all-in-File-clause-many : goal.walk_item-returns-in_err-walk_all-in-File-clause-many
 walk_item-returns-in_err-walk_all-in-File-clause-many g t c = λ far_off grown k.
@@ -279,7 +240,7 @@ walk_item-returns-in_err-walk_all-in-File-clause-many g t c = λ far_off grown k
     let part = part_of c.args.world in
     let h = head_of c.head_at-head.result in
     let item = c.index-item.result in
-    let is : visits_at tree site (n ∷ []) ≡ visit site (item_of (all_items tree.items) h (kind_content item)) ∷ [] =
+    let is : visits_at tree site (n ∷ []) ≡ visits (visit site (item_of (all_items tree.items) h (kind_content item))) ∷ [] =
     visits_one tree site n h (kind_content item) c.requires.there
     (subst (λ (t : Tree). IfSome (slice_get (all_items t.items) n) (λ i. h ≡ item_head i)) c.tree.ensures.value c.head_at-head.ensures.value)
     (subst (λ (t : Tree). IfSome (slice_get (all_items t.items) n) (λ i. item_of (all_items t.items) (item_head i) (kind_content item) ≡ i)) c.tree-2.ensures.value c.index-item.ensures.value) in
@@ -287,52 +248,21 @@ walk_item-returns-in_err-walk_all-in-File-clause-many g t c = λ far_off grown k
     let mid = c.visit_item.new.run in
     let handles = c.in_ok-inside.ensures.ok now (tables_stay now) (all_items tree.items) in
     let own : mid.map.id ≡ c.args.run.now.map.id = id-Step (handles.step []) in
-    let inner = c.in-File.site in
+    let inner = c.in-File.inner in
     let source = c.in-File.source.value in
     let goes : IsOfFile now w c.args.run.now.map.id.krate (length mid.map.modules) site inner source =
     subst (λ (o : Inside). GoesInside now w c.args.run.now.map.id.krate (length mid.map.modules) site (held_numbers (kind_content item)) o) c.in-File.is c.in_ok-inside.ensures.within in
-    let first : Handles (environment grown w) part c.args.run.now mid (visit site (item_of (all_items tree.items) h (kind_content item))) (visits inner source.tree.items) =
-    subst (λ (o : Inside). Handles (environment grown w) part c.args.run.now mid (visit site (item_of (all_items tree.items) h (kind_content item))) (visits_of (all_items tree.items) o)) c.in-File.is
+    let first : Handles (environment grown w) part c.args.run.now mid (visit site (item_of (all_items tree.items) h (kind_content item))) (visits_over inner source.tree.items ++ closing c.in-File.macro_use site.home inner.home) =
+    subst (λ (o : Inside). Handles (environment grown w) part c.args.run.now mid (visit site (item_of (all_items tree.items) h (kind_content item))) (tasks_of site.home (all_items tree.items) o)) c.in-File.is
     (c.in_ok-inside.ensures.ok grown (KeepsTables-trans now c.walk_all-in-File.new.locations grown c.in_err-walk_all-in-File.ensures.kept k) (all_items tree.items)) in
-    let items_same : visits_at c.deref-in-File.result.now.tree inner (numbers_of c.top_level_items-ids.result.now) ≡ visits inner source.tree.items =
+    let items_same : visits_at c.deref-in-File.result.now.tree inner (numbers_of c.top_level_items-ids.result.now) ≡ visits_over inner source.tree.items =
     ap (λ (s : SourceTreeValue). visits_at s.tree inner (numbers_of c.top_level_items-ids.result.now)) c.deref-in-File.ensures
-    ∙ ap (visits inner) (subst (λ (t : Tree). items_at (all_items t.items) (numbers_of c.top_level_items-ids.result.now) ≡ t.items) (c.tree-in-File.ensures.value ∙ ap (λ (s : SourceTreeValue). s.tree) c.deref.ensures) c.top_level_items-ids.ensures.value) in
-    let later : OnceGrown c.walk_all-in-File.new.locations w (λ env. WalksTooFar env part mid (visits inner source.tree.items)) =
-    subst (λ (vs : List Visit). OnceGrown c.walk_all-in-File.new.locations w (λ env. WalksTooFar env part mid vs)) items_same
+    ∙ ap (visits_over inner) (subst (λ (t : Tree). items_at (all_items t.items) (numbers_of c.top_level_items-ids.result.now) ≡ t.items) (c.tree-in-File.ensures.value ∙ ap (λ (s : SourceTreeValue). s.tree) c.deref.ensures) c.top_level_items-ids.ensures.value) in
+    let later : OnceGrown c.walk_all-in-File.new.locations w (λ env. WalksTooFar env part mid (visits_over inner source.tree.items)) =
+    subst (λ (vs : List Task). OnceGrown c.walk_all-in-File.new.locations w (λ env. WalksTooFar env part mid vs)) items_same
     (subst (λ (v : Workspace). OnceGrown c.walk_all-in-File.new.locations v (λ env. WalksTooFar env part mid (visits_at c.deref-in-File.result.now.tree inner (numbers_of c.top_level_items-ids.result.now)))) c.in_ok-inside.ensures.same (c.in_err-walk_all-in-File.ensures.many (search rules))) in
-    WalksTooFar-inside c.args.run.now mid _ (visits_at tree site (n ∷ [])) (visits inner source.tree.items) is first (later grown k)
-
-pub walk_item-returns-in_ok-walk_all-in-File-clause-ok : goal.walk_item-returns-in_ok-walk_all-in-File-clause-ok
-walk_item-returns-in_ok-walk_all-in-File-clause-ok g t c = λ grown k.
-    let n = c.args.id.0 in
-    let w = g.D.SourceDatabase.workspace c.args.db.now in
-    let site = c.args.site.now in
-    let tree = c.args.source.now.tree in
-    let part = part_of c.args.world in
-    let h = head_of c.head_at-head.result in
-    let item = c.index-item.result in
-    let is : visits_at tree site (n ∷ []) ≡ visit site (item_of (all_items tree.items) h (kind_content item)) ∷ [] =
-    visits_one tree site n h (kind_content item) c.requires.there
-    (subst (λ (t : Tree). IfSome (slice_get (all_items t.items) n) (λ i. h ≡ item_head i)) c.tree.ensures.value c.head_at-head.ensures.value)
-    (subst (λ (t : Tree). IfSome (slice_get (all_items t.items) n) (λ i. item_of (all_items t.items) (item_head i) (kind_content item) ≡ i)) c.tree-2.ensures.value c.index-item.ensures.value) in
-    let now = c.visit_item.new.locations in
-    let mid = c.visit_item.new.run in
-    let handles = c.in_ok-inside.ensures.ok now (tables_stay now) (all_items tree.items) in
-    let own : mid.map.id ≡ c.args.run.now.map.id = id-Step (handles.step []) in
-    let inner = c.in-File.site in
-    let source = c.in-File.source.value in
-    let goes : IsOfFile now w c.args.run.now.map.id.krate (length mid.map.modules) site inner source =
-    subst (λ (o : Inside). GoesInside now w c.args.run.now.map.id.krate (length mid.map.modules) site (held_numbers (kind_content item)) o) c.in-File.is c.in_ok-inside.ensures.within in
-    let first : Handles (environment grown w) part c.args.run.now mid (visit site (item_of (all_items tree.items) h (kind_content item))) (visits inner source.tree.items) =
-    subst (λ (o : Inside). Handles (environment grown w) part c.args.run.now mid (visit site (item_of (all_items tree.items) h (kind_content item))) (visits_of (all_items tree.items) o)) c.in-File.is
-    (c.in_ok-inside.ensures.ok grown (KeepsTables-trans now c.walk_all-in-File.new.locations grown c.in_ok-walk_all-in-File.ensures.kept k) (all_items tree.items)) in
-    let items_same : visits_at c.deref-in-File.result.now.tree inner (numbers_of c.top_level_items-ids.result.now) ≡ visits inner source.tree.items =
-    ap (λ (s : SourceTreeValue). visits_at s.tree inner (numbers_of c.top_level_items-ids.result.now)) c.deref-in-File.ensures
-    ∙ ap (visits inner) (subst (λ (t : Tree). items_at (all_items t.items) (numbers_of c.top_level_items-ids.result.now) ≡ t.items) (c.tree-in-File.ensures.value ∙ ap (λ (s : SourceTreeValue). s.tree) c.deref.ensures) c.top_level_items-ids.ensures.value) in
-    let later : OnceGrown c.walk_all-in-File.new.locations w (λ env. Walks env part mid c.walk_all-in-File.new.run (visits inner source.tree.items)) =
-    subst (λ (vs : List Visit). OnceGrown c.walk_all-in-File.new.locations w (λ env. Walks env part mid c.walk_all-in-File.new.run vs)) items_same
-    (subst (λ (v : Workspace). OnceGrown c.walk_all-in-File.new.locations v (λ env. Walks env part mid c.walk_all-in-File.new.run (visits_at c.deref-in-File.result.now.tree inner (numbers_of c.top_level_items-ids.result.now)))) c.in_ok-inside.ensures.same c.in_ok-walk_all-in-File.ensures.ok) in
-    Walks-first c.args.run.now mid c.walk_all-in-File.new.run _ (visits_at tree site (n ∷ [])) (visits inner source.tree.items) is first (later grown k)
+    let behind = closing c.in-File.macro_use site.home inner.home in
+    WalksTooFar-inside c.args.run.now mid _ (visits_at tree site (n ∷ [])) (visits_over inner source.tree.items ++ behind) is first (WalksTooFar-first mid (visits_over inner source.tree.items) behind (later grown k))
 
 pub walk_item-walk_all-requires-in-File : goal.walk_item-walk_all-requires-in-File
 walk_item-walk_all-requires-in-File g t c =
@@ -343,7 +273,7 @@ walk_item-walk_all-requires-in-File g t c =
     let part = part_of c.args.world in
     let h = head_of c.head_at-head.result in
     let item = c.index-item.result in
-    let is : visits_at tree site (n ∷ []) ≡ visit site (item_of (all_items tree.items) h (kind_content item)) ∷ [] =
+    let is : visits_at tree site (n ∷ []) ≡ visits (visit site (item_of (all_items tree.items) h (kind_content item))) ∷ [] =
     visits_one tree site n h (kind_content item) c.requires.there
     (subst (λ (t : Tree). IfSome (slice_get (all_items t.items) n) (λ i. h ≡ item_head i)) c.tree.ensures.value c.head_at-head.ensures.value)
     (subst (λ (t : Tree). IfSome (slice_get (all_items t.items) n) (λ i. item_of (all_items t.items) (item_head i) (kind_content item) ≡ i)) c.tree-2.ensures.value c.index-item.ensures.value) in
@@ -351,7 +281,7 @@ walk_item-walk_all-requires-in-File g t c =
     let mid = c.visit_item.new.run in
     let handles = c.in_ok-inside.ensures.ok now (tables_stay now) (all_items tree.items) in
     let own : mid.map.id ≡ c.args.run.now.map.id = id-Step (handles.step []) in
-    let inner = c.in-File.site in
+    let inner = c.in-File.inner in
     let source = c.in-File.source.value in
     let goes : IsOfFile now w c.args.run.now.map.id.krate (length mid.map.modules) site inner source =
     subst (λ (o : Inside). GoesInside now w c.args.run.now.map.id.krate (length mid.map.modules) site (held_numbers (kind_content item)) o) c.in-File.is c.in_ok-inside.ensures.within in
@@ -366,6 +296,216 @@ walk_item-walk_all-requires-in-File g t c =
     (subst (λ (t : Tree). All (λ (id : ModItemId). id.0 < length (all_items t.items)) c.top_level_items-ids.result.now) (c.tree-in-File.ensures.value ∙ ap (λ (s : SourceTreeValue). s.tree) c.deref.ensures) c.top_level_items-ids.ensures.there)) in
     λ κs lives. (omega (arith, falls, c.decreases), (lives, (goes.there, (subst (λ (s : SourceTreeValue). IsHeld now (g.D.SourceDatabase.workspace c.visit_item.new.db) mid.map.id.krate inner.tree s) (sym c.deref-in-File.ensures) held, there))))
 
+pub walk_item-returns-in_err-close-in-Held-clause-kept : goal.walk_item-returns-in_err-close-in-Held-clause-kept
+walk_item-returns-in_err-close-in-Held-clause-kept g t c =
+    KeepsTables-trans c.args.locations.now c.visit_item.new.locations c.walk_all.new.locations c.in_ok-inside.ensures.kept c.in_ok-walk_all-in-Held.ensures.kept
+
+pub walk_item-returns-in_ok-close-in-Held-clause-kept : goal.walk_item-returns-in_ok-close-in-Held-clause-kept
+walk_item-returns-in_ok-close-in-Held-clause-kept g t c =
+    KeepsTables-trans c.args.locations.now c.visit_item.new.locations c.walk_all.new.locations c.in_ok-inside.ensures.kept c.in_ok-walk_all-in-Held.ensures.kept
+
+pub walk_item-returns-in_ok-close-in-Held-clause-ok : goal.walk_item-returns-in_ok-close-in-Held-clause-ok
+walk_item-returns-in_ok-close-in-Held-clause-ok g t c = λ grown k.
+    let n = c.args.id.0 in
+    let w = g.D.SourceDatabase.workspace c.args.db.now in
+    let site = c.args.site.now in
+    let tree = c.args.source.now.tree in
+    let part = part_of c.args.world in
+    let h = head_of c.head_at-head.result in
+    let item = c.index-item.result in
+    let is : visits_at tree site (n ∷ []) ≡ visits (visit site (item_of (all_items tree.items) h (kind_content item))) ∷ [] =
+    visits_one tree site n h (kind_content item) c.requires.there
+    (subst (λ (t : Tree). IfSome (slice_get (all_items t.items) n) (λ i. h ≡ item_head i)) c.tree.ensures.value c.head_at-head.ensures.value)
+    (subst (λ (t : Tree). IfSome (slice_get (all_items t.items) n) (λ i. item_of (all_items t.items) (item_head i) (kind_content item) ≡ i)) c.tree-2.ensures.value c.index-item.ensures.value) in
+    let now = c.visit_item.new.locations in
+    let mid = c.visit_item.new.run in
+    let handles = c.in_ok-inside.ensures.ok now (tables_stay now) (all_items tree.items) in
+    let own : mid.map.id ≡ c.args.run.now.map.id = id-Step (handles.step []) in
+    let inner = c.in-Held.inner in
+    let ns = numbers_of c.in-Held.ids.now in
+    let goes : IsWithin (length mid.map.modules) site inner × (ns ≡ held_numbers (kind_content item)) =
+    subst (λ (o : Inside). GoesInside now w c.args.run.now.map.id.krate (length mid.map.modules) site (held_numbers (kind_content item)) o) c.in-Held.is c.in_ok-inside.ensures.within in
+    let first : Handles (environment grown w) part c.args.run.now mid (visit site (item_of (all_items tree.items) h (kind_content item))) (visits_at tree inner ns ++ closing c.in-Held.macro_use site.home inner.home) =
+    subst (λ (o : Inside). Handles (environment grown w) part c.args.run.now mid (visit site (item_of (all_items tree.items) h (kind_content item))) (tasks_of site.home (all_items tree.items) o)) c.in-Held.is
+    (c.in_ok-inside.ensures.ok grown (KeepsTables-trans now c.walk_all.new.locations grown c.in_ok-walk_all-in-Held.ensures.kept k) (all_items tree.items)) in
+    let later : OnceGrown c.walk_all.new.locations w (λ env. Walks env part mid c.walk_all.new.run (visits_at tree inner ns)) =
+    subst (λ (v : Workspace). OnceGrown c.walk_all.new.locations v (λ env. Walks env part mid c.walk_all.new.run (visits_at tree inner ns))) c.in_ok-inside.ensures.same c.in_ok-walk_all-in-Held.ensures.ok in
+    let behind = closing c.in-Held.macro_use site.home inner.home in
+    Walks-first c.args.run.now mid c.close.new.run _ (visits_at tree site (n ∷ [])) (visits_at tree inner ns ++ behind) is first
+    (Walks-append mid c.walk_all.new.run c.close.new.run (visits_at tree inner ns) behind (later grown k) (c.in_ok-close-in-Held.ensures.ok (environment grown w) part))
+
+pub walk_item-returns-in_err-close-in-Held-clause-many : goal.walk_item-returns-in_err-close-in-Held-clause-many
+walk_item-returns-in_err-close-in-Held-clause-many g t c = λ far_off grown k.
+    let n = c.args.id.0 in
+    let w = g.D.SourceDatabase.workspace c.args.db.now in
+    let site = c.args.site.now in
+    let tree = c.args.source.now.tree in
+    let part = part_of c.args.world in
+    let h = head_of c.head_at-head.result in
+    let item = c.index-item.result in
+    let is : visits_at tree site (n ∷ []) ≡ visits (visit site (item_of (all_items tree.items) h (kind_content item))) ∷ [] =
+    visits_one tree site n h (kind_content item) c.requires.there
+    (subst (λ (t : Tree). IfSome (slice_get (all_items t.items) n) (λ i. h ≡ item_head i)) c.tree.ensures.value c.head_at-head.ensures.value)
+    (subst (λ (t : Tree). IfSome (slice_get (all_items t.items) n) (λ i. item_of (all_items t.items) (item_head i) (kind_content item) ≡ i)) c.tree-2.ensures.value c.index-item.ensures.value) in
+    let now = c.visit_item.new.locations in
+    let mid = c.visit_item.new.run in
+    let handles = c.in_ok-inside.ensures.ok now (tables_stay now) (all_items tree.items) in
+    let own : mid.map.id ≡ c.args.run.now.map.id = id-Step (handles.step []) in
+    let inner = c.in-Held.inner in
+    let ns = numbers_of c.in-Held.ids.now in
+    let goes : IsWithin (length mid.map.modules) site inner × (ns ≡ held_numbers (kind_content item)) =
+    subst (λ (o : Inside). GoesInside now w c.args.run.now.map.id.krate (length mid.map.modules) site (held_numbers (kind_content item)) o) c.in-Held.is c.in_ok-inside.ensures.within in
+    let first : Handles (environment grown w) part c.args.run.now mid (visit site (item_of (all_items tree.items) h (kind_content item))) (visits_at tree inner ns ++ closing c.in-Held.macro_use site.home inner.home) =
+    subst (λ (o : Inside). Handles (environment grown w) part c.args.run.now mid (visit site (item_of (all_items tree.items) h (kind_content item))) (tasks_of site.home (all_items tree.items) o)) c.in-Held.is
+    (c.in_ok-inside.ensures.ok grown (KeepsTables-trans now c.walk_all.new.locations grown c.in_ok-walk_all-in-Held.ensures.kept k) (all_items tree.items)) in
+    let later : OnceGrown c.walk_all.new.locations w (λ env. Walks env part mid c.walk_all.new.run (visits_at tree inner ns)) =
+    subst (λ (v : Workspace). OnceGrown c.walk_all.new.locations v (λ env. Walks env part mid c.walk_all.new.run (visits_at tree inner ns))) c.in_ok-inside.ensures.same c.in_ok-walk_all-in-Held.ensures.ok in
+    let behind = closing c.in-Held.macro_use site.home inner.home in
+    WalksTooFar-inside c.args.run.now mid _ (visits_at tree site (n ∷ [])) (visits_at tree inner ns ++ behind) is first
+    (WalksTooFar-behind mid c.walk_all.new.run (visits_at tree inner ns) behind (later grown k) (c.in_err-close-in-Held.ensures.many (search rules) (environment grown w) part))
+
+pub walk_item-close-requires : goal.walk_item-close-requires
+walk_item-close-requires g t c =
+    let n = c.args.id.0 in
+    let w = g.D.SourceDatabase.workspace c.args.db.now in
+    let site = c.args.site.now in
+    let tree = c.args.source.now.tree in
+    let part = part_of c.args.world in
+    let h = head_of c.head_at-head.result in
+    let item = c.index-item.result in
+    let is : visits_at tree site (n ∷ []) ≡ visits (visit site (item_of (all_items tree.items) h (kind_content item))) ∷ [] =
+    visits_one tree site n h (kind_content item) c.requires.there
+    (subst (λ (t : Tree). IfSome (slice_get (all_items t.items) n) (λ i. h ≡ item_head i)) c.tree.ensures.value c.head_at-head.ensures.value)
+    (subst (λ (t : Tree). IfSome (slice_get (all_items t.items) n) (λ i. item_of (all_items t.items) (item_head i) (kind_content item) ≡ i)) c.tree-2.ensures.value c.index-item.ensures.value) in
+    let now = c.visit_item.new.locations in
+    let last = c.walk_all.new.locations in
+    let mid = c.visit_item.new.run in
+    let handles = c.in_ok-inside.ensures.ok now (tables_stay now) (all_items tree.items) in
+    let own : mid.map.id ≡ c.args.run.now.map.id = id-Step (handles.step []) in
+    let inner = c.in-Held.inner in
+    let ns = numbers_of c.in-Held.ids.now in
+    let goes : IsWithin (length mid.map.modules) site inner × (ns ≡ held_numbers (kind_content item)) =
+    subst (λ (o : Inside). GoesInside now w c.args.run.now.map.id.krate (length mid.map.modules) site (held_numbers (kind_content item)) o) c.in-Held.is c.in_ok-inside.ensures.within in
+    let first : Handles (environment last w) part c.args.run.now mid (visit site (item_of (all_items tree.items) h (kind_content item))) (visits_at tree inner ns ++ closing c.in-Held.macro_use site.home inner.home) =
+    subst (λ (o : Inside). Handles (environment last w) part c.args.run.now mid (visit site (item_of (all_items tree.items) h (kind_content item))) (tasks_of site.home (all_items tree.items) o)) c.in-Held.is
+    (c.in_ok-inside.ensures.ok last c.in_ok-walk_all-in-Held.ensures.kept (all_items tree.items)) in
+    let later : OnceGrown c.walk_all.new.locations w (λ env. Walks env part mid c.walk_all.new.run (visits_at tree inner ns)) =
+    subst (λ (v : Workspace). OnceGrown c.walk_all.new.locations v (λ env. Walks env part mid c.walk_all.new.run (visits_at tree inner ns))) c.in_ok-inside.ensures.same c.in_ok-walk_all-in-Held.ensures.ok in
+    let there : site.home < length mid.map.modules = still_there c.args.run.now mid _ (visits_at tree inner ns ++ closing c.in-Held.macro_use site.home inner.home) site.home first c.requires.in_range in
+    let longer : length mid.map.modules ≤ length c.walk_all.new.run.map.modules = longer_after mid c.walk_all.new.run (visits_at tree inner ns) (later last (tables_stay last)) in
+    record { in_range = omega (arith, there, longer) }
+
+pub walk_item-returns-in_err-close-in-File-clause-kept : goal.walk_item-returns-in_err-close-in-File-clause-kept
+walk_item-returns-in_err-close-in-File-clause-kept g t c =
+    KeepsTables-trans c.args.locations.now c.visit_item.new.locations c.walk_all-in-File.new.locations c.in_ok-inside.ensures.kept c.in_ok-walk_all-in-File.ensures.kept
+
+pub walk_item-returns-in_ok-close-in-File-clause-kept : goal.walk_item-returns-in_ok-close-in-File-clause-kept
+walk_item-returns-in_ok-close-in-File-clause-kept g t c =
+    KeepsTables-trans c.args.locations.now c.visit_item.new.locations c.walk_all-in-File.new.locations c.in_ok-inside.ensures.kept c.in_ok-walk_all-in-File.ensures.kept
+
+pub walk_item-returns-in_ok-close-in-File-clause-ok : goal.walk_item-returns-in_ok-close-in-File-clause-ok
+walk_item-returns-in_ok-close-in-File-clause-ok g t c = λ grown k.
+    let n = c.args.id.0 in
+    let w = g.D.SourceDatabase.workspace c.args.db.now in
+    let site = c.args.site.now in
+    let tree = c.args.source.now.tree in
+    let part = part_of c.args.world in
+    let h = head_of c.head_at-head.result in
+    let item = c.index-item.result in
+    let is : visits_at tree site (n ∷ []) ≡ visits (visit site (item_of (all_items tree.items) h (kind_content item))) ∷ [] =
+    visits_one tree site n h (kind_content item) c.requires.there
+    (subst (λ (t : Tree). IfSome (slice_get (all_items t.items) n) (λ i. h ≡ item_head i)) c.tree.ensures.value c.head_at-head.ensures.value)
+    (subst (λ (t : Tree). IfSome (slice_get (all_items t.items) n) (λ i. item_of (all_items t.items) (item_head i) (kind_content item) ≡ i)) c.tree-2.ensures.value c.index-item.ensures.value) in
+    let now = c.visit_item.new.locations in
+    let mid = c.visit_item.new.run in
+    let handles = c.in_ok-inside.ensures.ok now (tables_stay now) (all_items tree.items) in
+    let own : mid.map.id ≡ c.args.run.now.map.id = id-Step (handles.step []) in
+    let inner = c.in-File.inner in
+    let source = c.in-File.source.value in
+    let goes : IsOfFile now w c.args.run.now.map.id.krate (length mid.map.modules) site inner source =
+    subst (λ (o : Inside). GoesInside now w c.args.run.now.map.id.krate (length mid.map.modules) site (held_numbers (kind_content item)) o) c.in-File.is c.in_ok-inside.ensures.within in
+    let first : Handles (environment grown w) part c.args.run.now mid (visit site (item_of (all_items tree.items) h (kind_content item))) (visits_over inner source.tree.items ++ closing c.in-File.macro_use site.home inner.home) =
+    subst (λ (o : Inside). Handles (environment grown w) part c.args.run.now mid (visit site (item_of (all_items tree.items) h (kind_content item))) (tasks_of site.home (all_items tree.items) o)) c.in-File.is
+    (c.in_ok-inside.ensures.ok grown (KeepsTables-trans now c.walk_all-in-File.new.locations grown c.in_ok-walk_all-in-File.ensures.kept k) (all_items tree.items)) in
+    let items_same : visits_at c.deref-in-File.result.now.tree inner (numbers_of c.top_level_items-ids.result.now) ≡ visits_over inner source.tree.items =
+    ap (λ (s : SourceTreeValue). visits_at s.tree inner (numbers_of c.top_level_items-ids.result.now)) c.deref-in-File.ensures
+    ∙ ap (visits_over inner) (subst (λ (t : Tree). items_at (all_items t.items) (numbers_of c.top_level_items-ids.result.now) ≡ t.items) (c.tree-in-File.ensures.value ∙ ap (λ (s : SourceTreeValue). s.tree) c.deref.ensures) c.top_level_items-ids.ensures.value) in
+    let later : OnceGrown c.walk_all-in-File.new.locations w (λ env. Walks env part mid c.walk_all-in-File.new.run (visits_over inner source.tree.items)) =
+    subst (λ (vs : List Task). OnceGrown c.walk_all-in-File.new.locations w (λ env. Walks env part mid c.walk_all-in-File.new.run vs)) items_same
+    (subst (λ (v : Workspace). OnceGrown c.walk_all-in-File.new.locations v (λ env. Walks env part mid c.walk_all-in-File.new.run (visits_at c.deref-in-File.result.now.tree inner (numbers_of c.top_level_items-ids.result.now)))) c.in_ok-inside.ensures.same c.in_ok-walk_all-in-File.ensures.ok) in
+    let behind = closing c.in-File.macro_use site.home inner.home in
+    Walks-first c.args.run.now mid c.close-in-File.new.run _ (visits_at tree site (n ∷ [])) (visits_over inner source.tree.items ++ behind) is first
+    (Walks-append mid c.walk_all-in-File.new.run c.close-in-File.new.run (visits_over inner source.tree.items) behind (later grown k) (c.in_ok-close-in-File.ensures.ok (environment grown w) part))
+
+pub walk_item-returns-in_err-close-in-File-clause-many : goal.walk_item-returns-in_err-close-in-File-clause-many
+walk_item-returns-in_err-close-in-File-clause-many g t c = λ far_off grown k.
+    let n = c.args.id.0 in
+    let w = g.D.SourceDatabase.workspace c.args.db.now in
+    let site = c.args.site.now in
+    let tree = c.args.source.now.tree in
+    let part = part_of c.args.world in
+    let h = head_of c.head_at-head.result in
+    let item = c.index-item.result in
+    let is : visits_at tree site (n ∷ []) ≡ visits (visit site (item_of (all_items tree.items) h (kind_content item))) ∷ [] =
+    visits_one tree site n h (kind_content item) c.requires.there
+    (subst (λ (t : Tree). IfSome (slice_get (all_items t.items) n) (λ i. h ≡ item_head i)) c.tree.ensures.value c.head_at-head.ensures.value)
+    (subst (λ (t : Tree). IfSome (slice_get (all_items t.items) n) (λ i. item_of (all_items t.items) (item_head i) (kind_content item) ≡ i)) c.tree-2.ensures.value c.index-item.ensures.value) in
+    let now = c.visit_item.new.locations in
+    let mid = c.visit_item.new.run in
+    let handles = c.in_ok-inside.ensures.ok now (tables_stay now) (all_items tree.items) in
+    let own : mid.map.id ≡ c.args.run.now.map.id = id-Step (handles.step []) in
+    let inner = c.in-File.inner in
+    let source = c.in-File.source.value in
+    let goes : IsOfFile now w c.args.run.now.map.id.krate (length mid.map.modules) site inner source =
+    subst (λ (o : Inside). GoesInside now w c.args.run.now.map.id.krate (length mid.map.modules) site (held_numbers (kind_content item)) o) c.in-File.is c.in_ok-inside.ensures.within in
+    let first : Handles (environment grown w) part c.args.run.now mid (visit site (item_of (all_items tree.items) h (kind_content item))) (visits_over inner source.tree.items ++ closing c.in-File.macro_use site.home inner.home) =
+    subst (λ (o : Inside). Handles (environment grown w) part c.args.run.now mid (visit site (item_of (all_items tree.items) h (kind_content item))) (tasks_of site.home (all_items tree.items) o)) c.in-File.is
+    (c.in_ok-inside.ensures.ok grown (KeepsTables-trans now c.walk_all-in-File.new.locations grown c.in_ok-walk_all-in-File.ensures.kept k) (all_items tree.items)) in
+    let items_same : visits_at c.deref-in-File.result.now.tree inner (numbers_of c.top_level_items-ids.result.now) ≡ visits_over inner source.tree.items =
+    ap (λ (s : SourceTreeValue). visits_at s.tree inner (numbers_of c.top_level_items-ids.result.now)) c.deref-in-File.ensures
+    ∙ ap (visits_over inner) (subst (λ (t : Tree). items_at (all_items t.items) (numbers_of c.top_level_items-ids.result.now) ≡ t.items) (c.tree-in-File.ensures.value ∙ ap (λ (s : SourceTreeValue). s.tree) c.deref.ensures) c.top_level_items-ids.ensures.value) in
+    let later : OnceGrown c.walk_all-in-File.new.locations w (λ env. Walks env part mid c.walk_all-in-File.new.run (visits_over inner source.tree.items)) =
+    subst (λ (vs : List Task). OnceGrown c.walk_all-in-File.new.locations w (λ env. Walks env part mid c.walk_all-in-File.new.run vs)) items_same
+    (subst (λ (v : Workspace). OnceGrown c.walk_all-in-File.new.locations v (λ env. Walks env part mid c.walk_all-in-File.new.run (visits_at c.deref-in-File.result.now.tree inner (numbers_of c.top_level_items-ids.result.now)))) c.in_ok-inside.ensures.same c.in_ok-walk_all-in-File.ensures.ok) in
+    let behind = closing c.in-File.macro_use site.home inner.home in
+    WalksTooFar-inside c.args.run.now mid _ (visits_at tree site (n ∷ [])) (visits_over inner source.tree.items ++ behind) is first
+    (WalksTooFar-behind mid c.walk_all-in-File.new.run (visits_over inner source.tree.items) behind (later grown k) (c.in_err-close-in-File.ensures.many (search rules) (environment grown w) part))
+
+pub walk_item-close-requires-in-File : goal.walk_item-close-requires-in-File
+walk_item-close-requires-in-File g t c =
+    let n = c.args.id.0 in
+    let w = g.D.SourceDatabase.workspace c.args.db.now in
+    let site = c.args.site.now in
+    let tree = c.args.source.now.tree in
+    let part = part_of c.args.world in
+    let h = head_of c.head_at-head.result in
+    let item = c.index-item.result in
+    let is : visits_at tree site (n ∷ []) ≡ visits (visit site (item_of (all_items tree.items) h (kind_content item))) ∷ [] =
+    visits_one tree site n h (kind_content item) c.requires.there
+    (subst (λ (t : Tree). IfSome (slice_get (all_items t.items) n) (λ i. h ≡ item_head i)) c.tree.ensures.value c.head_at-head.ensures.value)
+    (subst (λ (t : Tree). IfSome (slice_get (all_items t.items) n) (λ i. item_of (all_items t.items) (item_head i) (kind_content item) ≡ i)) c.tree-2.ensures.value c.index-item.ensures.value) in
+    let now = c.visit_item.new.locations in
+    let last = c.walk_all-in-File.new.locations in
+    let mid = c.visit_item.new.run in
+    let handles = c.in_ok-inside.ensures.ok now (tables_stay now) (all_items tree.items) in
+    let own : mid.map.id ≡ c.args.run.now.map.id = id-Step (handles.step []) in
+    let inner = c.in-File.inner in
+    let source = c.in-File.source.value in
+    let goes : IsOfFile now w c.args.run.now.map.id.krate (length mid.map.modules) site inner source =
+    subst (λ (o : Inside). GoesInside now w c.args.run.now.map.id.krate (length mid.map.modules) site (held_numbers (kind_content item)) o) c.in-File.is c.in_ok-inside.ensures.within in
+    let first : Handles (environment last w) part c.args.run.now mid (visit site (item_of (all_items tree.items) h (kind_content item))) (visits_over inner source.tree.items ++ closing c.in-File.macro_use site.home inner.home) =
+    subst (λ (o : Inside). Handles (environment last w) part c.args.run.now mid (visit site (item_of (all_items tree.items) h (kind_content item))) (tasks_of site.home (all_items tree.items) o)) c.in-File.is
+    (c.in_ok-inside.ensures.ok last c.in_ok-walk_all-in-File.ensures.kept (all_items tree.items)) in
+    let items_same : visits_at c.deref-in-File.result.now.tree inner (numbers_of c.top_level_items-ids.result.now) ≡ visits_over inner source.tree.items =
+    ap (λ (s : SourceTreeValue). visits_at s.tree inner (numbers_of c.top_level_items-ids.result.now)) c.deref-in-File.ensures
+    ∙ ap (visits_over inner) (subst (λ (t : Tree). items_at (all_items t.items) (numbers_of c.top_level_items-ids.result.now) ≡ t.items) (c.tree-in-File.ensures.value ∙ ap (λ (s : SourceTreeValue). s.tree) c.deref.ensures) c.top_level_items-ids.ensures.value) in
+    let later : OnceGrown c.walk_all-in-File.new.locations w (λ env. Walks env part mid c.walk_all-in-File.new.run (visits_over inner source.tree.items)) =
+    subst (λ (vs : List Task). OnceGrown c.walk_all-in-File.new.locations w (λ env. Walks env part mid c.walk_all-in-File.new.run vs)) items_same
+    (subst (λ (v : Workspace). OnceGrown c.walk_all-in-File.new.locations v (λ env. Walks env part mid c.walk_all-in-File.new.run (visits_at c.deref-in-File.result.now.tree inner (numbers_of c.top_level_items-ids.result.now)))) c.in_ok-inside.ensures.same c.in_ok-walk_all-in-File.ensures.ok) in
+    let there : site.home < length mid.map.modules = still_there c.args.run.now mid _ (visits_over inner source.tree.items ++ closing c.in-File.macro_use site.home inner.home) site.home first c.requires.in_range in
+    let longer : length mid.map.modules ≤ length c.walk_all-in-File.new.run.map.modules = longer_after mid c.walk_all-in-File.new.run (visits_over inner source.tree.items) (later last (tables_stay last)) in
+    record { in_range = omega (arith, there, longer) }
+
 pub walk_item-returns-in-Nothing-clause-ok : goal.walk_item-returns-in-Nothing-clause-ok
 walk_item-returns-in-Nothing-clause-ok g t c = λ grown k.
     let n = c.args.id.0 in
@@ -375,11 +515,11 @@ walk_item-returns-in-Nothing-clause-ok g t c = λ grown k.
     let part = part_of c.args.world in
     let h = head_of c.head_at-head.result in
     let item = c.index-item.result in
-    let is : visits_at tree site (n ∷ []) ≡ visit site (item_of (all_items tree.items) h (kind_content item)) ∷ [] =
+    let is : visits_at tree site (n ∷ []) ≡ visits (visit site (item_of (all_items tree.items) h (kind_content item))) ∷ [] =
     visits_one tree site n h (kind_content item) c.requires.there
     (subst (λ (t : Tree). IfSome (slice_get (all_items t.items) n) (λ i. h ≡ item_head i)) c.tree.ensures.value c.head_at-head.ensures.value)
     (subst (λ (t : Tree). IfSome (slice_get (all_items t.items) n) (λ i. item_of (all_items t.items) (item_head i) (kind_content item) ≡ i)) c.tree-2.ensures.value c.index-item.ensures.value) in
     let first : Handles (environment grown w) part c.args.run.now c.visit_item.new.run (visit site (item_of (all_items tree.items) h (kind_content item))) [] =
-    subst (λ (o : Inside). Handles (environment grown w) part c.args.run.now c.visit_item.new.run (visit site (item_of (all_items tree.items) h (kind_content item))) (visits_of (all_items tree.items) o)) c.in-Nothing.is
+    subst (λ (o : Inside). Handles (environment grown w) part c.args.run.now c.visit_item.new.run (visit site (item_of (all_items tree.items) h (kind_content item))) (tasks_of site.home (all_items tree.items) o)) c.in-Nothing.is
     (c.in_ok-inside.ensures.ok grown k (all_items tree.items)) in
     Walks-first c.args.run.now c.visit_item.new.run c.visit_item.new.run _ (visits_at tree site (n ∷ [])) [] is first (record { steps = λ rest. none })

@@ -1,4 +1,4 @@
-use Rattle.std.proofs.Common.{◌≡◌, length, subst, refl, arith}
+use Rattle.std.proofs.Common.{◌≡◌, refl, arith, append-nil}
 use Rattle.hir_def_map.specs.State.{with_extern_block}
 use Rattle.hir_def_collector.specs.ItemIds.{extern_block_id}
 use Rattle.hir_def_collector.specs.State.{counted, with_map}
@@ -12,7 +12,7 @@ pub returns-clause-ok : goal.returns-clause-ok
 returns-clause-ok c = λ env finished items. record {
   step = λ rest.
       made (enters_block c.args.site.now (head_of c.args.head) _ rest) (record { next = refl; enabled = c.requires.enabled }) tt tt
-      (rw (c.in_ok-tick.ensures.ok, c.in_ok-list_extern_block.ensures.ok, c.module_id.ensures.value, c.in_ok-dir.ensures.value) refl);
+      (rw (append-nil, c.in_ok-tick.ensures.ok, c.in_ok-list_extern_block.ensures.ok, c.module_id.ensures.value, c.in_ok-dir.ensures.value) refl);
 }
 
 pub returns-clause-within : goal.returns-clause-within

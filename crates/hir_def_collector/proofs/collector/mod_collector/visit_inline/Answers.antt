@@ -1,4 +1,4 @@
-use Rattle.std.proofs.Common.{rules, ◌≡◌, ◌∙◌, ◌<◌, ◌≤◌, ℕ, List, Option, Some, None, length, map, refl, sym, ap, subst}
+use Rattle.std.proofs.Common.{rules, ◌≡◌, ◌∙◌, ◌++◌, ◌<◌, ℕ, Bool, List, Option, Some, None, length, map, refl, sym, ap, subst}
 use Rattle.hir_item_tree.specs.Collected.{numbered}
 use Rattle.hir_item_tree.specs.Rows.{items_at, numbers_of}
 use Rattle.hir_item_tree.specs.declared.attrs.Attr.{Attr}
@@ -6,8 +6,8 @@ use Rattle.hir_mod_dir.specs.Directory.{Directory}
 use Rattle.hir_mod_dir.specs.ModuleFiles.{inline_directory}
 use Rattle.hir_def_map.specs.WorldParts.{part_of}
 use Rattle.hir_def_collector.specs.ModuleFiles.{path_attribute}
-use Rattle.hir_def_collector.specs.State.{visits}
-use Rattle.hir_def_collector.specs.Steps.{path_of, visits_inside}
+use Rattle.hir_def_collector.specs.State.{visits_over}
+use Rattle.hir_def_collector.specs.Steps.{closing, inside_module, path_of, visits_inside}
 use Rattle.hir_def_collector.specs.TreeReads.{head_of}
 use Rattle.hir_def_collector.proofs.Outline.{inline_deeper, inline_opened, opened_longer}
 use Rattle.hir_def_collector.proofs.collector.mod_collector.visit_inline.Goals as goal
@@ -18,7 +18,7 @@ returns-in_default-clause-ok c = λ env items.
     ap (λ (p : Option (List ℕ)). inline_directory c.args.site.now.dir c.args.name.now p) (sym (c.path_attr-path.ensures.value ∙ ap (λ (attrs : List Attr). path_attribute (map numbered attrs)) c.as_slice.ensures.value))
     ∙ sym c.in_ok-dir.ensures.value ∙ c.in_default.is in
     inline_opened env (part_of c.args.world) c.args.site.now (head_of c.args.head) c.args.name.now (items_at items (numbers_of c.args.ids.now)) c.args.run.now c.open.new.run _ c.requires.enabled
-    (search rules) (ap (λ (o : Option Directory). visits_inside c.args.run.now.map c.args.site.now o (items_at items (numbers_of c.args.ids.now))) (sym none))
+    (search rules) (ap (λ (o : Option Directory). visits_inside c.args.run.now.map c.args.site.now (head_of c.args.head) o (items_at items (numbers_of c.args.ids.now))) (sym none))
 
 pub returns-clause-ok : goal.returns-clause-ok
 returns-clause-ok c = λ env items.
@@ -27,8 +27,10 @@ returns-clause-ok c = λ env items.
     ∙ sym c.in_ok-dir.ensures.value ∙ c.in-Some.is in
     inline_opened env (part_of c.args.world) c.args.site.now (head_of c.args.head) c.args.name.now (items_at items (numbers_of c.args.ids.now)) c.args.run.now c.open.new.run _ c.requires.enabled
     (search rules)
-    (ap (λ (home : ℕ). visits (record { home = home; tree = c.args.site.now.tree; extern_block = None; dir = c.in-Some.dir; level = c.args.site.now.level }) (items_at items (numbers_of c.args.ids.now))) c.in_ok-home.ensures.made
-    ∙ ap (λ (o : Option Directory). visits_inside c.args.run.now.map c.args.site.now o (items_at items (numbers_of c.args.ids.now))) (sym some))
+    (ap (λ (home : ℕ). visits_over (record { home = home; tree = c.args.site.now.tree; extern_block = None; dir = c.in-Some.dir; level = c.args.site.now.level }) (items_at items (numbers_of c.args.ids.now))
+    ++ closing c.is_macro_use.result c.args.site.now.home home) c.in_ok-home.ensures.made
+    ∙ ap (λ (b : Bool). visits_over (inside_module c.args.run.now.map c.args.site.now c.in-Some.dir) (items_at items (numbers_of c.args.ids.now)) ++ closing b c.args.site.now.home (length c.args.run.now.map.modules)) c.is_macro_use.ensures.value
+    ∙ ap (λ (o : Option Directory). visits_inside c.args.run.now.map c.args.site.now (head_of c.args.head) o (items_at items (numbers_of c.args.ids.now))) (sym some))
 
 pub returns-clause-within : goal.returns-clause-within
 returns-clause-within c = λ tables w.

@@ -1,8 +1,4 @@
-use Rattle.std.proofs.Common.{rules, ◌≡◌, ◌∷◌, [], List, true, refl, inl, sym, subst}
-use Rattle.hir_item_tree.specs.KeptForest.{KeptItem}
-use Rattle.hir_item_tree.specs.Kinds.{kind_content}
-use Rattle.hir_item_tree.specs.Rows.{item_of}
-use Rattle.hir_tables.specs.Tables.{KeepsTables}
+use Rattle.std.proofs.Common.{rules, ◌≡◌, true, refl, inl}
 use Rattle.hir_def_map.specs.WorldParts.{part_of}
 use Rattle.hir_def_collector.specs.Keys.{environment}
 use Rattle.hir_def_collector.specs.Moves.{is_single}

@@ -1,4 +1,4 @@
-use Rattle.std.proofs.Common.{rules, ◌≡◌, ◌∙◌, ℕ, ◌∷◌, [], List, Option, Some, None, map, refl, ap, sym, subst}
+use Rattle.std.proofs.Common.{rules, ◌≡◌, ◌∙◌, ℕ, List, Option, Some, None, map, refl, ap, sym, subst}
 use Rattle.std.specs.Prelude.{IfSome, option_map}
 use Rattle.hir_item_tree.specs.Collected.{numbered}
 use Rattle.hir_item_tree.specs.declared.attrs.Attr.{Attr}

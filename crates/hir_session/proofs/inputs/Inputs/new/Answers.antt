@@ -1,4 +1,4 @@
--- Nothing is kept of any file.
+-- Nothing is kept of any source.
 use Rattle.hir_session.proofs.Current.{none_current}
 use Rattle.hir_session.proofs.inputs.Inputs.new.Goals as goal
 

@@ -1,18 +1,20 @@
--- What is kept of the other files stays; of this one it is what the file then has.
+-- What is kept of the other sources stays; of this one it is what the file then has.
 use Rattle.std.proofs.Common.{◌≡◌, ◌∙◌, ap, sym, subst, List, ℕ, Some}
 use Rattle.hir_item_tree.specs.Source.{source_view}
-use Rattle.hir_session.specs.Files.{with_file, workspace_in}
+use Rattle.hir_tables.specs.SourcePlaces.{file}
 use Rattle.hir_session.specs.Inputs.{InputsValue}
+use Rattle.hir_session.specs.SourceEdits.{edited, of_file}
+use Rattle.hir_session.specs.SourceTable.{workspace_in}
 use Rattle.hir_session.specs.SourceTrees.{AreTreesOf}
 use Rattle.hir_session.proofs.Current.{current_over, replaced_current}
 use Rattle.hir_session.proofs.inputs.Inputs.set_file.Goals as goal
 
 pub invariant_of-self-2 : goal.invariant_of-self-2
 invariant_of-self-2 c =
-    let becomes : c.set.new.self ≡ with_file c.self.inside.files c.in_ok-at.at (source_view c.args.source) =
-    c.in_ok-set.ensures.ok ∙ ap (λ (p : List ℕ). with_file c.self.inside.files p (source_view c.args.source)) (sym c.in_ok-at.ensures.value) in
+    let becomes : c.set_file.new.self ≡ edited c.self.inside.sources (of_file c.in_ok-at.at (Some (source_view c.args.source))) =
+    c.in_ok-set_file.ensures.ok ∙ ap (λ (p : List ℕ). edited c.self.inside.sources (of_file p (Some (source_view c.args.source)))) (sym c.in_ok-at.ensures.value) in
     current_over _ _ c.replace.new.self (ap (workspace_in c.self.inside.crates) (sym becomes))
-    (replaced_current c.self.inside.crates c.self.inside.files c.in_ok-at.at (Some (source_view c.args.source)) c.self.inside.trees c.replace.new.self c.args.trees c.self.invariant
-    (subst (λ (p : List ℕ). AreTreesOf c.self.inside.crates p (Some (source_view c.args.source)) c.args.trees) (sym c.in_ok-at.ensures.value)
-    (subst (λ (i : InputsValue). AreTreesOf i.crates c.args.path (Some (source_view c.args.source)) c.args.trees) (sym c.self.view_is) c.requires.trees))
+    (replaced_current c.self.inside.crates c.self.inside.sources (of_file c.in_ok-at.at (Some (source_view c.args.source))) c.self.inside.trees c.replace.new.self c.args.trees c.self.invariant
+    (subst (λ (p : List ℕ). AreTreesOf c.self.inside.crates (file p) (Some (source_view c.args.source)) c.args.trees) (sym c.in_ok-at.ensures.value)
+    (subst (λ (i : InputsValue). AreTreesOf i.crates (file c.args.path) (Some (source_view c.args.source)) c.args.trees) (sym c.self.view_is) c.requires.trees))
     c.replace.ensures.here c.replace.ensures.others)

@@ -31,5 +31,5 @@ returns-clause-answer c =
 pub returns-clause-stands : goal.returns-clause-stands
 returns-clause-stands c = λ current.
     stands runs_bind paths_answer paths_lead c.args.self.now c.args.place.now c.args.path.now c.args.shadow c.args.style c.in_ok-answer.answer
-    (subst (λ (s : SessionState). IsSound s) c.self.view_is c.self.invariant)
+    (subst (λ (s : SessionState). IsSound s) c.self.view_is c.self.invariant.0)
     (answer_of-current c.args.self.now c.args.place.now c.args.path.now c.args.shadow c.args.style current (returns-clause-answer c))

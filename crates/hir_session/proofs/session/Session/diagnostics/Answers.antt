@@ -10,4 +10,4 @@ returns-clause-told c = search rules
 
 pub returns-clause-stand : goal.returns-clause-stand
 returns-clause-stand c =
-    tell runs_bind c.args.self.now c.args.krate _ (subst (λ (s : SessionState). IsSound s) c.self.view_is c.self.invariant) (returns-clause-told c)
+    tell runs_bind c.args.self.now c.args.krate _ (subst (λ (s : SessionState). IsSound s) c.self.view_is c.self.invariant.0) (returns-clause-told c)

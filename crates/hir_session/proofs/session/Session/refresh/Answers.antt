@@ -12,7 +12,7 @@ use Rattle.hir_session.proofs.session.Session.refresh.Goals as goal
 use Rattle.hir_session.proofs.session.Session.refresh.Goals.{then-is_marked_at+in_ok-note+in_ok-resolve_at, else-is_marked_at}
 
 pub loop-k-init : goal.loop-k-init
-loop-k-init c = rw c.new-done.ensures.items (subst (λ (s : SessionState). IsRefreshing s s [] 0) c.self.view_is (refreshing-start _ c.self.invariant))
+loop-k-init c = rw c.new-done.ensures.items (subst (λ (s : SessionState). IsRefreshing s s [] 0) c.self.view_is (refreshing-start _ c.self.invariant.0))
 
 pub returns-clause-refreshes : goal.returns-clause-refreshes
 returns-clause-refreshes c =

@@ -1,5 +1,4 @@
-use Rattle.std.proofs.Common.{◌≡◌, ◌∙◌, ap}
-use Rattle.hir_import_resolution.specs.State.{ImportState}
+use Rattle.std.proofs.Common.{◌∙◌, ap}
 use Rattle.hir_glob_imports.specs.Waves.{brought_of}
 use Rattle.hir_def_collector.specs.State.{Core, at_rest, import_state}
 use Rattle.hir_def_collector.proofs.Reached.{state_walked}

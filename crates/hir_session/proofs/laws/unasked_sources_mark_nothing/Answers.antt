@@ -1,0 +1,5 @@
+use Rattle.hir_session.proofs.EditLaws as edits
+use Rattle.hir_session.proofs.laws.unasked_sources_mark_nothing.Goals as goal
+
+pub returns : goal.returns
+returns c = record { law = edits.unasked_sources_mark_nothing; answers = edits.unasked_sources_leave_answers }

@@ -1,0 +1,8 @@
+use Rattle.std.proofs.Common.{◌≡◌, option_map}
+use Rattle.hir_session.specs.SourceCalls.{source_of, source_within}
+use Rattle.hir_session.proofs.CallLemmas.{and_calls}
+use Rattle.hir_session.proofs.source_items.source_calls.source_at.Given as goal
+
+-- what holds the syntax is what holds the outermost call so far, and those calls
+abbrev pub invariant-loop : goal.invariant-loop
+invariant-loop l = source_of l.tables.now l.file l.block ≡ option_map (and_calls l.calls.items) (source_within l.left l.tables.now l.at l.within)
