@@ -1,5 +1,6 @@
 -- Calls in whose expansions something stands, from the innermost out.
 use Rattle.std.proofs.Common.{◌≡◌, ◌∙◌, ap, sym, refl, ℕ, suc, List, [], ◌∷◌, ◌++◌, append-nil, append_assoc, Option, Some, None, option_map, subst}
+use Rattle.std.specs.Option.{option_and_then}
 use Rattle.std.specs.Prelude.{reverse}
 use Rattle.std.proofs.lemmas.List.{reverse-append}
 use Rattle.hir_base.specs.declared.ast_id.HirFileId.TheVariants.{Macro}
@@ -9,7 +10,7 @@ use Rattle.hir_tables.specs.Tables.{TablesValue, call_at}
 use Rattle.hir_def_map.specs.Diagnostics.{call_node}
 use Rattle.hir_wire.specs.declared.answer.ItemSource.{ItemSource}
 use Rattle.hir_wire.specs.declared.answer.SourceCall.{SourceCall}
-use Rattle.hir_session.specs.SourceCalls.{and_call, source_call, source_of_call, source_within}
+use Rattle.hir_session.specs.SourceCalls.{and_call, source_call, source_within}
 
 -- what stands in expansions of these calls, the innermost first
 abbrev pub and_calls : List SourceCall → ItemSource → ItemSource
@@ -31,5 +32,6 @@ pub next_call : (n : ℕ) (t : TablesValue) (c : MacroCallId) (call : MacroCallL
     → option_map (and_calls calls) (source_within (suc n) t (Macro c) None)
     ≡ option_map (and_calls (calls ++ source_call call.kind ∷ [])) (source_within n t (call_node call.kind).file_id (call_node call.kind).block)
 next_call n t c call calls at =
-    ap (λ (o : Option MacroCallLoc). option_map (and_calls calls) (source_of_call n t o)) at
+    ap (λ (o : Option MacroCallLoc). option_map (and_calls calls)
+    (option_and_then (λ (x : MacroCallLoc). option_map (and_call (source_call x.kind)) (source_within n t (call_node x.kind).file_id (call_node x.kind).block)) o)) at
     ∙ one_more calls (source_call call.kind) (source_within n t (call_node call.kind).file_id (call_node call.kind).block)

@@ -1,6 +1,6 @@
 -- What an edit of a source marks, and what it leaves.
 use Rattle.std.specs.Prelude.{is_some}
-use Rattle.std.proofs.Common.{◌≡◌, ◌≢◌, ℕ, Bool, true, false, nat_lt, if◌then◌else◌, length, Option, Some, None, Err, refl, sym, subst, ap, ◌∙◌, Contains, List, option_map}
+use Rattle.std.proofs.Common.{◌≡◌, ◌≢◌, ℕ, Bool, true, false, nat_lt, if◌then◌else◌, length, Option, Some, None, Err, refl, sym, subst, ap, ◌∙◌, Contains, List, [], option_map}
 use Rattle.hir_base.specs.CfgOptions.{is_set}
 use Rattle.hir_base.specs.ModPath.{Path}
 use Rattle.hir_base.specs.Place.{PlaceValue}
@@ -41,7 +41,7 @@ use Rattle.hir_session.specs.Marks.IsTouched.{before, asked_for}
 use Rattle.hir_session.specs.EditedSources.{seen_at}
 use Rattle.hir_session.specs.Changes.{Becomes}
 use Rattle.hir_session.specs.Due.{IsBehind}
-use Rattle.hir_session.specs.Laws.{AnswersAlike, BodyEditsMarkNothing, BodyEditsLeaveAnswers, SetAbsentFileMarks, RemovePresentFileMarks, RemoveAbsentFileMarksNothing, RemoveAbsentFileLeavesAnswers, SetAbsentExpansionMarks, RemovePresentExpansionMarks, RemoveAbsentExpansionMarksNothing, RemoveAbsentExpansionLeavesAnswers, UnaskedSourcesMarkNothing, UnaskedSourcesLeaveAnswers, IsUnasked}
+use Rattle.hir_session.specs.Laws.{AnswersAlike, BodyEditsMarkNothing, BodyEditsLeaveAnswers, ExpansionBodyEditsMarkNothing, ExpansionBodyEditsLeaveAnswers, SetAbsentFileMarks, RemovePresentFileMarks, RemoveAbsentFileMarksNothing, RemoveAbsentFileLeavesAnswers, SetAbsentExpansionMarks, RemovePresentExpansionMarks, RemoveAbsentExpansionMarksNothing, RemoveAbsentExpansionLeavesAnswers, UnaskedSourcesMarkNothing, UnaskedSourcesLeaveAnswers, IsUnasked}
 use Rattle.hir_session.proofs.Differ.{alike_answer, unmarked_behind}
 use Rattle.hir_session.proofs.Truth.{clash, on_bool}
 use Rattle.hir_session.proofs.SourceLemmas.{beside-differs, look-apart, look-differs, look-same, no_value, one_value, place_same, same_place, treeless-same}
@@ -142,6 +142,15 @@ same_but_bodies : BodyTextsLeaveTheTree → BodyTextsLeaveTheSides → (s : Sess
 same_but_bodies law sides s path was source is_was alike = same_looks s (of_file path (Some source)) (λ k key.
     ap (λ (t : SourceTreeValue). seen_at t key) (same_tree law sides s.crates (file path) was source alike k ∙ ap (λ (o : Option SourceValue). tree_under s.crates k (file path) o) (sym is_was))) tt
 
+-- so does an expansion, with the same error
+same_but_expansion_bodies : BodyTextsLeaveTheTree → BodyTextsLeaveTheSides → (s : SessionState) (key : ExpansionValue) (was entry : EntryValue) → entry_at s.sources.entries key ≡ Some was
+    → was.error ≡ entry.error → source_without_bodies was.source ≡ source_without_bodies entry.source
+    → (k : Key) → look s.tables (workspace_in s.crates (edited s.sources (of_expansion key (Some entry)))) no_maps k ≡ look s.tables (workspace_of s) no_maps k
+same_but_expansion_bodies law sides s key was entry is_was error alike = same_looks s (of_expansion key (Some entry))
+    (λ n k. ap (λ (t : SourceTreeValue). seen_at t k) (same_tree law sides s.crates (expansion key) was.source entry.source alike n
+    ∙ ap (λ (o : Option EntryValue). tree_under s.crates n (expansion key) (source_in_entry o)) (sym is_was)))
+    (ap (λ (o : Option EntryValue). look_of o) is_was ∙ (λ i. record { present = true; error = error i; inner = [] }))
+
 -- a file that is removed where none is leaves each key as it was
 same_without : (s : SessionState) (path : List ℕ) → file_at s.sources.files path ≡ None
     → (key : Key) → look s.tables (workspace_in s.crates (edited s.sources (of_file path None))) no_maps key ≡ look s.tables (workspace_of s) no_maps key
@@ -161,6 +170,14 @@ body_edits_mark_nothing law sides old new path was source sound is_was alike is 
 pub body_edits_leave_answers : BodyTextsLeaveTheTree → BodyTextsLeaveTheSides → BodyEditsLeaveAnswers
 body_edits_leave_answers law sides old new path was source sound is_was alike is =
     unaltered_answers sound is (λ id r key kept has. same_but_bodies law sides old path was source is_was alike key)
+
+pub expansion_body_edits_mark_nothing : BodyTextsLeaveTheTree → BodyTextsLeaveTheSides → ExpansionBodyEditsMarkNothing
+expansion_body_edits_mark_nothing law sides old new key was entry sound is_was error alike is =
+    unaltered_marks sound is (λ id r k kept has. same_but_expansion_bodies law sides old key was entry is_was error alike k)
+
+pub expansion_body_edits_leave_answers : BodyTextsLeaveTheTree → BodyTextsLeaveTheSides → ExpansionBodyEditsLeaveAnswers
+expansion_body_edits_leave_answers law sides old new key was entry sound is_was error alike is =
+    unaltered_answers sound is (λ id r k kept has. same_but_expansion_bodies law sides old key was entry is_was error alike k)
 
 pub remove_absent_file_marks_nothing : RemoveAbsentFileMarksNothing
 remove_absent_file_marks_nothing old new path sound absent is = unaltered_marks sound is (λ id r key kept has. same_without old path absent key)
@@ -207,7 +224,7 @@ remove_present_file_marks old new path was k found key there is kept asked at =
 
 -- an expansion that is there isn't seen as one that is absent
 looks_apart : (o : Option EntryValue) (e : EntryValue) → o ≡ None → look_of o ≢ look_of (Some e)
-looks_apart o e absent h = clash (sym (ap (λ (l : EntryLook). l.present) h)) (ap (λ (x : Option EntryValue). (look_of x).present) absent)
+looks_apart o e absent h = clash (ap (λ (l : EntryLook). l.present) h) (ap (λ (x : Option EntryValue). (look_of x).present) absent)
 
 pub set_absent_expansion_marks : SetAbsentExpansionMarks
 set_absent_expansion_marks old new key entry k found number absent is kept asked at =

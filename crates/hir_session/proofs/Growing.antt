@@ -33,12 +33,13 @@ use Rattle.hir_wire.specs.declared.answer.AnswerItem.{AnswerItem}
 use Rattle.hir_wire.specs.declared.answer.AnswerVisibility.{AnswerVisibility}
 use Rattle.hir_wire.specs.declared.answer.Definition.{Definition}
 use Rattle.hir_wire.specs.declared.answer.ImportSource.{ImportSource}
+use Rattle.hir_wire.specs.declared.answer.ItemSource.{ItemSource}
 use Rattle.hir_wire.specs.declared.answer.SourceKind.{SourceKind}
 use Rattle.hir_wire.specs.declared.command.MacroStyle.{MacroStyle}
 use Rattle.hir_wire.specs.declared.command.Shadow.{Shadow}
 use Rattle.hir_session.specs.Answers.{answer_in, asking_of}
 use Rattle.hir_session.specs.LeavesOut.{LeavesNothingOut}
-use Rattle.hir_session.specs.SourceCalls.{and_call, file_source, most_calls, source_call, source_of, source_of_call, source_within}
+use Rattle.hir_session.specs.SourceCalls.{and_call, file_source, most_calls, source_call, source_of, source_within}
 use Rattle.hir_session.specs.SourceItems.{adt_definition, answered_macro, answered_type, answered_value, definition_of, import_source, item_in, item_of, macro_definition, maybe_source, module_by, module_definition, together, use_source, value_import_source, visibility_source}
 use Rattle.hir_session.proofs.Truth.{clash}
 
@@ -74,15 +75,22 @@ module _ (few more : TablesValue) (keeps : KeepsTables few more) where
       go None s = inl s
       go (Some q) s = inr (keeps.files f.file_id.0 q s ∙ sym s)
   within_stays zero (Macro c) None = inl refl
-  within_stays (suc n) (Macro c) None = go (call_at few c) refl
+  within_stays (suc n) (Macro c) None = go (call_at few c) refl (λ file block. within_stays n file block)
     where
-      go : (o : Option MacroCallLoc) → call_at few c ≡ o → Stays (source_of_call n few (call_at few c)) (source_of_call n more (call_at more c))
-      go None s = inl (ap (source_of_call n few) s)
-      go (Some call) s =
-          subst (λ (o : Option MacroCallLoc). Stays (source_of_call n few o) (source_of_call n more (call_at more c))) (sym s)
-          (subst (λ (o : Option MacroCallLoc). Stays (source_of_call n few (Some call)) (source_of_call n more o)) (sym (keeps.calls c.0 call s))
-          (mapped (and_call (source_call call.kind)) (source_within n few (call_node call.kind).file_id (call_node call.kind).block) (source_within n more (call_node call.kind).file_id (call_node call.kind).block)
-          (within_stays n (call_node call.kind).file_id (call_node call.kind).block)))
+      inside : TablesValue → MacroCallLoc → Option ItemSource
+      inside t call = option_map (and_call (source_call call.kind)) (source_within n t (call_node call.kind).file_id (call_node call.kind).block)
+
+      stays : (call : MacroCallLoc) → call_at few c ≡ Some call → Stays (source_within n few (call_node call.kind).file_id (call_node call.kind).block) (source_within n more (call_node call.kind).file_id (call_node call.kind).block)
+          → Stays (option_and_then (inside few) (call_at few c)) (option_and_then (inside more) (call_at more c))
+      stays call s next =
+          subst (λ (o : Option MacroCallLoc). Stays (option_and_then (inside few) o) (option_and_then (inside more) (call_at more c))) (sym s)
+          (subst (λ (o : Option MacroCallLoc). Stays (option_and_then (inside few) (Some call)) (option_and_then (inside more) o)) (sym (keeps.calls c.0 call s))
+          (mapped (and_call (source_call call.kind)) _ _ next))
+
+      go : (o : Option MacroCallLoc) → call_at few c ≡ o → ((file : HirFileId) (block : Option BlockId) → Stays (source_within n few file block) (source_within n more file block))
+          → Stays (option_and_then (inside few) (call_at few c)) (option_and_then (inside more) (call_at more c))
+      go None s next = inl (ap (option_and_then (inside few)) s)
+      go (Some call) s next = stays call s (next (call_node call.kind).file_id (call_node call.kind).block)
 
   source_stays : (file : HirFileId) (block : Option BlockId) → Stays (source_of few file block) (source_of more file block)
   source_stays file block = within_stays (most_calls file) file block

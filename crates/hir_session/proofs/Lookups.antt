@@ -10,7 +10,7 @@ pub record IsExact {K : Type 0} (cmp : K → K → Ordering) : Type 0 where
   pub same : (p q : K) → is_at (cmp p) q ≡ true → p ≡ q
   pub own : (p : K) → is_at (cmp p) p ≡ true
 
-module _ {K X : Type 0} (cmp : K → K → Ordering) (exact : IsExact cmp) where
+module _ {K : Type 0} (cmp : K → K → Ordering) (exact : IsExact cmp) where
   pub at_same : (p q : K) → p ≡ q → is_at (cmp p) q ≡ true
   at_same p q same = ap (λ (k : K). is_at (cmp p) k) (sym same) ∙ exact.own p
 
@@ -22,24 +22,25 @@ module _ {K X : Type 0} (cmp : K → K → Ordering) (exact : IsExact cmp) where
       (λ on. clash (at_same p q (sym (exact.same q p on))) off)
       (λ too. off ∙ sym too))
 
+module _ {K X : Type 0} (cmp : K → K → Ordering) (exact : IsExact cmp) where
   -- what is set is there, and all else is as it was
   pub lookup-insert_entry : (es : List (K × X)) (k : K) (x : X) (q : K) → lookup (is_at (cmp q)) (insert_entry cmp es k x) ≡ cond (is_at (cmp k) q) (Some x) (lookup (is_at (cmp q)) es)
-  lookup-insert_entry [] k x q = rw (test-flip q k) refl
+  lookup-insert_entry [] k x q = rw (test-flip cmp exact q k) refl
   lookup-insert_entry (e ∷ es) k x q = by (cmp k e.0) refl (lookup-insert_entry es k x q)
     where
       by : (r : Ordering) → cmp k e.0 ≡ r → lookup (is_at (cmp q)) (insert_entry cmp es k x) ≡ cond (is_at (cmp k) q) (Some x) (lookup (is_at (cmp q)) es)
           → lookup (is_at (cmp q)) (match_ordering r ((k, x) ∷ e ∷ es) ((e.0, x) ∷ es) (e ∷ insert_entry cmp es k x)) ≡ cond (is_at (cmp k) q) (Some x) (lookup (is_at (cmp q)) (e ∷ es))
-      by Less p more = rw (test-flip q k) refl
+      by Less p more = rw (test-flip cmp exact q k) refl
       by Equal p more =
           let same : k ≡ e.0 = exact.same k e.0 (ap is_eq p) in
           on_bool (is_at (cmp k) q)
-          (λ on. let there : is_at (cmp q) e.0 ≡ true = at_same q e.0 (sym (exact.same k q on) ∙ same) in rw (there, on) refl)
+          (λ on. let there : is_at (cmp q) e.0 ≡ true = at_same cmp exact q e.0 (sym (exact.same k q on) ∙ same) in rw (there, on) refl)
           (λ off. on_bool (is_at (cmp q) e.0)
-          (λ there. clash (at_same k q (same ∙ sym (exact.same q e.0 there))) off)
+          (λ there. clash (at_same cmp exact k q (same ∙ sym (exact.same q e.0 there))) off)
           (λ other. rw (other, off) refl))
       by Greater p more = on_bool (is_at (cmp k) q)
           (λ on. on_bool (is_at (cmp q) e.0)
-          (λ there. clash (at_same k e.0 (exact.same k q on ∙ exact.same q e.0 there)) (ap is_eq p))
+          (λ there. clash (at_same cmp exact k e.0 (exact.same k q on ∙ exact.same q e.0 there)) (ap is_eq p))
           (λ other. rw (other, more, on) refl))
           (λ off. rw (more, off) refl)
 
@@ -50,11 +51,11 @@ module _ {K X : Type 0} (cmp : K → K → Ordering) (exact : IsExact cmp) where
       (λ gone. on_bool (is_at (cmp k) q)
       (λ on. rw (gone, lookup-without es k q, on) refl)
       (λ off. on_bool (is_at (cmp q) e.0)
-      (λ there. clash (at_same k q (exact.same k e.0 gone ∙ sym (exact.same q e.0 there))) off)
+      (λ there. clash (at_same cmp exact k q (exact.same k e.0 gone ∙ sym (exact.same q e.0 there))) off)
       (λ other. rw (gone, lookup-without es k q, off, other) refl)))
       (λ stays. on_bool (is_at (cmp q) e.0)
       (λ there. on_bool (is_at (cmp k) q)
-      (λ on. clash (at_same k e.0 (exact.same k q on ∙ exact.same q e.0 there)) stays)
+      (λ on. clash (at_same cmp exact k e.0 (exact.same k q on ∙ exact.same q e.0 there)) stays)
       (λ off. rw (stays, there, off) refl))
       (λ other. rw (stays, other, lookup-without es k q) refl))
 

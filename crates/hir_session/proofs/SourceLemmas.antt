@@ -97,10 +97,10 @@ module _ (t : SourceTable) (edit : SourceEditValue) where
 
 -- ---- what is seen at a key
 
-one_value : {A : Type 0} {x y : A} → Some x ≡ Some y → x ≡ y
+pub one_value : {A : Type 0} {x y : A} → Some x ≡ Some y → x ≡ y
 one_value e = cc
 
-no_value : {A B : Type 0} {x : A} → None ≡ Some x → B
+pub no_value : {A B : Type 0} {x : A} → None ≡ Some x → B
 no_value e = absurd (let wrong : ⊥ = cc in wrong)
 
 -- at one that asks for something of a source's is seen what the source has

@@ -107,6 +107,9 @@ module _ (s : SessionState) (F : SourceTable) (K : Resolutions) where
       → look s.tables (workspace_of changed) (finished_of changed) key ≡ look s.tables (workspace_of s) (finished_of s) key
   key_stays finished from last (keys.Tree key) cause alike by_map = alike
   key_stays finished from last (keys.Variants id) cause alike by_map = alike
+  key_stays finished from last (keys.Text id) cause alike by_map = alike
+  key_stays finished from last (keys.Input krate ast) cause alike by_map = alike
+  key_stays finished from last (keys.Expansion id) cause alike by_map = alike
   key_stays finished from last (keys.Map id) cause alike by_map = let of = of_dependency cause in by_map of.0 of.1 of.2
 
   -- what agrees where no map counts agrees beside the maps

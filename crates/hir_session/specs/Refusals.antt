@@ -117,9 +117,15 @@ verdict_of_source source =
 abbrev pub are_known : ℕ → ExpansionValue → Bool
 are_known count key = nat_lt key.caller.0 count && (nat_lt key.called.krate.0 count && list_all (λ (m : MacroText). nat_lt m.krate.0 count) key.reached)
 
--- what an expansion that is set is refused for
+-- whether a source holds what can't be taken, as far as it is looked at
+abbrev pub is_untaken : SourceValue → Bool
+is_untaken source = not (is_nested_too_deep source) && not (is_source_taken source)
+
+-- what an expansion that is set is refused for: what can't be taken first, then crates that aren't there
 abbrev pub verdict_of_expansion : ℕ → ExpansionValue → SourceValue → Result (Unit {0}) EditError
-verdict_of_expansion count key source = if are_known count key then verdict_of_source source else Err edit_error.UnknownCrate
+verdict_of_expansion count key source =
+    if is_untaken source then Err edit_error.NotYet else
+    (if are_known count key then verdict_of_source source else Err edit_error.UnknownCrate)
 
 -- that the edit of a session over so many crates is accepted, or the first thing for which it is refused
 abbrev pub verdict_of_apply : ℕ → EditValue → Result (Unit {0}) EditError

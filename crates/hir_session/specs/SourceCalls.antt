@@ -39,19 +39,14 @@ path_of t (Macro c) = None
 abbrev pub and_call : SourceCall → ItemSource → ItemSource
 and_call call held = record held { calls = held.calls ++ call ∷ [] }
 
-abbrev mutual
-  -- what holds syntax: a file of the tables, or what a call expands to, where at most so many stand in one another; no block
-  -- is set
-  pub source_within : ℕ → TablesValue → HirFileId → Option BlockId → Option ItemSource
-  source_within n t id (Some b) = None
-  source_within n t (File f) None = option_map file_source (file_at t f.file_id)
-  source_within zero t (Macro c) None = None
-  source_within (suc n) t (Macro c) None = source_of_call n t (call_at t c)
-
-  -- what a call expands to, in what holds the call
-  pub source_of_call : ℕ → TablesValue → Option MacroCallLoc → Option ItemSource
-  source_of_call n t None = None
-  source_of_call n t (Some call) = option_map (and_call (source_call call.kind)) (source_within n t (call_node call.kind).file_id (call_node call.kind).block)
+-- what holds syntax: a file of the tables, or what a call expands to, where at most so many stand in one another; no block
+-- is set
+abbrev pub source_within : ℕ → TablesValue → HirFileId → Option BlockId → Option ItemSource
+source_within n t file (Some b) = None
+source_within n t (File f) None = option_map file_source (file_at t f.file_id)
+source_within zero t (Macro c) None = None
+source_within (suc n) t (Macro c) None =
+    option_and_then (λ (call : MacroCallLoc). option_map (and_call (source_call call.kind)) (source_within n t (call_node call.kind).file_id (call_node call.kind).block)) (call_at t c)
 
 -- how many calls can stand in one another, where each stands in what calls with smaller numbers expand to
 abbrev pub most_calls : HirFileId → ℕ

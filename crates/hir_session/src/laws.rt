@@ -1,7 +1,7 @@
 //! What holds of all that a session does; each function's contract is a law.
 ghost use Rattle.hir_session.specs.Headline.{RepliesHoldTheHeadline};
 ghost use Rattle.hir_session.specs.Histories.{DifferOnlyWhereAltered, LinesBeginHistories};
-ghost use Rattle.hir_session.specs.Laws.{BodyEditsMarkNothing, BodyEditsLeaveAnswers, SetAbsentFileMarks, RemovePresentFileMarks, RemoveAbsentFileMarksNothing, RemoveAbsentFileLeavesAnswers, SetAbsentExpansionMarks, RemovePresentExpansionMarks, RemoveAbsentExpansionMarksNothing, RemoveAbsentExpansionLeavesAnswers, UnaskedSourcesMarkNothing, UnaskedSourcesLeaveAnswers};
+ghost use Rattle.hir_session.specs.Laws.{BodyEditsMarkNothing, BodyEditsLeaveAnswers, ExpansionBodyEditsMarkNothing, ExpansionBodyEditsLeaveAnswers, SetAbsentFileMarks, RemovePresentFileMarks, RemoveAbsentFileMarksNothing, RemoveAbsentFileLeavesAnswers, SetAbsentExpansionMarks, RemovePresentExpansionMarks, RemoveAbsentExpansionMarksNothing, RemoveAbsentExpansionLeavesAnswers, UnaskedSourcesMarkNothing, UnaskedSourcesLeaveAnswers};
 
 use hir_def_collector::laws::runs_bind_from_sources;
 use hir_def_map::laws::{paths_answer_from_sources, paths_lead_to_what_is_there};
@@ -35,6 +35,14 @@ pub fn replies_hold_the_headline()
 pub fn body_edits_mark_nothing()
     ensures law { BodyEditsMarkNothing }
     ensures answers { BodyEditsLeaveAnswers }
+{
+    body_texts_leave_the_tree();
+}
+
+/// An edit of an expansion that changes nothing but bodies leaves every mark and every answer as it is.
+pub fn expansion_body_edits_mark_nothing()
+    ensures law { ExpansionBodyEditsMarkNothing }
+    ensures answers { ExpansionBodyEditsLeaveAnswers }
 {
     body_texts_leave_the_tree();
 }

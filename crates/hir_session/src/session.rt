@@ -24,7 +24,7 @@ ghost use Rattle.hir_session.specs.SourceEdits.{edited, of_expansion, of_file};
 ghost use Rattle.hir_session.specs.Crates.{id_of};
 ghost use Rattle.hir_session.specs.SessionState.{SessionState, Resolution, workspace_of, finished_of, beginning_of, is_marked, IsResolutionOf, IsSound};
 ghost use Rattle.hir_session.specs.Due.{root_place, Grows, Resolved, HasOverlongRun};
-ghost use Rattle.hir_session.specs.Refusals.{first_out_of_order, verdict_of_new, IsNewMemory, verdict_of_apply, verdict_of_expansion, verdict_of_source, IsEditMemory};
+ghost use Rattle.hir_session.specs.Refusals.{first_out_of_order, is_untaken, verdict_of_new, IsNewMemory, verdict_of_apply, verdict_of_expansion, verdict_of_source, IsEditMemory};
 ghost use Rattle.hir_session.specs.Changes.{Becomes, Applies, Refreshes, RefreshesPartly};
 
 mod queries;
@@ -102,6 +102,13 @@ fn check_source(alloc: Global, source: &Source) -> Result<(), EditError>
     }
     check(alloc, source)?;
     Ok(())
+}
+
+/// Whether a source holds what can't be taken, as far as it is looked at.
+fn is_untaken(source: &Source) -> bool
+    ensures value { result ≡ is_untaken (source_view source.now) }
+{
+    !nests_too_deep(source) && !is_source_taken_now(source)
 }
 
 impl Session {
@@ -248,6 +255,9 @@ impl Session {
         ensures ok { OnOk result (Becomes self.old (edited self.old.sources (of_expansion (expansion_value key) (Some (entry_view entry)))) self.new) }
         ensures err { OnErr result (self.new ≡ self.old) }
     {
+        if is_untaken(&entry.source) {
+            return Err(EditError::NotYet);
+        }
         if !names_known(self.inputs.crates().len(), &key) {
             return Err(EditError::UnknownCrate);
         }

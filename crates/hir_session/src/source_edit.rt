@@ -27,7 +27,7 @@ pub enum SourceEdit<'a> {
 impl<'a> SourceEdit<'a> {
     /// Where the source stands.
     pub fn place(self) -> SourcePlace<'a>
-        ensures value { source_value result ≡ place_of (edit_value self) }
+        ensures value { source_value result ≡ place_of (edit_value self.entry) }
     {
         match self {
             SourceEdit::File { path, new: _ } => SourcePlace::File(path),
@@ -37,7 +37,7 @@ impl<'a> SourceEdit<'a> {
 
     /// The source that stands there then.
     pub fn source(self) -> Option<&'a Source>
-        ensures value { option_map (λ s. source_view s.now) result ≡ source_by (edit_value self) }
+        ensures value { option_map (λ s. source_view s.now) result ≡ source_by (edit_value self.entry) }
     {
         match self {
             SourceEdit::File { path: _, new } => new,
