@@ -104,14 +104,17 @@ fn macros_of_modules(rt: HostRuntime) -> Result<(), Fail> {
     Ok(())
 }
 
-/// `macro_rules! a {} mod m { #[macro_export] macro_rules! b {} #[macro_export] macro_rules! c {} } pub macro d {} macro e {}`
+/// `macro_rules! a {} mod m { #[macro_export] macro_rules! b {} #[macro_export] macro_rules! c {} } pub macro d {} macro e {}`, and a
+/// prelude module
 const LOWER: &str = r#"{"do":"set file","file":"a.rs","unit":{"nodes":[
 {"kind":"MacroRules","id":[1,0],"name":"a","text":""},
 {"kind":"Module","id":[2,0],"name":"m","nodes":[
     {"kind":"MacroRules","id":[3,0],"name":"b","text":"","attrs":[{"path":"macro_export"}]},
     {"kind":"MacroRules","id":[4,0],"name":"c","text":"","attrs":[{"path":"macro_export"}]}]},
 {"kind":"MacroDef","id":[5,0],"name":"d","text":"","vis":"pub"},
-{"kind":"MacroDef","id":[6,0],"name":"e","text":""}]}}"#;
+{"kind":"MacroDef","id":[6,0],"name":"e","text":""},
+{"kind":"Module","id":[7,0],"name":"prelude","vis":"pub","nodes":[
+    {"kind":"Module","id":[8,0],"name":"rust_2021","vis":"pub","nodes":[]}]}]}}"#;
 
 /// `#[macro_use] extern crate core;`
 const ALL: &str = r#"{"do":"set file","file":"b.rs","unit":{"nodes":[
@@ -144,7 +147,7 @@ const USED_ROWS: [UsedRow; 7] = [
     ("named, and all", NAMED_AND_ALL, false, "b= c= d= "),
     ("none", NONE, false, ""),
     ("in a module", BELOW, false, "b= c= d= "),
-    ("a prelude crate's", NONE, true, "b- c- d- "),
+    ("those of the core library", NONE, true, "b- c- d- "),
     (
         "a prelude crate's, and some named",
         NAMED,
