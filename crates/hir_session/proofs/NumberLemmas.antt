@@ -29,7 +29,6 @@ use Rattle.hir_session.proofs.Truth.{clash, on_bool}
 
 -- ---- two numbers
 
-
 pub same_number : (a b : SourceNumber) → number_eq.ghosts.eq a b ≡ true → a ≡ b
 same_number (File a) (File b) e = λ i. File (record { 0 = (unsigned_Decides a.0 b.0).0 e i })
 same_number (Block a) (Block b) e = λ i. Block (record { 0 = (unsigned_Decides a.0 b.0).0 e i })

@@ -40,7 +40,10 @@ impl<'a> EditedSource<'a> {
     {
         match self.edit {
             SourceEdit::File { .. } => true,
-            SourceEdit::Expansion { key, new } => is_same_look(self.inputs.sources().entry(key), new),
+            SourceEdit::Expansion { key, new } => is_same_look(
+                self.inputs.sources().entry(key),
+                new,
+            ),
         }
     }
 }

@@ -17,7 +17,7 @@ use Rattle.hir_wire.specs.Types.origin
 use Rattle.hir_wire.specs.Types.reply
 use Rattle.hir_wire.specs.Types.root
 use Rattle.hir_wire.specs.Types.visibility
-use Rattle.hir_wire.specs.Replies.{element_data, place_data, root_data, call_data, call_members, source_data, definition_data, origin_data, import_data, or_null, visibility_data, item_data, item_members, number_data, answer_data, called_data, diagnostic_data, diagnostic_members, reply_data, source_item_data, source_item_members}
+use Rattle.hir_wire.specs.Replies.{element_data, place_data, root_data, call_data, call_members, source_data, definition_data, origin_data, import_data, or_null, visibility_data, item_data, item_members, number_data, answer_data, called_data, diagnostic_data, diagnostic_members, reply_data, source_item_members}
 
 neither : (a b : Bool) → a ≡ false → b ≡ false → (a || b) ≡ false
 neither a b p q = ap (λ x. x || b) p ∙ q

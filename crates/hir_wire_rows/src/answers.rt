@@ -1,6 +1,9 @@
 //! Answers and places of blocks and calls, which sessions don't take yet.
+use crate::items::item_below;
 use hir_base::ast_id::{AstKind, SyntaxId};
+use hir_base::file_path::FilePath;
 use hir_base::ids::Crate;
+use hir_item_tree::source::{Node, NodeKind};
 use hir_wire::{
     Answer, AnswerItem, AnswerVisibility, Definition, ImportOrigin, ImportSource, ItemSource,
     Place, Places, SourceCall, SourceCallKind, SourceCalls, SourceItem, SourceKind, SourceRoot,
@@ -96,6 +99,42 @@ pub fn answer_in(alloc: Global, at: &Place) -> Result<Answer, AllocError> {
         values: None,
         macros: Some(makro),
         stop: Some(2),
+    })
+}
+
+fn item_answer(
+    alloc: Global,
+    file: &FilePath,
+    calls: &[Node],
+    node: &Node,
+) -> Result<AnswerItem, AllocError> {
+    let item = item_below(alloc, file, calls, node)?;
+    let krate = Crate(0);
+    Ok(AnswerItem {
+        def: Definition::Item { krate, item },
+        import: None,
+        vis: AnswerVisibility::Public,
+    })
+}
+
+/// A node below the expansions of these calls: a macro, a function as a value, and all else as a type.
+pub fn answer_below(
+    alloc: Global,
+    file: &FilePath,
+    calls: &[Node],
+    node: &Node,
+) -> Result<Answer, AllocError> {
+    let item = item_answer(alloc, file, calls, node)?;
+    let (types, values, macros) = match &node.kind {
+        NodeKind::MacroRules { .. } | NodeKind::MacroDef { .. } => (None, None, Some(item)),
+        NodeKind::Fn { .. } => (None, Some(item), None),
+        _ => (Some(item), None, None),
+    };
+    Ok(Answer {
+        types,
+        values,
+        macros,
+        stop: None,
     })
 }
 

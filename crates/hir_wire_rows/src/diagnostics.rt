@@ -1,4 +1,5 @@
 //! A diagnostic of each node of a file.
+use crate::items::item_below;
 use hir_base::file_path::FilePath;
 use hir_base::ids::Crate;
 use hir_base::mod_path::ModPath;
@@ -6,21 +7,9 @@ use hir_base::text::Text;
 use hir_item_tree::raw_attr::RawAttr;
 use hir_item_tree::source::{Node, NodeKind};
 use hir_wire::{
-    CalledItem, Definition, Diagnostic, DiagnosticKind, Diagnostics, ItemSource, SourceCallKind,
-    SourceCalls, SourceItem, SourceKind, SourceRoot,
+    CalledItem, Definition, Diagnostic, DiagnosticKind, Diagnostics, SourceCallKind, SourceItem,
 };
 use std::alloc::{AllocError, Global};
-
-/// A node of a file as an item.
-fn item(alloc: Global, file: &FilePath, node: &Node) -> Result<SourceItem, AllocError> {
-    let root = SourceRoot::File(file.clone()?);
-    let calls = SourceCalls::new(Vec::new(alloc));
-    Ok(SourceItem {
-        source: ItemSource { root, calls },
-        kind: SourceKind::Node(node.ast_kind()),
-        id: node.id,
-    })
-}
 
 fn first_path(attrs: &Vec<RawAttr>) -> Option<&ModPath> {
     match attrs.first() {
@@ -79,8 +68,13 @@ fn kind_of(alloc: Global, node: &Node, item: SourceItem) -> Result<DiagnosticKin
     }
 }
 
-fn diagnostic(alloc: Global, file: &FilePath, node: &Node) -> Result<Diagnostic, AllocError> {
-    let kind = kind_of(alloc, node, item(alloc, file, node)?)?;
+fn diagnostic(
+    alloc: Global,
+    file: &FilePath,
+    calls: &[Node],
+    node: &Node,
+) -> Result<Diagnostic, AllocError> {
+    let kind = kind_of(alloc, node, item_below(alloc, file, calls, node)?)?;
     let in_module = Definition::CrateRoot(Crate(0));
     Ok(Diagnostic { in_module, kind })
 }
@@ -92,7 +86,19 @@ pub fn diagnostics_of(
 ) -> Result<Diagnostics, AllocError> {
     let mut list = Vec::new(alloc);
     for node in nodes {
-        list.push(diagnostic(alloc, file, node)?)?;
+        list.push(diagnostic(alloc, file, &[], node)?)?;
     }
+    Ok(Diagnostics::new(list))
+}
+
+/// The diagnostic of one node, below the expansions of these calls.
+pub fn diagnostics_below(
+    alloc: Global,
+    file: &FilePath,
+    calls: &[Node],
+    node: &Node,
+) -> Result<Diagnostics, AllocError> {
+    let mut list = Vec::new(alloc);
+    list.push(diagnostic(alloc, file, calls, node)?)?;
     Ok(Diagnostics::new(list))
 }

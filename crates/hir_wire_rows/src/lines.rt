@@ -1,6 +1,7 @@
 //! Lines, and what is done with them.
-use crate::answers::{answer_in, places_with};
-use crate::diagnostics::diagnostics_of;
+use crate::answers::{answer_below, answer_in, places_with};
+use crate::diagnostics::{diagnostics_below, diagnostics_of};
+use crate::keys::{push_entry, push_key};
 use crate::parts::push_parts;
 use hir_base::cfg_options::CfgOptions;
 use hir_base::edition::Edition::Edition2021;
@@ -70,6 +71,34 @@ fn diagnose(
     push_reply(alloc, Reply::Diagnostics(diagnostics), out)
 }
 
+/// Names the last of these nodes, below the expansions of those before it.
+fn name_last(
+    alloc: Global,
+    file: &FilePath,
+    nodes: &[Node],
+    out: &mut String,
+) -> Result<(), AllocError> {
+    let Some((node, calls)) = nodes.split_last() else {
+        return out.push_str("no node");
+    };
+    let answer = answer_below(alloc, file, calls, node)?;
+    push_reply(alloc, Reply::Answer(answer), out)
+}
+
+/// Diagnoses the last of these nodes, below the expansions of those before it.
+fn diagnose_last(
+    alloc: Global,
+    file: &FilePath,
+    nodes: &[Node],
+    out: &mut String,
+) -> Result<(), AllocError> {
+    let Some((node, calls)) = nodes.split_last() else {
+        return out.push_str("no node");
+    };
+    let diagnostics = diagnostics_below(alloc, file, calls, node)?;
+    push_reply(alloc, Reply::Diagnostics(diagnostics), out)
+}
+
 fn name(alloc: Global, at: &Place, out: &mut String) -> Result<(), AllocError> {
     let answer = answer_in(alloc, at)?;
     push_reply(alloc, Reply::Answer(answer), out)
@@ -90,6 +119,8 @@ fn with_file(
     match word {
         "read" => read(alloc, source, out),
         "repeat" => repeat(alloc, nodes_of(source), out),
+        "name" => name_last(alloc, file, nodes_of(source), out),
+        "expand" => diagnose_last(alloc, file, nodes_of(source), out),
         _ => diagnose(alloc, file, nodes_of(source), out),
     }
 }
@@ -102,6 +133,12 @@ fn with_command(
 ) -> Result<(), AllocError> {
     match command {
         Command::Edit(Edit::SetFile { file, source }) => with_file(alloc, word, file, source, out),
+        Command::Edit(Edit::SetExpansion { key, entry }) => {
+            push_key(out, key)?;
+            push_entry(out, entry)?;
+            read(alloc, &entry.source, out)
+        }
+        Command::Edit(Edit::RemoveExpansion { key }) => push_key(out, key),
         Command::Status { at } if word == "list" => list(alloc, at, out),
         Command::Status { at } => name(alloc, at, out),
         _ => out.push_str("another command"),

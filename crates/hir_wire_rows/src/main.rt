@@ -5,8 +5,12 @@
 //!
 //! - `read` writes the page of the file that the command sets, under no options, and below it a line for each node at its
 //!   top: its input, and its body, its fields' visibilities, or its macro's text, expander and helpers. Texts stand between backquotes.
+//!   Of an expansion that the command sets it first writes a line with what is in its key and a line with its error, if it
+//!   has one; of one that it removes the key alone.
 //! - `diagnose` makes a diagnostic of each node of that file, by its kind. The path of an attribute or a derive that names
 //!   no macro is that of the node's attribute; a macro call with an attribute has failed, and its input says why.
+//! - `name` names the last node of that file, and `expand` makes a diagnostic of it, as if it stood below the expansions of
+//!   the nodes before it, of which the first is the outermost call.
 //! - `repeat` refuses that file since the id of its first node repeats.
 //! - `answer` names the root of the block whose status is asked, and a macro in it; `list` lists that block behind a crate's root.
 //! - `refuse` has no command behind it, but the word of a refusal; `blocks` is that of too many of them.
@@ -16,6 +20,8 @@
 
 mod answers;
 mod diagnostics;
+mod items;
+mod keys;
 mod lines;
 mod parts;
 

@@ -34,12 +34,11 @@ pub invariant_of-self-2 : goal.invariant_of-self-2
 invariant_of-self-2 c =
     let back = sym c.self.view_is in
     let grown = subst (λ (s : SessionState). Grows c.args.self.now s) back c.in_ok-found.ensures.grown in
-    let found = subst (λ (s : SessionState). IsResolutionOf s (id_of c.args.k) (collected_view c.in_ok-found.found)) back c.in_ok-found.ensures.found in
-    (
+    let found = subst (λ (s : SessionState). IsResolutionOf s (id_of c.args.k) (collected_view c.in_ok-found.found)) back c.in_ok-found.ensures.found in (
       resolved_grown c.args.self.now _ c.args.k _ grown found c.requires.first c.requires.marked c.keep.new.self c.requires.within c.in_ok-keep.ensures.here c.in_ok-keep.ensures.others,
       noted_kept _ _ _ (noted_more _ _ _ c.self.invariant.1 _ c.note.ensures.stay) c.keep.new.self c.in_ok-found.found.map.id (collected_view c.in_ok-found.found)
-      c.in_ok-keep.ensures.here c.in_ok-keep.ensures.others
-      (λ key number among asks. subst (λ (id : MapId). is_asker c.note.new.self number id ≡ true) (c.of_crate.ensures.value ∙ sym found.own) (c.in_ok-note.ensures.all key number among asks)),
+          c.in_ok-keep.ensures.here c.in_ok-keep.ensures.others
+          (λ key number among asks. subst (λ (id : MapId). is_asker c.note.new.self number id ≡ true) (c.of_crate.ensures.value ∙ sym found.own) (c.in_ok-note.ensures.all key number among asks)),
     )
 
 pub returns-clause-ok : goal.returns-clause-ok
