@@ -1,5 +1,5 @@
 -- Each place that asked for the source was judged.
-use Rattle.std.proofs.Common.{[]}
+use Rattle.std.proofs.Common.{[], sym}
 use Rattle.hir_session.specs.SourceEdits.{edit_value}
 use Rattle.hir_session.proofs.Changing.{no_trees}
 use Rattle.hir_session.proofs.Judging.{all_judged, in_none, in_set, judging-start}
@@ -11,7 +11,7 @@ returns-in-Some c = record {
   hit = on_ok c.invalidated_among.result
       (λ found judged. all_judged c.args.source.now.inputs.now.crates c.args.source.now.tables.now c.args.source.now.inputs.now.sources (edit_value c.args.source.now.edit) c.args.kept.now
       c.args.source.now.number _ found.hits.items c.args.source.now.numbered
-      (λ id r key is among asks. in_set _ _ id c.in-Some.ensures.value (c.requires.noted.each id r key c.args.source.now.number is among asks)) judged)
+      (λ id r key is among asks. in_set _ _ id (sym c.in-Some.ensures.value) (c.requires.noted.each id r key c.args.source.now.number is among asks)) judged)
       c.invalidated_among.ensures.judged;
   trees = c.invalidated_among.ensures.trees;
 }
@@ -20,7 +20,7 @@ pub returns-in-None : goal.returns-in-None
 returns-in-None c = record {
   hit = all_judged c.args.source.now.inputs.now.crates c.args.source.now.tables.now c.args.source.now.inputs.now.sources (edit_value c.args.source.now.edit) c.args.kept.now
       c.args.source.now.number [] c.nothing_hit.result.hits.items c.args.source.now.numbered
-      (λ id r key is among asks. in_none _ id c.in-None.ensures.value (c.requires.noted.each id r key c.args.source.now.number is among asks))
+      (λ id r key is among asks. in_none _ id (sym c.in-None.ensures.value) (c.requires.noted.each id r key c.args.source.now.number is among asks))
       (rw c.nothing_hit.ensures.none (judging-start _ _ _ _));
   trees = no_trees _ _ _ _ c.nothing_hit.ensures.empty;
 }
