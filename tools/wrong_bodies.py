@@ -90,7 +90,11 @@ class Function:
             outer = (it for it in range(first, last) if not lines[it].startswith(head[1] + " "))
             opens = next((it for it in outer if lines[it].endswith("{")), last)
             if opens < at < last or is_kept and first <= at <= opens < last:
-                self.path, self.name, self.lines = path, head[2], range(first + 1, last + 2)
+                # The prover names a function by the line of its first attribute.
+                top = first
+                while top and lines[top - 1].lstrip().startswith(("#[", "///")):
+                    top -= 1
+                self.path, self.name, self.lines = path, head[2], range(top + 1, last + 2)
                 self.end = self.end_below(lines[:first], head[1])
                 return
         raise ValueError(f"{path}:{at + 1} lies in no function's body")
