@@ -80,7 +80,7 @@ pub fn source_at(
     let mut at = file;
     let mut within = block;
     let mut left = most_calls_in(file);
-    while let HirFileId::Macro(call) = at {
+    'calls: while let HirFileId::Macro(call) = at {
         if within.is_some() || left == 0 {
             return Ok(None);
         }

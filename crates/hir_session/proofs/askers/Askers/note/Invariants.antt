@@ -8,6 +8,6 @@ use Rattle.hir_session.proofs.askers.Askers.note.Given as goal
 -- what the keys so far ask for is noted
 abbrev pub invariant-loop-key : goal.invariant-loop-key
 invariant-loop-key l = record {
-  noted : (j : ℕ) (key : Key) (number : SourceNumber) → j < l.key-index → asked_number l.tables.now (get_or l.key-items j key) ≡ Some number → is_asker l.self number l.id ≡ true;
+  noted : (j : ℕ) (key : Key) (number : SourceNumber) → j < l.key-index → asked_number l.tables (get_or l.key-items j key) ≡ Some number → is_asker l.self number l.id ≡ true;
   stay : KeepsAskers l.initial.self l.self;
 }

@@ -4,5 +4,9 @@ use Rattle.hir_session.proofs.CallLemmas.{and_calls}
 use Rattle.hir_session.proofs.source_items.source_calls.source_at.Given as goal
 
 -- what holds the syntax is what holds the outermost call so far, and those calls
-abbrev pub invariant-loop : goal.invariant-loop
-invariant-loop l = source_of l.tables.now l.file l.block ≡ option_map (and_calls l.calls.items) (source_within l.left l.tables.now l.at l.within)
+abbrev pub invariant-calls : goal.invariant-calls
+invariant-calls l = source_of l.tables l.fn.file l.fn.block ≡ option_map (and_calls l.calls.items) (source_within l.left l.tables l.at l.within)
+
+-- each call uses one up
+abbrev pub decreases-calls : goal.decreases-calls
+decreases-calls l = l.left
