@@ -24,6 +24,9 @@ keep-requires-clause-complete c =
     may_join _ (id_of c.args.k) _ (subst (λ (s : SessionState). IsResolutionOf s (id_of c.args.k) (collected_view c.in_ok-found.found)) (sym c.self.view_is) c.in_ok-found.ensures.found)
 
 -- what the run asked for was noted before
+pub invariant_of-self : goal.invariant_of-self
+invariant_of-self c = (c.self.invariant.0, noted_more _ _ _ c.self.invariant.1 _ c.note.ensures.stay)
+
 pub invariant_of-self-in_err-keep : goal.invariant_of-self-in_err-keep
 invariant_of-self-in_err-keep c = rw c.in_err-keep.ensures.err (c.self.invariant.0, noted_more _ _ _ c.self.invariant.1 _ c.note.ensures.stay)
 
