@@ -29,10 +29,12 @@ pub mod LastVariants
 pub mod Visible
 pub mod WholeEnums
 pub mod WholeEdits
+pub mod WholeChanges
 pub mod Whole
 pub mod Placed
 pub mod SourcedEdits
 pub mod SourcedMacros
+pub mod SourcedState
 pub mod Sourced
 pub mod Numbers
 pub mod Meaning

@@ -26,7 +26,8 @@ use Rattle.hir_import_resolution.specs.State.{scopes_of}
 use Rattle.hir_def_collector.specs.State.{State, import_state}
 use Rattle.hir_def_collector.proofs.InRange.{IsInRange}
 use Rattle.hir_def_collector.proofs.Visible.{on_edge, target_reference}
-use Rattle.hir_def_collector.proofs.Whole.{BoundIsThere, NamesWhatIsThere, bound_there}
+use Rattle.hir_def_collector.proofs.Whole.{bound_there}
+use Rattle.hir_def_collector.proofs.WholeChanges.{BoundIsThere, NamesWhatIsThere}
 
 module _ (finished : Maps) (map : Map) where
   abbrev maps : Maps

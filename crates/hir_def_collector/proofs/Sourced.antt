@@ -1,18 +1,16 @@
 -- A run binds only what its root file writes, and what the finished maps bind.
-use Rattle.std.specs.Prelude.{◌≡◌, ◌==◌, ◌&&◌, ◌||◌, ℕ, zero, suc, ◌<◌, ◌≤◌, List, [], ◌∷◌, ◌++◌, length, Bool, true, false, is_some, Option, None, Some, cond, fold, not, is_none, map as list_map, option_and_then, option_map, slice_get, unwrap_or, if◌then◌else◌}
+use Rattle.std.specs.Prelude.{◌≡◌, ◌==◌, ◌&&◌, ◌||◌, ℕ, ◌<◌, ◌≤◌, List, [], ◌∷◌, ◌++◌, length, Bool, true, false, is_some, Option, None, Some, cond, fold, not, is_none, map as list_map, option_and_then, option_map, slice_get, unwrap_or, if◌then◌else◌}
 use Rattle.std.specs.List.{list_any}
 use Rattle.std.specs.Ordering.{nat_cmp}
 use Rattle.std.specs.Cmp.Lexicographic.{pointwise, slice_cmp}
 use Rattle.std.specs.Prelude.{nat_eq}
-use Rattle.std.proofs.Common.{Contains, ap, refl, subst, sym, ◌∙◌, arith}
+use Rattle.std.proofs.Common.{Contains, refl, subst, sym, ◌∙◌, arith}
 use Rattle.std.proofs.lemmas.List.Elements.{Contains-append_left, Contains-append_right}
 use mathlib.Core.Bool.{true≢false}
-use Rattle.hir_base.specs.contracts.ids.MapIdPartialEq.TheImpl as map_id
 use Rattle.hir_base.specs.declared.ast_id.AstId.{AstId}
 use Rattle.hir_base.specs.declared.ids.AdtId.TheVariants as adts
 use Rattle.hir_base.specs.declared.ids.EnumId.{EnumId}
 use Rattle.hir_base.specs.declared.ids.Crate.{Crate}
-use Rattle.hir_base.specs.declared.ids.MapId.{MapId}
 use Rattle.hir_base.specs.declared.ids.ModuleDefId.{ModuleDefId}
 use Rattle.hir_base.specs.declared.ids.ModuleDefId.TheVariants as definitions
 use Rattle.hir_base.specs.declared.ids.ModuleId.{ModuleId}
@@ -50,14 +48,14 @@ use Rattle.hir_scope.specs.declared.visibility.Visibility.TheVariants as visibil
 use Rattle.hir_def_map.specs.Ancestors.{above_in}
 use Rattle.hir_def_map.specs.Macros.{with_macro_def}
 use Rattle.hir_def_map.specs.References.{is_missing, reference_to, test_of, test_visibility, FailsAtItem}
-use Rattle.hir_def_map.specs.Closed.{AreThere, IsClosed, IsThere, ModuleIsThere, PathsLeadToWhatIsThere}
+use Rattle.hir_def_map.specs.Closed.{AreThere, IsClosed, IsThere, PathsLeadToWhatIsThere}
 use Rattle.hir_def_map.specs.WellFormed.{AreWellFormed}
 use Rattle.hir_def_map.proofs.NoneOf.{neither, none_at, none_inserted, none_inserted_last, not_first, not_second}
 use Rattle.hir_def_map.specs.Reaches.{by_import}
 use Rattle.hir_def_map.specs.Scoping.{Resolution, resolution_of}
 use Rattle.hir_def_map.specs.Sources.{HoldsNowhere, HoldsNowhereIn, HoldsOfNone, HoldsOfNoExtern, PathsAnswerFromSources, SourceTest, on_def, on_extern, on_extern_entry, on_import, on_macro, on_macro_item, on_origin, on_some, on_type, on_value, on_value_def, on_value_import, on_values, on_variant, on_visibility}
-use Rattle.hir_def_map.specs.State.{CrateData, Local, Map, Variants, crate_root, module_at, new_id, root_of, with_extern}
-use Rattle.hir_def_map.specs.Overlay.{Maps, Placed, entry_in, overlay, module_in, placed_in}
+use Rattle.hir_def_map.specs.State.{CrateData, Local, Map, Variants, crate_root, new_id, root_of, with_extern}
+use Rattle.hir_def_map.specs.Overlay.{Maps, entry_in, overlay, module_in}
 use Rattle.hir_def_map.proofs.StaysWellFormed.{IsClosed-overlay, LocalIsThere-begins, module_there}
 use Rattle.hir_def_map.proofs.StaysSourced.{HoldsNowhere-overlay, HoldsNowhereIn-enum, HoldsNowhereIn-listed, HoldsNowhereIn-made, HoldsNowhereIn-prelude}
 use Rattle.hir_def_map.specs.Visibilities.{by_visibility, module_seen, path_seen, type_seen}
@@ -94,7 +92,7 @@ use Rattle.hir_def_collector.specs.Preludes.{extern_prelude, joins, prelude_of, 
 use Rattle.hir_def_collector.specs.Macros.{is_macro_use, macros_beside, textual_at}
 use Rattle.hir_def_collector.specs.Sources.{IsClearOf}
 use Rattle.hir_def_collector.specs.Start.{Beginning, begin_of, krate_of, origin_of, read_by, root_key, root_map, root_site, root_tree, start_data, start_of, tree_key}
-use Rattle.hir_def_collector.specs.State.{State, Task, Visit, visits, closes, import_state, visits_over}
+use Rattle.hir_def_collector.specs.State.{State, Task, Visit, visits, import_state, visits_over}
 use Rattle.hir_def_collector.specs.Changes.{Change, lists, makes, gives_variants, begins_paths, reaches, changes_imports, adds_textual, takes_textual, defines, uses_macros, tells, goes_on, act, on_map}
 use Rattle.hir_def_collector.specs.Steps.{Rule, drops_item, passes_over, defines_rules, defines_macro, closes_module, closing, visits_in_file, declares_item, declares_enum, lists_constant, lists_impl, opens_module, opens_file, drops_file, misses_file, enters_block, reaches_imports, reaches_crate, resolves_imports, May, acts, asking, keys_read, making, path_of, reads, visits_inside, Step, Steps, none, more, inside_block, inside_file, inside_module}
 use Rattle.hir_def_collector.specs.Whole.{StandsOnWhole}
@@ -115,50 +113,9 @@ use Rattle.hir_def_collector.proofs.Holds.{in_range-start}
 use Rattle.hir_def_collector.proofs.ImportEdits.{copy_at, copy_where, edit_of, follow_at, follow_where, imports_after, local_after, map_after}
 use Rattle.hir_def_collector.proofs.SourcedEdits.{EditIsClear, EditsAreClear, IsBoundClear, IsSeenClear, entry_clear, greater_clear, items_clear, key_clear, on_edge, own_clear, recorded_clear, shown_stands, sourced-edited, variants_clear}
 use Rattle.hir_def_collector.proofs.SourcedMacros.{beside_clear, brought_macros_clear, textual_changed, textual_clear, textual_more, used_clear}
-use Rattle.hir_def_collector.proofs.Whole.{NamesWhatIsThere, begins, steps_keep}
-
--- ---- what is written at sites, and what brings bindings
-
-abbrev pub on_site : SourceTest → Task → Bool
-on_site t (visits v) = t.holder v.site.tree.file v.site.tree.block
-on_site t (closes parent child) = false
-
-abbrev pub on_reached : SourceTest → ImportDirective → Bool
-on_reached t r = on_import t (way_of r.source)
-
--- a test holds of nothing that a run has come upon
-pub record IsSourced (t : SourceTest) (s : State) : Type 0 where
-  pub map : HoldsNowhereIn t s.core.map
-  pub local : HoldsOfNoExtern t s.core.local
-  pub visits : list_any (on_site t) s.agenda ≡ false
-  pub reached : list_any (on_reached t) s.core.reached ≡ false
-  pub edges : list_any (on_edge t) s.globs.edges ≡ false
-
--- nor of a source that was asked for
-abbrev AreClear : SourceTest → State → Type 0
-AreClear t s = (key : TreeKey) → Contains s.core.asked (keys.Tree key) → t.holder key.id.file key.id.block ≡ false
-
--- nor of a module that is there
-abbrev ShowsThere : SourceTest → Maps → Map → Type 0
-ShowsThere t finished m = (at : ModuleId) → ModuleIsThere (overlay finished m) at → t.shown at ≡ false
-
--- ---- modules stay there
-
-some_at : {A : Type 0} (xs ys : List A) → length xs ≤ length ys → (k : ℕ) → is_some (slice_get xs k) ≡ true → is_some (slice_get ys k) ≡ true
-some_at [] ys low k e = absurd (true≢false (sym e))
-some_at (x ∷ xs) [] low k e = absurd (omega arith)
-some_at (x ∷ xs) (y ∷ ys) low zero e = refl
-some_at (x ∷ xs) (y ∷ ys) low (suc k) e = some_at xs ys (omega arith) k e
-
-stays_there : (finished : Maps) (old new : Map) → new.id ≡ old.id → Grows old new → (m : ModuleId) → ModuleIsThere (overlay finished old) m → ModuleIsThere (overlay finished new) m
-stays_there finished old new same grows m e =
-    ap (λ (id : MapId). is_some (option_and_then (λ (p : Placed). module_at p.map m.index) (cond (map_id.ghosts.eq m.map id) (Some (placed_in finished new)) (finished m.map)))) same
-    ∙ go (map_id.ghosts.eq m.map old.id) e
-  where
-    go : (b : Bool) → is_some (option_and_then (λ (p : Placed). module_at p.map m.index) (cond b (Some (placed_in finished old)) (finished m.map))) ≡ true
-        → is_some (option_and_then (λ (p : Placed). module_at p.map m.index) (cond b (Some (placed_in finished new)) (finished m.map))) ≡ true
-    go true f = some_at old.modules new.modules grows.longer m.index f
-    go false f = f
+use Rattle.hir_def_collector.proofs.Whole.{begins, steps_keep}
+use Rattle.hir_def_collector.proofs.WholeChanges.{NamesWhatIsThere}
+use Rattle.hir_def_collector.proofs.SourcedState.{on_site, on_reached, IsSourced, AreClear, ShowsThere, stays_there}
 
 -- ---- lists
 
