@@ -64,11 +64,11 @@ fn open_each<N: Names>(
     ensures each { OnOk result ((j : ℕ) (e : Edge) (key : Key) → slice_get edges.now j ≡ Some e
         → IsSome ((N.table.view names.now).bound e.source key) → Contains pending.new.items (j, key)) }
 {
-    let mut left = edges.len();
-    'next: while left > 0 {
-        left -= 1;
-        let keys = keys_along(alloc, names, edges, left)?;
-        add_keys(pending, left, keys)?;
+    let mut j = edges.len();
+    'next: while j > 0 {
+        j -= 1;
+        let keys = keys_along(alloc, names, edges, j)?;
+        add_keys(pending, j, keys)?;
     }
     Ok(())
 }
