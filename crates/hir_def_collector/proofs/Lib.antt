@@ -14,6 +14,8 @@ pub mod Moves
 pub mod Leftovers
 pub mod InRange
 pub mod Holds
+pub mod Tried
+pub mod Ready
 pub mod Progress
 pub mod Digits
 pub mod ModuleFiles
