@@ -222,8 +222,8 @@ module _ {env : Environment} {finished : Maps} {from to : State} (steps : Steps 
   fates_paired = (keeps_calls steps).paired
 
   -- a call that waits waited already where it was there
-  pub waited_before : (i : ℕ) (d : MacroDirective) → length from.core.fates ≡ length from.core.calls → i < length from.core.calls → IsWaiting to i d → IsWaiting from i d
-  waited_before i d paired low waiting =
+  pub waiting_before : {i : ℕ} {d : MacroDirective} → length from.core.fates ≡ length from.core.calls → IsWaiting to i d → i < length from.core.calls → IsWaiting from i d
+  waiting_before {i = i} {d = d} paired waiting low =
       let was = get_there from.core.calls i low in
       let still : slice_get to.core.calls i ≡ Some was.0 = call_stays i was.0 was.1 in
       let now : slice_get to.core.calls i ≡ Some d = waiting.call in
