@@ -26,7 +26,6 @@ pub mod Asks
 pub mod Asked
 pub mod Derived
 pub mod Walked
-pub mod Reached
 pub mod LastVariants
 pub mod Visible
 pub mod WholeEnums

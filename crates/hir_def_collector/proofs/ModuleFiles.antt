@@ -39,8 +39,8 @@ module _ (tables grown : TablesValue) (kept : KeepsTables tables grown) where
   numbers_kept declaring [] h = tt
   numbers_kept declaring (t ∷ ts) h = (number_kept (option_map (λ (f : LookedAt). f.id) t.file) (named_by declaring t.candidate) h.0, numbers_kept declaring ts h.1)
 
-  pub numbered_kept : (file : Option FileId) (s : Search) → IsNumbered tables file s → IsNumbered grown file s
-  numbered_kept file s h = record { declaring = number_kept file s.declaring h.declaring; tried = numbers_kept s.declaring (tried_in s) h.tried }
+  pub numbered_kept : (f : Option FileId) (s : Search) → IsNumbered tables f s → IsNumbered grown f s
+  numbered_kept f s h = record { declaring = number_kept f s.declaring h.declaring; tried = numbers_kept s.declaring (tried_in s) h.tried }
 
   -- so do those of sources
   pub source_kept : (id : TreeId) → IsSome (source_of tables id) → IsSome (source_of grown id)
