@@ -208,16 +208,14 @@ ticked_steady finished s p = record { sound = local_keeps_sound finished (import
 module _ (finished : Maps) (s : State) where
   -- a step of imports is one of theirs
   imports_steady : (rule : imports.Rule) → imports.May finished (import_state s) rule → IsInRange s → IsSteady finished s → IsSteady finished (after finished s (resolves_imports rule))
-  imports_steady rule may inside p = record {
-    sound = subst (λ (t : State). IsSound finished (import_state (ticked t))) (sym (perform-imports s (import_state s) changes))
-        (steps_keep_sound finished (import_state s) (imports.after finished (import_state s) rule) (λ i r at. import_at (length s.core.map.modules) s.core.reached i r inside.imports at)
-        (record { rule = rule; may = may; is = refl }) p.sound);
-    paired = paired_through changes s p.paired;
-  }
-    where
-      changes : List ImportChange
-      unfolding changes
-      changes = imports.acts finished (import_state s) rule
+  imports_steady rule may inside p =
+      let changes : List ImportChange = imports.acts finished (import_state s) rule in
+      record {
+        sound = subst (λ (t : State). IsSound finished (import_state (ticked t))) (sym (perform-imports s (import_state s) changes))
+            (steps_keep_sound finished (import_state s) (imports.after finished (import_state s) rule) (λ i r at. import_at (length s.core.map.modules) s.core.reached i r inside.imports at)
+            (record { rule = rule; may = may; is = refl }) p.sound);
+        paired = paired_through changes s p.paired;
+      }
 
   rule_steady : (r : Rule) → May finished s r → IsInRange s → IsSteady finished s → IsSteady finished (after finished s r)
   rule_steady r may inside p = go (only_declares finished s r)
