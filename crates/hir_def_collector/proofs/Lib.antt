@@ -38,3 +38,5 @@ pub mod SourcedState
 pub mod Sourced
 pub mod Numbers
 pub mod Meaning
+pub mod CallSteps
+pub mod Trying
