@@ -3,6 +3,7 @@ ghost use Rattle.std.specs.Prelude.{◌≡◌, ◌<◌, ℕ, true, [], IfOk, OnO
 ghost use Rattle.hir_item_tree.specs.SyntaxIds.{node_id};
 ghost use Rattle.hir_tables.specs.SourcePlaces.{expansion_value};
 ghost use Rattle.hir_tables.specs.Tables.{KeepsTables};
+ghost use Rattle.hir_def_map.specs.State.{Local};
 ghost use Rattle.hir_def_map.specs.WorldParts.{part_of};
 ghost use Rattle.hir_import_resolution.specs.Inner.State.{IsApart};
 ghost use Rattle.hir_import_resolution.specs.Rest.{IsAtRest, IsSound};
@@ -421,7 +422,7 @@ pub fn resolve_rounds<D: SourceDatabase>(
     locations: &mut Tables,
     apart: bool,
 ) -> Result<(DefCollector, bool), CollectError>
-    requires apart { apart ≡ true → IsApart (part_of world) run.map.id run.local }
+    requires apart { apart ≡ true → (local : Local) → IsApart (part_of world) run.map.id local }
     requires ready { IsReady locations.old (part_of world) run }
     ensures kept { KeepsTables locations.old locations.new }
     ensures same { D.workspace db.new ≡ D.workspace db.old }
