@@ -217,7 +217,13 @@ module _ (tables : TablesValue) (v : Workspace) (before : Maps) (from : Beginnin
         → HasManyRounds (environment grown w) (read_by w finished from.start) (begin_of grown w finished from) last
     many_over m =
         over (λ maps s. HasManyRounds (environment grown w) maps s last)
-        (record { count = m.count; rounds = Rounds-transfer alike.kept looks_same m.rounds; many = m.many })
+        (record {
+          count = m.count;
+          last = m.last;
+          rounds = Rounds-transfer alike.kept (λ key h. looks_same key (still_asked m.after key h)) m.rounds;
+          many = m.many;
+          after = Steps-transfer alike.kept looks_same m.after;
+        })
 
     caused_by : (key : Key) → IsAskedFor grown w (read_by w finished from.start) (begin_of grown w finished from) last key → causes.HasCause grown w finished from last key
     caused_by key (of_enum_listed p) = causes.declared_enum p.home p.id p.listed p.is

@@ -236,14 +236,9 @@ module _ {env : Environment} {finished : Maps} {from to : State} (steps : Steps 
 -- ---- rounds
 
 -- a call that was tried has been tried later too
-pub tried_later : {env : Environment} {finished : Maps} {from at to : State} (i : ℕ) → WasTried env finished from at i → Steps env finished at to → WasTried env finished from to i
-tried_later i (handled is) steps = handled (handled_stays steps i is)
-tried_later i (met between before after nowhere) steps = met between before (Steps-append after steps) nowhere
-
--- and from where steps led to the first of the states
-pub tried_from : {env : Environment} {finished : Maps} {from at to : State} (i : ℕ) → Steps env finished from at → WasTried env finished at to i → WasTried env finished from to i
-tried_from i steps (handled is) = handled is
-tried_from i steps (met between before after nowhere) = met between (Steps-append steps before) after nowhere
+pub WasTried-extend : {env : Environment} {finished : Maps} {a b c : State} {i : ℕ} → Steps env finished b c → WasTried env finished a b i → WasTried env finished a c i
+WasTried-extend {i = i} steps (handled is) = handled (handled_stays steps i is)
+WasTried-extend steps (met between before after nowhere) = met between before (Steps-append after steps) nowhere
 
 -- the steps of rounds
 pub rounds_steps : {env : Environment} {finished : Maps} {from to : State} {n : ℕ} → Rounds env finished from to n → Steps env finished from to
@@ -256,4 +251,4 @@ rounds_after first (rounds.none to steps) = rounds.none to (Steps-append first s
 rounds_after first (rounds.more a b to n before steps round) = rounds.more a b to n (rounds_after first before) steps round
 
 pub many_after : {env : Environment} {finished : Maps} {from at to : State} → Steps env finished from at → HasManyRounds env finished at to → HasManyRounds env finished from to
-many_after first m = record { count = m.count; rounds = rounds_after first m.rounds; many = m.many }
+many_after first m = record { count = m.count; last = m.last; rounds = rounds_after first m.rounds; many = m.many; after = m.after }
