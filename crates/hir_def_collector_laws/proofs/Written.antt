@@ -149,6 +149,11 @@ module _ (tables : TablesValue) (w : Workspace) (from : Beginning) (answer : Col
   call_placed (x ∷ xs) zero d f e = let same : x ≡ d = cc in subst (λ (y : MacroDirective). IsCall tables w answer.asked own.krate y) same f.0
   call_placed (x ∷ xs) (suc i) d f e = call_placed xs i d f.1 e
 
+  pub call_among : (ds : List MacroDirective) (d : MacroDirective) → AreCalls ds → Contains ds d → IsCall tables w answer.asked own.krate d
+  call_among [] d f (n, below, is) = absurd (omega arith)
+  call_among (x ∷ xs) d f (zero, below, is) = subst (λ (y : MacroDirective). IsCall tables w answer.asked own.krate y) is f.0
+  call_among (x ∷ xs) d f (suc n, below, is) = call_among xs d f.1 (n, omega (arith, below), is)
+
   -- ---- imports of one item
 
   module _ (site : Site) (head : Head) (on : is_enabled head.attributes ≡ true) where
