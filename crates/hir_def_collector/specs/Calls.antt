@@ -117,7 +117,7 @@ pub record Expanding : Type 0 where
 
 -- the numbers of the macro mean something, and those of the expansion and of the call what they are taken for
 pub record IsNumberedCall (tables : TablesValue) (own : Crate) (d : MacroDirective) (makro : MacroId) (x : Expanding) : Type 0 where
-  pub makro : IsMeant tables makro
+  pub meant : IsMeant tables makro
   pub entry : entry_at tables x.entry ≡ Some (expansion_of_call own makro x.text x.input)
   pub call : call_at tables x.id ≡ Some (call_loc d x.entry)
 
