@@ -19,6 +19,7 @@ pub mod Digits
 pub mod ModuleFiles
 pub mod Outline
 pub mod Begun
+pub mod Rootless
 pub mod Finding
 pub mod Asks
 pub mod Asked

@@ -10,6 +10,7 @@ use Rattle.hir_def_collector.proofs.collector.mod_collector.+walk.Given as goal
 abbrev pub invariant-walk_all-loop-id : goal.invariant-walk_all-loop-id
 invariant-walk_all-loop-id g l = record {
   kept : KeepsTables l.initial.locations l.locations;
+  calls : l.locations.calls ≡ l.initial.locations.calls;
   same : g.D.SourceDatabase.workspace l.db ≡ g.D.SourceDatabase.workspace l.initial.db;
   walked : OnceGrown l.locations (g.D.SourceDatabase.workspace l.initial.db) (λ env. WalksTo l.source.tree l.site env (part_of l.world) l.ids l.initial.run l.run l.id-index);
   in_range : l.site.home < length l.run.map.modules;
