@@ -22,9 +22,7 @@ use crate::collector::{CollectError, STEP_LIMIT};
 use crate::source_database::{ExpansionLook, Key, SourceDatabase};
 use hir_base::ast_id::{AstId, AstKind, HirFileId, MacroCallId};
 use hir_base::ids::{Crate, HasModule};
-use hir_base::macro_kind::{
-    CallStyle, ExpansionKey, MacroCallLoc, MacroId, MacroLoc, MacroText,
-};
+use hir_base::macro_kind::{CallStyle, ExpansionKey, MacroCallLoc, MacroId, MacroLoc, MacroText};
 use hir_base::text::Text;
 use hir_def_map::nameres::diagnostics::DefDiagnostic;
 use hir_def_map::world::part::WorldPart;
@@ -252,12 +250,7 @@ fn report_failed(
         return Ok(());
     };
     let at = run.module_id(call.site.home);
-    run.tell(DefDiagnostic::macro_error(
-        at,
-        call.ast_id,
-        call.path().clone()?,
-        error,
-    ))
+    run.tell(DefDiagnostic::macro_error(at, call.ast_id, call.path().clone()?, error))
 }
 
 /// Expands the call at the place, which reaches a macro: handles the items of its expansion, with all that is in them.
@@ -374,7 +367,11 @@ fn try_calls<D: SourceDatabase>(
 }
 
 /// Takes imports until no more comes of them; then those calls may be expanded that there are.
-fn settle(run: DefCollector, world: WorldPart<'_>, apart: bool) -> Result<DefCollector, CollectError>
+fn settle(
+    run: DefCollector,
+    world: WorldPart<'_>,
+    apart: bool,
+) -> Result<DefCollector, CollectError>
     requires apart { apart ≡ true → IsApart (part_of world) run.map.id run.local }
     requires imports { (i : ℕ) (r : ImportDirective) → slice_get run.reached i ≡ Some r → r.home < length run.map.modules }
     requires sound { IsSound (part_of world) (import_state (at_rest run)) }
