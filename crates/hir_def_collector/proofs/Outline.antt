@@ -66,7 +66,6 @@ file_grown tables grown file kept h = λ id e. go id (file_at tables id) refl (h
     go id None e there = absurd (let no : ⊥ = cc in no)
     go id (Some path) e there = subst (λ (o : Option (List ℕ)). IsSome o) (sym (kept.files id.0 path e)) refl
 
--- that of a file whose source is held does
 same_file : (a b : FileId) → Some a ≡ Some b → a ≡ b
 same_file a b e = cc
 
@@ -74,6 +73,7 @@ file_there : (o : Option (List ℕ)) (place : SourcePlaceValue) → option_map f
 file_there None place e = absurd (let no : ⊥ = cc in no)
 file_there (Some path) place e = refl
 
+-- so does that of the file that a tree is of, if its source is held
 pub root_meant : (tables : TablesValue) (w : Workspace) (krate : Crate) (tree : TreeId) (source : SourceTreeValue) → IsHeld tables w krate tree source → IsFileMeant tables (file_of_tree tree)
 root_meant tables w krate tree source held = go tree.file tree.block held.at
   where
@@ -85,11 +85,11 @@ root_meant tables w krate tree source held = go tree.file tree.block held.at
 pub file_meant : (tables : TablesValue) (w : Workspace) (krate : Crate) (edition : Edition) (id : FileId) (source : SourceTreeValue) → IsHeld tables w krate (file_tree edition id) source → IsFileMeant tables (Some id)
 file_meant tables w krate edition id source held = root_meant tables w krate (file_tree edition id) source held
 
--- what the source of a site has goes on to be written there, and the numbers of the site to mean something
+-- what is written at a site is still, and the numbers of the site still mean something
 pub written_grown : (tables grown : TablesValue) (w : Workspace) (krate : Crate) (site : Site) (source : SourceTreeValue) → KeepsTables tables grown → IsWritten tables w krate site source → IsWritten grown w krate site source
 written_grown tables grown w krate site source kept h = record { held = held_grown tables grown w krate site.tree source kept h.held; file = file_grown tables grown site.file kept h.file }
 
--- a site in the same source, and the same file
+-- so it is at another site in the same source
 pub written_inside : (tables : TablesValue) (w : Workspace) (krate : Crate) (site inner : Site) (source : SourceTreeValue) → inner.tree ≡ site.tree → inner.file ≡ site.file → IsWritten tables w krate site source → IsWritten tables w krate inner source
 written_inside tables w krate site inner source tree file h = record {
   held = subst (λ (t : TreeId). IsHeld tables w krate t source) (sym tree) h.held;
