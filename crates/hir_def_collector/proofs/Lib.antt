@@ -20,6 +20,7 @@ pub mod ModuleFiles
 pub mod Outline
 pub mod Begun
 pub mod Rootless
+pub mod CallPlaces
 pub mod Finding
 pub mod Asks
 pub mod Asked

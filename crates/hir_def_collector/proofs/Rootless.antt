@@ -16,8 +16,8 @@ nothing_at xs i x e h = let gone : slice_get [] i ≡ Some x = subst (λ (ys : L
 nothing_brought_there : (o : Option Brought) (by : Brought) → o ≡ None → o ≡ Some by → ⊥
 nothing_brought_there o by e h = let no : ⊥ = cc in no
 
-pub ready_empty : (tables : TablesValue) (finished : Maps) (c : Core) → c.globs ≡ no_recorded_globs → c.reached ≡ [] → c.taken ≡ [] → c.calls ≡ [] → IsReady tables finished c
-ready_empty tables finished c globs reached taken calls = record {
+pub ready_empty : (tables : TablesValue) (finished : Maps) (c : Core) → c.globs ≡ no_recorded_globs → c.reached ≡ [] → c.taken ≡ [] → c.calls ≡ [] → c.fates ≡ [] → IsReady tables finished c
+ready_empty tables finished c globs reached taken calls fates = record {
   sound = record {
     there = λ j e h. absurd (nothing_at c.globs.edges j e (ap (λ (g : RecordedGlobs). g.edges) globs) h);
     stands = λ slot by h. absurd (nothing_brought_there (c.globs.brought slot) by (ap (λ (g : RecordedGlobs). g.brought slot) globs) h);
@@ -25,6 +25,7 @@ ready_empty tables finished c globs reached taken calls = record {
   };
   imports = λ i r h. absurd (nothing_at c.reached i r reached h);
   paired = ap length taken ∙ sym (ap length reached);
+  fated = ap length fates ∙ sym (ap length calls);
   calls = λ i d h. absurd (nothing_at c.calls i d calls h);
   meant = λ i d h. absurd (nothing_at c.calls i d calls h);
 }

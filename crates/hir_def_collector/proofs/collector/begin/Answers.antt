@@ -48,7 +48,7 @@ returns-then-is_none-clause-ready g c =
     let is : c.in_ok-run.run' ≡ core_of part source.tree (w.config (krate_of c.args.start)) transitive c.args.start c.args.id =
     c.in_ok-run.ensures.value ∙ ap (λ (o : Option ConfigValue). core_of part c.tree-tree.result.now o transitive c.args.start c.args.id) config
     ∙ ap (λ (t : Tree). core_of part t (w.config (krate_of c.args.start)) transitive c.args.start c.args.id) tree in
-    ready_empty tables part c.in_ok-run.run' (ap (λ (r : Core). r.globs) is) (ap (λ (r : Core). r.reached) is) (ap (λ (r : Core). r.taken) is) (ap (λ (r : Core). r.calls) is)
+    ready_empty tables part c.in_ok-run.run' (ap (λ (r : Core). r.globs) is) (ap (λ (r : Core). r.reached) is) (ap (λ (r : Core). r.taken) is) (ap (λ (r : Core). r.calls) is) (ap (λ (r : Core). r.fates) is)
 
 pub walk_root-requires-clause-held : goal.walk_root-requires-clause-held
 walk_root-requires-clause-held g c =

@@ -33,7 +33,7 @@ use Rattle.hir_def_collector.proofs.collector.mod_collector.+walk.Goals as goal
 pub walk_all-loop-id-init : goal.walk_all-loop-id-init
 walk_all-loop-id-init g t c = record {
   kept = tables_stay c.args.locations.now;
-  calls = refl;
+  placed = λ h. h;
   same = refl;
   walked = λ grown k. WalksTo-none c.args.source.now.tree c.args.site.now (environment grown (g.D.SourceDatabase.workspace c.args.db.now)) (part_of c.args.world) c.args.ids.now c.args.run.now;
   in_range = c.requires.in_range;
@@ -77,7 +77,7 @@ walk_all-loop-id-preserved g t c =
     let own : c.walk_item.new.run.map.id ≡ c.loop-id.run.map.id = id-Steps (walks.steps []) in
     record {
       kept = KeepsTables-trans c.args.locations.now c.loop-id.locations c.walk_item.new.locations c.loop-id.invariant.kept c.in_ok-walk_item.ensures.kept;
-      calls = c.in_ok-walk_item.ensures.calls ∙ c.loop-id.invariant.calls;
+      placed = λ h. c.in_ok-walk_item.ensures.placed (c.loop-id.invariant.placed h);
       same = c.in_ok-walk_item.ensures.same ∙ c.loop-id.invariant.same;
       walked = λ grown k.
           WalksTo-next tree site (environment grown w) part ids c.args.run.now c.loop-id.run c.walk_item.new.run i x within e
@@ -90,8 +90,8 @@ pub walk_all-returns-in_err-walk_item-clause-kept : goal.walk_all-returns-in_err
 walk_all-returns-in_err-walk_item-clause-kept g t c =
     KeepsTables-trans c.args.locations.now c.loop-id.locations c.walk_item.new.locations c.loop-id.invariant.kept c.in_err-walk_item.ensures.kept
 
-pub walk_all-returns-in_err-walk_item-clause-calls : goal.walk_all-returns-in_err-walk_item-clause-calls
-walk_all-returns-in_err-walk_item-clause-calls g t c = c.in_err-walk_item.ensures.calls ∙ c.loop-id.invariant.calls
+pub walk_all-returns-in_err-walk_item-clause-placed : goal.walk_all-returns-in_err-walk_item-clause-placed
+walk_all-returns-in_err-walk_item-clause-placed g t c = λ h. c.in_err-walk_item.ensures.placed (c.loop-id.invariant.placed h)
 
 pub walk_all-returns-in_err-walk_item-clause-many : goal.walk_all-returns-in_err-walk_item-clause-many
 walk_all-returns-in_err-walk_item-clause-many g t c = λ far_off grown k.
@@ -202,8 +202,8 @@ pub walk_item-returns-in_err-walk_all-in-Held-clause-kept : goal.walk_item-retur
 walk_item-returns-in_err-walk_all-in-Held-clause-kept g t c =
     KeepsTables-trans c.args.locations.now c.visit_item.new.locations c.walk_all.new.locations c.in_ok-inside.ensures.kept c.in_err-walk_all-in-Held.ensures.kept
 
-pub walk_item-returns-in_err-walk_all-in-Held-clause-calls : goal.walk_item-returns-in_err-walk_all-in-Held-clause-calls
-walk_item-returns-in_err-walk_all-in-Held-clause-calls g t c = c.in_err-walk_all-in-Held.ensures.calls ∙ c.in_ok-inside.ensures.calls
+pub walk_item-returns-in_err-walk_all-in-Held-clause-placed : goal.walk_item-returns-in_err-walk_all-in-Held-clause-placed
+walk_item-returns-in_err-walk_all-in-Held-clause-placed g t c = λ h. c.in_err-walk_all-in-Held.ensures.placed (c.in_ok-inside.ensures.placed h)
 
 pub walk_item-returns-in_err-walk_all-in-Held-clause-many : goal.walk_item-returns-in_err-walk_all-in-Held-clause-many
 walk_item-returns-in_err-walk_all-in-Held-clause-many g t c = λ far_off grown k.
@@ -238,8 +238,8 @@ pub walk_item-returns-in_err-walk_all-in-File-clause-kept : goal.walk_item-retur
 walk_item-returns-in_err-walk_all-in-File-clause-kept g t c =
     KeepsTables-trans c.args.locations.now c.visit_item.new.locations c.walk_all-in-File.new.locations c.in_ok-inside.ensures.kept c.in_err-walk_all-in-File.ensures.kept
 
-pub walk_item-returns-in_err-walk_all-in-File-clause-calls : goal.walk_item-returns-in_err-walk_all-in-File-clause-calls
-walk_item-returns-in_err-walk_all-in-File-clause-calls g t c = c.in_err-walk_all-in-File.ensures.calls ∙ c.in_ok-inside.ensures.calls
+pub walk_item-returns-in_err-walk_all-in-File-clause-placed : goal.walk_item-returns-in_err-walk_all-in-File-clause-placed
+walk_item-returns-in_err-walk_all-in-File-clause-placed g t c = λ h. c.in_err-walk_all-in-File.ensures.placed (c.in_ok-inside.ensures.placed h)
 
 pub walk_item-returns-in_err-walk_all-in-File-clause-many : goal.walk_item-returns-in_err-walk_all-in-File-clause-many
 walk_item-returns-in_err-walk_all-in-File-clause-many g t c = λ far_off grown k.
@@ -310,15 +310,15 @@ pub walk_item-returns-in_err-close-in-Held-clause-kept : goal.walk_item-returns-
 walk_item-returns-in_err-close-in-Held-clause-kept g t c =
     KeepsTables-trans c.args.locations.now c.visit_item.new.locations c.walk_all.new.locations c.in_ok-inside.ensures.kept c.in_ok-walk_all-in-Held.ensures.kept
 
-pub walk_item-returns-in_err-close-in-Held-clause-calls : goal.walk_item-returns-in_err-close-in-Held-clause-calls
-walk_item-returns-in_err-close-in-Held-clause-calls g t c = c.in_ok-walk_all-in-Held.ensures.calls ∙ c.in_ok-inside.ensures.calls
+pub walk_item-returns-in_err-close-in-Held-clause-placed : goal.walk_item-returns-in_err-close-in-Held-clause-placed
+walk_item-returns-in_err-close-in-Held-clause-placed g t c = λ h. c.in_ok-walk_all-in-Held.ensures.placed (c.in_ok-inside.ensures.placed h)
 
 pub walk_item-returns-in_ok-close-in-Held-clause-kept : goal.walk_item-returns-in_ok-close-in-Held-clause-kept
 walk_item-returns-in_ok-close-in-Held-clause-kept g t c =
     KeepsTables-trans c.args.locations.now c.visit_item.new.locations c.walk_all.new.locations c.in_ok-inside.ensures.kept c.in_ok-walk_all-in-Held.ensures.kept
 
-pub walk_item-returns-in_ok-close-in-Held-clause-calls : goal.walk_item-returns-in_ok-close-in-Held-clause-calls
-walk_item-returns-in_ok-close-in-Held-clause-calls g t c = c.in_ok-walk_all-in-Held.ensures.calls ∙ c.in_ok-inside.ensures.calls
+pub walk_item-returns-in_ok-close-in-Held-clause-placed : goal.walk_item-returns-in_ok-close-in-Held-clause-placed
+walk_item-returns-in_ok-close-in-Held-clause-placed g t c = λ h. c.in_ok-walk_all-in-Held.ensures.placed (c.in_ok-inside.ensures.placed h)
 
 pub walk_item-returns-in_ok-close-in-Held-clause-ok : goal.walk_item-returns-in_ok-close-in-Held-clause-ok
 walk_item-returns-in_ok-close-in-Held-clause-ok g t c = λ grown k.
@@ -415,15 +415,15 @@ pub walk_item-returns-in_err-close-in-File-clause-kept : goal.walk_item-returns-
 walk_item-returns-in_err-close-in-File-clause-kept g t c =
     KeepsTables-trans c.args.locations.now c.visit_item.new.locations c.walk_all-in-File.new.locations c.in_ok-inside.ensures.kept c.in_ok-walk_all-in-File.ensures.kept
 
-pub walk_item-returns-in_err-close-in-File-clause-calls : goal.walk_item-returns-in_err-close-in-File-clause-calls
-walk_item-returns-in_err-close-in-File-clause-calls g t c = c.in_ok-walk_all-in-File.ensures.calls ∙ c.in_ok-inside.ensures.calls
+pub walk_item-returns-in_err-close-in-File-clause-placed : goal.walk_item-returns-in_err-close-in-File-clause-placed
+walk_item-returns-in_err-close-in-File-clause-placed g t c = λ h. c.in_ok-walk_all-in-File.ensures.placed (c.in_ok-inside.ensures.placed h)
 
 pub walk_item-returns-in_ok-close-in-File-clause-kept : goal.walk_item-returns-in_ok-close-in-File-clause-kept
 walk_item-returns-in_ok-close-in-File-clause-kept g t c =
     KeepsTables-trans c.args.locations.now c.visit_item.new.locations c.walk_all-in-File.new.locations c.in_ok-inside.ensures.kept c.in_ok-walk_all-in-File.ensures.kept
 
-pub walk_item-returns-in_ok-close-in-File-clause-calls : goal.walk_item-returns-in_ok-close-in-File-clause-calls
-walk_item-returns-in_ok-close-in-File-clause-calls g t c = c.in_ok-walk_all-in-File.ensures.calls ∙ c.in_ok-inside.ensures.calls
+pub walk_item-returns-in_ok-close-in-File-clause-placed : goal.walk_item-returns-in_ok-close-in-File-clause-placed
+walk_item-returns-in_ok-close-in-File-clause-placed g t c = λ h. c.in_ok-walk_all-in-File.ensures.placed (c.in_ok-inside.ensures.placed h)
 
 pub walk_item-returns-in_ok-close-in-File-clause-ok : goal.walk_item-returns-in_ok-close-in-File-clause-ok
 walk_item-returns-in_ok-close-in-File-clause-ok g t c = λ grown k.

@@ -11,7 +11,7 @@ use Rattle.hir_def_collector.proofs.collector.mod_collector.visit_item.Goals as 
 pub returns-in_err-visit_leaf-in_default : goal.returns-in_err-visit_leaf-in_default
 returns-in_err-visit_leaf-in_default g c = record {
   kept = tables_stay c.args.locations.now;
-  calls = refl;
+  placed = λ h. h;
   same = refl;
   ok = search rules;
   within = search rules;
@@ -34,7 +34,7 @@ returns-in-ExternBlock-clause-many g c = λ h grown k items.
 pub returns-in_ok-visit_leaf-in_default : goal.returns-in_ok-visit_leaf-in_default
 returns-in_ok-visit_leaf-in_default g c = record {
   kept = tables_stay c.args.locations.now;
-  calls = refl;
+  placed = λ h. h;
   same = refl;
   ok = λ grown k items.
       let w = g.D.SourceDatabase.workspace c.args.db.now in
