@@ -58,7 +58,7 @@ module _ (tables : TablesValue) (w : Workspace) (finished : Maps) (from : Beginn
       let p : IsLeftOf e.last.core.reached way = left_of e.last.core.reached e.last.core.taken way (subst (λ (ways : List ImportOrExternCrate). Contains ways way) e.leftover_is h) in
       record { directive = p.directive; is_import = import_written p.directive p.among; is_such = p.is }
 
-  pub glob_written : (edge : Edge) → Contains e.last.globs.edges edge → HasImport tables w from answer (λ r. (glob_of r.source ≡ Some edge.id) × (r.home ≡ edge.importer))
+  pub glob_written : (edge : Edge) → Contains e.last.core.globs.edges edge → HasImport tables w from answer (λ r. (glob_of r.source ≡ Some edge.id) × (r.home ≡ edge.importer))
   glob_written edge h =
       let p : IsOfGlob tables w from answer e.last.core.reached edge = written.globs edge h in
       record { directive = p.directive; is_import = import_written p.directive p.among; is_such = (p.is_glob, p.into) }
