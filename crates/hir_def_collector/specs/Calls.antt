@@ -19,6 +19,7 @@ use Rattle.hir_base.specs.declared.resolve_mode.ResolveMode.TheVariants as modes
 use Rattle.hir_item_tree.specs.declared.tree_id.TreeId.{TreeId}
 use Rattle.hir_item_tree.specs.declared.tree_id.TreeKey.{TreeKey}
 use Rattle.hir_scope.specs.PerNs.{Item}
+use Rattle.hir_scope.specs.declared.imports.ImportOrExternCrate.{ImportOrExternCrate}
 use Rattle.hir_scope.specs.declared.per_ns.PerNs.{PerNs}
 use Rattle.hir_tables.specs.SourcePlaces.{ExpansionValue}
 use Rattle.hir_tables.specs.Tables.{TablesValue, call_at, entry_at, source_of}
@@ -54,7 +55,7 @@ by_call local = record { local = local; mode = modes.Other; shadow = shadow_mode
 
 -- the macro among what a path reaches
 abbrev pub macro_among : PerNs → Option MacroId
-macro_among items = option_map (λ (i : Item MacroId). i.def) items.macros
+macro_among items = option_map (λ (i : Item MacroId ImportOrExternCrate). i.def) items.macros
 
 -- the macro that a call reaches, if it reaches one
 abbrev pub called_macro : Maps → Local → Map → MacroDirective → Option MacroId
