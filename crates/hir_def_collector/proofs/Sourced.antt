@@ -584,7 +584,7 @@ module _ (t : SourceTest) where
       brings_none rests may read = (tt, tt)
       brings_none (expands_call i d makro x) may read =
           let own : t.holder (Macro x.id) None ≡ false = read (call_key s.core.map.id.krate x.id) (expansion_read s.core.map.id.krate d makro x) in
-          (tt, (site_visits t (call_site d x.id) own x.tree.tree.items, fine_failing BringsNone _ d (λ error at. tt) (error_of x.there) _))
+          (tt, (site_visits t (call_site d x.id) own x.tree.tree.items, fine_failing BringsNone (module_id s.core.map d.site.home) d (error_of x.there) (λ at text. tt) _))
       brings_none (drops_call i d) may read = (tt, tt)
       brings_none (resolves_imports rule) may read = imports_bring rule may
 

@@ -481,7 +481,7 @@ module _ (paths : PathsLeadToWhatIsThere) (finished : Maps) (whole : AreWellForm
     brings_what_is_there (closes_module parent child rest) may = (tt, (tt, tt))
     brings_what_is_there (reaches_call site head path rest) may = (tt, (tt, tt))
     brings_what_is_there rests may = (tt, tt)
-    brings_what_is_there (expands_call i d makro x) may = (tt, (tt, fine_failing (BringsWhatIsThere finished) _ d (λ error t. tt) (error_of x.there) _))
+    brings_what_is_there (expands_call i d makro x) may = (tt, (tt, fine_failing (BringsWhatIsThere finished) (module_id here d.site.home) d (error_of x.there) (λ t text. tt) _))
     brings_what_is_there (drops_call i d) may = (tt, tt)
     brings_what_is_there (resolves_imports rule) may = imports_bring rule may
 
