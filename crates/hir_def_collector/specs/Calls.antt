@@ -35,7 +35,7 @@ use Rattle.hir_def_collector.specs.declared.collector.macro_directive.MacroDirec
 use Rattle.hir_def_collector.specs.declared.collector.macro_directive.MacroDirectiveKind.TheVariants.{FnLike}
 use Rattle.hir_def_collector.specs.declared.collector.site.Site.{Site}
 use Rattle.hir_def_collector.specs.declared.source_database.Key.TheVariants as keys
-use Rattle.hir_def_collector.specs.Keys.{node_tree, of_entry, of_input, of_text, of_tree}
+use Rattle.hir_def_collector.specs.Keys.{IsMeant, node_tree, of_entry, of_input, of_text, of_tree}
 use Rattle.hir_def_collector.specs.ModuleFiles.{IsFileMeant, Reading}
 use Rattle.hir_def_collector.specs.State.{State}
 use Rattle.hir_def_collector.specs.Workspace.{EntryLook, TreeLook}
@@ -115,8 +115,9 @@ pub record Expanding : Type 0 where
   pub there : EntryLook
   pub tree : TreeLook
 
--- the numbers of the expansion and of the call mean what they are taken for
+-- the numbers in what defines the macro mean something, and those of the expansion and of the call mean what they are taken for
 pub record IsNumberedCall (tables : TablesValue) (own : Crate) (d : MacroDirective) (makro : MacroId) (x : Expanding) : Type 0 where
+  pub makro : IsMeant tables makro
   pub entry : entry_at tables x.entry ≡ Some (expansion_of_call own makro x.text x.input)
   pub call : call_at tables x.id ≡ Some (call_loc d x.entry)
 
