@@ -1,121 +1,48 @@
 -- What items and imports bind is clear of a test of sources, where its parts are.
-use Rattle.std.specs.Prelude.{◌≡◌, ◌==◌, ◌&&◌, ◌||◌, ℕ, ◌<◌, ◌≤◌, List, [], ◌∷◌, ◌++◌, length, Bool, true, false, is_some, Option, None, Some, cond, fold, not, is_none, map as list_map, option_and_then, option_map, slice_get, unwrap_or, if◌then◌else◌}
+use Rattle.std.specs.Prelude.{◌≡◌, ◌&&◌, ◌||◌, ℕ, List, [], ◌∷◌, ◌++◌, Bool, true, false, Option, None, Some, cond, fold, map as list_map, option_and_then, option_map, unwrap_or}
 use Rattle.std.specs.List.{list_any}
 use Rattle.std.specs.Ordering.{nat_cmp}
-use Rattle.std.specs.Cmp.Lexicographic.{pointwise, slice_cmp}
-use Rattle.std.specs.Prelude.{nat_eq}
-use Rattle.std.proofs.Common.{Contains, refl, subst, sym, ◌∙◌, arith}
-use Rattle.std.proofs.lemmas.List.Elements.{Contains-append_left, Contains-append_right}
-use mathlib.Core.Bool.{true≢false}
-use Rattle.hir_base.specs.declared.ast_id.AstId.{AstId}
-use Rattle.hir_base.specs.declared.ids.AdtId.TheVariants as adts
+use Rattle.std.specs.Cmp.Lexicographic.{slice_cmp}
+use Rattle.std.proofs.Common.{refl, subst}
 use Rattle.hir_base.specs.declared.ids.EnumId.{EnumId}
-use Rattle.hir_base.specs.declared.ids.Crate.{Crate}
 use Rattle.hir_base.specs.declared.ids.ModuleDefId.{ModuleDefId}
-use Rattle.hir_base.specs.declared.ids.ModuleDefId.TheVariants as definitions
 use Rattle.hir_base.specs.declared.ids.ModuleId.{ModuleId}
-use Rattle.hir_base.specs.declared.ids.TraitId.{TraitId}
 use Rattle.hir_base.specs.declared.macro_kind.MacroId.{MacroId}
-use Rattle.hir_item_tree.specs.Collected.{is_enabled}
-use Rattle.hir_item_tree.specs.Imports.{imports_of}
-use Rattle.hir_item_tree.specs.KeptForest.{Head, Leaf, KeptItem, KeptForest, leaf, holder, item, no_items, import, extern_crate, function, structure, union_structure, enumeration, constant, static_item, trait_item, implementation, type_alias, outline_module, macro_call, macro_rules, macro_def}
+use Rattle.hir_item_tree.specs.KeptForest.{Head, KeptForest, item, no_items}
 use Rattle.hir_use_tree.specs.declared.imports.Import.{Import}
-use Rattle.hir_item_tree.specs.declared.raw_visibility.RawVisibility.{RawVisibility}
-use Rattle.hir_item_tree.specs.declared.raw_visibility.RawVisibility.TheVariants as raws
 use Rattle.hir_item_tree.specs.declared.raw_visibility.VisibilityExplicitness.{VisibilityExplicitness}
 use Rattle.hir_item_tree.specs.declared.shape.FieldsShape.{FieldsShape}
 use Rattle.hir_item_tree.specs.declared.shape.FieldsShape.TheVariants.{Record, Tuple, Unit as UnitShape}
 use Rattle.hir_use_tree.specs.declared.imports.ImportKind.{ImportKind}
 use Rattle.hir_use_tree.specs.declared.imports.ImportKind.TheVariants as import_kinds
 use Rattle.hir_item_tree.specs.declared.side_lists.VariantItem.{VariantItem}
-use Rattle.hir_item_tree.specs.declared.tree_id.TreeKey.{TreeKey}
-use Rattle.hir_mod_dir.specs.Directory.{Directory}
-use Rattle.hir_mod_dir.specs.ModuleFiles.{inline_directory}
-use Rattle.hir_def_map.specs.declared.nameres.diagnostics.DefDiagnostic.{DefDiagnostic}
-use Rattle.hir_def_map.specs.declared.nameres.origin.ModuleOrigin.{ModuleOrigin}
-use Rattle.hir_scope.specs.ModuleTree.{is_at_or_above, same_crate, same_map, same_module}
-use Rattle.hir_textual_scope.specs.Macros.{with_macro}
-use Rattle.hir_scope.specs.PerNs.{keep_item, macros_only, Item}
+use Rattle.hir_scope.specs.ModuleTree.{is_at_or_above, same_crate, same_module}
+use Rattle.hir_scope.specs.PerNs.{keep_item, Item}
 use Rattle.hir_scope.specs.Visibility.{both_in, either_written, lower_of}
-use Rattle.hir_scope.specs.declared.imports.GlobId.{GlobId}
-use Rattle.hir_scope.specs.declared.imports.ImportId.{ImportId}
 use Rattle.hir_scope.specs.declared.imports.ImportOrExternCrate.{ImportOrExternCrate}
-use Rattle.hir_scope.specs.declared.imports.ImportOrExternCrate.TheVariants as ways
 use Rattle.hir_scope.specs.declared.imports.ImportOrGlob.{ImportOrGlob}
 use Rattle.hir_scope.specs.declared.per_ns.PerNs.{PerNs}
 use Rattle.hir_scope.specs.declared.visibility.Visibility.{Visibility}
 use Rattle.hir_scope.specs.declared.visibility.Visibility.TheVariants as visibilities
 use Rattle.hir_def_map.specs.Ancestors.{above_in}
-use Rattle.hir_def_map.specs.Macros.{with_macro_def}
-use Rattle.hir_def_map.specs.References.{is_missing, reference_to, test_of, test_visibility, FailsAtItem}
-use Rattle.hir_def_map.specs.Closed.{AreThere, IsClosed, IsThere, PathsLeadToWhatIsThere}
-use Rattle.hir_def_map.specs.WellFormed.{AreWellFormed}
-use Rattle.hir_def_map.proofs.NoneOf.{neither, none_at, none_inserted, none_inserted_last, not_first, not_second}
-use Rattle.hir_def_map.specs.Reaches.{by_import}
-use Rattle.hir_def_map.specs.Scoping.{Resolution, resolution_of}
-use Rattle.hir_def_map.specs.Sources.{HoldsNowhere, HoldsNowhereIn, HoldsOfNone, HoldsOfNoExtern, PathsAnswerFromSources, SourceTest, on_def, on_extern, on_extern_entry, on_import, on_macro, on_macro_item, on_origin, on_some, on_type, on_value, on_value_def, on_value_import, on_values, on_variant, on_visibility}
-use Rattle.hir_def_map.specs.State.{CrateData, Local, Map, Variants, crate_root, new_id, root_of, with_extern}
-use Rattle.hir_def_map.specs.Overlay.{Maps, entry_in, overlay, module_in}
-use Rattle.hir_def_map.proofs.StaysWellFormed.{IsClosed-overlay, LocalIsThere-begins, module_there}
-use Rattle.hir_def_map.proofs.StaysSourced.{HoldsNowhere-overlay, HoldsNowhereIn-enum, HoldsNowhereIn-listed, HoldsNowhereIn-made, HoldsNowhereIn-prelude}
-use Rattle.hir_def_map.specs.Visibilities.{by_visibility, module_seen, path_seen, type_seen}
-use Rattle.hir_def_collector.specs.declared.collector.Start.{Start}
-use Rattle.hir_def_collector.specs.declared.collector.Start.TheVariants as starts
-use Rattle.hir_def_collector.specs.declared.collector.declaration.Declaration.{Declaration}
-use Rattle.hir_glob_imports.specs.Moves.{brought_vis, shown as shown_along}
-use Rattle.hir_glob_imports.specs.Rules.{Rule as GlobRule, May as MayAlong, acts as glob_acts, brings, copies, copies_along, follows, follows_along, raises, raises_along}
-use Rattle.hir_glob_imports.specs.View.{View}
-use Rattle.hir_glob_imports.specs.declared.edge.Bound.{Bound}
-use Rattle.hir_glob_imports.specs.declared.edge.Edge.{Edge}
-use Rattle.hir_glob_imports.specs.declared.edge.Key.{Key as GlobKey}
-use Rattle.hir_glob_imports.specs.declared.edge.Key.TheVariants.{Types, Values, Macros, Unnamed}
-use Rattle.hir_glob_imports.specs.declared.edge.Slot.{Slot}
-use Rattle.hir_glob_imports.specs.declared.edge.Target.{Target}
-use Rattle.hir_glob_imports.specs.declared.edge.Target.TheVariants as targets
-use Rattle.hir_import_resolution.specs.Changes.{Change as ImportChange, act as act_on_imports, along, keeps_trait, pushes, pushing, records, takes}
-use Rattle.hir_import_resolution.specs.Names.{ScopesValue, bound_of, entries_of, is_foreign, scope_table, traits_of, view_of}
-use Rattle.hir_import_resolution.specs.Rules.{Rule as ImportRule, May as MayImport, acts as import_acts, goes_along, takes_glob, takes_import}
-use Rattle.hir_import_resolution.specs.State.{ImportState, glob_state, scopes_of}
+use Rattle.hir_def_map.proofs.NoneOf.{neither, none_inserted, not_first, not_second}
+use Rattle.hir_def_map.specs.Scoping.{Resolution}
+use Rattle.hir_def_map.specs.Sources.{HoldsOfNone, SourceTest, on_def, on_import, on_macro, on_macro_item, on_some, on_type, on_value, on_value_def, on_value_import, on_values, on_variant, on_visibility}
+use Rattle.hir_def_map.specs.State.{Map, Variants}
+use Rattle.hir_def_map.specs.Overlay.{Maps, overlay}
 use Rattle.hir_import_resolution.specs.declared.directive.ImportSource.{ImportSource}
 use Rattle.hir_import_resolution.specs.declared.directive.ImportSource.TheVariants as sources
-use Rattle.hir_import_resolution.specs.declared.directive.ImportDirective.{ImportDirective}
 use Rattle.hir_def_collector.specs.declared.collector.site.Site.{Site}
-use Rattle.hir_def_collector.specs.declared.source_database.Dependency.{Dependency}
-use Rattle.hir_def_collector.specs.Derivation.{CollectedValue, Ends}
 use Rattle.hir_def_collector.specs.Enums.{variant_of, variants_of, with_variant}
-use Rattle.hir_import_resolution.specs.Directives.{answer_by_kind, answer_by_source, answer_in, answer_to, brought, brought_type, edge_to, glob_of, imported, is_of_extern_crate, is_one_name, kept_by_kind, kept_trait, kind_of, leaf_of, name_of, offered_by, open_items, visibility_of, way_of}
-use Rattle.hir_def_collector.specs.Imports.{extern_by, reached_import}
-use Rattle.hir_import_resolution.specs.Visibilities.{is_public, lesser_in, visibility_in}
-use Rattle.hir_def_collector.specs.ItemIds.{enum_id, macro_def_id, macro_rules_id, module_id, use_id}
-use Rattle.hir_def_collector.specs.Items.{constructor_of, declaration_of, declared_by, declared_by_leaf, declared_struct, declared_type, file_origin, inline_origin, meet_of, own_visibility}
-use Rattle.hir_def_collector.specs.Preludes.{extern_prelude, joins, prelude_of, with_dependency, with_prelude_module}
-use Rattle.hir_def_collector.specs.Macros.{is_macro_use, macros_beside, textual_at}
-use Rattle.hir_def_collector.specs.Sources.{IsClearOf}
-use Rattle.hir_def_collector.specs.Start.{Beginning, begin_of, krate_of, origin_of, read_by, root_key, root_map, root_site, root_tree, start_data, start_of, tree_key}
-use Rattle.hir_def_collector.specs.State.{State, Task, Visit, visits, import_state, visits_over}
-use Rattle.hir_def_collector.specs.Changes.{Change, lists, makes, gives_variants, begins_paths, reaches, changes_imports, adds_textual, takes_textual, defines, uses_macros, tells, goes_on, act, on_map}
-use Rattle.hir_def_collector.specs.Steps.{Rule, drops_item, passes_over, defines_rules, defines_macro, closes_module, closing, visits_in_file, declares_item, declares_enum, lists_constant, lists_impl, opens_module, opens_file, drops_file, misses_file, enters_block, reaches_imports, reaches_crate, resolves_imports, May, acts, asking, keys_read, making, path_of, reads, visits_inside, Step, Steps, none, more, inside_block, inside_file, inside_module}
-use Rattle.hir_def_collector.specs.Whole.{StandsOnWhole}
-use Rattle.hir_def_collector.specs.Workspace.{Workspace, dependencies_in, transitive_dependencies_in}
-use Rattle.hir_tables.specs.Tables.{TablesValue}
-use Rattle.hir_def_collector.specs.Keys.{Environment, environment, map_keys}
-use Rattle.hir_def_collector.specs.ModuleFiles.{file_key}
-use Rattle.hir_def_collector.specs.Reports.{leftover_diagnostics}
-use Rattle.hir_def_collector.specs.declared.source_database.Key.{Key}
-use Rattle.hir_def_collector.specs.declared.source_database.Key.TheVariants as keys
-use Rattle.hir_def_collector.proofs.Asks.{still_asked, still_asked-Step}
-use Rattle.hir_def_collector.proofs.Grows.{Grows, Grows-Step, Grows-same}
-use Rattle.hir_def_collector.proofs.ModuleFiles.{found_read}
+use Rattle.hir_import_resolution.specs.Directives.{answer_by_kind, answer_by_source, brought, brought_type, imported, is_of_extern_crate, kept_by_kind, open_items}
+use Rattle.hir_def_collector.specs.Imports.{reached_import}
+use Rattle.hir_import_resolution.specs.Visibilities.{is_public, lesser_in}
+use Rattle.hir_def_collector.specs.ItemIds.{use_id}
+use Rattle.hir_def_collector.specs.Items.{constructor_of, declared_struct, declared_type, meet_of}
+use Rattle.hir_def_collector.specs.State.{Task, Visit, visits, visits_over}
+use Rattle.hir_def_collector.specs.Steps.{closing}
 use Rattle.hir_def_collector.proofs.Lists.{none_joined}
-use Rattle.hir_def_collector.proofs.Changes.{AllFine, asked-Step, fine_macro, fine_reporting, id-Step, perform_keeps}
-use Rattle.hir_def_collector.proofs.InRange.{IsInRange, import_at, in_range-Steps, next_home}
-use Rattle.hir_def_collector.proofs.Holds.{in_range-start}
-use Rattle.hir_def_collector.proofs.ImportEdits.{copy_at, copy_where, edit_of, follow_at, follow_where, imports_after, local_after, map_after}
-use Rattle.hir_def_collector.proofs.SourcedEdits.{EditIsClear, EditsAreClear, IsBoundClear, IsSeenClear, entry_clear, greater_clear, items_clear, key_clear, on_edge, own_clear, recorded_clear, shown_stands, sourced-edited, variants_clear}
-use Rattle.hir_def_collector.proofs.SourcedMacros.{beside_clear, brought_macros_clear, textual_changed, textual_clear, textual_more, used_clear}
-use Rattle.hir_def_collector.proofs.Whole.{begins, steps_keep}
-use Rattle.hir_def_collector.proofs.WholeChanges.{NamesWhatIsThere}
-use Rattle.hir_def_collector.proofs.SourcedState.{on_site, on_reached, IsSourced, AreClear, ShowsThere, stays_there}
+use Rattle.hir_def_collector.proofs.SourcedState.{on_site, on_reached}
 
 -- ---- lists
 
