@@ -590,7 +590,8 @@ module _ (t : SourceTest) where
     steps_sourced shown env from to inside first none clear = first
     steps_sourced shown env from to inside first (more old new before last) clear =
         let asked : AreClear t old = λ key h. clear key (still_asked-Step last (keys.Tree key) h) in
-        sourced-Step old (in_range-Steps before inside) (λ at below raw. unseen shown _) (steps_sourced shown env from old inside first before asked) env new last clear
+        let seen : SeesNone t finished old = λ at below raw. unseen shown (visibility_in finished old.core.local old.core.map (module_id old.core.map at) raw) in
+        sourced-Step old (in_range-Steps before inside) seen (steps_sourced shown env from old inside first before asked) env new last clear
 
     -- or of no module that is there
     module _ (paths : PathsLeadToWhatIsThere) (whole : AreWellFormed finished) where
