@@ -39,3 +39,5 @@ pub mod SourcedState
 pub mod Sourced
 pub mod Numbers
 pub mod Meaning
+pub mod CallSteps
+pub mod Trying

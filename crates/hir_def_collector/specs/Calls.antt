@@ -115,7 +115,7 @@ pub record Expanding : Type 0 where
   pub there : EntryLook
   pub tree : TreeLook
 
--- the numbers in what defines the macro mean something, and those of the expansion and of the call mean what they are taken for
+-- the numbers of the macro mean something, and those of the expansion and of the call what they are taken for
 pub record IsNumberedCall (tables : TablesValue) (own : Crate) (d : MacroDirective) (makro : MacroId) (x : Expanding) : Type 0 where
   pub makro : IsMeant tables makro
   pub entry : entry_at tables x.entry ≡ Some (expansion_of_call own makro x.text x.input)
@@ -156,9 +156,10 @@ pub record IsPlacedBelow (tables : TablesValue) (n : ℕ) (node : AstId) : Type 
   pub source : IsSome (source_of tables (node_tree node))
   pub earlier : (c : MacroCallId) → node.file_id ≡ Macro c → node.block ≡ None → c.0 < n
 
--- so is each call that has a number
-abbrev pub AreCallsPlaced : TablesValue → Type 0
-AreCallsPlaced tables = (n : ℕ) (loc : MacroCallLoc) → slice_get tables.calls n ≡ Some loc → IsPlacedBelow tables n (call_node loc.kind)
+-- so is each call that has a number, and no block has one
+pub record AreCallsPlaced (tables : TablesValue) : Type 0 where
+  pub calls : (n : ℕ) (loc : MacroCallLoc) → slice_get tables.calls n ≡ Some loc → IsPlacedBelow tables n (call_node loc.kind)
+  pub blocks : tables.blocks ≡ []
 
 -- the numbers of a site mean something
 pub record IsMeantAt (tables : TablesValue) (site : Site) : Type 0 where

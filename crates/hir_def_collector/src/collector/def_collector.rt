@@ -531,11 +531,7 @@ impl DefCollector {
             sub_ns: Some(MacroSubNs::Bang),
         };
         let path = call.path();
-        let answer = query.resolve(
-            self.module_id(call.site.home),
-            path.kind(),
-            path.segments(),
-        );
+        let answer = query.resolve(self.module_id(call.site.home), path.kind(), path.segments());
         macro_among(answer.resolved_def)
     }
 
