@@ -1,9 +1,11 @@
 -- The namespaces that an import keeps of those that its takings reached are bound under its name.
 use Rattle.std.proofs.Common.{◌≡◌, ◌∙◌, ℕ, ◌<◌, Bool, true, false, List, [], ◌∷◌, length, map as list_map, slice_get, slice_set, Option, None, Some, inl, inr, refl, sym, ap, subst, arith}
 use Rattle.std.proofs.lemmas.Bool.{cases_lt}
+use Rattle.hir_base.specs.declared.ids.Crate.{Crate}
 use Rattle.hir_item_tree.specs.Collected.{is_enabled}
 use Rattle.hir_item_tree.specs.ItemTree.{Tree}
 use Rattle.hir_item_tree.specs.KeptForest.{KeptForest, no_items, item}
+use Rattle.hir_item_tree.specs.declared.tree_id.TreeId.{TreeId}
 use Rattle.hir_def_map.proofs.NoneOf.{not_first, not_second}
 use Rattle.hir_def_map.specs.State.{Map, entry_at, place_at}
 use Rattle.hir_def_map.specs.Overlay.{Maps}
@@ -18,13 +20,14 @@ use Rattle.hir_import_resolution.specs.Directives.{AreAmong, TakenValue, answer_
 use Rattle.hir_import_resolution.specs.Changes.{Change as ImportChange, act as act_on_imports, along, keeps_trait, pushes, pushing, records, takes}
 use Rattle.hir_import_resolution.specs.Rules.{CanTake, Rule as ImportRule, May as MayImport, acts as import_acts, goes_along, takes_glob, takes_import}
 use Rattle.hir_import_resolution.specs.State.{ImportState}
+use Rattle.hir_def_collector.specs.declared.collector.Start.{Start}
 use Rattle.hir_def_collector.specs.declared.collector.site.Site.{Site}
 use Rattle.hir_tables.specs.Tables.{TablesValue}
-use Rattle.hir_def_collector.specs.Workspace.{Workspace}
+use Rattle.hir_def_collector.specs.Workspace.{Workspace, transitive_dependencies_in}
 use Rattle.hir_def_collector.specs.Calls.{error_of}
-use Rattle.hir_def_collector.specs.Keys.{Environment}
+use Rattle.hir_def_collector.specs.Keys.{Environment, tree_at}
 use Rattle.hir_def_collector.specs.State.{State, import_state, visits_over}
-use Rattle.hir_def_collector.specs.Start.{Beginning, start_of, root_site, root_tree, tree_visits}
+use Rattle.hir_def_collector.specs.Start.{Beginning, began, krate_of, start_of, root_site, tree_key, tree_visits}
 use Rattle.hir_def_collector.specs.Changes.{Change, lists, makes, gives_variants, begins_paths, reaches, awaits, ends, settles, changes_imports, adds_textual, takes_textual, defines, uses_macros, tells, goes_on, act, on_map}
 use Rattle.hir_def_collector.specs.Steps.{Rule, drops_item, reaches_call, rests, expands_call, drops_call, defines_rules, defines_macro, closes_module, declares_item, declares_enum, lists_constant, lists_impl, opens_module, opens_file, drops_file, misses_file, enters_block, reaches_imports, reaches_crate, resolves_imports, May, acts, asking, Step, Steps, none, more}
 use Rattle.hir_def_collector.proofs.Lists.{get_left, get_right, get_inside, get_set_same, get_set_other, length_set, length_both, length_mapped, get_same}
@@ -288,8 +291,15 @@ in_range-tree n site tree h = go (is_enabled tree.attributes) refl
     go true e = rw e (in_range-visits n site tree.items h)
     go false e = rw e tt
 
+pub in_range-begun : (tables : TablesValue) (w : Workspace) (finished : Maps) (transitive : List Crate) (start : Start) (id : TreeId) → IsInRange (began tables w finished transitive start id)
+in_range-begun tables w finished transitive start id = record {
+  visits = in_range-tree 1 (root_site id) (tree_at tables w (tree_key start id)).tree (omega arith);
+  imports = tt;
+  calls = tt;
+}
+
 pub in_range-start : (tables : TablesValue) (w : Workspace) (finished : Maps) (from : Beginning) → IsInRange (start_of tables w finished from)
-in_range-start tables w finished from = record { visits = in_range-tree 1 (root_site from.tree) (root_tree tables w from) (omega arith); imports = tt; calls = tt }
+in_range-start tables w finished from = in_range-begun tables w finished (transitive_dependencies_in w (krate_of from.start)) from.start from.tree
 
 pub Holds-start : (tables : TablesValue) (w : Workspace) (finished : Maps) (from : Beginning) → Holds (start_of tables w finished from)
 Holds-start tables w finished from = record { paired = refl; bound = λ i t at. absurd (let no : ⊥ = cc in no) }

@@ -1,6 +1,6 @@
 -- What a search for the file of a module comes to.
 use Rattle.std.proofs.Common.{◌≡◌, ◌∙◌, ℕ, zero, suc, ◌<◌, false, List, [], ◌∷◌, ◌++◌, map, Option, Some, None, slice_get, refl, sym, ap, subst, arith, Contains}
-use Rattle.std.specs.Prelude.{IsSome, is_some, option_map}
+use Rattle.std.specs.Prelude.{IsSome, option_map}
 use Rattle.std.specs.Option.{option_map_or, option_to_list}
 use Rattle.hir_base.specs.declared.ast_id.FileId.{FileId}
 use Rattle.hir_base.specs.declared.edition.Edition.{Edition}
@@ -39,18 +39,19 @@ module _ (tables grown : TablesValue) (kept : KeepsTables tables grown) where
   numbers_kept declaring [] h = tt
   numbers_kept declaring (t ∷ ts) h = (number_kept (option_map (λ (f : LookedAt). f.id) t.file) (named_by declaring t.candidate) h.0, numbers_kept declaring ts h.1)
 
-  pub numbered_kept : (file : Option FileId) (s : Search) → IsNumbered tables file s → IsNumbered grown file s
-  numbered_kept file s h = record { declaring = number_kept file s.declaring h.declaring; tried = numbers_kept s.declaring (tried_in s) h.tried }
+  pub numbered_kept : (f : Option FileId) (s : Search) → IsNumbered tables f s → IsNumbered grown f s
+  numbered_kept f s h = record { declaring = number_kept f s.declaring h.declaring; tried = numbers_kept s.declaring (tried_in s) h.tried }
 
-  -- so do those of macros, expansions and calls
-  source_kept : (id : TreeId) → IsSome (source_of tables id) → IsSome (source_of grown id)
+  -- so do those of sources
+  pub source_kept : (id : TreeId) → IsSome (source_of tables id) → IsSome (source_of grown id)
   source_kept id h = go (source_of tables id) refl h
     where
       go : (o : Option SourcePlaceValue) → source_of tables id ≡ o → IsSome o → IsSome (source_of grown id)
       go None e there = absurd (let no : ⊥ = cc in no)
-      go (Some place) e there = ap (λ (o : Option SourcePlaceValue). is_some o) (source_of-kept tables grown id place kept e)
+      go (Some place) e there = subst (λ (o : Option SourcePlaceValue). IsSome o) (sym (source_of-kept tables grown id place kept e)) refl
 
-  macro_kept : (makro : MacroId) → IsMeant tables makro → IsMeant grown makro
+  -- of macros, and of expansions and calls
+  pub macro_kept : (makro : MacroId) → IsMeant tables makro → IsMeant grown makro
   macro_kept (macros.Macro2Id id) h = source_kept (macro_tree id.loc) h
   macro_kept (macros.MacroRulesId id) h = source_kept (macro_tree id.loc) h
   macro_kept (macros.ProcMacroId id) h = h
@@ -62,7 +63,7 @@ module _ (tables grown : TablesValue) (kept : KeepsTables tables grown) where
     call = kept.calls x.id.0 (call_loc d x.entry) h.call;
   }
 
-  -- so do those of a site
+  -- and those of a site
   pub site_kept : (site : Site) → IsMeantAt tables site → IsMeantAt grown site
   site_kept site h = record { tree = source_kept site.tree h.tree; file = λ id e. file_kept id (h.file id e) }
     where
@@ -71,7 +72,7 @@ module _ (tables grown : TablesValue) (kept : KeepsTables tables grown) where
         where
           go : (o : Option (List ℕ)) → file_at tables id ≡ o → IsSome o → IsSome (file_at grown id)
           go None e h = absurd (let no : ⊥ = cc in no)
-          go (Some path) e h = ap (λ (o : Option (List ℕ)). is_some o) (kept.files id.0 path e)
+          go (Some path) e h = subst (λ (o : Option (List ℕ)). IsSome o) (sym (kept.files id.0 path e)) refl
 
   pub Numbered-kept : (s : State) (r : Rule) → Numbered tables s r → Numbered grown s r
   Numbered-kept s (opens_file site head name search f rest) h = numbered_kept site.file search h

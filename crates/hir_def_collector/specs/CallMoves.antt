@@ -10,7 +10,7 @@ use Rattle.hir_def_collector.specs.declared.collector.calls.Due.{Due}
 use Rattle.hir_def_collector.specs.declared.collector.calls.Due.TheVariants.{Nothing, TooDeep, Reaches}
 use Rattle.hir_def_collector.specs.declared.collector.macro_directive.Fate.TheVariants.{Handled}
 use Rattle.hir_def_collector.specs.declared.collector.macro_directive.MacroDirective.{MacroDirective}
-use Rattle.hir_def_collector.specs.Calls.{Expanding, IsMeantAt, IsNumberedCall, IsWaiting, LeadsNowhere, call_site, called_macro, error_of, expansion_readings, text_readings}
+use Rattle.hir_def_collector.specs.Calls.{Expanding, IsMeantCall, IsNumberedCall, IsWaiting, LeadsNowhere, call_site, called_macro, error_of, expansion_readings, text_readings}
 use Rattle.hir_def_collector.specs.Keys.{Environment}
 use Rattle.hir_def_collector.specs.Moves.{IsWritten, OnceGrown}
 use Rattle.hir_def_collector.specs.Rounds.{HasManyRounds, IsRound}
@@ -25,7 +25,7 @@ pub record IsReady (tables : TablesValue) (finished : Maps) (c : Core) : Type 0 
   pub paired : length c.taken ≡ length c.reached
   pub fated : length c.fates ≡ length c.calls
   pub calls : (i : ℕ) (d : MacroDirective) → slice_get c.calls i ≡ Some d → d.site.home < length c.map.modules
-  pub meant : (i : ℕ) (d : MacroDirective) → slice_get c.calls i ≡ Some d → IsMeantAt tables d.site
+  pub meant : (i : ℕ) (d : MacroDirective) → slice_get c.calls i ≡ Some d → IsMeantCall tables d
 
 -- what there is of a call that reaches a macro was asked for: its number, why it didn't expand well, and what its expansion has
 pub record SeesCall (tables : TablesValue) (w : Workspace) (d : MacroDirective) (makro : MacroId) (old new : Core) (x : Expanding) (source : SourceTreeValue) : Type 0 where

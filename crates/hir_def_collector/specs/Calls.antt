@@ -165,3 +165,8 @@ pub record AreCallsPlaced (tables : TablesValue) : Type 0 where
 pub record IsMeantAt (tables : TablesValue) (site : Site) : Type 0 where
   pub tree : IsSome (source_of tables site.tree)
   pub file : IsFileMeant tables site.file
+
+-- so do those of a call, and of the node on which it stands
+pub record IsMeantCall (tables : TablesValue) (d : MacroDirective) : Type 0 where
+  pub site : IsMeantAt tables d.site
+  pub node : IsSome (source_of tables (node_tree d.ast_id))
