@@ -1,5 +1,5 @@
 -- A run binds only what its root file writes, and what the finished maps bind.
-use Rattle.std.specs.Prelude.{◌≡◌, ◌==◌, ◌&&◌, ◌||◌, ℕ, ◌<◌, List, [], ◌∷◌, ◌++◌, length, Bool, true, false, is_some, Option, None, Some, cond, not, is_none, map as list_map, option_map, slice_get, unwrap_or, if◌then◌else◌}
+use Rattle.std.specs.Prelude.{◌≡◌, ◌==◌, ◌&&◌, ◌||◌, ℕ, ◌<◌, List, [], ◌∷◌, ◌++◌, length, Bool, true, false, is_some, Option, None, Some, cond, not, is_none, map as list_map, slice_get, unwrap_or, if◌then◌else◌}
 use Rattle.std.specs.List.{list_any}
 use Rattle.std.specs.Cmp.Lexicographic.{pointwise}
 use Rattle.std.specs.Prelude.{nat_eq}
@@ -45,8 +45,8 @@ use Rattle.hir_def_map.specs.WellFormed.{AreWellFormed}
 use Rattle.hir_def_map.proofs.NoneOf.{neither, none_at, none_inserted_last, not_first, not_second}
 use Rattle.hir_def_map.specs.Reaches.{by_import}
 use Rattle.hir_def_map.specs.Scoping.{Resolution, resolution_of}
-use Rattle.hir_def_map.specs.Sources.{HoldsNowhere, HoldsNowhereIn, HoldsOfNone, HoldsOfNoExtern, PathsAnswerFromSources, SourceTest, on_def, on_extern, on_extern_entry, on_import, on_macro, on_macro_item, on_origin, on_some, on_values, on_variant, on_visibility}
-use Rattle.hir_def_map.specs.State.{CrateData, Local, Map, crate_root, new_id, numbered, root_of, with_extern}
+use Rattle.hir_def_map.specs.Sources.{HoldsNowhere, HoldsNowhereIn, HoldsOfNone, HoldsOfNoExtern, PathsAnswerFromSources, SourceTest, on_def, on_extern, on_extern_entry, on_import, on_macro, on_origin, on_some, on_values, on_variant, on_visibility}
+use Rattle.hir_def_map.specs.State.{CrateData, Local, Map, crate_root, new_id, root_of, with_extern}
 use Rattle.hir_def_map.specs.Overlay.{Maps, entry_in, overlay, module_in}
 use Rattle.hir_def_map.proofs.StaysWellFormed.{IsClosed-overlay, LocalIsThere-begins, module_there}
 use Rattle.hir_def_map.proofs.StaysSourced.{HoldsNowhere-overlay, HoldsNowhereIn-enum, HoldsNowhereIn-listed, HoldsNowhereIn-made, HoldsNowhereIn-prelude}
@@ -82,7 +82,7 @@ use Rattle.hir_def_collector.specs.ItemIds.{enum_id, macro_def_id, macro_rules_i
 use Rattle.hir_def_collector.specs.Items.{constructor_of, declaration_of, declared_by, declared_by_leaf, declared_type, file_origin, inline_origin, own_visibility}
 use Rattle.hir_def_collector.specs.Preludes.{extern_prelude, joins, prelude_of, with_dependency, with_prelude_module}
 use Rattle.hir_def_collector.specs.Macros.{is_macro_use, macros_beside, textual_at}
-use Rattle.hir_def_collector.specs.Calls.{Expanding, by_call, call_key, call_site, called_macro, error_of, expansion_readings, path_of_call, text_readings}
+use Rattle.hir_def_collector.specs.Calls.{Expanding, call_key, call_site, error_of, expansion_readings, text_readings}
 use Rattle.hir_def_collector.specs.Sources.{IsClearOf}
 use Rattle.hir_def_collector.specs.Start.{Beginning, begin_of, krate_of, origin_of, read_by, root_key, root_map, root_site, root_tree, start_data, start_of, tree_key}
 use Rattle.hir_def_collector.specs.State.{State, Task, Visit, visits, import_state, visits_over}
@@ -108,7 +108,7 @@ use Rattle.hir_def_collector.proofs.SourcedEdits.{EditIsClear, EditsAreClear, Is
 use Rattle.hir_def_collector.proofs.SourcedMacros.{beside_clear, brought_macros_clear, textual_changed, textual_clear, textual_more, used_clear}
 use Rattle.hir_def_collector.proofs.Whole.{begins, steps_keep}
 use Rattle.hir_def_collector.proofs.WholeChanges.{NamesWhatIsThere}
-use Rattle.hir_def_collector.proofs.SourcedState.{on_site, on_call, on_reached, IsSourced, AreClear, SeesNone, ShowsThere, stays_there}
+use Rattle.hir_def_collector.proofs.SourcedState.{on_site, on_reached, IsSourced, AreClear, ShowsThere, stays_there}
 
 -- a call that reaches a macro asks for what it expands to
 expansion_read : (own : Crate) (d : MacroDirective) (makro : MacroId) (x : Expanding) → Contains (keys_read (text_readings makro x.text ++ expansion_readings own d x)) (keys.Tree (call_key own x.id))
@@ -134,7 +134,7 @@ module _ (t : SourceTest) where
   BringsNone s (gives_variants id variants) = on_values (on_variant t) variants ≡ false
   BringsNone s (begins_paths r) = on_reached t r ≡ false
   BringsNone s (reaches rs) = list_any (on_reached t) rs ≡ false
-  BringsNone s (awaits calls) = list_any (on_call t) calls ≡ false
+  BringsNone s (awaits calls) = Unit {0}
   BringsNone s (ends i fate) = Unit {0}
   BringsNone s settles = Unit {0}
   BringsNone s (changes_imports c) = EditsAreClear t (edit_of (import_state s) c) × EdgesAreClear c
@@ -152,7 +152,7 @@ module _ (t : SourceTest) where
   HoldsNowhereIn-defined m node makro f = record { origins = f.origins; types = f.types; values = f.values; macros = f.macros; legacy = f.legacy; enums = f.enums; macro_use = f.macro_use }
 
   on_new_map : (s : State) (m : Map) → HoldsNowhereIn t m → IsSourced t s → IsSourced t (on_map s m)
-  on_new_map s m g f = record { map = g; local = f.local; visits = f.visits; reached = f.reached; calls = f.calls; edges = f.edges }
+  on_new_map s m g f = record { map = g; local = f.local; visits = f.visits; reached = f.reached; edges = f.edges }
 
   extern_of : (local : Local) (source : ImportSource) (name : Option (List ℕ)) → HoldsOfNoExtern t local → on_import t (way_of source) ≡ false → HoldsOfNoExtern t (extern_by local source name)
   extern_of local (sources.Use id kind) name f g = f
@@ -193,27 +193,12 @@ module _ (t : SourceTest) where
     local = extern_or ((r.home == 0) && is_none s.core.map.id.block) (extern_by s.core.local r.source (name_of r)) s.core.local (extern_of s.core.local r.source (name_of r) f.local fine) f.local;
     visits = f.visits;
     reached = f.reached;
-    calls = f.calls;
     edges = f.edges;
   }
-  sourced-act s (reaches rs) f fine = record {
-    map = f.map;
-    local = f.local;
-    visits = f.visits;
-    reached = none_joined (on_reached t) s.core.reached rs f.reached fine;
-    calls = f.calls;
-    edges = f.edges;
-  }
-  sourced-act s (awaits calls) f fine = record {
-    map = f.map;
-    local = f.local;
-    visits = f.visits;
-    reached = f.reached;
-    calls = none_joined (on_call t) s.core.calls calls f.calls fine;
-    edges = f.edges;
-  }
-  sourced-act s (ends i fate) f fine = record { map = f.map; local = f.local; visits = f.visits; reached = f.reached; calls = f.calls; edges = f.edges }
-  sourced-act s settles f fine = record { map = f.map; local = f.local; visits = f.visits; reached = f.reached; calls = f.calls; edges = f.edges }
+  sourced-act s (reaches rs) f fine = record { map = f.map; local = f.local; visits = f.visits; reached = none_joined (on_reached t) s.core.reached rs f.reached fine; edges = f.edges }
+  sourced-act s (awaits calls) f fine = record { map = f.map; local = f.local; visits = f.visits; reached = f.reached; edges = f.edges }
+  sourced-act s (ends i fate) f fine = record { map = f.map; local = f.local; visits = f.visits; reached = f.reached; edges = f.edges }
+  sourced-act s settles f fine = record { map = f.map; local = f.local; visits = f.visits; reached = f.reached; edges = f.edges }
   sourced-act s (changes_imports c) f fine =
       let i : ImportState = import_state s in
       record {
@@ -221,7 +206,6 @@ module _ (t : SourceTest) where
         local = subst (HoldsOfNoExtern t) (sym (local_after i c)) f.local;
         visits = f.visits;
         reached = subst (λ (rs : List ImportDirective). list_any (on_reached t) rs ≡ false) (sym (imports_after i c)) f.reached;
-        calls = f.calls;
         edges = edges_clear i c f.edges fine.1;
       }
   sourced-act s (adds_textual home name makro) f fine =
@@ -231,89 +215,59 @@ module _ (t : SourceTest) where
   sourced-act s (defines node makro) f fine = on_new_map s _ (HoldsNowhereIn-defined s.core.map node makro f.map) f
   sourced-act s (uses_macros macros by) f fine = on_new_map s _ (used_clear t s.core.map macros by fine.0 fine.1 f.map) f
   sourced-act s (tells d) f fine = on_new_map s _ (HoldsNowhereIn-reported s.core.map (s.core.map.diagnostics ++ d ∷ []) f.map) f
-  sourced-act s (goes_on vs) f fine = record { map = f.map; local = f.local; visits = fine; reached = f.reached; calls = f.calls; edges = f.edges }
+  sourced-act s (goes_on vs) f fine = record { map = f.map; local = f.local; visits = fine; reached = f.reached; edges = f.edges }
 
   -- ---- rules
 
-  -- a visibility that is written in a module of the map is clear of the test where modules that are there are
-  module _ (paths : PathsLeadToWhatIsThere) (finished : Maps) (whole : AreWellFormed finished) (s : State) (names : NamesWhatIsThere finished s) (shown : ShowsThere t finished s.core.map) where
-    abbrev maps_there : Maps
-    maps_there = overlay finished s.core.map
-
-    closed : IsClosed maps_there
-    closed = IsClosed-overlay finished s.core.map names.apart whole names.names
-
-    pub written_there : (at : ℕ) → at < length s.core.map.modules → (raw : RawVisibility) → on_visibility t (visibility_in finished s.core.local s.core.map (module_id s.core.map at) raw) ≡ false
-    unfolding visibility_in
-    written_there at low (raws.PubSelf e) = shown (module_id s.core.map at) (module_there finished s.core.map at low)
-    written_there at low raws.PubCrate = refl
-    written_there at low raws.Public = refl
-    written_there at low (raws.Module path e) = by_stop answer.segment_index
-      where
-        answer : Resolution
-        answer = resolution_of maps_there (by_visibility s.core.local) (module_id s.core.map at) path
-
-        there : AreThere maps_there answer.resolved_def
-        there = paths maps_there (by_visibility s.core.local) (module_id s.core.map at) path closed (LocalIsThere-begins maps_there s.core.local names.begins) (module_there finished s.core.map at low)
-
-        within : (b : Bool) (m : ModuleId) → t.shown m ≡ false → t.shown (cond b m (root_of s.core.map.id)) ≡ false
-        within true m g = g
-        within false m g = shown (root_of s.core.map.id) (module_there finished s.core.map 0 names.names.root)
-
-        present : (b : Bool) → not b ≡ false → b ≡ true
-        present true g = refl
-        present false g = absurd (true≢false g)
-
-        by_def : (d : ModuleDefId) → IsThere maps_there d → on_visibility t (unwrap_or (module_seen false s.core.map.id e d) visibilities.Public) ≡ false
-        by_def (definitions.ModuleId m) g = within (same_map m.map s.core.map.id) m (shown m (present (is_some (module_in maps_there m)) g))
-        by_def (definitions.FunctionId x) g = refl
-        by_def (definitions.AdtId x) g = refl
-        by_def (definitions.EnumVariantId x) g = refl
-        by_def (definitions.ConstId x) g = refl
-        by_def (definitions.StaticId x) g = refl
-        by_def (definitions.TraitId x) g = refl
-        by_def (definitions.TypeAliasId x) g = refl
-        by_def (definitions.BuiltinType x) g = refl
-        by_def (definitions.MacroId x) g = refl
-
-        by_type : (o : Option (Item ModuleDefId ImportOrExternCrate)) → FailsAtItem (is_missing maps_there) o → on_visibility t (unwrap_or (type_seen false s.core.map.id e o) visibilities.Public) ≡ false
-        by_type None g = refl
-        by_type (Some i) g = by_def i.def (not_first (test_of (is_missing maps_there) (reference_to i.def)) (test_visibility (is_missing maps_there) i.vis) g)
-
-        by_stop : (o : Option ℕ) → on_visibility t (unwrap_or (path_seen false s.core.map.id e o answer.resolved_def) visibilities.Public) ≡ false
-        by_stop None = by_type answer.resolved_def.types there.types
-        by_stop (Some i) = refl
-
-  -- or where all modules are
-  unseen : ((m : ModuleId) → t.shown m ≡ false) → (vis : Visibility) → on_visibility t vis ≡ false
-  unseen f visibilities.Public = refl
-  unseen f (visibilities.PubCrate c) = refl
-  unseen f (visibilities.Module m e) = f m
-
-  -- the macro that a call reaches is clear of it
-  pub called_clear : PathsAnswerFromSources → (finished : Maps) → HoldsNowhere t finished → (s : State) → IsSourced t s → (d : MacroDirective) (makro : MacroId)
-      → called_macro finished s.core.local s.core.map d ≡ Some makro → on_macro t makro ≡ false
-  called_clear answers finished nowhere s f d makro e =
-      go answer.resolved_def.macros (answers t maps_ (by_call s.core.local) at (path_of_call d) (HoldsNowhere-overlay t finished s.core.map nowhere f.map) f.local).macros e
-    where
-      maps_ : Maps
-      maps_ = overlay finished s.core.map
-
-      at : ModuleId
-      at = numbered s.core.map.id d.site.home
-
-      answer : Resolution
-      answer = resolution_of maps_ (by_call s.core.local) at (path_of_call d)
-
-      go : (o : Option (Item MacroId ImportOrExternCrate)) → on_some (on_macro_item t) o ≡ false → option_map (λ (i : Item MacroId ImportOrExternCrate). i.def) o ≡ Some makro → on_macro t makro ≡ false
-      go None g h = absurd cc
-      go (Some i) g h =
-          let same : i.def ≡ makro = cc in subst (λ (x : MacroId). on_macro t x ≡ false) same (not_first (on_macro t i.def) (on_visibility t i.vis || on_some (on_import t) i.import) g)
-
-  module _ (answers : PathsAnswerFromSources) (finished : Maps) (nowhere : HoldsNowhere t finished) where
-    module _ (s : State) (inside : IsInRange s) (written : SeesNone t finished s) (f : IsSourced t s) where
+  module _ (answers : PathsAnswerFromSources) (paths : PathsLeadToWhatIsThere) (finished : Maps) (whole : AreWellFormed finished) (nowhere : HoldsNowhere t finished) where
+    module _ (s : State) (inside : IsInRange s) (names : NamesWhatIsThere finished s) (shown : ShowsThere t finished s.core.map) (f : IsSourced t s) where
       abbrev maps : Maps
       maps = overlay finished s.core.map
+
+      closed : IsClosed maps
+      closed = IsClosed-overlay finished s.core.map names.apart whole names.names
+
+      -- a visibility that is written in a module of the map
+      written : (at : ℕ) → at < length s.core.map.modules → (raw : RawVisibility) → on_visibility t (visibility_in finished s.core.local s.core.map (module_id s.core.map at) raw) ≡ false
+      unfolding visibility_in
+      written at low (raws.PubSelf e) = shown (module_id s.core.map at) (module_there finished s.core.map at low)
+      written at low raws.PubCrate = refl
+      written at low raws.Public = refl
+      written at low (raws.Module path e) = by_stop answer.segment_index
+        where
+          answer : Resolution
+          answer = resolution_of maps (by_visibility s.core.local) (module_id s.core.map at) path
+
+          there : AreThere maps answer.resolved_def
+          there = paths maps (by_visibility s.core.local) (module_id s.core.map at) path closed (LocalIsThere-begins maps s.core.local names.begins) (module_there finished s.core.map at low)
+
+          within : (b : Bool) (m : ModuleId) → t.shown m ≡ false → t.shown (cond b m (root_of s.core.map.id)) ≡ false
+          within true m g = g
+          within false m g = shown (root_of s.core.map.id) (module_there finished s.core.map 0 names.names.root)
+
+          present : (b : Bool) → not b ≡ false → b ≡ true
+          present true g = refl
+          present false g = absurd (true≢false g)
+
+          by_def : (d : ModuleDefId) → IsThere maps d → on_visibility t (unwrap_or (module_seen false s.core.map.id e d) visibilities.Public) ≡ false
+          by_def (definitions.ModuleId m) g = within (same_map m.map s.core.map.id) m (shown m (present (is_some (module_in maps m)) g))
+          by_def (definitions.FunctionId x) g = refl
+          by_def (definitions.AdtId x) g = refl
+          by_def (definitions.EnumVariantId x) g = refl
+          by_def (definitions.ConstId x) g = refl
+          by_def (definitions.StaticId x) g = refl
+          by_def (definitions.TraitId x) g = refl
+          by_def (definitions.TypeAliasId x) g = refl
+          by_def (definitions.BuiltinType x) g = refl
+          by_def (definitions.MacroId x) g = refl
+
+          by_type : (o : Option (Item ModuleDefId ImportOrExternCrate)) → FailsAtItem (is_missing maps) o → on_visibility t (unwrap_or (type_seen false s.core.map.id e o) visibilities.Public) ≡ false
+          by_type None g = refl
+          by_type (Some i) g = by_def i.def (not_first (test_of (is_missing maps) (reference_to i.def)) (test_visibility (is_missing maps) i.vis) g)
+
+          by_stop : (o : Option ℕ) → on_visibility t (unwrap_or (path_seen false s.core.map.id e o answer.resolved_def) visibilities.Public) ≡ false
+          by_stop None = by_type answer.resolved_def.types there.types
+          by_stop (Some i) = refl
 
       all_written : (at : ℕ) → at < length s.core.map.modules → (rest : List RawVisibility) → list_any (on_visibility t) (list_map (visibility_in finished s.core.local s.core.map (module_id s.core.map at)) rest) ≡ false
       all_written at low [] = refl
@@ -520,7 +474,7 @@ module _ (t : SourceTest) where
       brings_none (declares_enum site head name found rest) may read =
           let id : EnumId = enum_id s.core.map site head.id in
           let bare = bare_type (definitions.AdtId (adts.EnumId id)) (own_visibility finished s.core.local s.core.map site head) (file _ rest may.next) (written site.home (low _ rest may.next) head.visibility) in
-          (left _ rest may.next, (of_variants t id (file _ rest may.next) found, (tt, (bare t, tt))))
+          (left _ rest may.next, (of_variants t id (file _ rest may.next) found, (tt, (bare, tt))))
       brings_none (lists_constant site head rest) may read = (left _ rest may.next, (tt, tt))
       brings_none (lists_impl site head of_trait rest) may read = (left _ rest may.next, (tt, tt))
       brings_none (opens_module site head name items rest) may read =
@@ -568,8 +522,7 @@ module _ (t : SourceTest) where
           (left _ rest may.next, (tt, (tt, (bare_macro makro (own_visibility finished s.core.local s.core.map site head) own (written site.home (low _ rest may.next) head.visibility), fine_reporting BringsNone _ _ expander (λ at. tt) _))))
       brings_none (closes_module parent child rest) may read =
           (subst (λ (ts : List Task). list_any (on_site t) ts ≡ false) may f.visits, (tt, tt))
-      brings_none (reaches_call site head path rest) may read =
-          (left _ rest may.next, (neither (t.holder site.tree.file site.tree.block) false (file _ rest may.next) refl, (tt, tt)))
+      brings_none (reaches_call site head path rest) may read = (left _ rest may.next, (tt, tt))
       brings_none rests may read = (tt, tt)
       brings_none (expands_call i d makro x) may read =
           let own : t.holder (Macro x.id) None ≡ false = read (call_key s.core.map.id.krate x.id) (expansion_read s.core.map.id.krate d makro x) in
@@ -581,29 +534,19 @@ module _ (t : SourceTest) where
       sourced-Step env new step clear =
           let read : (key : TreeKey) → Contains (keys_read (reads s step.rule)) (keys.Tree key) → t.holder key.id.file key.id.block ≡ false =
           λ key h. clear key (subst (λ (ks : List Key). Contains ks (keys.Tree key)) (sym (asked-Step step)) (Contains-append_right s.core.asked (keys_read (reads s step.rule)) (keys.Tree key) h)) in
-          let first : IsSourced t (asking s step.rule) = record { map = f.map; local = f.local; visits = f.visits; reached = f.reached; calls = f.calls; edges = f.edges } in
+          let first : IsSourced t (asking s step.rule) = record { map = f.map; local = f.local; visits = f.visits; reached = f.reached; edges = f.edges } in
           let done = perform_keeps (IsSourced t) BringsNone sourced-act (acts finished s step.rule) (asking s step.rule) first (brings_none step.rule step.may read) in
-          subst (IsSourced t) (sym step.is) (record { map = done.map; local = done.local; visits = done.visits; reached = done.reached; calls = done.calls; edges = done.edges })
+          subst (IsSourced t) (sym step.is) (record { map = done.map; local = done.local; visits = done.visits; reached = done.reached; edges = done.edges })
 
-    -- so are all states to which steps lead, as far as the test holds of no source that was asked for, and of no module
-    pub steps_sourced : ((m : ModuleId) → t.shown m ≡ false) → (env : Environment) (from to : State) → IsInRange from → IsSourced t from → Steps env finished from to → AreClear t to → IsSourced t to
-    steps_sourced shown env from to inside first none clear = first
-    steps_sourced shown env from to inside first (more old new before last) clear =
+    -- so are all states to which steps lead, as far as the test holds of no module there, and of no source that was asked for
+    all_sourced : (env : Environment) (from to : State) → IsInRange from → NamesWhatIsThere finished from → IsSourced t from → Steps env finished from to → ShowsThere t finished to.core.map
+        → AreClear t to → IsSourced t to
+    all_sourced env from to inside names first none shown clear = first
+    all_sourced env from to inside names first (more old new before last) shown clear =
+        let earlier : ShowsThere t finished old.core.map = λ m e. shown m (stays_there finished old.core.map new.core.map (id-Step last) (Grows-Step last) m e) in
         let asked : AreClear t old = λ key h. clear key (still_asked-Step last (keys.Tree key) h) in
-        let seen : SeesNone t finished old = λ at below raw. unseen shown (visibility_in finished old.core.local old.core.map (module_id old.core.map at) raw) in
-        sourced-Step old (in_range-Steps before inside) seen (steps_sourced shown env from old inside first before asked) env new last clear
-
-    -- or of no module that is there
-    module _ (paths : PathsLeadToWhatIsThere) (whole : AreWellFormed finished) where
-      all_sourced : (env : Environment) (from to : State) → IsInRange from → NamesWhatIsThere finished from → IsSourced t from → Steps env finished from to → ShowsThere t finished to.core.map
-          → AreClear t to → IsSourced t to
-      all_sourced env from to inside names first none shown clear = first
-      all_sourced env from to inside names first (more old new before last) shown clear =
-          let earlier : ShowsThere t finished old.core.map = λ m e. shown m (stays_there finished old.core.map new.core.map (id-Step last) (Grows-Step last) m e) in
-          let asked : AreClear t old = λ key h. clear key (still_asked-Step last (keys.Tree key) h) in
-          let there : NamesWhatIsThere finished old = steps_keep paths finished whole env from old inside names before in
-          sourced-Step old (in_range-Steps before inside) (written_there paths finished whole old there earlier)
-          (all_sourced env from old inside names first before earlier asked) env new last clear
+        sourced-Step old (in_range-Steps before inside) (steps_keep paths finished whole env from old inside names before) earlier
+        (all_sourced env from old inside names first before earlier asked) env new last clear
 
   -- ---- where a run begins
 
@@ -619,7 +562,7 @@ module _ (t : SourceTest) where
   root_nowhere : (start : Start) → on_origin t (origin_of start) ≡ false
   root_nowhere (starts.Crate krate root) = refl
 
-  pub first_sourced : (finished : Maps) → HoldsNowhere t finished → (tables : TablesValue) (w : Workspace) (from : Beginning) → t.holder from.tree.file from.tree.block ≡ false → IsSourced t (start_of tables w finished from)
+  first_sourced : (finished : Maps) → HoldsNowhere t finished → (tables : TablesValue) (w : Workspace) (from : Beginning) → t.holder from.tree.file from.tree.block ≡ false → IsSourced t (start_of tables w finished from)
   first_sourced finished nowhere tables w from written =
       let tree = root_tree tables w from in
       let krate : Crate = krate_of from.start in
@@ -632,7 +575,6 @@ module _ (t : SourceTest) where
         local = local_begins crate_data [] (dependencies_in w krate) refl;
         visits = go (is_enabled tree.attributes) tree.items;
         reached = refl;
-        calls = refl;
         edges = refl;
       }
     where
@@ -661,5 +603,5 @@ module _ (t : SourceTest) where
       let above : ShowsThere t finished reported = subst (λ (x : Map). ShowsThere t finished x) e.map_is clear.shown in
       let grows : Grows m reported = let same_map : Grows m m = Grows-same m in record { longer = same_map.longer; kept = same_map.kept; listed = same_map.listed } in
       let shown : ShowsThere t finished m = λ at there. above at (stays_there finished m reported refl grows at there) in
-      let end : IsSourced t e.last = all_sourced answers finished clear.read paths whole env begun e.last (in_range-start tables w (read_by w all from.start) from) names first derived shown asked in
+      let end : IsSourced t e.last = all_sourced answers paths finished whole clear.read env begun e.last (in_range-start tables w (read_by w all from.start) from) names first derived shown asked in
       (subst (HoldsNowhereIn t) (sym e.map_is) (HoldsNowhereIn-reported m reports end.map), subst (HoldsOfNoExtern t) (sym e.local_is) end.local)

@@ -1,5 +1,5 @@
 -- What binds only from sources?
-use Rattle.std.specs.Prelude.{◌≡◌, ℕ, zero, suc, ◌<◌, ◌≤◌, List, [], ◌∷◌, length, Bool, true, false, is_some, Some, cond, option_and_then, slice_get}
+use Rattle.std.specs.Prelude.{◌≡◌, ℕ, zero, suc, ◌≤◌, List, [], ◌∷◌, length, Bool, true, false, is_some, Some, cond, option_and_then, slice_get}
 use Rattle.std.specs.List.{list_any}
 use Rattle.std.proofs.Common.{Contains, ap, refl, sym, ◌∙◌, arith}
 use mathlib.Core.Bool.{true≢false}
@@ -7,18 +7,14 @@ use Rattle.hir_base.specs.contracts.ids.MapIdPartialEq.TheImpl as map_id
 use Rattle.hir_base.specs.declared.ids.MapId.{MapId}
 use Rattle.hir_base.specs.declared.ids.ModuleId.{ModuleId}
 use Rattle.hir_item_tree.specs.KeptForest.{holder}
-use Rattle.hir_item_tree.specs.declared.raw_visibility.RawVisibility.{RawVisibility}
 use Rattle.hir_item_tree.specs.declared.tree_id.TreeKey.{TreeKey}
 use Rattle.hir_def_map.specs.Closed.{ModuleIsThere}
-use Rattle.hir_def_map.specs.Sources.{HoldsNowhereIn, HoldsOfNoExtern, SourceTest, on_import, on_visibility}
+use Rattle.hir_def_map.specs.Sources.{HoldsNowhereIn, HoldsOfNoExtern, SourceTest, on_import}
 use Rattle.hir_def_map.specs.State.{Map, module_at}
 use Rattle.hir_def_map.specs.Overlay.{Maps, Placed, overlay, placed_in}
 use Rattle.hir_glob_imports.specs.Rules.{brings}
 use Rattle.hir_import_resolution.specs.declared.directive.ImportDirective.{ImportDirective}
 use Rattle.hir_import_resolution.specs.Directives.{way_of}
-use Rattle.hir_import_resolution.specs.Visibilities.{visibility_in}
-use Rattle.hir_def_collector.specs.ItemIds.{module_id}
-use Rattle.hir_def_collector.specs.declared.collector.macro_directive.MacroDirective.{MacroDirective}
 use Rattle.hir_def_collector.specs.State.{State, Task, visits, closes}
 use Rattle.hir_def_collector.specs.declared.source_database.Key.TheVariants as keys
 use Rattle.hir_def_collector.proofs.Grows.{Grows}
@@ -33,16 +29,12 @@ on_site t (closes parent child) = false
 abbrev pub on_reached : SourceTest → ImportDirective → Bool
 on_reached t r = on_import t (way_of r.source)
 
-abbrev pub on_call : SourceTest → MacroDirective → Bool
-on_call t d = t.holder d.site.tree.file d.site.tree.block
-
 -- a test holds of nothing that a run has come upon
 pub record IsSourced (t : SourceTest) (s : State) : Type 0 where
   pub map : HoldsNowhereIn t s.core.map
   pub local : HoldsOfNoExtern t s.core.local
   pub visits : list_any (on_site t) s.agenda ≡ false
   pub reached : list_any (on_reached t) s.core.reached ≡ false
-  pub calls : list_any (on_call t) s.core.calls ≡ false
   pub edges : list_any (on_edge t) s.core.globs.edges ≡ false
 
 -- nor of a source that was asked for
@@ -52,10 +44,6 @@ AreClear t s = (key : TreeKey) → Contains s.core.asked (keys.Tree key) → t.h
 -- nor of a module that is there
 abbrev pub ShowsThere : SourceTest → Maps → Map → Type 0
 ShowsThere t finished m = (at : ModuleId) → ModuleIsThere (overlay finished m) at → t.shown at ≡ false
-
--- nor of who may see what is written in a module of the map
-abbrev pub SeesNone : SourceTest → Maps → State → Type 0
-SeesNone t finished s = (at : ℕ) → at < length s.core.map.modules → (raw : RawVisibility) → on_visibility t (visibility_in finished s.core.local s.core.map (module_id s.core.map at) raw) ≡ false
 
 -- ---- modules stay there
 
