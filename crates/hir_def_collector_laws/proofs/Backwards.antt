@@ -206,7 +206,7 @@ module _ (tables : TablesValue) (w : Workspace) (finished : Maps) (from : Beginn
       -- a module with items
       filled_back : (i : KeptItem) (rest : List Task) (inner : Site) (items : KeptForest) → inner.home ≡ count → inner.extern_block ≡ None → VisitsBelow count rest
           → (IsModuleOf answer.map site origin count → Begins (λ defs. Declares tables w finished answer items inner defs) (declarations_of (module_at answer.map count))
-              → DeclaresOne tables w finished answer i site (module_alone answer.map count))
+          → DeclaresOne tables w finished answer i site (module_alone answer.map count))
           → ((im : IsModuleOf answer.map site origin count) → HasItems tables w finished from answer im.value.origin inner items)
           → Ahead Made (visits_over inner items ++ rest) → Ahead m (visits (visit site i) ∷ rest)
       filled_back i rest inner items here alone apart declares has q =
@@ -386,12 +386,12 @@ module _ (tables : TablesValue) (w : Workspace) (finished : Maps) (from : Beginn
         let cs : List Change = takes_textual count site.home ∷ goes_on next ∷ declaring site.home (module_declaration m name vis) in
         let empty : dir ≡ None → declarations_of (module_at answer.map count) ≡ [] =
         λ deep. bare
-            (record {
-              there = is_there tables w finished from answer (asking s r) site.home name (inline_origin site.tree head.id) vis cs apart.0 refl (making_adds site name vis next);
-              visits = subst (λ (o : Option Directory). VisitsApart count (visits_inside m site head o items ++ rest)) (sym deep) (visits_apart count rest apart.1);
-              calls = calls_apart count s.core.calls inside.calls;
-            })
-            (lists_nothing tables w finished from answer (asking s r) site.home name (inline_origin site.tree head.id) vis cs apart.0 refl (making_adds site name vis next)) in
+        (record {
+          there = is_there tables w finished from answer (asking s r) site.home name (inline_origin site.tree head.id) vis cs apart.0 refl (making_adds site name vis next);
+          visits = subst (λ (o : Option Directory). VisitsApart count (visits_inside m site head o items ++ rest)) (sym deep) (visits_apart count rest apart.1);
+          calls = calls_apart count s.core.calls inside.calls;
+        })
+        (lists_nothing tables w finished from answer (asking s r) site.home name (inline_origin site.tree head.id) vis cs apart.0 refl (making_adds site name vis next)) in
         at_next may.next (inline_back site head name items rest may.enabled apart.0 apart.1 (placed _ rest may.next) dir refl empty q)
     back_rule (opens_file site head name search file rest) may sees numbers read edition bare q =
         let apart = below _ rest may.looks.here.next in

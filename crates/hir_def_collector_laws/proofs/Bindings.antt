@@ -58,6 +58,7 @@ use Rattle.hir_import_resolution.specs.State.{ImportState, glob_state, scopes_of
 use Rattle.hir_import_resolution.specs.declared.directive.ImportDirective.{ImportDirective}
 use Rattle.hir_import_resolution.specs.declared.directive.ImportSource.{ImportSource}
 use Rattle.hir_import_resolution.specs.declared.directive.ImportSource.TheVariants as sources
+use Rattle.hir_def_collector.specs.Calls.{error_of}
 use Rattle.hir_def_collector.specs.Changes.{Change, lists, makes, gives_variants, begins_paths, reaches, awaits, ends, settles, changes_imports, adds_textual, takes_textual, defines, uses_macros, tells, goes_on, act, perform}
 use Rattle.hir_def_collector.specs.Derivation.{CollectedValue, Ends}
 use Rattle.hir_def_collector.specs.ItemIds.{module_id}
@@ -85,6 +86,9 @@ grown-act s (makes home name origin visibility) r h = h
 grown-act s (gives_variants id variants) r h = h
 grown-act s (begins_paths i) r h = h
 grown-act s (reaches rs) r h = Contains-append_left s.core.reached rs r h
+grown-act s (awaits calls) r h = h
+grown-act s (ends i fate) r h = h
+grown-act s settles r h = h
 grown-act s (changes_imports c) r h = subst (λ (rs : List ImportDirective). Contains rs r) (sym (imports_after (import_state s) c)) h
 grown-act s (adds_textual home name makro) r h = h
 grown-act s (takes_textual home from_) r h = h
@@ -359,6 +363,9 @@ module _ (rs : List ImportDirective) where
   IsFineChange s (gives_variants id variants) = Unit {0}
   IsFineChange s (begins_paths r) = Unit {0}
   IsFineChange s (reaches found) = Unit {0}
+  IsFineChange s (awaits calls) = Unit {0}
+  IsFineChange s (ends i fate) = Unit {0}
+  IsFineChange s settles = Unit {0}
   IsFineChange s (changes_imports c) = IsFineImport c
   IsFineChange s (adds_textual home name makro) = Unit {0}
   IsFineChange s (takes_textual home from_) = Unit {0}
@@ -419,6 +426,9 @@ module _ (rs : List ImportDirective) where
   fine-act s (gives_variants id variants) f fine = record { modules = f.modules }
   fine-act s (begins_paths r) f fine = record { modules = f.modules }
   fine-act s (reaches found) f fine = record { modules = f.modules }
+  fine-act s (awaits calls) f fine = record { modules = f.modules }
+  fine-act s (ends i fate) f fine = record { modules = f.modules }
+  fine-act s settles f fine = record { modules = f.modules }
   fine-act s (changes_imports c) f fine = record {
     modules = subst (λ (m : Map). AreFine m.modules) (sym (map_after (import_state s) c)) (edited_fine s.core.map (edit_of (import_state s) c) (fine_edits (import_state s) c fine) f.modules);
   }
@@ -496,7 +506,10 @@ module _ (rs : List ImportDirective) where
     fine_rule (defines_rules site head name expander helpers rest) may = (tt, (tt, (tt, fine_macro IsFineChange _ _ expander (λ t. tt) head name _ (λ t. none_fine 0) _)))
     fine_rule (defines_macro site head name expander helpers rest) may = (tt, (tt, (tt, (none_fine site.home, fine_reporting IsFineChange _ _ expander (λ t. tt) _))))
     fine_rule (closes_module parent child rest) may = (tt, (tt, tt))
-    fine_rule (passes_over site head l rest) may = (tt, tt)
+    fine_rule (reaches_call site head path rest) may = (tt, (tt, tt))
+    fine_rule rests may = (tt, tt)
+    fine_rule (expands_call i d makro x) may = (tt, (tt, fine_failing IsFineChange _ d (error_of x.there) (λ t text. tt) _))
+    fine_rule (drops_call i d) may = (tt, tt)
     fine_rule (resolves_imports rule) may = imports_all (import_acts finished (import_state s) rule) (asking s (resolves_imports rule)) (rule_all rule may)
 
 module _ (tables : TablesValue) (w : Workspace) (from : Beginning) (answer : CollectedValue) (rs : List ImportDirective) where

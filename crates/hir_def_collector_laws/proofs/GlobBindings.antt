@@ -44,6 +44,7 @@ use Rattle.hir_import_resolution.specs.State.{glob_state, scopes_of}
 use Rattle.hir_import_resolution.specs.Visibilities.{greater_in, lesser_in}
 use Rattle.hir_import_resolution.specs.declared.directive.ImportSource.{ImportSource}
 use Rattle.hir_import_resolution.specs.declared.directive.ImportSource.TheVariants as sources
+use Rattle.hir_def_collector.specs.Calls.{error_of}
 use Rattle.hir_def_collector.specs.Changes.{Change, lists, makes, gives_variants, begins_paths, reaches, awaits, ends, settles, changes_imports, adds_textual, takes_textual, defines, uses_macros, tells, goes_on, act, perform}
 use Rattle.hir_def_collector.specs.Derivation.{CollectedValue, Ends}
 use Rattle.hir_def_collector.specs.ItemIds.{module_id}
@@ -78,6 +79,9 @@ IsFine s (makes home name origin visibility) = Unit {0}
 IsFine s (gives_variants id variants) = Unit {0}
 IsFine s (begins_paths r) = Unit {0}
 IsFine s (reaches found) = Unit {0}
+IsFine s (awaits calls) = Unit {0}
+IsFine s (ends i fate) = Unit {0}
+IsFine s settles = Unit {0}
 IsFine s (changes_imports c) = IsFineImport s c
 IsFine s (adds_textual home name makro) = Unit {0}
 IsFine s (takes_textual home from_) = Unit {0}
@@ -111,6 +115,9 @@ noted-act s (makes home name origin visibility) f fine = record {
 noted-act s (gives_variants id variants) f fine = record { modules = f.modules }
 noted-act s (begins_paths r) f fine = record { modules = f.modules }
 noted-act s (reaches found) f fine = record { modules = f.modules }
+noted-act s (awaits calls) f fine = record { modules = f.modules }
+noted-act s (ends i fate) f fine = record { modules = f.modules }
+noted-act s settles f fine = record { modules = f.modules }
 noted-act s (changes_imports c) f fine = noted-imports s c f fine
 noted-act s (adds_textual home name makro) f fine = record { modules = noted_rescoped s.core.map.modules home (with_module_scope _) (λ m. record { types = refl; values = refl; macros = refl }) f.modules }
 noted-act s (takes_textual home from_) f fine = record { modules = noted_rescoped s.core.map.modules home (with_module_scope _) (λ m. record { types = refl; values = refl; macros = refl }) f.modules }
@@ -309,7 +316,10 @@ module _ (finished : Maps) (s : State) (f : IsNotedState s) where
   rule_noted (defines_macro site head name expander helpers rest) may =
       by_changes (defines_macro site head name expander helpers rest) (tt, (tt, (tt, (refl, fine_reporting IsFine _ _ expander (λ t. tt) _))))
   rule_noted (closes_module parent child rest) may = by_changes (closes_module parent child rest) (tt, (tt, tt))
-  rule_noted (passes_over site head l rest) may = by_changes (passes_over site head l rest) (tt, tt)
+  rule_noted (reaches_call site head path rest) may = by_changes (reaches_call site head path rest) (tt, (tt, tt))
+  rule_noted rests may = by_changes rests (tt, tt)
+  rule_noted (expands_call i d makro x) may = by_changes (expands_call i d makro x) (tt, (tt, fine_failing IsFine _ d (error_of x.there) (λ t text. tt) _))
+  rule_noted (drops_call i d) may = by_changes (drops_call i d) (tt, tt)
   rule_noted (resolves_imports rule) may = import_noted rule may
 
 noted-Steps : {env : Environment} {finished : Maps} {begun last : State} → IsNotedState begun → Steps env finished begun last → IsNotedState last

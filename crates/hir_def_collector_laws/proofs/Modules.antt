@@ -47,7 +47,7 @@ module _ (tables : TablesValue) (w : Workspace) (finished : Maps) (from : Beginn
       back_rule tables w finished from answer old inside f step.rule step.may step.sees step.numbered read
       (sym (ap (λ (d : CrateData). d.edition) (data-perform (acts finished old step.rule) (asking old step.rule))) ∙ now.edition)
       (λ idle nothing. same (length old.core.map.modules)
-          ∙ lists_nothing_later (length old.core.map.modules) (subst (λ (t : State). Steps (environment tables w) finished t last) step.is later) idle nothing)
+      ∙ lists_nothing_later (length old.core.map.modules) (subst (λ (t : State). Steps (environment tables w) finished t last) step.is later) idle nothing)
       now
 
   back_Steps : {begun at last : State} → ((n : ℕ) → declarations_of (module_at answer.map n) ≡ declarations_of (module_at last.core.map n)) → answer.map.id.krate ≡ krate_of from.start → IsInRange begun

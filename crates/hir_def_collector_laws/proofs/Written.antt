@@ -149,6 +149,11 @@ module _ (tables : TablesValue) (w : Workspace) (from : Beginning) (answer : Col
   call_placed (x ∷ xs) zero d f e = let same : x ≡ d = cc in subst (λ (y : MacroDirective). IsCall tables w answer.asked own.krate y) same f.0
   call_placed (x ∷ xs) (suc i) d f e = call_placed xs i d f.1 e
 
+  pub call_among : (ds : List MacroDirective) (d : MacroDirective) → AreCalls ds → Contains ds d → IsCall tables w answer.asked own.krate d
+  call_among [] d f (n, below, is) = absurd (omega arith)
+  call_among (x ∷ xs) d f (zero, below, is) = subst (λ (y : MacroDirective). IsCall tables w answer.asked own.krate y) is f.0
+  call_among (x ∷ xs) d f (suc n, below, is) = call_among xs d f.1 (n, omega (arith, below), is)
+
   -- ---- imports of one item
 
   module _ (site : Site) (head : Head) (on : is_enabled head.attributes ≡ true) where
@@ -336,14 +341,14 @@ module _ (tables : TablesValue) (w : Workspace) (from : Beginning) (answer : Col
 
     -- the globs that are recorded once one is
     recorded : {v : View} (new : List Edge) (e : Edge) → IsOfGlob s.core.reached e → Records v s.core.globs.edges new e → AreOfGlobs s.core.reached new
-    recorded new e g (widens j d wide at ends by is) edge h =
+    recorded new e g (widens j d wide at end by is) edge h =
         elim (replaced s.core.globs.edges j _ edge (subst (λ (xs : List Edge). Contains xs edge) is h)) as (λ _. IsOfGlob s.core.reached edge) [
           | inl old ↦ f.globs edge old
           | inr now ↦
               let before : IsOfGlob s.core.reached d = f.globs d (standing s.core.globs.edges j d at) in
               subst (λ (x : Edge). IsOfGlob s.core.reached x) now (record { directive = before.directive; among = before.among; is_glob = before.is_glob; into = before.into })
         ]
-    recorded new e g (stays j d at ends by is) edge h = f.globs edge (subst (λ (xs : List Edge). Contains xs edge) is h)
+    recorded new e g (stays j d at end by is) edge h = f.globs edge (subst (λ (xs : List Edge). Contains xs edge) is h)
     recorded new e g (adds apart is) edge h =
         elim (Contains-append_cases s.core.globs.edges (e ∷ []) edge (subst (λ (xs : List Edge). Contains xs edge) is h)) as (λ _. IsOfGlob s.core.reached edge) [
           | inl old ↦ f.globs edge old
