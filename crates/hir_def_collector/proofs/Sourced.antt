@@ -111,7 +111,7 @@ use Rattle.hir_def_collector.proofs.WholeChanges.{NamesWhatIsThere}
 use Rattle.hir_def_collector.proofs.SourcedState.{on_site, on_reached, IsSourced, AreClear, ShowsThere, stays_there}
 
 -- a call that reaches a macro asks for what it expands to
-pub expansion_read : (own : Crate) (d : MacroDirective) (makro : MacroId) (x : Expanding) → Contains (keys_read (text_readings makro x.text ++ expansion_readings own d x)) (keys.Tree (call_key own x.id))
+expansion_read : (own : Crate) (d : MacroDirective) (makro : MacroId) (x : Expanding) → Contains (keys_read (text_readings makro x.text ++ expansion_readings own d x)) (keys.Tree (call_key own x.id))
 expansion_read own d (macros.Macro2Id id) x = (3, omega arith, refl)
 expansion_read own d (macros.MacroRulesId id) x = (3, omega arith, refl)
 expansion_read own d (macros.ProcMacroId id) x = (2, omega arith, refl)

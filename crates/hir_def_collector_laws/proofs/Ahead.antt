@@ -1,5 +1,5 @@
 -- A run's map seen from a state on the way: each module lists what it lists there, and what is still to be visited declares.
-use Rattle.std.proofs.Common.{◌≡◌, ◌∙◌, ◌<◌, ◌≤◌, ◌+◌, ℕ, Bool, true, false, List, [], ◌∷◌, ◌++◌, length, Option, Some, inl, inr, refl, sym, ap, subst, arith, append_assoc}
+use Rattle.std.proofs.Common.{◌≡◌, ◌∙◌, ◌<◌, ◌≤◌, ◌+◌, ℕ, Bool, true, false, List, [], ◌∷◌, ◌++◌, length, Option, Some, inl, inr, refl, sym, ap, subst, arith, append-nil, append_assoc}
 use Rattle.std.proofs.lemmas.Bool.{cases_lt}
 use Rattle.hir_base.specs.declared.ids.MapId.{MapId}
 use Rattle.hir_base.specs.declared.ids.ModuleDefId.{ModuleDefId}
@@ -221,41 +221,31 @@ module _ (tables : TablesValue) (w : Workspace) (finished : Maps) (from : Beginn
             | inr here ↦ subst (λ (n : ℕ). ListsItsItems tables w finished from answer n) (omega (arith, past, here)) lists
           ])
 
-    -- where the items of one site in it come next, and other items once nothing is left to be visited
-    module _ (inner : Site) (items : KeptForest) (rest later : List Task) (here : inner.home ≡ number) (apart : VisitsBelow number rest) (q : IsAhead new_map (visits_over inner items ++ (rest ++ later))) where
+    -- where the items of one site in it come next
+    module _ (inner : Site) (items : KeptForest) (rest : List Task) (here : inner.home ≡ number) (apart : VisitsBelow number rest) (q : IsAhead new_map (visits_over inner items ++ rest)) where
       abbrev first_visits : AllDeclare (visits_over inner items)
-      first_visits = earlier (visits_over inner items) (rest ++ later) q.pending
+      first_visits = earlier (visits_over inner items) rest q.pending
 
-      abbrev last_visits : AllDeclare (rest ++ later)
-      last_visits = others (visits_over inner items) (rest ++ later) q.pending
+      abbrev last_visits : AllDeclare rest
+      last_visits = others (visits_over inner items) rest q.pending
 
-      abbrev pub later_visits : AllDeclare later
-      later_visits = others rest later last_visits
-
-      abbrev pub inside_defs : List ModuleDefId
+      abbrev inside_defs : List ModuleDefId
       inside_defs = altogether inner items first_visits
 
-      abbrev pub later_defs : List ModuleDefId
-      later_defs = gathered number later later_visits
-
-      gathered_last : gathered number (rest ++ later) last_visits ≡ later_defs
-      gathered_last = gathered_both number rest later last_visits ∙ ap (λ (xs : List ModuleDefId). xs ++ later_defs) (gathered_below number rest (earlier rest later last_visits) apart)
-
-      pub items_declare : Declares tables w finished answer items inner inside_defs
-      items_declare = declare_altogether inner items first_visits
-
-      pub items_listed : declarations_of (module_at answer.map number) ≡ inside_defs ++ later_defs
-      items_listed =
-          module_lists q
-          ∙ gathered_both number (visits_over inner items) (rest ++ later) q.pending
-          ∙ ap (λ (xs : List ModuleDefId). gathered number (visits_over inner items) first_visits ++ xs) gathered_last
-          ∙ ap (λ (xs : List ModuleDefId). xs ++ later_defs)
-          (gathered_at number inner items first_visits
+      gathered_here : gathered number (visits_over inner items ++ rest) q.pending ≡ inside_defs
+      gathered_here =
+          gathered_both number (visits_over inner items) rest q.pending
+          ∙ ap (λ (xs : List ModuleDefId). gathered number (visits_over inner items) first_visits ++ xs) (gathered_below number rest last_visits apart)
+          ∙ append-nil (gathered number (visits_over inner items) first_visits)
+          ∙ gathered_at number inner items first_visits
           ∙ ap (λ (h : ℕ). at_home h number inside_defs) here
-          ∙ at_home-same number inside_defs)
+          ∙ at_home-same number inside_defs
 
-      pub items_apart : (k : ℕ) → k < number → gathered k (visits_over inner items ++ (rest ++ later)) q.pending ≡ gathered k (rest ++ later) last_visits
+      pub items_listed : Declares tables w finished answer items inner (declarations_of (module_at answer.map number))
+      items_listed = subst (λ (defs : List ModuleDefId). Declares tables w finished answer items inner defs) (sym (module_lists q ∙ gathered_here)) (declare_altogether inner items first_visits)
+
+      pub items_apart : (k : ℕ) → k < number → gathered k (visits_over inner items ++ rest) q.pending ≡ gathered k rest last_visits
       items_apart k low_k =
-          gathered_both k (visits_over inner items) (rest ++ later) q.pending
-          ∙ ap (λ (xs : List ModuleDefId). xs ++ gathered k (rest ++ later) last_visits)
+          gathered_both k (visits_over inner items) rest q.pending
+          ∙ ap (λ (xs : List ModuleDefId). xs ++ gathered k rest last_visits)
           (gathered_at k inner items first_visits ∙ at_home-above inner.home k inside_defs (omega (arith, low_k, here)))

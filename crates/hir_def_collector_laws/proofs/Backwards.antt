@@ -1,5 +1,5 @@
 -- Back over one step: what the next item declares is what it lists, and what the items that come next in it declare.
-use Rattle.std.proofs.Common.{◌≡◌, ◌∙◌, ◌<◌, ◌+◌, ℕ, List, [], ◌∷◌, ◌++◌, length, ◌||◌, Bool, true, false, Option, None, Some, map as list_map, refl, sym, ap, subst, arith, Contains, append-nil, append_assoc}
+use Rattle.std.proofs.Common.{◌≡◌, ◌∙◌, ◌<◌, ◌+◌, ℕ, List, [], ◌∷◌, ◌++◌, length, ◌||◌, Bool, true, false, Option, None, Some, map as list_map, refl, sym, ap, subst, Contains, append-nil}
 use Rattle.hir_base.specs.Cfg.{Cfg}
 use Rattle.hir_base.specs.declared.edition.Edition.{Edition}
 use Rattle.hir_base.specs.declared.ast_id.AstId.{AstId}
@@ -7,7 +7,6 @@ use Rattle.hir_base.specs.declared.ast_id.AstKind.TheVariants as nodes
 use Rattle.hir_base.specs.declared.ids.AdtId.TheVariants as adts
 use Rattle.hir_base.specs.declared.ids.Crate.{Crate}
 use Rattle.hir_base.specs.declared.ids.MapId.{MapId}
-use Rattle.hir_base.specs.declared.ids.ModuleId.{ModuleId}
 use Rattle.hir_base.specs.declared.ids.ModuleDefId.{ModuleDefId}
 use Rattle.hir_base.specs.declared.ids.ModuleDefId.TheVariants as definitions
 use Rattle.hir_base.specs.declared.macro_kind.MacroId.{MacroId}
@@ -27,35 +26,29 @@ use Rattle.hir_def_map.specs.declared.nameres.origin.ModuleOrigin.{ModuleOrigin}
 use Rattle.hir_import_resolution.specs.Changes.{Change as ImportChange}
 use Rattle.hir_import_resolution.specs.Rules.{acts as import_acts}
 use Rattle.hir_def_collector.specs.declared.collector.declaration.Declaration.{Declaration}
-use Rattle.hir_def_collector.specs.declared.collector.macro_directive.Fate.TheVariants.{Handled}
-use Rattle.hir_def_collector.specs.declared.collector.macro_directive.MacroDirective.{MacroDirective}
 use Rattle.hir_def_collector.specs.declared.collector.site.Site.{Site}
 use Rattle.hir_def_collector.specs.declared.source_database.Key.TheVariants as keys
 use Rattle.hir_def_collector.specs.Causes.{declarations_of}
-use Rattle.hir_def_collector.specs.Calls.{call_site, error_of}
-use Rattle.hir_def_collector.specs.Changes.{Change, act, adds_textual, changes_imports, defines, ends, goes_on, makes, perform, takes_textual, tells}
+use Rattle.hir_def_collector.specs.Changes.{Change, act, adds_textual, changes_imports, defines, goes_on, makes, perform, takes_textual, tells}
 use Rattle.hir_def_collector.specs.Derivation.{CollectedValue}
-use Rattle.hir_def_collector.specs.Items.{declaration_of, declared_by, declared_by_leaf, file_origin, inline_origin, own_visibility}
+use Rattle.hir_def_collector.specs.Items.{declaration_of, declared_by, declared_by_leaf, file_origin, inline_origin, is_passed_over, own_visibility}
 use Rattle.hir_def_collector.specs.ItemIds.{enum_id, macro_def_id, macro_rules_id, module_id, node_of}
 use Rattle.hir_def_collector.specs.Keys.{environment, tree_at}
 use Rattle.hir_def_collector.specs.Macros.{is_macro_use, macro_declaration}
 use Rattle.hir_def_collector.specs.ModuleFiles.{IsNumbered, ModuleFile, Search, file_key, file_readings, file_tree, module_file, tried_in}
 use Rattle.hir_def_collector.specs.Start.{Beginning}
 use Rattle.hir_def_collector.specs.State.{State, Task, Visit, visits, import_state, visits_over}
-use Rattle.hir_def_collector.specs.Steps.{Rule, drops_item, reaches_call, rests, expands_call, drops_call, defines_rules, defines_macro, closes_module, declares_item, declares_enum, lists_constant, lists_impl, opens_module, opens_file, drops_file, misses_file, enters_block, reaches_imports, reaches_crate, resolves_imports, Drops, LooksFor, May, Numbered, Opens, Sees, acts, after, asking, closing, declaring, failing, inside_block, inside_file, inside_module, keys_read, module_declaration, path_of, reads, search_readings, visit, visits_in_file, visits_inside}
+use Rattle.hir_def_collector.specs.Steps.{Rule, drops_item, passes_over, defines_rules, defines_macro, closes_module, declares_item, declares_enum, lists_constant, lists_impl, opens_module, opens_file, drops_file, misses_file, enters_block, reaches_imports, reaches_crate, resolves_imports, Drops, LooksFor, May, Numbered, Opens, Sees, acts, after, asking, declaring, inside_block, inside_file, inside_module, keys_read, module_declaration, path_of, reads, search_readings, visit, visits_in_file, visits_inside}
 use Rattle.hir_def_collector.specs.Workspace.{Workspace}
 use Rattle.hir_def_collector.proofs.InRange.{IsInRange, VisitsBelow, next_below}
 use Rattle.hir_def_collector.proofs.ModuleFiles.{found_read}
-use Rattle.hir_def_collector_laws.specs.Declares.{BeginsWith, Declares, DeclaresOne, IsLookedFor, IfEnabled, IsModuleOf, LeafDeclares, definitions_of, disabled_file, module_alone, of_file, site_inside, without_file}
-use Rattle.hir_def_collector_laws.specs.Expansions.{no_more}
+use Rattle.hir_def_collector_laws.specs.Declares.{Declares, DeclaresOne, IsLookedFor, IfEnabled, IsModuleOf, LeafDeclares, definitions_of, disabled_file, module_alone, of_file, site_inside, without_file}
 use Rattle.hir_def_collector_laws.specs.Modules.{HasItems, inside_item, items_of, key_of, of_file as has_file, too_deep, without_file as has_none}
 use Rattle.hir_def_collector_laws.specs.Written.{IsWritten}
-use Rattle.hir_def_collector_laws.proofs.Ahead.{AllDeclare, IsAhead, ahead_unclosed, altogether, back_made, back_one, back_same, declare_altogether, earlier, gathered, gathered_at, gathered_below, gathered_both, inside_defs, is_module, items_apart, items_declare, items_listed, later_visits, module_lists, others}
+use Rattle.hir_def_collector_laws.proofs.Ahead.{AllDeclare, IsAhead, ahead_unclosed, altogether, back_made, back_one, back_same, declare_altogether, earlier, gathered, gathered_at, gathered_below, gathered_both, is_module, items_apart, items_listed, module_lists, others}
 use Rattle.hir_def_collector_laws.proofs.Found.{found_seen}
-use Rattle.hir_def_collector_laws.proofs.Homes.{CallsElsewhere, IsNoHome, VisitsElsewhere, calls_elsewhere, closing_elsewhere, visits_elsewhere}
-use Rattle.hir_def_collector_laws.proofs.Later.{Later, expansions_of, nothing_later}
 use Rattle.hir_def_collector_laws.proofs.Lists.{at_home, at_home-nothing}
-use Rattle.hir_def_collector_laws.proofs.Listings.{all_added, all_made, length-perform, macro_agenda, macro_makes_none, macro_unlisted, nothing_added, nothing_made, reporting_agenda, reporting_makes_none, reporting_unlisted}
+use Rattle.hir_def_collector_laws.proofs.Listings.{all_added, all_made, macro_agenda, macro_makes_none, macro_unlisted, nothing_added, nothing_made, reporting_agenda, reporting_makes_none, reporting_unlisted}
 use Rattle.hir_def_collector_laws.proofs.Written.{IsAllWritten, placed_next}
 
 -- ids don't hang on more than the map's id
@@ -88,42 +81,6 @@ if_disabled P false e = refl
 no_map : (c : Collected) (condition : Cfg) → c.disabled ≡ Some condition → is_enabled c ≡ false
 no_map c condition e = ap is_enabled_by e
 
--- the items to which a call expands that is expanded now
-abbrev pub expanded : Rule → List Task
-expanded (drops_item v report rest) = []
-expanded (declares_item v d rest) = []
-expanded (declares_enum site head name found rest) = []
-expanded (lists_constant site head rest) = []
-expanded (lists_impl site head of_trait rest) = []
-expanded (opens_module site head name items rest) = []
-expanded (opens_file site head name search file rest) = []
-expanded (drops_file site head name search report rest) = []
-expanded (misses_file site head name search report rest) = []
-expanded (enters_block site head items rest) = []
-expanded (reaches_imports site head tree rest) = []
-expanded (reaches_crate site head name alias rest) = []
-expanded (defines_rules site head name expander helpers rest) = []
-expanded (defines_macro site head name expander helpers rest) = []
-expanded (closes_module parent child rest) = []
-expanded (reaches_call site head path rest) = []
-expanded rests = []
-expanded (expands_call i d makro x) = visits_over (call_site d x.id) x.tree.tree.items
-expanded (drops_call i d) = []
-expanded (resolves_imports rule) = []
-
--- what is reported of a call lists nothing, makes no module, and leaves what comes next
-failing_unlisted : (at : ModuleId) (d : MacroDirective) (error : Option (List ℕ)) (k : ℕ) → all_added (failing at d error) k ≡ []
-failing_unlisted at d None k = refl
-failing_unlisted at d (Some text) k = refl
-
-failing_makes_none : (at : ModuleId) (d : MacroDirective) (error : Option (List ℕ)) → all_made (failing at d error) ≡ 0
-failing_makes_none at d None = refl
-failing_makes_none at d (Some text) = refl
-
-failing_agenda : (t : State) (at : ModuleId) (d : MacroDirective) (error : Option (List ℕ)) → (perform t (failing at d error)).agenda ≡ t.agenda
-failing_agenda t at d None = refl
-failing_agenda t at d (Some text) = refl
-
 items_enabled : (tree : Tree) → is_enabled tree.attributes ≡ true → items_of tree ≡ tree.items
 items_enabled tree e = rw e refl
 
@@ -137,6 +94,23 @@ module _ (tables : TablesValue) (w : Workspace) (finished : Maps) (from : Beginn
   off_one : (site : Site) (i : KeptItem) → is_enabled (item_head i).attributes ≡ false → DeclaresOne tables w finished answer i site []
   off_one site (leaf head l) off = if_disabled _ (is_enabled head.attributes) off
   off_one site (holder head k items) off = if_disabled _ (is_enabled head.attributes) off
+
+  passed_one : (site : Site) (head : Head) (l : Leaf) → is_passed_over l ≡ true → LeafDeclares tables w finished answer site head l []
+  passed_one site head (import tree) e = refl
+  passed_one site head (extern_crate name alias) e = refl
+  passed_one site head (function name) e = absurd (let no : ⊥ = cc in no)
+  passed_one site head (structure name shape fields) e = absurd (let no : ⊥ = cc in no)
+  passed_one site head (union_structure name fields) e = absurd (let no : ⊥ = cc in no)
+  passed_one site head (enumeration name) e = absurd (let no : ⊥ = cc in no)
+  passed_one site head (constant name) e = absurd (let no : ⊥ = cc in no)
+  passed_one site head (static_item name) e = absurd (let no : ⊥ = cc in no)
+  passed_one site head (trait_item name) e = absurd (let no : ⊥ = cc in no)
+  passed_one site head (implementation of_trait) e = refl
+  passed_one site head (type_alias name) e = absurd (let no : ⊥ = cc in no)
+  passed_one site head (outline_module name) e = absurd (let no : ⊥ = cc in no)
+  passed_one site head (macro_call path) e = refl
+  passed_one site head (macro_rules name expander helpers) e = refl
+  passed_one site head (macro_def name expander helpers) e = absurd (let no : ⊥ = cc in no)
 
   declared_one : (s : State) (v : Visit) (d : Declaration) → s.core.map.id ≡ answer.map.id → is_enabled (item_head v.item).attributes ≡ true
       → declaration_of finished s.core.local s.core.map v ≡ Some d → DeclaresOne tables w finished answer v.item v.site (d.def ∷ [])
@@ -190,20 +164,6 @@ module _ (tables : TablesValue) (w : Workspace) (finished : Maps) (from : Beginn
     abbrev MapAfter : Rule → Map
     MapAfter r = (perform (asking s r) (acts finished s r)).core.map
 
-    abbrev LaterOf : Rule → List Task → Type 0
-    LaterOf r later = Later tables w finished answer (after finished s r) later
-
-    -- the next module is no home where nothing is visited in it: calls that there are are in others
-    no_home : (r : Rule) → all_made (acts finished s r) ≡ 1 → (after finished s r).core.calls ≡ s.core.calls → VisitsElsewhere count (after finished s r).agenda → IsNoHome count (after finished s r)
-    no_home r one same elsewhere =
-        let all : length (MapAfter r).modules ≡ count + all_made (acts finished s r) = length-perform (acts finished s r) (asking s r) in
-        let longer : count < length (MapAfter r).modules = omega (arith, all, one) in
-        record { there = longer; visits = elsewhere; calls = subst (λ (ds : List MacroDirective). CallsElsewhere count ds) (sym same) (calls_elsewhere count s.core.calls inside.calls) }
-
-    -- other tasks once nothing is left
-    regrouped : (new : Map) (ts rest later : List Task) → Ahead new ((ts ++ rest) ++ later) → Ahead new (ts ++ (rest ++ later))
-    regrouped new ts rest later q = subst (λ (us : List Task). Ahead new us) (append_assoc ts rest later) q
-
     -- a leaf that lists nothing among definitions
     unlisted_one : (r : Rule) (site : Site) (head : Head) (l : Leaf) (rest : List Task) → DeclaresOne tables w finished answer (leaf head l) site [] → all_made (acts finished s r) ≡ 0
         → ((k : ℕ) → all_added (acts finished s r) k ≡ []) → Ahead (MapAfter r) rest → Ahead m (visits (visit site (leaf head l)) ∷ rest)
@@ -233,21 +193,15 @@ module _ (tables : TablesValue) (w : Workspace) (finished : Maps) (from : Beginn
       Made = (perform (asking s r) (makes site.home name origin vis ∷ cs)).core.map
 
       -- a module without items
-      empty_back : (i : KeptItem) (rest later : List Task) → VisitsBelow count rest → LaterOf r later → IsNoHome count (after finished s r)
+      empty_back : (i : KeptItem) (rest : List Task) → VisitsBelow count rest
           → (IsModuleOf answer.map site origin count → declarations_of (module_at answer.map count) ≡ [] → DeclaresOne tables w finished answer i site (module_alone answer.map count))
           → ((im : IsModuleOf answer.map site origin count) → HasItems tables w finished from answer im.value.origin (site_inside site count site.dir) no_items)
-          → Ahead Made (rest ++ later) → Ahead m (visits (visit site i) ∷ rest ++ later)
-      empty_back i rest later apart are away declares has q =
+          → Ahead Made rest → Ahead m (visits (visit site i) ∷ rest)
+      empty_back i rest apart declares has q =
           let im : IsModuleOf answer.map site origin count = is_module tables w finished from answer (asking s r) site.home name origin vis cs low none_made adds q site refl in
-          let behind : AllDeclare tables w finished from answer later = others tables w finished from answer rest later q.pending in
-          let no_call : gathered tables w finished from answer count later behind ≡ [] = nothing_later tables w finished from answer count away are behind in
-          let nothing_listed : declarations_of (module_at answer.map count) ≡ [] =
-          module_lists tables w finished from answer (asking s r) site.home name origin vis cs low none_made adds q
-          ∙ gathered_both tables w finished from answer count rest later q.pending
-          ∙ ap (λ (xs : List ModuleDefId). xs ++ gathered tables w finished from answer count later behind)
-          (gathered_below tables w finished from answer count rest (earlier tables w finished from answer rest later q.pending) apart)
-          ∙ no_call in
-          back_made tables w finished from answer (asking s r) site.home name origin vis cs low none_made adds q site i (rest ++ later) refl (declares im nothing_listed)
+          let nothing : declarations_of (module_at answer.map count) ≡ [] =
+          module_lists tables w finished from answer (asking s r) site.home name origin vis cs low none_made adds q ∙ gathered_below tables w finished from answer count rest q.pending apart in
+          back_made tables w finished from answer (asking s r) site.home name origin vis cs low none_made adds q site i rest refl (declares im nothing)
           (record {
             value = im.value;
             there = im.there;
@@ -256,33 +210,20 @@ module _ (tables : TablesValue) (w : Workspace) (finished : Maps) (from : Beginn
             alone = refl;
             items = no_items;
             has = has im;
-            own = [];
-            declares = refl;
-            expanded = [];
-            expands = no_more;
-            lists = sym (ap declarations_of im.there) ∙ nothing_listed;
-            bare = λ e. refl;
+            lists = sym (ap declarations_of im.there) ∙ nothing;
           })
           q.pending (λ k b. refl)
 
       -- a module with items
-      filled_back : (i : KeptItem) (rest later : List Task) (inner : Site) (items : KeptForest) → inner.home ≡ count → inner.extern_block ≡ None → VisitsBelow count rest → LaterOf r later
-          → (items ≡ no_items → IsNoHome count (after finished s r))
-          → (IsModuleOf answer.map site origin count → BeginsWith (λ defs. Declares tables w finished answer items inner defs) (declarations_of (module_at answer.map count))
-          → DeclaresOne tables w finished answer i site (module_alone answer.map count))
+      filled_back : (i : KeptItem) (rest : List Task) (inner : Site) (items : KeptForest) → inner.home ≡ count → inner.extern_block ≡ None → VisitsBelow count rest
+          → (IsModuleOf answer.map site origin count → Declares tables w finished answer items inner (declarations_of (module_at answer.map count)) → DeclaresOne tables w finished answer i site (module_alone answer.map count))
           → ((im : IsModuleOf answer.map site origin count) → HasItems tables w finished from answer im.value.origin inner items)
-          → Ahead Made (visits_over inner items ++ (rest ++ later)) → Ahead m (visits (visit site i) ∷ rest ++ later)
-      filled_back i rest later inner items here alone apart are away declares has q =
+          → Ahead Made (visits_over inner items ++ rest) → Ahead m (visits (visit site i) ∷ rest)
+      filled_back i rest inner items here alone apart declares has q =
           let im : IsModuleOf answer.map site origin count = is_module tables w finished from answer (asking s r) site.home name origin vis cs low none_made adds q site refl in
-          let own : List ModuleDefId = inside_defs tables w finished from answer (asking s r) site.home name origin vis cs low none_made adds inner items rest later here apart q in
-          let behind : AllDeclare tables w finished from answer later = later_visits tables w finished from answer (asking s r) site.home name origin vis cs low none_made adds inner items rest later here apart q in
-          let expanded : List ModuleDefId = gathered tables w finished from answer count later behind in
-          let inside_them : Declares tables w finished answer items inner own =
-          items_declare tables w finished from answer (asking s r) site.home name origin vis cs low none_made adds inner items rest later here apart q in
-          let listed : declarations_of (module_at answer.map count) ≡ own ++ expanded =
-          items_listed tables w finished from answer (asking s r) site.home name origin vis cs low none_made adds inner items rest later here apart q in
-          back_made tables w finished from answer (asking s r) site.home name origin vis cs low none_made adds q site i (rest ++ later) refl
-          (declares im (record { own = own; others = expanded; declares = inside_them; is = listed }))
+          let listed : Declares tables w finished answer items inner (declarations_of (module_at answer.map count)) =
+          items_listed tables w finished from answer (asking s r) site.home name origin vis cs low none_made adds inner items rest here apart q in
+          back_made tables w finished from answer (asking s r) site.home name origin vis cs low none_made adds q site i rest refl (declares im listed)
           (record {
             value = im.value;
             there = im.there;
@@ -291,15 +232,10 @@ module _ (tables : TablesValue) (w : Workspace) (finished : Maps) (from : Beginn
             alone = alone;
             items = items;
             has = has im;
-            own = own;
-            declares = inside_them;
-            expanded = expanded;
-            expands = expansions_of tables w finished from answer count are behind;
-            lists = sym (ap declarations_of im.there) ∙ listed;
-            bare = λ e. nothing_later tables w finished from answer count (away e) are behind;
+            lists = subst (λ (defs : List ModuleDefId). Declares tables w finished answer items inner defs) (ap declarations_of im.there) listed;
           })
-          (others tables w finished from answer (visits_over inner items) (rest ++ later) q.pending)
-          (items_apart tables w finished from answer (asking s r) site.home name origin vis cs low none_made adds inner items rest later here apart q)
+          (others tables w finished from answer (visits_over inner items) rest q.pending)
+          (items_apart tables w finished from answer (asking s r) site.home name origin vis cs low none_made adds inner items rest here apart q)
 
     -- what is listed where a module is made
     making_adds : (site : Site) (name : List ℕ) (vis : Visibility) (next : List Task) (k : ℕ)
@@ -307,50 +243,41 @@ module _ (tables : TablesValue) (w : Workspace) (finished : Maps) (from : Beginn
     making_adds site name vis next k = append-nil (at_home site.home k (definitions.ModuleId (new_id m) ∷ []))
 
     -- a module that is written where it is declared
-    inline_back : (site : Site) (head : Head) (name : List ℕ) (items : KeptForest) (rest later : List Task) → is_enabled head.attributes ≡ true → site.home < count → VisitsBelow count rest
+    inline_back : (site : Site) (head : Head) (name : List ℕ) (items : KeptForest) (rest : List Task) → is_enabled head.attributes ≡ true → site.home < count → VisitsBelow count rest
         → IsWritten tables w answer.asked (key_of answer site.tree) (holder head (inline_module name) items)
-        → LaterOf (opens_module site head name items rest) later
         → (o : Option Directory) → inline_directory site.dir name (path_of head) ≡ o
-        → Ahead (MapAfter (opens_module site head name items rest)) ((visits_inside m site head o items ++ rest) ++ later)
-        → Ahead m (visits (visit site (holder head (inline_module name) items)) ∷ rest ++ later)
-    inline_back site head name items rest later on low apart p are None e q =
+        → Ahead (MapAfter (opens_module site head name items rest)) (visits_inside m site head o items ++ rest) → Ahead m (visits (visit site (holder head (inline_module name) items)) ∷ rest)
+    inline_back site head name items rest on low apart p None e q =
         let r : Rule = opens_module site head name items rest in
         let vis : Visibility = own_visibility finished s.core.local m site head in
         let next : List Task = visits_inside m site head (inline_directory site.dir name (path_of head)) items ++ rest in
-        let elsewhere : VisitsElsewhere count next = subst (λ (o : Option Directory). VisitsElsewhere count (visits_inside m site head o items ++ rest)) (sym e) (visits_elsewhere count rest apart) in
         empty_back r site head name (inline_origin site.tree head.id) vis (takes_textual count site.home ∷ goes_on next ∷ declaring site.home (module_declaration m name vis)) low refl (making_adds site name vis next)
-        (holder head (inline_module name) items) rest later apart are (no_home r refl refl elsewhere)
-        (λ im nothing_listed. if_enabled (module_alone answer.map count) (is_enabled head.attributes) on (record {
+        (holder head (inline_module name) items) rest apart
+        (λ im nothing. if_enabled (module_alone answer.map count) (is_enabled head.attributes) on (record {
           number = count;
           made = im;
           is = refl;
           lists = λ dir f. absurd (let no : ⊥ = cc in no);
-          deep = λ f. nothing_listed;
+          deep = λ f. nothing;
         }))
         (λ im. too_deep head name items e im.origin_is on p) q
-    inline_back site head name items rest later on low apart p are (Some dir) e q =
+    inline_back site head name items rest on low apart p (Some dir) e q =
         let r : Rule = opens_module site head name items rest in
         let vis : Visibility = own_visibility finished s.core.local m site head in
         let next : List Task = visits_inside m site head (inline_directory site.dir name (path_of head)) items ++ rest in
-        let marked : Bool = is_macro_use head.attributes in
-        let elsewhere : items ≡ no_items → VisitsElsewhere count next =
-        λ g. subst (λ (o : Option Directory). VisitsElsewhere count (visits_inside m site head o items ++ rest)) (sym e)
-        (subst (λ (is : KeptForest). VisitsElsewhere count ((visits_over (inside_module m site dir) is ++ closing marked site.home count) ++ rest)) (sym g)
-        (closing_elsewhere count marked site.home count rest (visits_elsewhere count rest apart))) in
         filled_back r site head name (inline_origin site.tree head.id) vis (takes_textual count site.home ∷ goes_on next ∷ declaring site.home (module_declaration m name vis)) low refl (making_adds site name vis next)
-        (holder head (inline_module name) items) rest later (inside_module m site dir) items refl refl apart are (λ g. no_home r refl refl (elsewhere g))
+        (holder head (inline_module name) items) rest (inside_module m site dir) items refl refl apart
         (λ im listed. if_enabled (module_alone answer.map count) (is_enabled head.attributes) on (record {
           number = count;
           made = im;
           is = refl;
           lists = λ other f.
               let same : dir ≡ other = cc in
-              subst (λ (d : Directory). BeginsWith (λ defs. Declares tables w finished answer items (site_inside site count d) defs) (declarations_of (module_at answer.map count))) same listed;
+              subst (λ (d : Directory). Declares tables w finished answer items (site_inside site count d) (declarations_of (module_at answer.map count))) same listed;
           deep = λ f. absurd (let no : ⊥ = cc in no);
         }))
         (λ im. inside_item head name items im.origin_is on p)
-        (ahead_unclosed tables w finished from answer (MapAfter r) (visits_over (inside_module m site dir) items) (rest ++ later) marked site.home count
-        (regrouped (MapAfter r) (visits_inside m site head (Some dir) items) rest later q))
+        (ahead_unclosed tables w finished from answer (MapAfter r) (visits_over (inside_module m site dir) items) rest (is_macro_use head.attributes) site.home count q)
 
     -- ---- files
 
@@ -361,7 +288,7 @@ module _ (tables : TablesValue) (w : Workspace) (finished : Maps) (from : Beginn
         ap (λ (id : MapId). file_key id.krate m.crate_data.edition file.id) f.id ∙ ap (λ (e : Edition). file_key answer.map.id.krate e file.id) edition
 
     module _ (edition : m.crate_data.edition ≡ answer.map.crate_data.edition) (site : Site) (head : Head) (name : List ℕ) (search : Search) (rest : List Task) (looks : LooksFor s site head name search rest)
-        (numbers : IsNumbered tables site.file search) (sees : Sees (environment tables w) finished (search_readings m search))
+        (numbers : IsNumbered tables site.tree search) (sees : Sees (environment tables w) finished (search_readings m search))
         (read : (key : TreeKey) → Contains (keys_read (search_readings m search)) (keys.Tree key) → Contains answer.asked (keys.Tree key)) where
       abbrev readings_of : Crate → Edition → Type 0
       readings_of krate e = Sees (environment tables w) finished (file_readings krate e (tried_in search))
@@ -384,47 +311,40 @@ module _ (tables : TablesValue) (w : Workspace) (finished : Maps) (from : Beginn
           ap (λ (key : TreeKey). (tree_at tables w key).tree) (sym (same_key file edition))
           ∙ found_seen tables w finished m.id.krate m.crate_data.edition search.absent search.found file found sees
 
-      file_back : (file : ModuleFile) → Opens s site head name search file rest → site.home < count → VisitsBelow count rest → (later : List Task) → LaterOf (opens_file site head name search file rest) later
-          → Ahead (MapAfter (opens_file site head name search file rest)) ((visits_in_file m site head file ++ rest) ++ later)
-          → Ahead m (visits (visit site (leaf head (outline_module name))) ∷ rest ++ later)
-      file_back file may low apart later are q =
+      file_back : (file : ModuleFile) → Opens s site head name search file rest → site.home < count → VisitsBelow count rest
+          → Ahead (MapAfter (opens_file site head name search file rest)) (visits_in_file m site head file ++ rest) → Ahead m (visits (visit site (leaf head (outline_module name))) ∷ rest)
+      file_back file may low apart q =
           let r : Rule = opens_file site head name search file rest in
           let vis : Visibility = own_visibility finished s.core.local m site head in
           let next : List Task = visits_in_file m site head file ++ rest in
-          let marked : Bool = is_macro_use head.attributes || is_macro_use file.tree.attributes in
           let items : items_of (tree_at tables w (file_key answer.map.id.krate answer.map.crate_data.edition file.id)).tree ≡ file.tree.items =
           ap items_of (file_seen file may.found) ∙ items_enabled file.tree may.enabled in
-          let elsewhere : file.tree.items ≡ no_items → VisitsElsewhere count next =
-          λ g. subst (λ (is : KeptForest). VisitsElsewhere count ((visits_over (inside_file m file) is ++ closing marked site.home count) ++ rest)) (sym g)
-          (closing_elsewhere count marked site.home count rest (visits_elsewhere count rest apart)) in
           filled_back r site head name (file_origin site.tree head.id m.crate_data.edition file) vis (takes_textual count site.home ∷ goes_on next ∷ declaring site.home (module_declaration m name vis)) low refl (making_adds site name vis next)
-          (leaf head (outline_module name)) rest later (inside_file m file) file.tree.items refl refl apart are (λ g. no_home r refl refl (elsewhere g))
+          (leaf head (outline_module name)) rest (inside_file m file) file.tree.items refl refl apart
           (λ im listed. leaf_one site head (outline_module name) (module_alone answer.map count) may.looks.here.enabled
           (of_file search looked_for file may.found may.enabled count (subst (λ (e : Edition). IsModuleOf answer.map site (file_origin site.tree head.id e file) count) edition im) refl))
           (λ im. subst (λ (is : KeptForest). HasItems tables w finished from answer im.value.origin (inside_file m file) is) items
           (has_file file.is_mod_rs _ site.tree file.id (im.origin_is ∙ ap (λ (e : Edition). file_origin site.tree head.id e file) edition) (ap (λ (e : Edition). file_tree e file.id) edition) (file_asked file may.found)))
-          (ahead_unclosed tables w finished from answer (MapAfter r) (visits_over (inside_file m file) file.tree.items) (rest ++ later) marked site.home count
-          (regrouped (MapAfter r) (visits_in_file m site head file) rest later q))
+          (ahead_unclosed tables w finished from answer (MapAfter r) (visits_over (inside_file m file) file.tree.items) rest (is_macro_use head.attributes || is_macro_use file.tree.attributes) site.home count q)
 
-      drop_back : (report : DefDiagnostic) → Drops s site head name search report rest → (later : List Task) → Ahead (MapAfter (drops_file site head name search report rest)) (rest ++ later)
-          → Ahead m (visits (visit site (leaf head (outline_module name))) ∷ rest ++ later)
-      drop_back report may later q =
-          unlisted_one (drops_file site head name search report rest) site head (outline_module name) (rest ++ later)
+      drop_back : (report : DefDiagnostic) → Drops s site head name search report rest → Ahead (MapAfter (drops_file site head name search report rest)) rest
+          → Ahead m (visits (visit site (leaf head (outline_module name))) ∷ rest)
+      drop_back report may q =
+          unlisted_one (drops_file site head name search report rest) site head (outline_module name) rest
           (leaf_one site head (outline_module name) [] looks.here.enabled
           (disabled_file search looked_for may.file may.found (no_map may.file.tree.attributes may.condition may.disabled) refl))
           refl (λ k. refl) q
 
       miss_back : (report : DefDiagnostic) → module_file search.found ≡ None → site.home < count → VisitsBelow count rest
           → IsWritten tables w answer.asked (key_of answer site.tree) (leaf head (outline_module name))
-          → (later : List Task) → LaterOf (misses_file site head name search report rest) later
-          → Ahead (MapAfter (misses_file site head name search report rest)) (rest ++ later) → Ahead m (visits (visit site (leaf head (outline_module name))) ∷ rest ++ later)
-      miss_back report missing low apart p later are q =
+          → Ahead (MapAfter (misses_file site head name search report rest)) rest → Ahead m (visits (visit site (leaf head (outline_module name))) ∷ rest)
+      miss_back report missing low apart p q =
           let r : Rule = misses_file site head name search report rest in
           let vis : Visibility = own_visibility finished s.core.local m site head in
           empty_back r site head name (inline_origin site.tree head.id) vis (takes_textual count site.home ∷ goes_on rest ∷ declaring site.home (module_declaration m name vis) ++ tells report ∷ []) low refl
           (λ k. append-nil (at_home site.home k (definitions.ModuleId (new_id m) ∷ [])))
-          (leaf head (outline_module name)) rest later apart are (no_home r refl refl (visits_elsewhere count rest apart))
-          (λ im nothing_listed. leaf_one site head (outline_module name) (module_alone answer.map count) looks.here.enabled (without_file search looked_for missing count im refl nothing_listed))
+          (leaf head (outline_module name)) rest apart
+          (λ im nothing. leaf_one site head (outline_module name) (module_alone answer.map count) looks.here.enabled (without_file search looked_for missing count im refl nothing))
           (λ im. has_none head name search (record { tries = looked_for.tries; numbers = looked_for.numbers; sees = looked_for.sees }) missing im.origin_is looks.here.enabled p) q
 
     -- ---- each rule
@@ -433,88 +353,75 @@ module _ (tables : TablesValue) (w : Workspace) (finished : Maps) (from : Beginn
     same_agenda [] t = refl
     same_agenda (c ∷ cs) t = same_agenda cs (act t (changes_imports c))
 
-    at_next : (later : List Task) {vs ws : List Task} → vs ≡ ws → Ahead m (ws ++ later) → Ahead m (vs ++ later)
-    at_next later e q = subst (λ (xs : List Task). Ahead m (xs ++ later)) (sym e) q
+    at_next : {vs ws : List Task} → vs ≡ ws → Ahead m ws → Ahead m vs
+    at_next e q = subst (λ (xs : List Task). Ahead m xs) (sym e) q
 
-    pub back_rule : (r : Rule) → May finished s r → Sees (environment tables w) finished (reads s r) → Numbered tables s r
+    pub back_rule : (r : Rule) → May finished s r → Sees (environment tables w) finished (reads s r) → Numbered tables r
         → ((key : TreeKey) → Contains (keys_read (reads s r)) (keys.Tree key) → Contains answer.asked (keys.Tree key))
-        → m.crate_data.edition ≡ answer.map.crate_data.edition → (later : List Task) → LaterOf r later → Ahead (MapAfter r) ((after finished s r).agenda ++ later) → Ahead m (s.agenda ++ (expanded r ++ later))
-    back_rule (drops_item v report rest) may sees numbers read edition later are q =
-        at_next later may.next
-        (back_one tables w finished from answer (asking s (drops_item v report rest)) (acts finished s (drops_item v report rest)) v.site v.item (rest ++ later) [] (off_one v.site v.item (no_map (item_head v.item).attributes may.condition may.disabled)) refl
+        → m.crate_data.edition ≡ answer.map.crate_data.edition → Ahead (MapAfter r) (after finished s r).agenda → Ahead m s.agenda
+    back_rule (drops_item v report rest) may sees numbers read edition q =
+        at_next may.next
+        (back_one tables w finished from answer (asking s (drops_item v report rest)) (acts finished s (drops_item v report rest)) v.site v.item rest [] (off_one v.site v.item (no_map (item_head v.item).attributes may.condition may.disabled)) refl
         (λ k. sym (at_home-nothing v.site.home k)) q)
-    back_rule (declares_item v d rest) may sees numbers read edition later are q =
-        at_next later may.here.next
-        (back_one tables w finished from answer (asking s (declares_item v d rest)) (acts finished s (declares_item v d rest)) v.site v.item (rest ++ later) (d.def ∷ []) (declared_one s v d f.id may.here.enabled may.declares) refl
+    back_rule (declares_item v d rest) may sees numbers read edition q =
+        at_next may.here.next
+        (back_one tables w finished from answer (asking s (declares_item v d rest)) (acts finished s (declares_item v d rest)) v.site v.item rest (d.def ∷ []) (declared_one s v d f.id may.here.enabled may.declares) refl
         (λ k. append-nil (at_home v.site.home k (d.def ∷ []))) q)
-    back_rule (declares_enum site head name found rest) may sees numbers read edition later are q =
+    back_rule (declares_enum site head name found rest) may sees numbers read edition q =
         let r : Rule = declares_enum site head name found rest in
         let def : ModuleDefId = definitions.AdtId (adts.EnumId (enum_id m site head.id)) in
-        at_next later may.next
-        (back_one tables w finished from answer (asking s r) (acts finished s r) site (leaf head (enumeration name)) (rest ++ later) (def ∷ [])
+        at_next may.next
+        (back_one tables w finished from answer (asking s r) (acts finished s r) site (leaf head (enumeration name)) rest (def ∷ [])
         (leaf_one site head (enumeration name) (def ∷ []) may.enabled (same_definitions m answer.map f.id site head (enumeration name))) refl (λ k. append-nil (at_home site.home k (def ∷ []))) q)
-    back_rule (lists_constant site head rest) may sees numbers read edition later are q =
-        at_next later may.next (unlisted_one (lists_constant site head rest) site head (constant None) (rest ++ later) (leaf_one site head (constant None) [] may.enabled refl) refl (λ k. refl) q)
-    back_rule (lists_impl site head of_trait rest) may sees numbers read edition later are q =
-        at_next later may.next (unlisted_one (lists_impl site head of_trait rest) site head (implementation of_trait) (rest ++ later) (leaf_one site head (implementation of_trait) [] may.enabled refl) refl (λ k. refl) q)
-    back_rule (opens_module site head name items rest) may sees numbers read edition later are q =
+    back_rule (lists_constant site head rest) may sees numbers read edition q =
+        at_next may.next (unlisted_one (lists_constant site head rest) site head (constant None) rest (leaf_one site head (constant None) [] may.enabled refl) refl (λ k. refl) q)
+    back_rule (lists_impl site head of_trait rest) may sees numbers read edition q =
+        at_next may.next (unlisted_one (lists_impl site head of_trait rest) site head (implementation of_trait) rest (leaf_one site head (implementation of_trait) [] may.enabled refl) refl (λ k. refl) q)
+    back_rule (opens_module site head name items rest) may sees numbers read edition q =
         let apart = below _ rest may.next in
-        at_next later may.next (inline_back site head name items rest later may.enabled apart.0 apart.1 (placed _ rest may.next) are (inline_directory site.dir name (path_of head)) refl q)
-    back_rule (opens_file site head name search file rest) may sees numbers read edition later are q =
+        at_next may.next (inline_back site head name items rest may.enabled apart.0 apart.1 (placed _ rest may.next) (inline_directory site.dir name (path_of head)) refl q)
+    back_rule (opens_file site head name search file rest) may sees numbers read edition q =
         let apart = below _ rest may.looks.here.next in
-        at_next later may.looks.here.next (file_back edition site head name search rest may.looks numbers sees read file may apart.0 apart.1 later are q)
-    back_rule (drops_file site head name search report rest) may sees numbers read edition later are q =
-        at_next later may.looks.here.next (drop_back edition site head name search rest may.looks numbers sees read report may later q)
-    back_rule (misses_file site head name search report rest) may sees numbers read edition later are q =
+        at_next may.looks.here.next (file_back edition site head name search rest may.looks numbers sees read file may apart.0 apart.1 q)
+    back_rule (drops_file site head name search report rest) may sees numbers read edition q =
+        at_next may.looks.here.next (drop_back edition site head name search rest may.looks numbers sees read report may q)
+    back_rule (misses_file site head name search report rest) may sees numbers read edition q =
         let apart = below _ rest may.looks.here.next in
-        at_next later may.looks.here.next (miss_back edition site head name search rest may.looks numbers sees read report may.missing apart.0 apart.1 (placed _ rest may.looks.here.next) later are q)
-    back_rule (enters_block site head items rest) may sees numbers read edition later are q = at_next later may.next (block_back site head items (rest ++ later) may.enabled (regrouped (MapAfter (enters_block site head items rest)) (visits_over (inside_block m site head) items) rest later q))
-    back_rule (reaches_imports site head tree rest) may sees numbers read edition later are q =
-        at_next later may.next (unlisted_one (reaches_imports site head tree rest) site head (import tree) (rest ++ later) (leaf_one site head (import tree) [] may.enabled refl) refl (λ k. refl) q)
-    back_rule (reaches_crate site head name alias rest) may sees numbers read edition later are q =
-        at_next later may.next (unlisted_one (reaches_crate site head name alias rest) site head (extern_crate name alias) (rest ++ later) (leaf_one site head (extern_crate name alias) [] may.enabled refl) refl (λ k. refl) q)
-    back_rule (defines_rules site head name expander helpers rest) may sees numbers read edition later are q =
+        at_next may.looks.here.next (miss_back edition site head name search rest may.looks numbers sees read report may.missing apart.0 apart.1 (placed _ rest may.looks.here.next) q)
+    back_rule (enters_block site head items rest) may sees numbers read edition q = at_next may.next (block_back site head items rest may.enabled q)
+    back_rule (reaches_imports site head tree rest) may sees numbers read edition q =
+        at_next may.next (unlisted_one (reaches_imports site head tree rest) site head (import tree) rest (leaf_one site head (import tree) [] may.enabled refl) refl (λ k. refl) q)
+    back_rule (reaches_crate site head name alias rest) may sees numbers read edition q =
+        at_next may.next (unlisted_one (reaches_crate site head name alias rest) site head (extern_crate name alias) rest (leaf_one site head (extern_crate name alias) [] may.enabled refl) refl (λ k. refl) q)
+    back_rule (defines_rules site head name expander helpers rest) may sees numbers read edition q =
         let r : Rule = defines_rules site head name expander helpers rest in
         let makro : MacroId = macro_rules_id m site head.id expander in
         let node : AstId = node_of site.tree nodes.MacroRules head.id in
         let defined : State = perform (asking s r) (goes_on rest ∷ defines node makro ∷ adds_textual site.home name makro ∷ []) in
-        let now : Ahead (MapAfter r) (rest ++ later) = subst (λ (vs : List Task). Ahead (MapAfter r) (vs ++ later)) (macro_agenda defined head name makro (module_id m site.home) node expander) q in
-        at_next later may.next
-        (unlisted_one r site head (macro_rules name expander helpers) (rest ++ later) (leaf_one site head (macro_rules name expander helpers) [] may.enabled refl)
+        let now : Ahead (MapAfter r) rest = subst (λ (vs : List Task). Ahead (MapAfter r) vs) (macro_agenda defined head name makro (module_id m site.home) node expander) q in
+        at_next may.next
+        (unlisted_one r site head (macro_rules name expander helpers) rest (leaf_one site head (macro_rules name expander helpers) [] may.enabled refl)
         (ap (λ (n : ℕ). 0 + (0 + (0 + n))) (macro_makes_none head name makro (module_id m site.home) node expander))
         (macro_unlisted head name makro (module_id m site.home) node expander) now)
-    back_rule (defines_macro site head name expander helpers rest) may sees numbers read edition later are q =
+    back_rule (defines_macro site head name expander helpers rest) may sees numbers read edition q =
         let r : Rule = defines_macro site head name expander helpers rest in
         let makro : MacroId = macro_def_id m site head.id expander in
         let def : ModuleDefId = definitions.MacroId makro in
         let node : AstId = node_of site.tree nodes.MacroDef head.id in
         let bound : State = perform (asking s r) (goes_on rest ∷ defines node makro ∷ declaring site.home (macro_declaration name makro (own_visibility finished s.core.local m site head))) in
-        let now : Ahead (MapAfter r) (rest ++ later) = subst (λ (vs : List Task). Ahead (MapAfter r) (vs ++ later)) (reporting_agenda bound (module_id m site.home) node expander) q in
-        at_next later may.next
-        (back_one tables w finished from answer (asking s r) (acts finished s r) site (leaf head (macro_def name expander helpers)) (rest ++ later) (def ∷ [])
+        let now : Ahead (MapAfter r) rest = subst (λ (vs : List Task). Ahead (MapAfter r) vs) (reporting_agenda bound (module_id m site.home) node expander) q in
+        at_next may.next
+        (back_one tables w finished from answer (asking s r) (acts finished s r) site (leaf head (macro_def name expander helpers)) rest (def ∷ [])
         (leaf_one site head (macro_def name expander helpers) (def ∷ []) may.enabled (same_definitions m answer.map f.id site head (macro_def name expander helpers)))
         (ap (λ (n : ℕ). 0 + (0 + (0 + (0 + n)))) (reporting_makes_none (module_id m site.home) node expander))
         (λ k. ap (λ (xs : List ModuleDefId). at_home site.home k (def ∷ []) ++ xs) (reporting_unlisted (module_id m site.home) node expander k) ∙ append-nil (at_home site.home k (def ∷ []))) now)
-    back_rule (closes_module parent child rest) may sees numbers read edition later are q =
+    back_rule (closes_module parent child rest) may sees numbers read edition q =
         let r : Rule = closes_module parent child rest in
-        at_next later may (back_same tables w finished from answer (asking s r) (acts finished s r) q q.pending refl (λ k. refl))
-    back_rule (reaches_call site head path rest) may sees numbers read edition later are q =
-        at_next later may.next (unlisted_one (reaches_call site head path rest) site head (macro_call path) (rest ++ later) (leaf_one site head (macro_call path) [] may.enabled refl) refl (λ k. refl) q)
-    back_rule rests may sees numbers read edition later are q = back_same tables w finished from answer (asking s rests) (acts finished s rests) q q.pending refl (λ k. refl)
-    back_rule (expands_call i d makro x) may sees numbers read edition later are q =
-        let r : Rule = expands_call i d makro x in
-        let at : ModuleId = module_id m d.site.home in
-        let next : List Task = visits_over (call_site d x.id) x.tree.tree.items in
-        let begun : State = perform (asking s r) (ends i Handled ∷ goes_on next ∷ []) in
-        let now : Ahead (MapAfter r) (next ++ later) = subst (λ (vs : List Task). Ahead (MapAfter r) (vs ++ later)) (failing_agenda begun at d (error_of x.there)) q in
-        at_next (next ++ later) may.due.visited
-        (back_same tables w finished from answer (asking s r) (acts finished s r) now now.pending (ap (λ (n : ℕ). 0 + (0 + n)) (failing_makes_none at d (error_of x.there)))
-        (λ k. ap (λ (xs : List ModuleDefId). xs ++ gathered tables w finished from answer k (next ++ later) now.pending) (failing_unlisted at d (error_of x.there) k)))
-    back_rule (drops_call i d) may sees numbers read edition later are q =
-        back_same tables w finished from answer (asking s (drops_call i d)) (acts finished s (drops_call i d)) q q.pending refl (λ k. refl)
-    back_rule (resolves_imports rule) may sees numbers read edition later are q =
+        at_next may (back_same tables w finished from answer (asking s r) (acts finished s r) q q.pending refl (λ k. refl))
+    back_rule (passes_over site head l rest) may sees numbers read edition q =
+        at_next may.here.next (unlisted_one (passes_over site head l rest) site head l rest (leaf_one site head l [] may.here.enabled (passed_one site head l may.passed)) refl (λ k. refl) q)
+    back_rule (resolves_imports rule) may sees numbers read edition q =
         let r : Rule = resolves_imports rule in
         let cs : List ImportChange = import_acts finished (import_state s) rule in
-        let now : Ahead (MapAfter r) (s.agenda ++ later) = subst (λ (vs : List Task). Ahead (MapAfter r) (vs ++ later)) (same_agenda cs (asking s r)) q in
-        back_same tables w finished from answer (asking s r) (acts finished s r) now now.pending (nothing_made cs)
-        (λ k. ap (λ (xs : List ModuleDefId). xs ++ gathered tables w finished from answer k (s.agenda ++ later) now.pending) (nothing_added cs k))
+        let now : Ahead (MapAfter r) s.agenda = subst (λ (vs : List Task). Ahead (MapAfter r) vs) (same_agenda cs (asking s r)) q in
+        back_same tables w finished from answer (asking s r) (acts finished s r) now now.pending (nothing_made cs) (λ k. ap (λ (xs : List ModuleDefId). xs ++ gathered tables w finished from answer k s.agenda now.pending) (nothing_added cs k))

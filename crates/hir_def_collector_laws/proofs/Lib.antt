@@ -15,8 +15,6 @@ pub mod GlobBindings
 -- ---- definitions
 pub mod Listings
 pub mod Ahead
-pub mod Homes
-pub mod Later
 pub mod Backwards
 pub mod Modules
 -- ---- diagnostics

@@ -4,7 +4,6 @@ pub mod Imports
 pub mod Globs
 -- ---- where definitions are written
 pub mod Declares
-pub mod Expansions
 pub mod Modules
 -- ---- of what is told
 pub mod Diagnostics

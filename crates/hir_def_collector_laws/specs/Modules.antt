@@ -1,8 +1,7 @@
 -- What does each module of a run's map list?
-use Rattle.std.specs.Prelude.{◌≡◌, ◌<◌, ℕ, Bool, true, List, [], ◌++◌, length, None, Some, Contains, if◌then◌else◌}
+use Rattle.std.specs.Prelude.{◌≡◌, ◌<◌, ℕ, Bool, true, List, length, None, Some, Contains, if◌then◌else◌}
 use Rattle.hir_base.specs.declared.ast_id.AstId.{AstId}
 use Rattle.hir_base.specs.declared.ast_id.FileId.{FileId}
-use Rattle.hir_base.specs.declared.ids.ModuleDefId.{ModuleDefId}
 use Rattle.hir_item_tree.specs.Collected.{is_enabled}
 use Rattle.hir_item_tree.specs.ItemTree.{Tree as ItemTree}
 use Rattle.hir_item_tree.specs.KeptForest.{Head, KeptForest, holder, inline_module, leaf, no_items, outline_module}
@@ -24,7 +23,6 @@ use Rattle.hir_def_collector.specs.Start.{Beginning, origin_of, read_by, root_si
 use Rattle.hir_def_collector.specs.Steps.{path_of}
 use Rattle.hir_def_collector.specs.Workspace.{Workspace}
 use Rattle.hir_def_collector_laws.specs.Declares.{Declares, IsLookedFor}
-use Rattle.hir_def_collector_laws.specs.Expansions.{Expansions}
 use Rattle.hir_def_collector_laws.specs.Written.{IsWritten}
 
 -- the items of a tree; none where it is disabled at its top
@@ -55,8 +53,7 @@ pub data HasItems (tables : TablesValue) (w : Workspace) (finished : Maps) (from
       → origin ≡ inline_origin s.tree head.id → is_enabled head.attributes ≡ true
       → IsWritten tables w answer.asked (key_of answer s.tree) (leaf head (outline_module name)) → HasItems tables w finished from answer origin s no_items
 
--- a module lists the definitions that its items declare, in the order of the items, and behind them those of the items to
--- which calls in it expand
+-- a module lists the definitions that its items declare, in the order of the items
 pub record ListsItsItems (tables : TablesValue) (w : Workspace) (finished : Maps) (from : Beginning) (answer : CollectedValue) (number : ℕ) : Type 0 where
   pub value : ModuleValue
   pub there : module_at answer.map number ≡ Some value
@@ -66,13 +63,7 @@ pub record ListsItsItems (tables : TablesValue) (w : Workspace) (finished : Maps
   pub alone : site.extern_block ≡ None
   pub items : KeptForest
   pub has : HasItems tables w finished from answer value.origin site items
-  pub own : List ModuleDefId
-  pub declares : Declares tables w finished answer items site own
-  pub expanded : List ModuleDefId
-  pub expands : Expansions tables w finished answer number expanded
-  pub lists : value.scope.declarations ≡ own ++ expanded
-  -- where there are no items there is no call
-  pub bare : items ≡ no_items → expanded ≡ []
+  pub lists : Declares tables w finished answer items site value.scope.declarations
 
 -- so a definition is listed exactly where an enabled item of a tree that was asked for writes it
 abbrev pub ModulesListTheirItems : Type 0

@@ -28,7 +28,7 @@ pub fn globs_bring_what_is_shown()
 {}
 
 /// A module lists, in their order, the definitions that its enabled items declare: those of its file, or inside the `mod`
-/// item that declares it; and behind them, call by call, those of the items to which macro calls in it expand.
+/// item that declares it.
 pub fn modules_list_their_items()
     ensures modules { ModulesListTheirItems }
 {}
