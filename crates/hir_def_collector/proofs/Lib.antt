@@ -33,6 +33,7 @@ pub mod WholeEdits
 pub mod WholeChanges
 pub mod Whole
 pub mod Placed
+pub mod SourcedItems
 pub mod SourcedEdits
 pub mod SourcedMacros
 pub mod SourcedState
