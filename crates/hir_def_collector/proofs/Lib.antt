@@ -21,6 +21,8 @@ pub mod Digits
 pub mod ModuleFiles
 pub mod Outline
 pub mod Begun
+pub mod Rootless
+pub mod CallPlaces
 pub mod Finding
 pub mod Asks
 pub mod Asked
