@@ -6,6 +6,7 @@ use Rattle.hir_def_map.specs.State.{Local, Map, entry_at}
 use Rattle.hir_def_map.specs.Overlay.{Maps}
 use Rattle.hir_def_map.specs.declared.nameres.diagnostics.DefDiagnostic.{DefDiagnostic}
 use Rattle.hir_base.specs.Locations.{max_locations}
+use Rattle.hir_base.specs.declared.ids.Crate.{Crate}
 use Rattle.hir_tables.specs.Tables.{TablesValue}
 use Rattle.hir_glob_imports.specs.declared.edge.Target.{Target}
 use Rattle.hir_import_resolution.specs.declared.directive.ImportDirective.{ImportDirective}
@@ -66,6 +67,16 @@ pub record CollectedValue : Type 0 where
 -- the plain value of what a run answers
 abbrev pub collected_view : Collected → CollectedValue
 collected_view c = record { map = c.map; local = c.local; leftover = c.leftover.items; round_limit_met = c.round_limit_met; asked = c.asked }
+
+-- what a run answers that comes to this, whether or not rounds of calls were cut off, of a crate with these transitive dependencies
+abbrev pub finished_run : Core → Bool → List Crate → CollectedValue
+finished_run c round_limit_met transitive = record {
+  map = with_diagnostics c.map (leftover_reports c);
+  local = c.local;
+  leftover = leftover_among c.reached c.taken;
+  round_limit_met = round_limit_met;
+  asked = c.asked ++ map_keys transitive;
+}
 
 -- a derivation from the start over this workspace, beside these finished maps, ends in the answer
 pub record Ends (tables : TablesValue) (w : Workspace) (finished : Maps) (from : Beginning) (answer : CollectedValue) : Type 0 where

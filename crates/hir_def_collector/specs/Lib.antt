@@ -30,6 +30,7 @@ pub mod Whole
 pub mod Sources
 -- ---- words of private code
 pub mod Moves
+pub mod CallMoves
 pub mod TreeReads
 pub mod Codes
 pub mod CollectedCodes

@@ -1,7 +1,7 @@
 -- When may rounds of macro calls be cut off?
 use Rattle.std.specs.Prelude.{◌≡◌, ◌<◌, ℕ, suc, Some, slice_get}
 use Rattle.hir_def_map.specs.Overlay.{Maps}
-use Rattle.hir_def_collector.specs.declared.collector.TheConstants.{ROUND_LIMIT}
+use Rattle.hir_def_collector.specs.declared.collector.calls.TheConstants.{ROUND_LIMIT}
 use Rattle.hir_def_collector.specs.declared.collector.macro_directive.Fate.TheVariants.{Handled}
 use Rattle.hir_def_collector.specs.declared.collector.macro_directive.MacroDirective.{MacroDirective}
 use Rattle.hir_def_collector.specs.Calls.{IsWaiting, LeadsNowhere}

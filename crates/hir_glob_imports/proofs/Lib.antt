@@ -6,4 +6,5 @@ pub mod Taking
 pub mod Resting
 pub mod Linking
 pub mod Spreading
+pub mod Reopening
 pub mod Advancing

@@ -30,7 +30,7 @@ pub pushed_here : (old new : List (ℕ × Key)) (p : ℕ × Key) → new ≡ old
 pushed_here old new p is = subst (λ (xs : List (ℕ × Key)). Contains xs p) (sym is) (Contains-push old p)
 
 -- a number that is not below another one's predecessor is that, or not below the other one
-at_or_above : (i left : ℕ) → 0 < left → left - 1 ≤ i → (i ≡ left - 1) ⊎ (left ≤ i)
+pub at_or_above : (i left : ℕ) → 0 < left → left - 1 ≤ i → (i ≡ left - 1) ⊎ (left ≤ i)
 at_or_above i left some above = go (i == (left - 1)) refl
   where
     go : (b : Bool) → (i == (left - 1)) ≡ b → (i ≡ left - 1) ⊎ (left ≤ i)

@@ -82,7 +82,11 @@ fn add_out(out_of: &mut EdgesByModule, source: Target, j: usize) -> Result<(), A
 }
 
 /// An edge is to be looked at at keys, the first of them first.
-fn add_keys(pending: &mut Vec<(usize, Key)>, edge: usize, keys: Vec<Key>) -> Result<(), AllocError>
+pub(crate) fn add_keys(
+    pending: &mut Vec<(usize, Key)>,
+    edge: usize,
+    keys: Vec<Key>,
+) -> Result<(), AllocError>
     ensures kept { OnOk result ((j : ℕ) (other : Key)
         → Contains pending.old.items (j, other) → Contains pending.new.items (j, other)) }
     ensures each { OnOk result ((key : Key) → Contains keys.items key → Contains pending.new.items (edge, key)) }

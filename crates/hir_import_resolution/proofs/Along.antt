@@ -111,7 +111,7 @@ module _ (finished : Maps) where
   inside : (s : ImportState) (g : GlobState ScopesValue) → g.names.finished ≡ finished → glob_state finished (with_glob_state s g) ≡ g
   inside s g same = λ i. record { names = record { finished = sym same i; map = g.names.map; globs = g.names.globs }; edges = g.edges; brought = g.brought; count = g.count }
 
-  performed : (s : ImportState) (changes : List Act) → perform s (list_map (along finished) changes) ≡ with_glob_state s (perform_along scope_table (glob_state finished s) changes)
+  pub performed : (s : ImportState) (changes : List Act) → perform s (list_map (along finished) changes) ≡ with_glob_state s (perform_along scope_table (glob_state finished s) changes)
   performed s [] = refl
   performed s (a ∷ changes) =
       let next : GlobState ScopesValue = act_along scope_table (glob_state finished s) a in

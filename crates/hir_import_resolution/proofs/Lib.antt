@@ -24,8 +24,11 @@ pub mod Counting
 pub mod Running
 pub mod Passes
 pub mod Starting
+pub mod Restarting
 -- what is queued before a round
 pub mod Growing
 pub mod GrownPlaces
 pub mod GlobsGrowing
 pub mod GrowingAround
+-- what is sound
+pub mod Soundness

@@ -10,7 +10,7 @@ use Rattle.hir_import_resolution.specs.declared.import_queue.ImportQueue.{Import
 use Rattle.hir_import_resolution.specs.declared.imports.Imports.{Imports}
 use Rattle.hir_import_resolution.specs.declared.resolver.Resolver.{Resolver}
 use Rattle.hir_import_resolution.specs.Inner.Queue.{IsBegun, IsRunning}
-use Rattle.hir_import_resolution.specs.Inner.State.{IsApart, finished_by, queue_by, state_by, state_in}
+use Rattle.hir_import_resolution.specs.Inner.State.{IsApart, IsKeptIn, finished_by, queue_by, state_by, state_in}
 use Rattle.hir_import_resolution.specs.Names.{view_of}
 use Rattle.hir_import_resolution.specs.Rest.{IsAtRest, IsRecorded, IsSpent}
 use Rattle.hir_import_resolution.specs.Rounds.{IsUpToDate, is_apart}
@@ -22,10 +22,10 @@ up_to_date_through f g queue other s t same queued state old =
     subst (λ (x : Maps). IsUpToDate x other t) same (subst (λ (x : ImportQueue). IsUpToDate f x t) queued (subst (λ (x : ImportState). IsUpToDate f queue x) state old))
 
 -- where the queue is up to date, imports may be tried
-pub begun_with : (finished : Maps) (queue : ImportQueue) (given : Imports) (r : Resolver) → state_by r ≡ state_in given → r.globs ≡ given.globs → finished_by r ≡ finished → queue_by r ≡ queue
+pub begun_kept : (finished : Maps) (queue : ImportQueue) (given : Imports) (r : Resolver) → state_by r ≡ state_in given → finished_by r ≡ finished → queue_by r ≡ queue
     → r.changes.items ≡ [] → IsUpToDate finished queue (state_in given) → given.count ≤ MAX_STEPS → (is_apart queue ≡ true → IsApart finished given.map.id given.local)
-    → IsKept (view_of (scopes_of finished (state_in given))) given.globs → ((p : ℕ) → IsRecorded (state_in given) p) → IsBegun r None
-begun_with finished queue given r state globs same queued fresh up_to_date small keeps_apart kept recorded = record {
+    → IsKeptIn r → ((p : ℕ) → IsRecorded (state_in given) p) → IsBegun r None
+begun_kept finished queue given r state same queued fresh up_to_date small keeps_apart kept recorded = record {
   settled = now.settled;
   unfinished = now.unfinished;
   count = now.count;
@@ -33,10 +33,7 @@ begun_with finished queue given r state globs same queued fresh up_to_date small
   apart = λ e.
       subst (λ (f : Maps). IsApart f r.scopes.map.id r.local) (sym same)
       (subst (λ (s : ImportState). IsApart finished s.map.id s.local) (sym state) (keeps_apart (sym (ap is_apart queued) ∙ e)));
-  kept =
-      subst (λ (g : GlobsValue). IsKept (view_of (scopes_of (finished_by r) (state_by r))) g) (sym globs)
-      (subst (λ (f : Maps). IsKept (view_of (scopes_of f (state_by r))) given.globs) (sym same)
-      (subst (λ (s : ImportState). IsKept (view_of (scopes_of finished s)) given.globs) (sym state) kept));
+  kept = kept;
   recorded = λ p. subst (λ (s : ImportState). IsRecorded s p) (sym state) (recorded p);
   fresh = fresh;
   small = subst (λ (s : ImportState). s.count ≤ MAX_STEPS) (sym state) small;
@@ -44,6 +41,18 @@ begun_with finished queue given r state globs same queued fresh up_to_date small
   where
     now : IsUpToDate (finished_by r) (queue_by r) (state_by r)
     now = up_to_date_through finished (finished_by r) queue (queue_by r) (state_in given) (state_by r) (sym same) (sym queued) (sym state) up_to_date
+
+pub begun_with : (finished : Maps) (queue : ImportQueue) (given : Imports) (r : Resolver) → state_by r ≡ state_in given → r.globs ≡ given.globs → finished_by r ≡ finished → queue_by r ≡ queue
+    → r.changes.items ≡ [] → IsUpToDate finished queue (state_in given) → given.count ≤ MAX_STEPS → (is_apart queue ≡ true → IsApart finished given.map.id given.local)
+    → IsKept (view_of (scopes_of finished (state_in given))) given.globs → ((p : ℕ) → IsRecorded (state_in given) p) → IsBegun r None
+begun_with finished queue given r state globs same queued fresh up_to_date small keeps_apart kept recorded =
+    begun_kept finished queue given r state same queued fresh up_to_date small keeps_apart kept_now recorded
+  where
+    kept_now : IsKeptIn r
+    kept_now =
+        subst (λ (g : GlobsValue). IsKept (view_of (scopes_of (finished_by r) (state_by r))) g) (sym globs)
+        (subst (λ (f : Maps). IsKept (view_of (scopes_of f (state_by r))) given.globs) (sym same)
+        (subst (λ (s : ImportState). IsKept (view_of (scopes_of finished s)) given.globs) (sym state) kept))
 
 -- where nothing is tried, the queue is up to date
 pub up_to_date_after : (f : Maps) (queue : ImportQueue) (s : ImportState) (r : Resolver) → IsRunning r None → r.worklist.current ≡ [] → r.worklist.end ≡ 0

@@ -12,6 +12,7 @@ pub mod Rules
 pub mod Rest
 -- ---- and what may happen before they are taken up again
 pub mod Rounds
+pub mod Sound
 -- ---- words of private code
 pub mod KeyLists
 pub mod Inner

@@ -1,5 +1,5 @@
 -- Where do imports rest?
-use Rattle.std.specs.Prelude.{◌≡◌, ℕ, ◌≤◌, Some, Contains, slice_get}
+use Rattle.std.specs.Prelude.{◌≡◌, ℕ, ◌≤◌, ◌<◌, Some, Contains, length, slice_get}
 use Rattle.hir_def_map.specs.Overlay.{Maps}
 use Rattle.hir_scope.specs.declared.imports.GlobId.{GlobId}
 use Rattle.hir_glob_imports.specs.Waves.{IsWaved, Stands}
@@ -43,6 +43,13 @@ IsClosed finished s = IsWaved (view_of (scopes_of finished s)) s.edges s.brought
 -- what a glob brought to a slot stands there still
 abbrev pub BroughtStands : Maps → ImportState → Type 0
 BroughtStands finished s = (slot : Slot) (by : Brought) → s.brought slot ≡ Some by → Stands (view_of (scopes_of finished s)) slot by
+
+-- what holds of imports and globs wherever steps lead
+pub record IsSound (finished : Maps) (s : ImportState) : Type 0 where
+  -- each recorded glob leads to a module that is there
+  pub there : (j : ℕ) (e : Edge) → slice_get s.edges j ≡ Some e → e.importer < length s.map.modules
+  pub stands : BroughtStands finished s
+  pub recorded : (i : ℕ) → IsRecorded s i
 
 -- imports rest: no step can be taken
 pub record IsAtRest (finished : Maps) (s : ImportState) : Type 0 where

@@ -1,5 +1,6 @@
 //! What happens between two rounds. The functions do nothing: their contracts are the laws.
 ghost use Rattle.hir_import_resolution.specs.Rounds.{EnumsGrowAround, GrowthKeepsGlobs, GrowthsFollowOneAnother, ListsGrowAround, MacroUsesGrowAround, MapsBesideAreOrdered, ModulesGrowAround, PushesBind, ScopesGrowAround};
+ghost use Rattle.hir_import_resolution.specs.Sound.{GrowthKeepsSound, LocalKeepsSound, PushesKeepSound, ReachedImportsKeepSound, StepsKeepSound};
 
 /// What grows twice grows in the slots of both.
 pub fn growths_follow_one_another()
@@ -24,4 +25,17 @@ pub fn building_grows_around()
 /// What is pushed to a name of a module is bound there explicitly.
 pub fn pushes_bind()
     ensures bind { PushesBind }
+{}
+
+/// What holds of imports and globs wherever steps lead holds after one more step.
+pub fn steps_keep_sound()
+    ensures steps { StepsKeepSound }
+{}
+
+/// It holds after what may happen to imports between two rounds.
+pub fn rounds_keep_sound()
+    ensures growth { GrowthKeepsSound }
+    ensures pushes { PushesKeepSound }
+    ensures reached { ReachedImportsKeepSound }
+    ensures local { LocalKeepsSound }
 {}

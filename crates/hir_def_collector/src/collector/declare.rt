@@ -32,7 +32,7 @@ use std::alloc::AllocError;
 
 /// Lists a definition in a module, and binds its name there.
 pub fn bind(run: &mut DefCollector, home: u32, declaration: Declaration) -> Result<(), AllocError>
-    ensures ok { OnOk result (run.new ≡ with_map run.old (with_declaration run.old.map home declaration)) }
+    ensures ok { OnOk result (run.new ≡ with_declaration run.old home declaration) }
 {
     let Declaration { name, def, items } = declaration;
     run.declare(home, def)?;
@@ -46,7 +46,7 @@ pub fn declare(
     home: u32,
     declaration: Declaration,
 ) -> Result<(), CollectError>
-    ensures ok { OnOk result (run.new ≡ counted (with_map run.old (with_declaration run.old.map home declaration))) }
+    ensures ok { OnOk result (run.new ≡ counted (with_declaration run.old home declaration)) }
     ensures many { result ≡ Err CollectError.TooMany → STEP_LIMIT ≤ run.old.count }
 {
     bind(run, home, declaration)?;
@@ -63,8 +63,8 @@ fn declare_type(
     name: &Name,
     def: ModuleDefId,
 ) -> Result<(), CollectError>
-    ensures ok { OnOk result (run.new ≡ counted (with_map run.old (with_declaration run.old.map site.now.home
-        (type_declaration name.now def (own_visibility (part_of world.entry) run.old.local run.old.map site.now (head_of head.entry)))))) }
+    ensures ok { OnOk result (run.new ≡ counted (with_declaration run.old site.now.home
+        (type_declaration name.now def (own_visibility (part_of world.entry) run.old.local run.old.map site.now (head_of head.entry))))) }
     ensures many { result ≡ Err CollectError.TooMany → STEP_LIMIT ≤ run.old.count }
 {
     let vis = run.visibility(world, site, head);
@@ -86,8 +86,8 @@ fn declare_value(
     name: &Name,
     def: ModuleDefId,
 ) -> Result<(), CollectError>
-    ensures ok { OnOk result (run.new ≡ counted (with_map run.old (with_declaration run.old.map site.now.home
-        (value_declaration name.now def (own_visibility (part_of world.entry) run.old.local run.old.map site.now (head_of head.entry)))))) }
+    ensures ok { OnOk result (run.new ≡ counted (with_declaration run.old site.now.home
+        (value_declaration name.now def (own_visibility (part_of world.entry) run.old.local run.old.map site.now (head_of head.entry))))) }
     ensures many { result ≡ Err CollectError.TooMany → STEP_LIMIT ≤ run.old.count }
 {
     let vis = run.visibility(world, site, head);

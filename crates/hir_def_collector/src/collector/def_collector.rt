@@ -1,21 +1,29 @@
 //! Where a run stands, and what each change leaves.
-ghost use Rattle.std.specs.Prelude.{◌≡◌, ◌<◌, ◌≤◌, length, option_map, OnOk, IfOk};
-ghost use Rattle.std.specs.Prelude.{◌∷◌, [], Some};
+ghost use Rattle.std.specs.Prelude.{◌≡◌, ◌<◌, ◌≤◌, ℕ, true, false, ◌∷◌, [], Some, length, option_map, slice_get, slice_set, IfNone, IfOk, IfSome, OnOk};
 ghost use Rattle.hir_def_map.specs.State.{with_enum, with_module, new_id, new_module, with_declared, with_use, with_impl, with_extern_block, with_extern_crate, with_unnamed_const};
 ghost use Rattle.hir_def_map.specs.WorldParts.{part_of};
 ghost use Rattle.hir_def_map.specs.Macros.{with_diagnostic, with_macro_def};
-ghost use Rattle.hir_import_resolution.specs.Inner.State.{state_in};
+ghost use Rattle.hir_import_resolution.specs.Inner.State.{IsApart};
+ghost use Rattle.hir_import_resolution.specs.Rest.{IsAtRest, IsClosed, IsSound};
 ghost use Rattle.hir_import_resolution.specs.Visibilities.{visibility_in};
-ghost use Rattle.hir_def_collector.specs.State.{at_rest, import_state, with_local, with_asked, with_map, with_imports, counted};
+ghost use Rattle.hir_def_collector.specs.Keys.{Environment};
+ghost use Rattle.hir_def_collector.specs.State.{at_rest, core_with_imports, counted, import_state, with_asked, with_bound, with_calls, with_fate, with_imports, with_local, with_map, with_settled};
 ghost use Rattle.hir_def_collector.specs.ItemIds.{container_of, module_id};
-ghost use Rattle.hir_def_collector.specs.Items.{bound_in, own_visibility};
+ghost use Rattle.hir_def_collector.specs.Items.{own_visibility};
+ghost use Rattle.hir_def_collector.specs.Calls.{IsWaiting, called_macro, macro_among};
 ghost use Rattle.hir_def_collector.specs.TreeReads.{head_of};
 ghost use Rattle.hir_def_collector.specs.Imports.{crate_named, dependency_named, extern_after};
 ghost use Rattle.hir_def_collector.specs.Macros.{macros_brought, other_scope, textual_at, with_macros_used, with_textual_macro, with_textual_scope};
 ghost use Rattle.hir_def_collector.specs.Start.{core_by};
 ghost use Rattle.hir_def_collector.specs.ModuleFiles.{file_key};
-ghost use Rattle.hir_def_collector.specs.Moves.{AreUntaken, begun};
+ghost use Rattle.hir_def_collector.specs.Steps.{Steps};
+ghost use Rattle.hir_def_collector.specs.Derivation.{IsSpent, collected_view, finished_run};
+ghost use Rattle.hir_def_collector.specs.Moves.{begun};
 
+use crate::collector::collected::{Asked, Collected};
+use crate::collector::diagnostics::{report_calls, report_unresolved, unresolved_crates};
+use crate::collector::leftovers::untaken;
+use crate::collector::macro_directive::{Fate, MacroDirective};
 use crate::collector::macro_use::{root_scope, use_prelude_macros, use_wanted};
 use crate::collector::preludes::prelude;
 use crate::collector::site::{ItemHead, Site};
@@ -29,6 +37,8 @@ use hir_base::ids::{
 };
 use hir_base::macro_kind::MacroId;
 use hir_base::name::Name;
+use hir_crate_graph::crate_set::CrateSet;
+use hir_def_map::def_maps::DefMaps;
 use hir_def_map::nameres::DefMap;
 use hir_def_map::nameres::crate_data::DefMapCrateData;
 use hir_def_map::nameres::diagnostics::DefDiagnostic;
@@ -36,10 +46,14 @@ use hir_def_map::nameres::enum_variants::EnumVariants;
 use hir_def_map::nameres::local_def_map::LocalDefMap;
 use hir_def_map::nameres::module_data::ModuleData;
 use hir_def_map::nameres::origin::ModuleOrigin;
+use hir_def_map::nameres::path_resolution::query::Query;
+use hir_def_map::nameres::path_resolution::{BuiltinShadowMode, MacroSubNs, ResolveMode};
 use hir_def_map::world::part::WorldPart;
 use hir_glob_imports::GlobImports;
 use hir_import_resolution::answers::visibility;
-use hir_import_resolution::{ImportDirective, ImportSource, Imports, Taken};
+use hir_import_resolution::{
+    ImportDirective, ImportSource, Imports, Taken, forget, restart_imports, spread_globs,
+};
 use hir_item_tree::raw_visibility::RawVisibility;
 use hir_item_tree::shape::ExternCrateName;
 use hir_item_tree::tree_id::{TreeId, TreeKey};
@@ -49,6 +63,7 @@ use hir_scope::per_ns::PerNs;
 use hir_scope::visibility::Visibility;
 use std::alloc::{AllocError, Global};
 use std::marker::Model;
+use std::rc::Rc;
 
 /// Where a run stands, what it has still to visit aside.
 #[derive(Drop)]
@@ -58,17 +73,20 @@ pub struct DefCollector {
     dependencies: Vec<Dependency>,
     options: CfgOptions,
     from_glob_import: PerNsGlobImports,
+    globs: GlobImports,
     reached: Vec<ImportDirective>,
     taken: Vec<Taken>,
+    calls: Vec<MacroDirective>,
+    fates: Vec<Fate>,
+    settled: usize,
     asked: Vec<Key>,
     count: u32,
 }
 
 impl Model for DefCollector {
-    ghost use Rattle.std.specs.Prelude.{◌≡◌, ◌≤◌};
-    ghost use Rattle.hir_def_map.specs.State.{no_globs};
+    ghost use Rattle.std.specs.Prelude.{◌≤◌};
+    ghost use Rattle.hir_glob_imports.specs.Waves.{brought_of};
     ghost use Rattle.hir_def_collector.specs.Codes.{coded_core};
-    ghost use Rattle.hir_def_collector.specs.Moves.{AreUntaken};
     ghost use Rattle.hir_def_collector.specs.State.{Core};
     ghost use Rattle.hir_def_collector.specs.declared.collector.TheConstants.{STEP_LIMIT};
 
@@ -76,10 +94,22 @@ impl Model for DefCollector {
 
     ghost coded = { coded_core };
 
-    ghost view = { λ r. record { map = r.map; local = r.local; dependencies = r.dependencies.items; options = r.options; reached = r.reached.items; taken = r.taken.items; asked = r.asked.items; count = r.count } };
+    ghost view = { λ r. record {
+      map = r.map;
+      local = r.local;
+      dependencies = r.dependencies.items;
+      options = r.options;
+      globs = record { names = r.from_glob_import; edges = r.globs.edges; brought = brought_of r.globs };
+      reached = r.reached.items;
+      taken = r.taken.items;
+      calls = r.calls.items;
+      fates = r.fates.items;
+      settled = r.settled;
+      asked = r.asked.items;
+      count = r.count;
+    } };
 
-    // Before imports are resolved no glob is recorded, and no import taken.
-    ghost invariant = { λ r. (r.count ≤ STEP_LIMIT) × (r.from_glob_import ≡ no_globs) × AreUntaken r.taken.items };
+    ghost invariant = { λ r. r.count ≤ STEP_LIMIT };
 }
 
 /// The first crate of a name.
@@ -92,6 +122,25 @@ fn dependency_named(dependencies: &[Dependency], name: &Name) -> Option<Crate>
         }
     }
     None
+}
+
+/// The macro among what a path reaches.
+fn macro_among(items: PerNs) -> Option<MacroId>
+    ensures value { result ≡ macro_among items }
+{
+    match items.macros {
+        Some(item) => Some(item.def),
+        None => None,
+    }
+}
+
+/// The call at the place is handled.
+fn end(fates: &mut Vec<Fate>, i: usize)
+    ensures value { fates.new.items ≡ slice_set fates.old.items i Fate.Handled }
+{
+    if i < fates.len() {
+        fates[i] = Fate::Handled;
+    }
 }
 
 impl DefCollector {
@@ -122,8 +171,12 @@ impl DefCollector {
             dependencies,
             options,
             from_glob_import: PerNsGlobImports::new(alloc),
+            globs: GlobImports::new(alloc),
             reached: Vec::new(alloc),
             taken: Vec::new(alloc),
+            calls: Vec::new(alloc),
+            fates: Vec::new(alloc),
+            settled: 0,
             asked,
             count: 0,
         })
@@ -200,12 +253,13 @@ impl DefCollector {
         Ok(())
     }
 
-    /// Binds what a declaration brings under a name in a module.
+    /// Binds what a declaration brings under a name in a module. Along globs it goes later.
     ///
     /// After rust-analyzer's `DefCollector::update`.
     pub fn bind(&mut self, home: u32, name: Name, items: PerNs) -> Result<(), AllocError>
-        ensures ok { OnOk result (self.new ≡ with_map self.old (bound_in self.old.map home name items)) }
+        ensures ok { OnOk result (self.new ≡ with_bound self.old home name items) }
     {
+        forget(&mut self.globs, home, &name, items)?;
         self.map
             .push(&mut self.from_glob_import, home, name, items, None)?;
         Ok(())
@@ -438,24 +492,178 @@ impl DefCollector {
         Ok(())
     }
 
-    /// The imports that were come upon, none of them taken, and the keys that were asked for.
-    pub fn into_imports(self) -> (Imports, Vec<Key>)
-        ensures imports { state_in result.0 ≡ import_state (at_rest self) }
-        ensures no_globs { result.0.globs.edges ≡ [] × result.0.globs.brought ≡ [] × result.0.globs.pending ≡ [] }
-        ensures untaken { AreUntaken result.0.taken.items }
-        ensures asked { result.1.items ≡ self.asked }
-        ensures small { result.0.count ≤ STEP_LIMIT }
+    /// Notes a macro call that was come upon.
+    pub fn await_call(&mut self, call: MacroDirective) -> Result<(), AllocError>
+        ensures ok { OnOk result (self.new ≡ with_calls self.old (call ∷ [])) }
     {
-        let globs = GlobImports::new(self.allocator());
-        let imports = Imports {
-            map: self.map,
-            local: self.local,
-            from_glob_import: self.from_glob_import,
-            imports: self.reached,
-            taken: self.taken,
-            globs,
-            count: self.count,
+        self.calls.push(call)?;
+        self.fates.push(Fate::Waits)?;
+        Ok(())
+    }
+
+    /// How many calls may be expanded.
+    pub fn settled(&self) -> usize
+        ensures value { result ≡ self.now.settled }
+    {
+        self.settled
+    }
+
+    /// The call at the place, where it waits.
+    pub fn waiting(&self, i: usize) -> Option<&MacroDirective>
+        ensures waits { IfSome result (λ call. IsWaiting (at_rest self.now) i call.now) }
+        ensures none { IfNone result ((call : MacroDirective) → ¬ IsWaiting (at_rest self.now) i call) }
+    {
+        match self.fates.get(i)? {
+            Fate::Waits => self.calls.get(i),
+            Fate::Handled => None,
+        }
+    }
+
+    /// The macro that the path of a call reaches.
+    pub fn called_macro(&self, world: WorldPart<'_>, call: &MacroDirective) -> Option<MacroId>
+        ensures value { result ≡ called_macro (part_of world.entry) self.now.local self.now.map call.now }
+    {
+        let query = Query {
+            maps: DefMaps::new(world, &self.map),
+            local: Some(&self.local),
+            mode: ResolveMode::Other,
+            shadow: BuiltinShadowMode::Module,
+            sub_ns: Some(MacroSubNs::Bang),
         };
-        (imports, self.asked)
+        let path = call.path();
+        let answer = query.resolve(self.module_id(call.site.home), path.kind(), path.segments());
+        macro_among(answer.resolved_def)
+    }
+
+    /// Whether a call is deeper than calls may be.
+    pub fn is_too_deep(&self, call: &MacroDirective) -> bool
+        ensures deep { result ≡ true → self.now.map.crate_data.recursion_limit ≤ call.now.site.level }
+        ensures shallow { result ≡ false → call.now.site.level < self.now.map.crate_data.recursion_limit }
+    {
+        call.site.level >= self.map.recursion_limit()
+    }
+
+    /// The call at the place is handled.
+    pub fn end_call(&mut self, i: usize)
+        ensures value { self.new ≡ with_fate self.old i Fate.Handled }
+    {
+        end(&mut self.fates, i);
+    }
+
+    /// All calls that there are may be expanded.
+    pub fn rest(&mut self) -> Result<(), CollectError>
+        ensures ok { OnOk result (self.new ≡ counted (with_settled self.old)) }
+        ensures many { result ≡ Err CollectError.TooMany → STEP_LIMIT ≤ self.old.count }
+    {
+        self.settled = self.calls.len();
+        self.tick()
+    }
+
+    /// Takes imports, and what comes of them along globs, until no more comes.
+    pub fn settle(self, world: WorldPart<'_>, apart: bool) -> Result<DefCollector, CollectError>
+        requires apart { apart ≡ true → IsApart (part_of world) self.map.id self.local }
+        requires there { (i : ℕ) (r : ImportDirective) → slice_get self.reached i ≡ Some r → r.home < length self.map.modules }
+        requires sound { IsSound (part_of world) (import_state (at_rest self)) }
+        ensures ok { IfOk result (λ run. (env : Environment) → Steps env (part_of world.entry) (at_rest self.entry) (at_rest run)) }
+        ensures rests { IfOk result (λ run. IsAtRest (part_of world.entry) (import_state (at_rest run))) }
+        ensures sound { IfOk result (λ run. IsSound (part_of world.entry) (import_state (at_rest run))) }
+        ensures others { IfOk result (λ run. run ≡ core_with_imports self.entry (import_state (at_rest run))) }
+        ensures many { result ≡ Err CollectError.TooMany → (env : Environment) → IsSpent env (part_of world.entry) (at_rest self.entry) }
+    {
+        let alloc = self.allocator();
+        let imports = restart_imports(
+            alloc,
+            world,
+            apart,
+            Imports {
+                map: self.map,
+                local: self.local,
+                from_glob_import: self.from_glob_import,
+                imports: self.reached,
+                taken: self.taken,
+                globs: self.globs,
+                count: self.count,
+            },
+        )?;
+        Ok(DefCollector {
+            map: imports.map,
+            local: imports.local,
+            dependencies: self.dependencies,
+            options: self.options,
+            from_glob_import: imports.from_glob_import,
+            globs: imports.globs,
+            reached: imports.imports,
+            taken: imports.taken,
+            calls: self.calls,
+            fates: self.fates,
+            settled: self.settled,
+            asked: self.asked,
+            count: imports.count,
+        })
+    }
+
+    /// Lets names go along globs until none is left to go.
+    pub fn spread(self, world: WorldPart<'_>) -> Result<DefCollector, CollectError>
+        requires sound { IsSound (part_of world) (import_state (at_rest self)) }
+        ensures ok { IfOk result (λ run. (env : Environment) → Steps env (part_of world.entry) (at_rest self.entry) (at_rest run)) }
+        ensures closed { IfOk result (λ run. IsClosed (part_of world.entry) (import_state (at_rest run))) }
+        ensures sound { IfOk result (λ run. IsSound (part_of world.entry) (import_state (at_rest run))) }
+        ensures others { IfOk result (λ run. run ≡ core_with_imports self.entry (import_state (at_rest run))) }
+        ensures many { result ≡ Err CollectError.TooMany → (env : Environment) → IsSpent env (part_of world.entry) (at_rest self.entry) }
+    {
+        let alloc = self.allocator();
+        let imports = spread_globs(
+            alloc,
+            world,
+            Imports {
+                map: self.map,
+                local: self.local,
+                from_glob_import: self.from_glob_import,
+                imports: self.reached,
+                taken: self.taken,
+                globs: self.globs,
+                count: self.count,
+            },
+        )?;
+        Ok(DefCollector {
+            map: imports.map,
+            local: imports.local,
+            dependencies: self.dependencies,
+            options: self.options,
+            from_glob_import: imports.from_glob_import,
+            globs: imports.globs,
+            reached: imports.imports,
+            taken: imports.taken,
+            calls: self.calls,
+            fates: self.fates,
+            settled: self.settled,
+            asked: self.asked,
+            count: imports.count,
+        })
+    }
+
+    /// What a run comes to: what waits still is left over, and reported.
+    ///
+    /// After rust-analyzer's `DefCollector::finish`.
+    pub fn finish(
+        self,
+        round_limit_met: bool,
+        transitive: Rc<CrateSet>,
+    ) -> Result<Collected, AllocError>
+        ensures value { IfOk result (λ c. collected_view c ≡ finished_run self.entry round_limit_met transitive.value) }
+    {
+        let alloc = self.allocator();
+        let leftover = untaken(alloc, &self.reached, &self.taken)?;
+        let names = unresolved_crates(alloc, &self.reached, &self.taken)?;
+        let mut map = self.map;
+        report_calls(&mut map, &self.calls, &self.fates)?;
+        report_unresolved(&mut map, &names, &self.reached, &self.taken)?;
+        Ok(Collected {
+            map,
+            local: self.local,
+            leftover,
+            round_limit_met,
+            asked: Asked::new(self.asked, transitive),
+        })
     }
 }

@@ -1,25 +1,26 @@
 //! The walk over the items of a tree.
-ghost use Rattle.std.specs.Prelude.{◌≡◌, ◌<◌, ◌≤◌, true, ◌∷◌, [], List, length, map, OnOk, IfOk, IsSome};
+ghost use Rattle.std.specs.Prelude.{◌≡◌, ◌<◌, ◌≤◌, true, ◌∷◌, [], List, length, map, OnOk, IfOk};
 ghost use Rattle.std.specs.List.{All};
 ghost use Rattle.hir_base.specs.Cfg.{cfg_view};
 ghost use Rattle.hir_item_tree.specs.Collected.{is_enabled};
-ghost use Rattle.hir_item_tree.specs.KeptForest.{KeptItem, all_items, leaf, holder, constant, implementation, extern_block, inline_module, outline_module};
+ghost use Rattle.hir_item_tree.specs.KeptForest.{KeptItem, all_items, leaf, holder, constant, implementation, extern_block, inline_module, macro_call, outline_module};
 ghost use Rattle.hir_item_tree.specs.Kinds.{kind_content, kind_of};
 ghost use Rattle.hir_item_tree.specs.Rows.{held_numbers, item_of, items_at, numbers_of};
-ghost use Rattle.hir_tables.specs.Tables.{KeepsTables, TablesValue, source_of};
+ghost use Rattle.hir_tables.specs.Tables.{KeepsTables, TablesValue};
 ghost use Rattle.hir_def_map.specs.Overlay.{Maps};
 ghost use Rattle.hir_def_map.specs.declared.nameres.diagnostics.DefDiagnostic.{DefDiagnostic};
 ghost use Rattle.hir_def_map.specs.WorldParts.{part_of};
 ghost use Rattle.hir_def_collector.specs.Workspace.{Workspace};
 ghost use Rattle.hir_def_collector.specs.Keys.{Environment, source_in};
 ghost use Rattle.hir_def_collector.specs.ItemIds.{module_id, node_of};
+ghost use Rattle.hir_def_collector.specs.ModuleFiles.{IsFileMeant};
 ghost use Rattle.hir_def_collector.specs.Items.{file_origin, inline_origin};
 ghost use Rattle.hir_def_collector.specs.Reports.{IsUnconfigured, IsUnresolvedModule};
 ghost use Rattle.hir_def_collector.specs.State.{visits};
 ghost use Rattle.hir_def_collector.specs.Steps.{inside_file, visit};
 ghost use Rattle.hir_def_collector.specs.TreeReads.{head_of, visits_at};
 ghost use Rattle.hir_def_collector.specs.Derivation.{IsFull};
-ghost use Rattle.hir_def_collector.specs.Moves.{Drops, GoesInside, Handles, IsHeld, MayTake, OnceGrown, TakesFile, Tells, Walks, WalksTooFar, found_view, is_single, opened, tasks_of};
+ghost use Rattle.hir_def_collector.specs.Moves.{Drops, GoesInside, Handles, IsWritten, MayTake, OnceGrown, TakesFile, Tells, Walks, WalksTooFar, found_view, is_single, opened, tasks_of};
 
 use crate::collector::declaration::Declaration;
 use crate::collector::declare::{
@@ -30,14 +31,16 @@ use crate::collector::def_collector::DefCollector;
 use crate::collector::diagnostics::{unconfigured, unresolved_module};
 use crate::collector::enums::declare_enum;
 use crate::collector::imports::{reach_extern_crate, reach_use};
+use crate::collector::macro_directive::{MacroDirective, MacroDirectiveKind};
 use crate::collector::macros::{close, define_macro, define_rules, is_macro_use};
-use crate::collector::mod_resolution::{FoundFile, file_of, find_file, path_attr};
+use crate::collector::mod_resolution::{FoundFile, find_file, path_attr, path_of};
 use crate::collector::site::{ItemHead, Site, head_at};
 use crate::collector::{CollectError, STEP_LIMIT};
 use crate::source_database::SourceDatabase;
 use hir_base::ast_id::{AstId, AstKind, EditionedFileId, HirFileId, SyntaxId};
 use hir_base::cfg::CfgExpr;
 use hir_base::ids::{ConstId, ExternBlockId, ImplId, ItemLoc, ModuleDefId};
+use hir_base::mod_path::ModPath;
 use hir_base::name::Name;
 use hir_def_map::nameres::origin::ModuleOrigin;
 use hir_def_map::world::part::WorldPart;
@@ -202,6 +205,7 @@ fn visit_inline<'a>(
         site: Site {
             home,
             tree: site.tree,
+            file: site.file,
             extern_block: None,
             dir,
             level: site.level,
@@ -244,6 +248,7 @@ fn open_file(
             file: HirFileId::File(definition),
             block: None,
         },
+        file: Some(file.id),
         extern_block: None,
         dir,
         level: 0,
@@ -334,8 +339,9 @@ fn visit_outline<'a, D: SourceDatabase>(
 ) -> Result<Inside<'a>, CollectError>
     requires in_range { site.now.home < length run.old.map.modules }
     requires enabled { is_enabled (head_of head).attributes ≡ true }
-    requires meant { IsSome (source_of locations.old site.now.tree) }
+    requires meant { IsFileMeant locations.old site.now.file }
     ensures kept { KeepsTables locations.old locations.new }
+    ensures calls { locations.new.calls ≡ locations.old.calls }
     ensures same { D.workspace db.new ≡ D.workspace db.old }
     ensures ok { IfOk result (λ inside. OnceGrown locations.new (D.workspace db.old) (λ env. (items : List KeptItem) → Handles env (part_of world.entry) run.old run.new
         (visit site.now (leaf (head_of head.entry) (outline_module name.now))) (tasks_of site.now.home items inside))) }
@@ -345,7 +351,7 @@ fn visit_outline<'a, D: SourceDatabase>(
 {
     let path = path_attr(head.attrs.attrs.as_slice());
     let candidates = site.dir.candidates(run.allocator(), name, path)?;
-    let declaring = file_of(locations, site.tree)?;
+    let declaring = path_of(locations, site.file)?;
     let found = find_file(
         run,
         db,
@@ -391,6 +397,7 @@ fn enter<'a>(
         site: Site {
             home: site.home,
             tree: site.tree,
+            file: site.file,
             extern_block: Some(id),
             dir,
             level: site.level,
@@ -398,6 +405,34 @@ fn enter<'a>(
         ids,
         macro_use: false,
     })
+}
+
+/// Notes a macro call, which waits.
+fn reach_call(
+    run: &mut DefCollector,
+    site: &Site,
+    head: ItemHead<'_>,
+    path: &ModPath,
+) -> Result<(), CollectError>
+    requires enabled { is_enabled (head_of head).attributes ≡ true }
+    ensures ok { OnOk result ((env : Environment) (finished : Maps) → Handles env finished run.old run.new (visit site.now (leaf (head_of head.entry) (macro_call path.now))) []) }
+    ensures many { result ≡ Err CollectError.TooMany → STEP_LIMIT ≤ run.old.count }
+{
+    let call = MacroDirective {
+        site: site.clone()?,
+        ast_id: AstId {
+            file_id: site.tree.file,
+            block: site.tree.block,
+            kind: AstKind::MacroCall,
+            id: head.id,
+        },
+        kind: MacroDirectiveKind::FnLike {
+            path: path.clone()?,
+        },
+    };
+    run.await_call(call)?;
+    run.tick()?;
+    Ok(())
 }
 
 /// Handles an item that isn't disabled and holds no others, modules aside.
@@ -433,10 +468,7 @@ fn visit_leaf(
         }
         ModItemKind::MacroRules(item) => define_rules(run, site, head, item),
         ModItemKind::Macro2(item) => define_macro(run, world, site, head, item),
-        ModItemKind::MacroCall(_) => {
-            run.tick()?;
-            Ok(())
-        }
+        ModItemKind::MacroCall(item) => reach_call(run, site, head, item.path),
         ModItemKind::Mod(_) | ModItemKind::ExternBlock(_) => Ok(()),
     }
 }
@@ -478,8 +510,9 @@ fn visit_item<'a, D: SourceDatabase>(
 ) -> Result<Inside<'a>, CollectError>
     requires in_range { site.now.home < length run.old.map.modules }
     requires enabled { is_enabled (head_of head).attributes ≡ true }
-    requires held { IsHeld locations.old (D.workspace db.old) run.old.map.id.krate site.now.tree source.now }
+    requires held { IsWritten locations.old (D.workspace db.old) run.old.map.id.krate site.now source.now }
     ensures kept { KeepsTables locations.old locations.new }
+    ensures calls { locations.new.calls ≡ locations.old.calls }
     ensures same { D.workspace db.new ≡ D.workspace db.old }
     ensures ok { IfOk result (λ inside. OnceGrown locations.new (D.workspace db.old) (λ env. (items : List KeptItem) → Handles env (part_of world.entry) run.old run.new
         (visit site.now (item_of items (head_of head.entry) (kind_content item.entry))) (tasks_of site.now.home items inside))) }
@@ -545,9 +578,10 @@ fn walk_item<D: SourceDatabase>(
     id: ModItemId,
 ) -> Result<(), CollectError>
     requires in_range { site.now.home < length run.old.map.modules }
-    requires held { IsHeld locations.old (D.workspace db.old) run.old.map.id.krate site.now.tree source.now }
+    requires held { IsWritten locations.old (D.workspace db.old) run.old.map.id.krate site.now source.now }
     requires there { id.0 < length (all_items source.now.tree.items) }
     ensures kept { KeepsTables locations.old locations.new }
+    ensures calls { locations.new.calls ≡ locations.old.calls }
     ensures same { D.workspace db.new ≡ D.workspace db.old }
     ensures ok { OnOk result (OnceGrown locations.new (D.workspace db.old)
         (λ env. Walks env (part_of world.entry) run.old run.new (visits_at source.now.tree site.now (id.0 ∷ [])))) }
@@ -597,9 +631,10 @@ pub fn walk_all<D: SourceDatabase>(
     ids: &[ModItemId],
 ) -> Result<(), CollectError>
     requires in_range { site.now.home < length run.old.map.modules }
-    requires held { IsHeld locations.old (D.workspace db.old) run.old.map.id.krate site.now.tree source.now }
+    requires held { IsWritten locations.old (D.workspace db.old) run.old.map.id.krate site.now source.now }
     requires there { All (λ n. n < length (all_items source.now.tree.items)) (numbers_of ids.now) }
     ensures kept { KeepsTables locations.old locations.new }
+    ensures calls { locations.new.calls ≡ locations.old.calls }
     ensures same { D.workspace db.new ≡ D.workspace db.old }
     ensures ok { OnOk result (OnceGrown locations.new (D.workspace db.old)
         (λ env. Walks env (part_of world.entry) run.old run.new (visits_at source.now.tree site.now (numbers_of ids.now)))) }

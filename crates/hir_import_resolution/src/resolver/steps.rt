@@ -1,9 +1,9 @@
 //! One step: an import that binds what it reaches, a glob that is recorded, and what goes along globs.
 ghost use Rattle.std.specs.Prelude.{◌≡◌, ◌<◌, ◌≤◌, [], IfNone, IfOk, IfSome, OnOk, Some, length, slice_get, slice_set};
 ghost use Rattle.hir_import_resolution.specs.Directives.{TakenValue, answer_to, path_answer, taken_after, taken_for, visibility_of};
-ghost use Rattle.hir_import_resolution.specs.Inner.State.{AreRecorded, IsKeptIn, IsLinked, IsSpread, IsTaken, counted, finished_by, state_by};
+ghost use Rattle.hir_import_resolution.specs.Inner.State.{AreRecorded, IsKeptIn, IsLinked, IsSpread, IsTaken, counted, finished_by, state_by, with_globs};
 ghost use Rattle.hir_import_resolution.specs.Inner.Steps.{IsLinkedAt, IsLinking, taking_at};
-ghost use Rattle.hir_import_resolution.specs.Rest.{IsSpent};
+ghost use Rattle.hir_import_resolution.specs.Rest.{IsSound, IsSpent};
 ghost use Rattle.hir_import_resolution.specs.Rules.{Step, Steps};
 
 use crate::answers::{
@@ -231,5 +231,15 @@ impl Resolver<'_> {
         self.globs
             .wave(&mut self.scopes, &mut self.count, &mut self.changes)?;
         Ok(())
+    }
+
+    /// All that stands at the sources of globs is to be looked at along them.
+    pub(crate) fn reopen(&mut self) -> Result<(), AllocError>
+        requires sound { IsSound (finished_by self.old) (state_by self.old) }
+        ensures state { OnOk result (state_by self.new ≡ state_by self.old) }
+        ensures kept { OnOk result (IsKeptIn self.new) }
+        ensures rest { OnOk result (self.new ≡ with_globs self.old self.old.scopes self.new.globs) }
+    {
+        self.globs.reopen(self.alloc, &self.scopes)
     }
 }
