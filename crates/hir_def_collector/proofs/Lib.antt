@@ -14,6 +14,8 @@ pub mod Moves
 pub mod Leftovers
 pub mod InRange
 pub mod Holds
+pub mod Tried
+pub mod Ready
 pub mod Progress
 pub mod Digits
 pub mod ModuleFiles
@@ -24,7 +26,6 @@ pub mod Asks
 pub mod Asked
 pub mod Derived
 pub mod Walked
-pub mod Reached
 pub mod LastVariants
 pub mod Visible
 pub mod WholeEnums
@@ -38,3 +39,5 @@ pub mod SourcedState
 pub mod Sourced
 pub mod Numbers
 pub mod Meaning
+pub mod CallSteps
+pub mod Trying

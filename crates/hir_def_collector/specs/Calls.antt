@@ -19,6 +19,7 @@ use Rattle.hir_base.specs.declared.resolve_mode.ResolveMode.TheVariants as modes
 use Rattle.hir_item_tree.specs.declared.tree_id.TreeId.{TreeId}
 use Rattle.hir_item_tree.specs.declared.tree_id.TreeKey.{TreeKey}
 use Rattle.hir_scope.specs.PerNs.{Item}
+use Rattle.hir_scope.specs.declared.imports.ImportOrExternCrate.{ImportOrExternCrate}
 use Rattle.hir_scope.specs.declared.per_ns.PerNs.{PerNs}
 use Rattle.hir_tables.specs.SourcePlaces.{ExpansionValue}
 use Rattle.hir_tables.specs.Tables.{TablesValue, call_at, entry_at, source_of}
@@ -34,7 +35,7 @@ use Rattle.hir_def_collector.specs.declared.collector.macro_directive.MacroDirec
 use Rattle.hir_def_collector.specs.declared.collector.macro_directive.MacroDirectiveKind.TheVariants.{FnLike}
 use Rattle.hir_def_collector.specs.declared.collector.site.Site.{Site}
 use Rattle.hir_def_collector.specs.declared.source_database.Key.TheVariants as keys
-use Rattle.hir_def_collector.specs.Keys.{node_tree, of_entry, of_input, of_text, of_tree}
+use Rattle.hir_def_collector.specs.Keys.{IsMeant, node_tree, of_entry, of_input, of_text, of_tree}
 use Rattle.hir_def_collector.specs.ModuleFiles.{IsFileMeant, Reading}
 use Rattle.hir_def_collector.specs.State.{State}
 use Rattle.hir_def_collector.specs.Workspace.{EntryLook, TreeLook}
@@ -54,7 +55,7 @@ by_call local = record { local = local; mode = modes.Other; shadow = shadow_mode
 
 -- the macro among what a path reaches
 abbrev pub macro_among : PerNs → Option MacroId
-macro_among items = option_map (λ (i : Item MacroId). i.def) items.macros
+macro_among items = option_map (λ (i : Item MacroId ImportOrExternCrate). i.def) items.macros
 
 -- the macro that a call reaches, if it reaches one
 abbrev pub called_macro : Maps → Local → Map → MacroDirective → Option MacroId
@@ -114,8 +115,9 @@ pub record Expanding : Type 0 where
   pub there : EntryLook
   pub tree : TreeLook
 
--- the numbers of the expansion and of the call mean what they are taken for
+-- the numbers of the macro mean something, and those of the expansion and of the call what they are taken for
 pub record IsNumberedCall (tables : TablesValue) (own : Crate) (d : MacroDirective) (makro : MacroId) (x : Expanding) : Type 0 where
+  pub makro : IsMeant tables makro
   pub entry : entry_at tables x.entry ≡ Some (expansion_of_call own makro x.text x.input)
   pub call : call_at tables x.id ≡ Some (call_loc d x.entry)
 
@@ -154,11 +156,17 @@ pub record IsPlacedBelow (tables : TablesValue) (n : ℕ) (node : AstId) : Type 
   pub source : IsSome (source_of tables (node_tree node))
   pub earlier : (c : MacroCallId) → node.file_id ≡ Macro c → node.block ≡ None → c.0 < n
 
--- so is each call that has a number
-abbrev pub AreCallsPlaced : TablesValue → Type 0
-AreCallsPlaced tables = (n : ℕ) (loc : MacroCallLoc) → slice_get tables.calls n ≡ Some loc → IsPlacedBelow tables n (call_node loc.kind)
+-- so is each call that has a number, and no block has one
+pub record AreCallsPlaced (tables : TablesValue) : Type 0 where
+  pub calls : (n : ℕ) (loc : MacroCallLoc) → slice_get tables.calls n ≡ Some loc → IsPlacedBelow tables n (call_node loc.kind)
+  pub blocks : tables.blocks ≡ []
 
 -- the numbers of a site mean something
 pub record IsMeantAt (tables : TablesValue) (site : Site) : Type 0 where
   pub tree : IsSome (source_of tables site.tree)
   pub file : IsFileMeant tables site.file
+
+-- so do those of a call, and of the node on which it stands
+pub record IsMeantCall (tables : TablesValue) (d : MacroDirective) : Type 0 where
+  pub site : IsMeantAt tables d.site
+  pub node : IsSome (source_of tables (node_tree d.ast_id))

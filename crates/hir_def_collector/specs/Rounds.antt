@@ -32,8 +32,10 @@ pub data Rounds (env : Environment) (finished : Maps) (from : State) : State →
   none : (to : State) → Steps env finished from to → Rounds env finished from to 0
   more : (a b to : State) (n : ℕ) → Rounds env finished from a n → Steps env finished a b → IsRound env finished b to → Rounds env finished from to (suc n)
 
--- more of them than the limit
+-- more of them than the limit, and behind them no name is left to go along a glob
 pub record HasManyRounds (env : Environment) (finished : Maps) (from to : State) : Type 0 where
   pub count : ℕ
-  pub rounds : Rounds env finished from to count
+  pub last : State
+  pub rounds : Rounds env finished from last count
   pub many : ROUND_LIMIT < count
+  pub after : Steps env finished last to

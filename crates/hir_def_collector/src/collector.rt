@@ -130,6 +130,8 @@ pub const STEP_LIMIT: u32 = MAX_STEPS;
 pub enum CollectError {
     /// As many steps or modules as are counted, and another was wanted.
     TooMany,
+    /// A macro of a finished map is written in a source that has no number: the map was made over other tables.
+    UnknownSource,
     Memory,
 }
 
@@ -302,7 +304,7 @@ fn begin<D: SourceDatabase>(
 ) -> Result<DefCollector, CollectError>
     ensures kept { KeepsTables locations.old locations.new }
     ensures same { D.workspace db.new ≡ D.workspace db.old }
-    ensures calls { locations.new.calls ≡ locations.old.calls }
+    ensures placed { AreCallsPlaced locations.old → AreCallsPlaced locations.new }
     ensures ready { IfOk result (λ run. IsReady locations.new (part_of world.entry) run) }
     ensures ok { IfOk result (λ run. Steps (environment locations.new (D.workspace db.old)) (part_of world.entry)
         (began locations.new (D.workspace db.old) (part_of world.entry) transitive.now.value start id) (at_rest run)) }
@@ -339,7 +341,7 @@ fn walk_root<D: SourceDatabase>(
     requires in_range { 0 < length run.old.map.modules }
     requires held { IsHeld locations.old (D.workspace db.old) run.old.map.id.krate id source.now }
     ensures kept { KeepsTables locations.old locations.new }
-    ensures calls { locations.new.calls ≡ locations.old.calls }
+    ensures placed { AreCallsPlaced locations.old → AreCallsPlaced locations.new }
     ensures same { D.workspace db.new ≡ D.workspace db.old }
     ensures ok { OnOk result (Steps (environment locations.new (D.workspace db.old)) (part_of world.entry)
         (joined run.old (tree_visits (root_site id) source.now.tree)) (at_rest run.new)) }

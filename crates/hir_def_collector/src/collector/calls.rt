@@ -1,24 +1,29 @@
 //! Macro calls: what each expands to, and rounds in which they are tried.
-ghost use Rattle.std.specs.Prelude.{◌≡◌, ◌<◌, ◌≤◌, ℕ, Bool, IfOk, OnOk, Some, length, slice_get, unwrap_or, option_map, []};
+ghost use Rattle.std.specs.Prelude.{◌≡◌, ◌<◌, ℕ, true, [], IfOk, OnOk, Some, length, option_map, slice_get, unwrap_or};
+ghost use Rattle.hir_item_tree.specs.SyntaxIds.{node_id};
 ghost use Rattle.hir_tables.specs.SourcePlaces.{expansion_value};
 ghost use Rattle.hir_tables.specs.Tables.{KeepsTables};
-ghost use Rattle.hir_def_map.specs.Overlay.{Maps};
+ghost use Rattle.hir_def_map.specs.State.{Local};
 ghost use Rattle.hir_def_map.specs.WorldParts.{part_of};
-ghost use Rattle.hir_def_collector.specs.CallMoves.{ComesToRest, IsReady, SeesCall, TriesCall, TriesCalls};
-ghost use Rattle.hir_def_collector.specs.Calls.{AreCallsPlaced, Expanding, IsMeantAt, IsWaiting, called_macro, call_site, error_of, expansion_of_call, macro_crate, path_of_call};
-ghost use Rattle.hir_def_collector.specs.Derivation.{IsSpent};
-ghost use Rattle.hir_def_collector.specs.Keys.{Environment, environment, input_at, text_at, text_of};
-ghost use Rattle.hir_def_collector.specs.Moves.{Makes, OnceGrown, Walks};
-ghost use Rattle.hir_def_collector.specs.State.{at_rest, with_asked};
-ghost use Rattle.hir_def_collector.specs.Steps.{Steps, failing, keys_read, with_keys};
+ghost use Rattle.hir_import_resolution.specs.Inner.State.{IsApart};
+ghost use Rattle.hir_import_resolution.specs.Rest.{IsAtRest, IsSound};
+ghost use Rattle.hir_import_resolution.specs.declared.directive.ImportDirective.{ImportDirective};
+ghost use Rattle.hir_def_collector.specs.CallMoves.{ComesToRest, IsDueOf, IsReady, SeesCall, TriesCall, TriesCalls};
+ghost use Rattle.hir_def_collector.specs.Calls.{AreCallsPlaced, Expanding, IsMeantAt, call_site, error_of, expansion_of_call, text_readings};
+ghost use Rattle.hir_def_collector.specs.Derivation.{IsNumberedOut, IsSpent};
+ghost use Rattle.hir_def_collector.specs.ItemIds.{module_id};
+ghost use Rattle.hir_def_collector.specs.Keys.{Environment, IsMeant, input_at, macro_key, macro_tree, source_in, text_at, text_of};
+ghost use Rattle.hir_def_collector.specs.Moves.{Makes, OnceGrown};
+ghost use Rattle.hir_def_collector.specs.State.{at_rest, import_state};
+ghost use Rattle.hir_def_collector.specs.Steps.{Expands, Steps, failing, keys_read, with_keys};
 ghost use Rattle.hir_def_collector.specs.Workspace.{entry_look};
 
+use crate::collector::CollectError;
 use crate::collector::def_collector::DefCollector;
-use crate::collector::macro_directive::MacroDirective;
+use crate::collector::macro_directive::{Fate, MacroDirective};
 use crate::collector::mod_collector::walk_all;
 use crate::collector::site::Site;
 use crate::collector::sources::source_at;
-use crate::collector::{CollectError, STEP_LIMIT};
 use crate::source_database::{ExpansionLook, Key, SourceDatabase};
 use hir_base::ast_id::{AstId, AstKind, HirFileId, MacroCallId};
 use hir_base::ids::{Crate, HasModule};
@@ -46,6 +51,27 @@ fn copied(alloc: Global, text: Option<&str>) -> Result<Option<Text>, AllocError>
     }
 }
 
+/// Whether the number of the source means something that writes a macro.
+fn is_meant(locations: &Tables, makro: MacroId) -> bool
+    ensures meant { result ≡ true → IsMeant locations.now makro }
+{
+    match makro {
+        MacroId::Macro2Id(id) => locations.source_of(tree_of(id.loc)).is_some(),
+        MacroId::MacroRulesId(id) => locations.source_of(tree_of(id.loc)).is_some(),
+        MacroId::ProcMacroId(_) => true,
+    }
+}
+
+/// The tree that writes a macro.
+fn tree_of(loc: MacroLoc) -> TreeId
+    ensures value { result ≡ macro_tree loc }
+{
+    TreeId {
+        file: loc.file_id,
+        block: loc.block,
+    }
+}
+
 /// The text of the macro that a node defines.
 fn text_in<D: SourceDatabase>(
     alloc: Global,
@@ -60,10 +86,7 @@ fn text_in<D: SourceDatabase>(
 {
     let key = TreeKey {
         krate: loc.container.map.krate,
-        id: TreeId {
-            file: loc.file_id,
-            block: loc.block,
-        },
+        id: tree_of(loc),
     };
     let source = source_at(alloc, db, locations, key)?;
     copied(alloc, source.text(NodeId { kind, id: loc.id }))
@@ -194,6 +217,9 @@ fn look_at_call<D: SourceDatabase>(
         × (e.id ≡ x.id) × (e.error ≡ error_of x.there)) }
     ensures many { result ≡ Err CollectError.TooMany → IsNumberedOut locations.new }
 {
+    if !is_meant(locations, makro) {
+        return Err(CollectError::UnknownSource);
+    }
     let alloc = run.allocator();
     let krate = run.map().id().krate;
     let text = text_at(alloc, db, locations, makro)?;
@@ -396,7 +422,7 @@ pub fn resolve_rounds<D: SourceDatabase>(
     locations: &mut Tables,
     apart: bool,
 ) -> Result<(DefCollector, bool), CollectError>
-    requires apart { apart ≡ true → IsApart (part_of world) run.map.id run.local }
+    requires apart { apart ≡ true → (local : Local) → IsApart (part_of world) run.map.id local }
     requires ready { IsReady locations.old (part_of world) run }
     ensures kept { KeepsTables locations.old locations.new }
     ensures same { D.workspace db.new ≡ D.workspace db.old }

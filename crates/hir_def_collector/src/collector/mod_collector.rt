@@ -13,6 +13,7 @@ ghost use Rattle.hir_def_map.specs.WorldParts.{part_of};
 ghost use Rattle.hir_def_collector.specs.Workspace.{Workspace};
 ghost use Rattle.hir_def_collector.specs.Keys.{Environment, source_in};
 ghost use Rattle.hir_def_collector.specs.ItemIds.{module_id, node_of};
+ghost use Rattle.hir_def_collector.specs.Calls.{AreCallsPlaced};
 ghost use Rattle.hir_def_collector.specs.ModuleFiles.{IsFileMeant};
 ghost use Rattle.hir_def_collector.specs.Items.{file_origin, inline_origin};
 ghost use Rattle.hir_def_collector.specs.Reports.{IsUnconfigured, IsUnresolvedModule};
@@ -341,7 +342,7 @@ fn visit_outline<'a, D: SourceDatabase>(
     requires enabled { is_enabled (head_of head).attributes ≡ true }
     requires meant { IsFileMeant locations.old site.now.file }
     ensures kept { KeepsTables locations.old locations.new }
-    ensures calls { locations.new.calls ≡ locations.old.calls }
+    ensures placed { AreCallsPlaced locations.old → AreCallsPlaced locations.new }
     ensures same { D.workspace db.new ≡ D.workspace db.old }
     ensures ok { IfOk result (λ inside. OnceGrown locations.new (D.workspace db.old) (λ env. (items : List KeptItem) → Handles env (part_of world.entry) run.old run.new
         (visit site.now (leaf (head_of head.entry) (outline_module name.now))) (tasks_of site.now.home items inside))) }
@@ -512,7 +513,7 @@ fn visit_item<'a, D: SourceDatabase>(
     requires enabled { is_enabled (head_of head).attributes ≡ true }
     requires held { IsWritten locations.old (D.workspace db.old) run.old.map.id.krate site.now source.now }
     ensures kept { KeepsTables locations.old locations.new }
-    ensures calls { locations.new.calls ≡ locations.old.calls }
+    ensures placed { AreCallsPlaced locations.old → AreCallsPlaced locations.new }
     ensures same { D.workspace db.new ≡ D.workspace db.old }
     ensures ok { IfOk result (λ inside. OnceGrown locations.new (D.workspace db.old) (λ env. (items : List KeptItem) → Handles env (part_of world.entry) run.old run.new
         (visit site.now (item_of items (head_of head.entry) (kind_content item.entry))) (tasks_of site.now.home items inside))) }
@@ -581,7 +582,7 @@ fn walk_item<D: SourceDatabase>(
     requires held { IsWritten locations.old (D.workspace db.old) run.old.map.id.krate site.now source.now }
     requires there { id.0 < length (all_items source.now.tree.items) }
     ensures kept { KeepsTables locations.old locations.new }
-    ensures calls { locations.new.calls ≡ locations.old.calls }
+    ensures placed { AreCallsPlaced locations.old → AreCallsPlaced locations.new }
     ensures same { D.workspace db.new ≡ D.workspace db.old }
     ensures ok { OnOk result (OnceGrown locations.new (D.workspace db.old)
         (λ env. Walks env (part_of world.entry) run.old run.new (visits_at source.now.tree site.now (id.0 ∷ [])))) }
@@ -634,7 +635,7 @@ pub fn walk_all<D: SourceDatabase>(
     requires held { IsWritten locations.old (D.workspace db.old) run.old.map.id.krate site.now source.now }
     requires there { All (λ n. n < length (all_items source.now.tree.items)) (numbers_of ids.now) }
     ensures kept { KeepsTables locations.old locations.new }
-    ensures calls { locations.new.calls ≡ locations.old.calls }
+    ensures placed { AreCallsPlaced locations.old → AreCallsPlaced locations.new }
     ensures same { D.workspace db.new ≡ D.workspace db.old }
     ensures ok { OnOk result (OnceGrown locations.new (D.workspace db.old)
         (λ env. Walks env (part_of world.entry) run.old run.new (visits_at source.now.tree site.now (numbers_of ids.now)))) }

@@ -4,6 +4,7 @@ ghost use Rattle.std.specs.Option.{option_map_or};
 ghost use Rattle.hir_base.specs.Locations.{max_locations};
 ghost use Rattle.hir_item_tree.specs.Collected.{numbered};
 ghost use Rattle.hir_tables.specs.Tables.{KeepsTables, TablesValue};
+ghost use Rattle.hir_def_collector.specs.Calls.{AreCallsPlaced};
 ghost use Rattle.hir_def_collector.specs.ModuleFiles.{IsFileMeant, IsNumberOf, file_of_tree, file_tree, named_by, path_attribute, path_in, taken_by};
 ghost use Rattle.hir_def_collector.specs.Moves.{Finds, IsHeld, LooksAt, found_view, looked_view};
 
@@ -115,7 +116,7 @@ fn look_at<D: SourceDatabase>(
     candidate: &Candidate,
 ) -> Result<Option<LookedFile>, CollectError>
     ensures kept { KeepsTables locations.old locations.new }
-    ensures calls { locations.new.calls ≡ locations.old.calls }
+    ensures placed { AreCallsPlaced locations.old → AreCallsPlaced locations.new }
     ensures same { D.workspace db.new ≡ D.workspace db.old }
     ensures ok { IfOk result (λ file. LooksAt locations.new (D.workspace db.old) (option_map (λ p. p.now) declaring.entry) candidate.now run.old run.new (option_map looked_view file)) }
     ensures held { IfOk result (λ file. IfSome file (λ f. IsHeld locations.new (D.workspace db.old) run.old.map.id.krate (file_tree run.old.map.crate_data.edition f.id) f.source.value)) }
@@ -169,7 +170,7 @@ pub fn find_file<D: SourceDatabase>(
     candidates: &[Candidate],
 ) -> Result<Option<FoundFile>, CollectError>
     ensures kept { KeepsTables locations.old locations.new }
-    ensures calls { locations.new.calls ≡ locations.old.calls }
+    ensures placed { AreCallsPlaced locations.old → AreCallsPlaced locations.new }
     ensures same { D.workspace db.new ≡ D.workspace db.old }
     ensures ok { IfOk result (λ file. Finds locations.new (D.workspace db.old) (option_map (λ p. p.now) declaring.entry) candidates.now run.old run.new (option_map found_view file)) }
     ensures held { IfOk result (λ file. IfSome file (λ f. IsHeld locations.new (D.workspace db.old) run.old.map.id.krate (file_tree run.old.map.crate_data.edition f.id) f.source.value)) }
