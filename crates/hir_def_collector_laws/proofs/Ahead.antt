@@ -1,6 +1,7 @@
 -- A run's map seen from a state on the way: each module lists what it lists there, and what is still to be visited declares.
 use Rattle.std.proofs.Common.{◌≡◌, ◌∙◌, ◌<◌, ◌≤◌, ◌+◌, ℕ, Bool, true, false, List, [], ◌∷◌, ◌++◌, length, Option, Some, inl, inr, refl, sym, ap, subst, arith, append-nil, append_assoc}
 use Rattle.std.proofs.lemmas.Bool.{cases_lt}
+use Rattle.hir_base.specs.declared.ast_id.MacroCallId.{MacroCallId}
 use Rattle.hir_base.specs.declared.ids.MapId.{MapId}
 use Rattle.hir_base.specs.declared.ids.ModuleDefId.{ModuleDefId}
 use Rattle.hir_base.specs.declared.ids.ModuleDefId.TheVariants as definitions
@@ -11,19 +12,23 @@ use Rattle.hir_def_map.specs.Overlay.{Maps}
 use Rattle.hir_def_map.specs.State.{CrateData, Map, ModuleValue, module_at, new_id, new_module, numbered}
 use Rattle.hir_def_map.proofs.StaysWellFormed.{length-made}
 use Rattle.hir_def_map.specs.declared.nameres.origin.ModuleOrigin.{ModuleOrigin}
+use Rattle.hir_def_collector.specs.declared.collector.macro_directive.MacroDirective.{MacroDirective}
 use Rattle.hir_def_collector.specs.declared.collector.site.Site.{Site}
+use Rattle.hir_def_collector.specs.Calls.{call_key, call_site}
 use Rattle.hir_def_collector.specs.Causes.{declarations_of}
 use Rattle.hir_def_collector.specs.Changes.{Change, makes, act, perform}
 use Rattle.hir_def_collector.specs.Derivation.{CollectedValue}
 use Rattle.hir_def_collector.specs.ItemIds.{module_id}
+use Rattle.hir_def_collector.specs.Keys.{tree_at}
 use Rattle.hir_def_collector.specs.Start.{Beginning}
 use Rattle.hir_def_collector.specs.State.{State, Task, visits, closes, visits_over}
 use Rattle.hir_def_collector.specs.Steps.{closing, visit}
 use Rattle.hir_def_collector.specs.Workspace.{Workspace}
+use Rattle.hir_def_collector.proofs.Bound.{number_same_or_not}
 use Rattle.hir_def_collector.proofs.InRange.{VisitsBelow}
 use Rattle.hir_def_collector_laws.specs.Declares.{Declares, DeclaresOne, IsModuleOf, module_alone}
-use Rattle.hir_def_collector_laws.specs.Modules.{ListsItsItems}
-use Rattle.hir_def_collector_laws.proofs.Lists.{at_home, at_home-above, at_home-below, at_home-both, at_home-nothing, at_home-same}
+use Rattle.hir_def_collector_laws.specs.Modules.{AreExpanded, IsExpanded, ListsItsItems, one_expanded}
+use Rattle.hir_def_collector_laws.proofs.Lists.{at_home, at_home-above, at_home-apart, at_home-below, at_home-both, at_home-nothing, at_home-same}
 use Rattle.hir_def_collector_laws.proofs.Listings.{Stays, StaysAt, Stays-perform, Stays-trans, added-perform, all_added, all_made, data-perform, id-perform, length-perform, made_there}
 
 module _ (tables : TablesValue) (w : Workspace) (finished : Maps) (from : Beginning) (answer : CollectedValue) where
@@ -95,7 +100,10 @@ module _ (tables : TablesValue) (w : Workspace) (finished : Maps) (from : Beginn
     pub fewer : length m.modules ≤ length answer.map.modules
     pub stays : Stays m answer.map
     pub pending : AllDeclare vs
-    pub lists : (k : ℕ) → k < length m.modules → declarations_of (module_at answer.map k) ≡ declarations_of (module_at m k) ++ gathered k vs pending
+    -- what calls that are expanded later expand to declares besides
+    pub behind : ℕ → List ModuleDefId
+    pub expanded : (k : ℕ) → AreExpanded tables w finished answer k (behind k)
+    pub lists : (k : ℕ) → k < length m.modules → declarations_of (module_at answer.map k) ≡ declarations_of (module_at m k) ++ (gathered k vs pending ++ behind k)
     pub modules : (k : ℕ) → length m.modules ≤ k → k < length answer.map.modules → ListsItsItems tables w finished from answer k
 
   -- where a module is closed, nothing is ahead that isn't without it
@@ -106,7 +114,9 @@ module _ (tables : TablesValue) (w : Workspace) (finished : Maps) (from : Beginn
     fewer = q.fewer;
     stays = q.stays;
     pending = unclosed xs rest parent child q.pending;
-    lists = λ k low. q.lists k low ∙ ap (λ (zs : List ModuleDefId). declarations_of (module_at m k) ++ zs) (gathered_unclosed k xs rest parent child q.pending);
+    behind = q.behind;
+    expanded = q.expanded;
+    lists = λ k low. q.lists k low ∙ ap (λ (zs : List ModuleDefId). declarations_of (module_at m k) ++ (zs ++ q.behind k)) (gathered_unclosed k xs rest parent child q.pending);
     modules = q.modules;
   }
 
@@ -136,11 +146,14 @@ module _ (tables : TablesValue) (w : Workspace) (finished : Maps) (from : Beginn
           fewer = omega (arith, more, q.fewer);
           stays = Stays-trans before after answer.map (Stays-perform cs s) q.stays;
           pending = pending;
+          behind = q.behind;
+          expanded = q.expanded;
           lists = λ k low.
               q.lists k (omega (arith, more, low))
-              ∙ ap (λ (xs : List ModuleDefId). xs ++ gathered k next q.pending) (added-perform cs s k low)
-              ∙ append_assoc (declarations_of (module_at before k)) (all_added cs k) (gathered k next q.pending)
-              ∙ ap (λ (xs : List ModuleDefId). declarations_of (module_at before k) ++ xs) (same k low);
+              ∙ ap (λ (xs : List ModuleDefId). xs ++ (gathered k next q.pending ++ q.behind k)) (added-perform cs s k low)
+              ∙ append_assoc (declarations_of (module_at before k)) (all_added cs k) (gathered k next q.pending ++ q.behind k)
+              ∙ ap (λ (xs : List ModuleDefId). declarations_of (module_at before k) ++ xs)
+              (sym (append_assoc (all_added cs k) (gathered k next q.pending) (q.behind k)) ∙ ap (λ (xs : List ModuleDefId). xs ++ q.behind k) (same k low));
           modules = modules;
         }
 
@@ -156,6 +169,43 @@ module _ (tables : TablesValue) (w : Workspace) (finished : Maps) (from : Beginn
         → ((k : ℕ) → all_added cs k ≡ at_home site.home k defs) → IsAhead after rest → IsAhead before (visits (visit site i) ∷ rest)
     back_one site i rest defs declares none_made adds q =
         back_same q ((defs, declares), q.pending) none_made (λ k. ap (λ (xs : List ModuleDefId). xs ++ gathered k rest q.pending) (adds k))
+
+    -- a call that is expanded, whose items come next: what they declare comes before what is declared later
+    module _ (d : MacroDirective) (id : MacroCallId) (items : KeptForest) (call : IsExpanded tables w answer d.site.home d id)
+        (are : items ≡ (tree_at tables w (call_key answer.map.id.krate id)).tree.items) where
+      abbrev site : Site
+      site = call_site d id
+
+      expanded_at : (defs others : List ModuleDefId) (k : ℕ) → Declares tables w finished answer items site defs → AreExpanded tables w finished answer k others
+          → AreExpanded tables w finished answer k (at_home d.site.home k defs ++ others)
+      expanded_at defs others k declares rest = elim (number_same_or_not d.site.home k) [
+        | inl here ↦
+            let first : AreExpanded tables w finished answer k (defs ++ others) =
+            one_expanded d id defs others (record { home = here; call = call.call; loc = call.loc; is_number = call.is_number; kind = call.kind; key_asked = call.key_asked })
+            (subst (λ (is : KeptForest). Declares tables w finished answer is site defs) are declares) rest in
+            subst (λ (xs : List ModuleDefId). AreExpanded tables w finished answer k (xs ++ others)) (sym (ap (λ (h : ℕ). at_home h k defs) here ∙ at_home-same k defs)) first
+        | inr apart ↦ subst (λ (xs : List ModuleDefId). AreExpanded tables w finished answer k (xs ++ others)) (sym (at_home-apart d.site.home k defs apart)) rest
+      ]
+
+      pub back_call : all_made cs ≡ 0 → ((k : ℕ) → all_added cs k ≡ []) → IsAhead after (visits_over site items) → IsAhead before []
+      back_call none_made nothing q =
+          let more : length after.modules ≡ length before.modules + all_made cs = length-perform cs s in
+          let defs : List ModuleDefId = altogether site items q.pending in
+          record {
+            id = sym (id-perform cs s) ∙ q.id;
+            edition = sym (ap (λ (x : CrateData). x.edition) (data-perform cs s)) ∙ q.edition;
+            fewer = omega (arith, more, q.fewer);
+            stays = Stays-trans before after answer.map (Stays-perform cs s) q.stays;
+            pending = tt;
+            behind = λ k. at_home d.site.home k defs ++ q.behind k;
+            expanded = λ k. expanded_at defs (q.behind k) k (declare_altogether site items q.pending) (q.expanded k);
+            lists = λ k low.
+                q.lists k (omega (arith, more, low))
+                ∙ ap (λ (xs : List ModuleDefId). declarations_of (module_at after k) ++ (xs ++ q.behind k)) (gathered_at k site items q.pending)
+                ∙ ap (λ (xs : List ModuleDefId). xs ++ (at_home d.site.home k defs ++ q.behind k))
+                (added-perform cs s k low ∙ ap (λ (xs : List ModuleDefId). declarations_of (module_at before k) ++ xs) (nothing k) ∙ append-nil (declarations_of (module_at before k)));
+            modules = λ k past below. q.modules k (omega (arith, more, none_made, past)) below;
+          }
 
   -- ---- a module that is made
 
@@ -181,6 +231,16 @@ module _ (tables : TablesValue) (w : Workspace) (finished : Maps) (from : Beginn
     there : module_at made.core.map number ≡ Some (new_module origin vis (Some (module_id old_map home)))
     there = made_there old_map home name (new_module origin vis (Some (module_id old_map home)))
 
+    -- at first it lists nothing
+    pub lists_nothing : declarations_of (module_at new_map number) ≡ []
+    lists_nothing =
+        let one_more : length made.core.map.modules ≡ number + 1 = length-made old_map home name (new_module origin vis (Some (module_id old_map home))) in
+        let inside_made : number < length made.core.map.modules = omega (arith, one_more) in
+        added-perform cs made number inside_made ∙ ap (λ (o : Option ModuleValue). declarations_of o ++ all_added cs number) there ∙ adds number ∙ at_home-below home number _ low
+
+    pub is_there : number < length new_map.modules
+    is_there = omega (arith, more)
+
     module _ {next : List Task} (q : IsAhead new_map next) where
       in_answer : number < length answer.map.modules
       in_answer = let fewer : length new_map.modules ≤ length answer.map.modules = q.fewer in omega (arith, more, fewer)
@@ -198,14 +258,9 @@ module _ (tables : TablesValue) (w : Workspace) (finished : Maps) (from : Beginn
             parent = stays.parent ∙ ap (λ (id : MapId). Some (numbered id home)) own_id ∙ ap (λ (h : ℕ). Some (numbered answer.map.id h)) (sym same);
           }
 
-      -- it lists what comes next in it
-      pub module_lists : declarations_of (module_at answer.map number) ≡ gathered number next q.pending
-      module_lists =
-          let one_more : length made.core.map.modules ≡ number + 1 = length-made old_map home name (new_module origin vis (Some (module_id old_map home))) in
-          let inside_made : number < length made.core.map.modules = omega (arith, one_more) in
-          q.lists number (omega (arith, more))
-          ∙ ap (λ (xs : List ModuleDefId). xs ++ gathered number next q.pending)
-          (added-perform cs made number inside_made ∙ ap (λ (o : Option ModuleValue). declarations_of o ++ all_added cs number) there ∙ adds number ∙ at_home-below home number _ low)
+      -- it lists what comes next in it, and then what calls in it expand to
+      pub module_lists : declarations_of (module_at answer.map number) ≡ gathered number next q.pending ++ q.behind number
+      module_lists = q.lists number (omega (arith, more)) ∙ ap (λ (xs : List ModuleDefId). xs ++ (gathered number next q.pending ++ q.behind number)) lists_nothing
 
       pub back_made : (site : Site) (i : KeptItem) (rest : List Task) → site.home ≡ home → DeclaresOne tables w finished answer i site (module_alone answer.map number) → ListsItsItems tables w finished from answer number
           → (pending : AllDeclare rest) → ((k : ℕ) → k < number → gathered k next q.pending ≡ gathered k rest pending) → IsAhead old_map (visits (visit site i) ∷ rest)
@@ -229,7 +284,7 @@ module _ (tables : TablesValue) (w : Workspace) (finished : Maps) (from : Beginn
       abbrev last_visits : AllDeclare rest
       last_visits = others (visits_over inner items) rest q.pending
 
-      abbrev inside_defs : List ModuleDefId
+      abbrev pub inside_defs : List ModuleDefId
       inside_defs = altogether inner items first_visits
 
       gathered_here : gathered number (visits_over inner items ++ rest) q.pending ≡ inside_defs
@@ -241,8 +296,11 @@ module _ (tables : TablesValue) (w : Workspace) (finished : Maps) (from : Beginn
           ∙ ap (λ (h : ℕ). at_home h number inside_defs) here
           ∙ at_home-same number inside_defs
 
-      pub items_listed : Declares tables w finished answer items inner (declarations_of (module_at answer.map number))
-      items_listed = subst (λ (defs : List ModuleDefId). Declares tables w finished answer items inner defs) (sym (module_lists q ∙ gathered_here)) (declare_altogether inner items first_visits)
+      pub items_declare : Declares tables w finished answer items inner inside_defs
+      items_declare = declare_altogether inner items first_visits
+
+      pub items_listed : declarations_of (module_at answer.map number) ≡ inside_defs ++ q.behind number
+      items_listed = module_lists q ∙ ap (λ (xs : List ModuleDefId). xs ++ q.behind number) gathered_here
 
       pub items_apart : (k : ℕ) → k < number → gathered k (visits_over inner items ++ rest) q.pending ≡ gathered k rest last_visits
       items_apart k low_k =

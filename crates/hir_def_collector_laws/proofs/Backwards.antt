@@ -9,6 +9,7 @@ use Rattle.hir_base.specs.declared.ids.Crate.{Crate}
 use Rattle.hir_base.specs.declared.ids.MapId.{MapId}
 use Rattle.hir_base.specs.declared.ids.ModuleDefId.{ModuleDefId}
 use Rattle.hir_base.specs.declared.ids.ModuleDefId.TheVariants as definitions
+use Rattle.hir_base.specs.declared.ids.ModuleId.{ModuleId}
 use Rattle.hir_base.specs.declared.macro_kind.MacroId.{MacroId}
 use Rattle.hir_item_tree.specs.Collected.{Collected, is_enabled, is_enabled_by}
 use Rattle.hir_item_tree.specs.ItemTree.{Tree}
@@ -26,30 +27,33 @@ use Rattle.hir_def_map.specs.declared.nameres.origin.ModuleOrigin.{ModuleOrigin}
 use Rattle.hir_import_resolution.specs.Changes.{Change as ImportChange}
 use Rattle.hir_import_resolution.specs.Rules.{acts as import_acts}
 use Rattle.hir_def_collector.specs.declared.collector.declaration.Declaration.{Declaration}
+use Rattle.hir_def_collector.specs.declared.collector.macro_directive.Fate.TheVariants.{Handled}
 use Rattle.hir_def_collector.specs.declared.collector.site.Site.{Site}
 use Rattle.hir_def_collector.specs.declared.source_database.Key.TheVariants as keys
+use Rattle.hir_def_collector.specs.Calls.{call_key, call_loc, call_site, error_of}
 use Rattle.hir_def_collector.specs.Causes.{declarations_of}
-use Rattle.hir_def_collector.specs.Changes.{Change, act, adds_textual, changes_imports, defines, goes_on, makes, perform, takes_textual, tells}
+use Rattle.hir_def_collector.specs.Changes.{Change, act, adds_textual, changes_imports, defines, ends, goes_on, makes, perform, takes_textual, tells}
 use Rattle.hir_def_collector.specs.Derivation.{CollectedValue}
-use Rattle.hir_def_collector.specs.Items.{declaration_of, declared_by, declared_by_leaf, file_origin, inline_origin, is_passed_over, own_visibility}
+use Rattle.hir_def_collector.specs.Items.{declaration_of, declared_by, declared_by_leaf, file_origin, inline_origin, own_visibility}
 use Rattle.hir_def_collector.specs.ItemIds.{enum_id, macro_def_id, macro_rules_id, module_id, node_of}
 use Rattle.hir_def_collector.specs.Keys.{environment, tree_at}
 use Rattle.hir_def_collector.specs.Macros.{is_macro_use, macro_declaration}
 use Rattle.hir_def_collector.specs.ModuleFiles.{IsNumbered, ModuleFile, Search, file_key, file_readings, file_tree, module_file, tried_in}
 use Rattle.hir_def_collector.specs.Start.{Beginning}
 use Rattle.hir_def_collector.specs.State.{State, Task, Visit, visits, import_state, visits_over}
-use Rattle.hir_def_collector.specs.Steps.{Rule, drops_item, passes_over, defines_rules, defines_macro, closes_module, declares_item, declares_enum, lists_constant, lists_impl, opens_module, opens_file, drops_file, misses_file, enters_block, reaches_imports, reaches_crate, resolves_imports, Drops, LooksFor, May, Numbered, Opens, Sees, acts, after, asking, declaring, inside_block, inside_file, inside_module, keys_read, module_declaration, path_of, reads, search_readings, visit, visits_in_file, visits_inside}
+use Rattle.hir_def_collector.specs.Steps.{Rule, drops_item, reaches_call, rests, expands_call, drops_call, defines_rules, defines_macro, closes_module, declares_item, declares_enum, lists_constant, lists_impl, opens_module, opens_file, drops_file, misses_file, enters_block, reaches_imports, reaches_crate, resolves_imports, Drops, LooksFor, May, Numbered, Opens, Sees, acts, after, asking, declaring, inside_block, inside_file, inside_module, keys_read, module_declaration, path_of, reads, search_readings, visit, visits_in_file, visits_inside}
 use Rattle.hir_def_collector.specs.Workspace.{Workspace}
 use Rattle.hir_def_collector.proofs.InRange.{IsInRange, VisitsBelow, next_below}
 use Rattle.hir_def_collector.proofs.ModuleFiles.{found_read}
-use Rattle.hir_def_collector_laws.specs.Declares.{Declares, DeclaresOne, IsLookedFor, IfEnabled, IsModuleOf, LeafDeclares, definitions_of, disabled_file, module_alone, of_file, site_inside, without_file}
-use Rattle.hir_def_collector_laws.specs.Modules.{HasItems, inside_item, items_of, key_of, of_file as has_file, too_deep, without_file as has_none}
+use Rattle.hir_def_collector_laws.specs.Declares.{Begins, Declares, DeclaresOne, IsLookedFor, IfEnabled, IsModuleOf, LeafDeclares, definitions_of, disabled_file, module_alone, of_file, site_inside, without_file}
+use Rattle.hir_def_collector_laws.specs.Modules.{HasItems, IsExpanded, inside_item, items_of, key_of, none_expanded, of_file as has_file, too_deep, without_file as has_none}
 use Rattle.hir_def_collector_laws.specs.Written.{IsWritten}
-use Rattle.hir_def_collector_laws.proofs.Ahead.{AllDeclare, IsAhead, ahead_unclosed, altogether, back_made, back_one, back_same, declare_altogether, earlier, gathered, gathered_at, gathered_below, gathered_both, is_module, items_apart, items_listed, module_lists, others}
-use Rattle.hir_def_collector_laws.proofs.Found.{found_seen}
+use Rattle.hir_def_collector_laws.proofs.Ahead.{AllDeclare, IsAhead, ahead_unclosed, altogether, back_call, back_made, back_one, back_same, declare_altogether, earlier, gathered, gathered_at, gathered_both, is_module, is_there, items_apart, items_declare, items_listed, lists_nothing, others}
+use Rattle.hir_def_collector_laws.proofs.Found.{expansion_read, expansion_seen, found_seen}
+use Rattle.hir_def_collector_laws.proofs.Idle.{IsIdle, VisitsApart, calls_apart, visits_apart}
 use Rattle.hir_def_collector_laws.proofs.Lists.{at_home, at_home-nothing}
-use Rattle.hir_def_collector_laws.proofs.Listings.{all_added, all_made, macro_agenda, macro_makes_none, macro_unlisted, nothing_added, nothing_made, reporting_agenda, reporting_makes_none, reporting_unlisted}
-use Rattle.hir_def_collector_laws.proofs.Written.{IsAllWritten, placed_next}
+use Rattle.hir_def_collector_laws.proofs.Listings.{all_added, all_made, failing_agenda, failing_makes_none, failing_unlisted, macro_agenda, macro_makes_none, macro_unlisted, nothing_added, nothing_made, reporting_agenda, reporting_makes_none, reporting_unlisted}
+use Rattle.hir_def_collector_laws.proofs.Written.{IsAllWritten, call_placed, placed_next}
 
 -- ids don't hang on more than the map's id
 same_definitions : (m n : Map) → m.id ≡ n.id → (s : Site) (h : Head) (l : Leaf) → definitions_of m s h l ≡ definitions_of n s h l
@@ -94,23 +98,6 @@ module _ (tables : TablesValue) (w : Workspace) (finished : Maps) (from : Beginn
   off_one : (site : Site) (i : KeptItem) → is_enabled (item_head i).attributes ≡ false → DeclaresOne tables w finished answer i site []
   off_one site (leaf head l) off = if_disabled _ (is_enabled head.attributes) off
   off_one site (holder head k items) off = if_disabled _ (is_enabled head.attributes) off
-
-  passed_one : (site : Site) (head : Head) (l : Leaf) → is_passed_over l ≡ true → LeafDeclares tables w finished answer site head l []
-  passed_one site head (import tree) e = refl
-  passed_one site head (extern_crate name alias) e = refl
-  passed_one site head (function name) e = absurd (let no : ⊥ = cc in no)
-  passed_one site head (structure name shape fields) e = absurd (let no : ⊥ = cc in no)
-  passed_one site head (union_structure name fields) e = absurd (let no : ⊥ = cc in no)
-  passed_one site head (enumeration name) e = absurd (let no : ⊥ = cc in no)
-  passed_one site head (constant name) e = absurd (let no : ⊥ = cc in no)
-  passed_one site head (static_item name) e = absurd (let no : ⊥ = cc in no)
-  passed_one site head (trait_item name) e = absurd (let no : ⊥ = cc in no)
-  passed_one site head (implementation of_trait) e = refl
-  passed_one site head (type_alias name) e = absurd (let no : ⊥ = cc in no)
-  passed_one site head (outline_module name) e = absurd (let no : ⊥ = cc in no)
-  passed_one site head (macro_call path) e = refl
-  passed_one site head (macro_rules name expander helpers) e = refl
-  passed_one site head (macro_def name expander helpers) e = absurd (let no : ⊥ = cc in no)
 
   declared_one : (s : State) (v : Visit) (d : Declaration) → s.core.map.id ≡ answer.map.id → is_enabled (item_head v.item).attributes ≡ true
       → declaration_of finished s.core.local s.core.map v ≡ Some d → DeclaresOne tables w finished answer v.item v.site (d.def ∷ [])
@@ -193,14 +180,12 @@ module _ (tables : TablesValue) (w : Workspace) (finished : Maps) (from : Beginn
       Made = (perform (asking s r) (makes site.home name origin vis ∷ cs)).core.map
 
       -- a module without items
-      empty_back : (i : KeptItem) (rest : List Task) → VisitsBelow count rest
+      empty_back : (i : KeptItem) (rest : List Task) → declarations_of (module_at answer.map count) ≡ []
           → (IsModuleOf answer.map site origin count → declarations_of (module_at answer.map count) ≡ [] → DeclaresOne tables w finished answer i site (module_alone answer.map count))
           → ((im : IsModuleOf answer.map site origin count) → HasItems tables w finished from answer im.value.origin (site_inside site count site.dir) no_items)
           → Ahead Made rest → Ahead m (visits (visit site i) ∷ rest)
-      empty_back i rest apart declares has q =
+      empty_back i rest nothing declares has q =
           let im : IsModuleOf answer.map site origin count = is_module tables w finished from answer (asking s r) site.home name origin vis cs low none_made adds q site refl in
-          let nothing : declarations_of (module_at answer.map count) ≡ [] =
-          module_lists tables w finished from answer (asking s r) site.home name origin vis cs low none_made adds q ∙ gathered_below tables w finished from answer count rest q.pending apart in
           back_made tables w finished from answer (asking s r) site.home name origin vis cs low none_made adds q site i rest refl (declares im nothing)
           (record {
             value = im.value;
@@ -210,20 +195,29 @@ module _ (tables : TablesValue) (w : Workspace) (finished : Maps) (from : Beginn
             alone = refl;
             items = no_items;
             has = has im;
-            lists = sym (ap declarations_of im.there) ∙ nothing;
+            own = [];
+            lists = refl;
+            added = [];
+            expanded = none_expanded;
+            is = sym (ap declarations_of im.there) ∙ nothing;
           })
           q.pending (λ k b. refl)
 
       -- a module with items
       filled_back : (i : KeptItem) (rest : List Task) (inner : Site) (items : KeptForest) → inner.home ≡ count → inner.extern_block ≡ None → VisitsBelow count rest
-          → (IsModuleOf answer.map site origin count → Declares tables w finished answer items inner (declarations_of (module_at answer.map count)) → DeclaresOne tables w finished answer i site (module_alone answer.map count))
+          → (IsModuleOf answer.map site origin count → Begins (λ defs. Declares tables w finished answer items inner defs) (declarations_of (module_at answer.map count))
+          → DeclaresOne tables w finished answer i site (module_alone answer.map count))
           → ((im : IsModuleOf answer.map site origin count) → HasItems tables w finished from answer im.value.origin inner items)
           → Ahead Made (visits_over inner items ++ rest) → Ahead m (visits (visit site i) ∷ rest)
       filled_back i rest inner items here alone apart declares has q =
           let im : IsModuleOf answer.map site origin count = is_module tables w finished from answer (asking s r) site.home name origin vis cs low none_made adds q site refl in
-          let listed : Declares tables w finished answer items inner (declarations_of (module_at answer.map count)) =
+          let defs : List ModuleDefId = altogether tables w finished from answer inner items (earlier tables w finished from answer (visits_over inner items) rest q.pending) in
+          let declared : Declares tables w finished answer items inner defs =
+          items_declare tables w finished from answer (asking s r) site.home name origin vis cs low none_made adds inner items rest here apart q in
+          let listed : declarations_of (module_at answer.map count) ≡ defs ++ q.behind count =
           items_listed tables w finished from answer (asking s r) site.home name origin vis cs low none_made adds inner items rest here apart q in
-          back_made tables w finished from answer (asking s r) site.home name origin vis cs low none_made adds q site i rest refl (declares im listed)
+          back_made tables w finished from answer (asking s r) site.home name origin vis cs low none_made adds q site i rest refl
+          (declares im (record { own = defs; added = q.behind count; holds = declared; is = listed }))
           (record {
             value = im.value;
             there = im.there;
@@ -232,7 +226,11 @@ module _ (tables : TablesValue) (w : Workspace) (finished : Maps) (from : Beginn
             alone = alone;
             items = items;
             has = has im;
-            lists = subst (λ (defs : List ModuleDefId). Declares tables w finished answer items inner defs) (ap declarations_of im.there) listed;
+            own = defs;
+            lists = declared;
+            added = q.behind count;
+            expanded = q.expanded count;
+            is = sym (ap declarations_of im.there) ∙ listed;
           })
           (others tables w finished from answer (visits_over inner items) rest q.pending)
           (items_apart tables w finished from answer (asking s r) site.home name origin vis cs low none_made adds inner items rest here apart q)
@@ -245,14 +243,14 @@ module _ (tables : TablesValue) (w : Workspace) (finished : Maps) (from : Beginn
     -- a module that is written where it is declared
     inline_back : (site : Site) (head : Head) (name : List ℕ) (items : KeptForest) (rest : List Task) → is_enabled head.attributes ≡ true → site.home < count → VisitsBelow count rest
         → IsWritten tables w answer.asked (key_of answer site.tree) (holder head (inline_module name) items)
-        → (o : Option Directory) → inline_directory site.dir name (path_of head) ≡ o
+        → (o : Option Directory) → inline_directory site.dir name (path_of head) ≡ o → (o ≡ None → declarations_of (module_at answer.map count) ≡ [])
         → Ahead (MapAfter (opens_module site head name items rest)) (visits_inside m site head o items ++ rest) → Ahead m (visits (visit site (holder head (inline_module name) items)) ∷ rest)
-    inline_back site head name items rest on low apart p None e q =
+    inline_back site head name items rest on low apart p None e bare q =
         let r : Rule = opens_module site head name items rest in
         let vis : Visibility = own_visibility finished s.core.local m site head in
         let next : List Task = visits_inside m site head (inline_directory site.dir name (path_of head)) items ++ rest in
         empty_back r site head name (inline_origin site.tree head.id) vis (takes_textual count site.home ∷ goes_on next ∷ declaring site.home (module_declaration m name vis)) low refl (making_adds site name vis next)
-        (holder head (inline_module name) items) rest apart
+        (holder head (inline_module name) items) rest (bare refl)
         (λ im nothing. if_enabled (module_alone answer.map count) (is_enabled head.attributes) on (record {
           number = count;
           made = im;
@@ -261,7 +259,7 @@ module _ (tables : TablesValue) (w : Workspace) (finished : Maps) (from : Beginn
           deep = λ f. nothing;
         }))
         (λ im. too_deep head name items e im.origin_is on p) q
-    inline_back site head name items rest on low apart p (Some dir) e q =
+    inline_back site head name items rest on low apart p (Some dir) e bare q =
         let r : Rule = opens_module site head name items rest in
         let vis : Visibility = own_visibility finished s.core.local m site head in
         let next : List Task = visits_inside m site head (inline_directory site.dir name (path_of head)) items ++ rest in
@@ -273,7 +271,7 @@ module _ (tables : TablesValue) (w : Workspace) (finished : Maps) (from : Beginn
           is = refl;
           lists = λ other f.
               let same : dir ≡ other = cc in
-              subst (λ (d : Directory). Declares tables w finished answer items (site_inside site count d) (declarations_of (module_at answer.map count))) same listed;
+              subst (λ (d : Directory). Begins (λ defs. Declares tables w finished answer items (site_inside site count d) defs) (declarations_of (module_at answer.map count))) same listed;
           deep = λ f. absurd (let no : ⊥ = cc in no);
         }))
         (λ im. inside_item head name items im.origin_is on p)
@@ -288,7 +286,7 @@ module _ (tables : TablesValue) (w : Workspace) (finished : Maps) (from : Beginn
         ap (λ (id : MapId). file_key id.krate m.crate_data.edition file.id) f.id ∙ ap (λ (e : Edition). file_key answer.map.id.krate e file.id) edition
 
     module _ (edition : m.crate_data.edition ≡ answer.map.crate_data.edition) (site : Site) (head : Head) (name : List ℕ) (search : Search) (rest : List Task) (looks : LooksFor s site head name search rest)
-        (numbers : IsNumbered tables site.tree search) (sees : Sees (environment tables w) finished (search_readings m search))
+        (numbers : IsNumbered tables site.file search) (sees : Sees (environment tables w) finished (search_readings m search))
         (read : (key : TreeKey) → Contains (keys_read (search_readings m search)) (keys.Tree key) → Contains answer.asked (keys.Tree key)) where
       abbrev readings_of : Crate → Edition → Type 0
       readings_of krate e = Sees (environment tables w) finished (file_readings krate e (tried_in search))
@@ -335,15 +333,15 @@ module _ (tables : TablesValue) (w : Workspace) (finished : Maps) (from : Beginn
           (disabled_file search looked_for may.file may.found (no_map may.file.tree.attributes may.condition may.disabled) refl))
           refl (λ k. refl) q
 
-      miss_back : (report : DefDiagnostic) → module_file search.found ≡ None → site.home < count → VisitsBelow count rest
+      miss_back : (report : DefDiagnostic) → module_file search.found ≡ None → site.home < count → declarations_of (module_at answer.map count) ≡ []
           → IsWritten tables w answer.asked (key_of answer site.tree) (leaf head (outline_module name))
           → Ahead (MapAfter (misses_file site head name search report rest)) rest → Ahead m (visits (visit site (leaf head (outline_module name))) ∷ rest)
-      miss_back report missing low apart p q =
+      miss_back report missing low bare p q =
           let r : Rule = misses_file site head name search report rest in
           let vis : Visibility = own_visibility finished s.core.local m site head in
           empty_back r site head name (inline_origin site.tree head.id) vis (takes_textual count site.home ∷ goes_on rest ∷ declaring site.home (module_declaration m name vis) ++ tells report ∷ []) low refl
           (λ k. append-nil (at_home site.home k (definitions.ModuleId (new_id m) ∷ [])))
-          (leaf head (outline_module name)) rest apart
+          (leaf head (outline_module name)) rest bare
           (λ im nothing. leaf_one site head (outline_module name) (module_alone answer.map count) looks.here.enabled (without_file search looked_for missing count im refl nothing))
           (λ im. has_none head name search (record { tries = looked_for.tries; numbers = looked_for.numbers; sees = looked_for.sees }) missing im.origin_is looks.here.enabled p) q
 
@@ -356,44 +354,71 @@ module _ (tables : TablesValue) (w : Workspace) (finished : Maps) (from : Beginn
     at_next : {vs ws : List Task} → vs ≡ ws → Ahead m ws → Ahead m vs
     at_next e q = subst (λ (xs : List Task). Ahead m xs) (sym e) q
 
-    pub back_rule : (r : Rule) → May finished s r → Sees (environment tables w) finished (reads s r) → Numbered tables r
+    pub back_rule : (r : Rule) → May finished s r → Sees (environment tables w) finished (reads s r) → Numbered tables s r
         → ((key : TreeKey) → Contains (keys_read (reads s r)) (keys.Tree key) → Contains answer.asked (keys.Tree key))
-        → m.crate_data.edition ≡ answer.map.crate_data.edition → Ahead (MapAfter r) (after finished s r).agenda → Ahead m s.agenda
-    back_rule (drops_item v report rest) may sees numbers read edition q =
+        → m.crate_data.edition ≡ answer.map.crate_data.edition
+        → (IsIdle count (after finished s r) → declarations_of (module_at (MapAfter r) count) ≡ [] → declarations_of (module_at answer.map count) ≡ [])
+        → Ahead (MapAfter r) (after finished s r).agenda → Ahead m s.agenda
+    back_rule (drops_item v report rest) may sees numbers read edition bare q =
         at_next may.next
         (back_one tables w finished from answer (asking s (drops_item v report rest)) (acts finished s (drops_item v report rest)) v.site v.item rest [] (off_one v.site v.item (no_map (item_head v.item).attributes may.condition may.disabled)) refl
         (λ k. sym (at_home-nothing v.site.home k)) q)
-    back_rule (declares_item v d rest) may sees numbers read edition q =
+    back_rule (declares_item v d rest) may sees numbers read edition bare q =
         at_next may.here.next
         (back_one tables w finished from answer (asking s (declares_item v d rest)) (acts finished s (declares_item v d rest)) v.site v.item rest (d.def ∷ []) (declared_one s v d f.id may.here.enabled may.declares) refl
         (λ k. append-nil (at_home v.site.home k (d.def ∷ []))) q)
-    back_rule (declares_enum site head name found rest) may sees numbers read edition q =
+    back_rule (declares_enum site head name found rest) may sees numbers read edition bare q =
         let r : Rule = declares_enum site head name found rest in
         let def : ModuleDefId = definitions.AdtId (adts.EnumId (enum_id m site head.id)) in
         at_next may.next
         (back_one tables w finished from answer (asking s r) (acts finished s r) site (leaf head (enumeration name)) rest (def ∷ [])
         (leaf_one site head (enumeration name) (def ∷ []) may.enabled (same_definitions m answer.map f.id site head (enumeration name))) refl (λ k. append-nil (at_home site.home k (def ∷ []))) q)
-    back_rule (lists_constant site head rest) may sees numbers read edition q =
+    back_rule (lists_constant site head rest) may sees numbers read edition bare q =
         at_next may.next (unlisted_one (lists_constant site head rest) site head (constant None) rest (leaf_one site head (constant None) [] may.enabled refl) refl (λ k. refl) q)
-    back_rule (lists_impl site head of_trait rest) may sees numbers read edition q =
+    back_rule (lists_impl site head of_trait rest) may sees numbers read edition bare q =
         at_next may.next (unlisted_one (lists_impl site head of_trait rest) site head (implementation of_trait) rest (leaf_one site head (implementation of_trait) [] may.enabled refl) refl (λ k. refl) q)
-    back_rule (opens_module site head name items rest) may sees numbers read edition q =
+    back_rule (opens_module site head name items rest) may sees numbers read edition bare q =
         let apart = below _ rest may.next in
-        at_next may.next (inline_back site head name items rest may.enabled apart.0 apart.1 (placed _ rest may.next) (inline_directory site.dir name (path_of head)) refl q)
-    back_rule (opens_file site head name search file rest) may sees numbers read edition q =
+        let r : Rule = opens_module site head name items rest in
+        let vis : Visibility = own_visibility finished s.core.local m site head in
+        let dir : Option Directory = inline_directory site.dir name (path_of head) in
+        let next : List Task = visits_inside m site head dir items ++ rest in
+        let cs : List Change = takes_textual count site.home ∷ goes_on next ∷ declaring site.home (module_declaration m name vis) in
+        let empty : dir ≡ None → declarations_of (module_at answer.map count) ≡ [] =
+        λ deep. bare
+        (record {
+          there = is_there tables w finished from answer (asking s r) site.home name (inline_origin site.tree head.id) vis cs apart.0 refl (making_adds site name vis next);
+          visits = subst (λ (o : Option Directory). VisitsApart count (visits_inside m site head o items ++ rest)) (sym deep) (visits_apart count rest apart.1);
+          calls = calls_apart count s.core.calls inside.calls;
+        })
+        (lists_nothing tables w finished from answer (asking s r) site.home name (inline_origin site.tree head.id) vis cs apart.0 refl (making_adds site name vis next)) in
+        at_next may.next (inline_back site head name items rest may.enabled apart.0 apart.1 (placed _ rest may.next) dir refl empty q)
+    back_rule (opens_file site head name search file rest) may sees numbers read edition bare q =
         let apart = below _ rest may.looks.here.next in
         at_next may.looks.here.next (file_back edition site head name search rest may.looks numbers sees read file may apart.0 apart.1 q)
-    back_rule (drops_file site head name search report rest) may sees numbers read edition q =
+    back_rule (drops_file site head name search report rest) may sees numbers read edition bare q =
         at_next may.looks.here.next (drop_back edition site head name search rest may.looks numbers sees read report may q)
-    back_rule (misses_file site head name search report rest) may sees numbers read edition q =
+    back_rule (misses_file site head name search report rest) may sees numbers read edition bare q =
         let apart = below _ rest may.looks.here.next in
-        at_next may.looks.here.next (miss_back edition site head name search rest may.looks numbers sees read report may.missing apart.0 apart.1 (placed _ rest may.looks.here.next) q)
+        let r : Rule = misses_file site head name search report rest in
+        let vis : Visibility = own_visibility finished s.core.local m site head in
+        let cs : List Change = takes_textual count site.home ∷ goes_on rest ∷ declaring site.home (module_declaration m name vis) ++ tells report ∷ [] in
+        let adds : (k : ℕ) → all_added cs k ≡ at_home site.home k (definitions.ModuleId (new_id m) ∷ []) = λ k. append-nil (at_home site.home k (definitions.ModuleId (new_id m) ∷ [])) in
+        let empty : declarations_of (module_at answer.map count) ≡ [] =
+        bare
+        (record {
+          there = is_there tables w finished from answer (asking s r) site.home name (inline_origin site.tree head.id) vis cs apart.0 refl adds;
+          visits = visits_apart count rest apart.1;
+          calls = calls_apart count s.core.calls inside.calls;
+        })
+        (lists_nothing tables w finished from answer (asking s r) site.home name (inline_origin site.tree head.id) vis cs apart.0 refl adds) in
+        at_next may.looks.here.next (miss_back edition site head name search rest may.looks numbers sees read report may.missing apart.0 empty (placed _ rest may.looks.here.next) q)
     back_rule (enters_block site head items rest) may sees numbers read edition q = at_next may.next (block_back site head items rest may.enabled q)
-    back_rule (reaches_imports site head tree rest) may sees numbers read edition q =
+    back_rule (reaches_imports site head tree rest) may sees numbers read edition bare q =
         at_next may.next (unlisted_one (reaches_imports site head tree rest) site head (import tree) rest (leaf_one site head (import tree) [] may.enabled refl) refl (λ k. refl) q)
-    back_rule (reaches_crate site head name alias rest) may sees numbers read edition q =
+    back_rule (reaches_crate site head name alias rest) may sees numbers read edition bare q =
         at_next may.next (unlisted_one (reaches_crate site head name alias rest) site head (extern_crate name alias) rest (leaf_one site head (extern_crate name alias) [] may.enabled refl) refl (λ k. refl) q)
-    back_rule (defines_rules site head name expander helpers rest) may sees numbers read edition q =
+    back_rule (defines_rules site head name expander helpers rest) may sees numbers read edition bare q =
         let r : Rule = defines_rules site head name expander helpers rest in
         let makro : MacroId = macro_rules_id m site head.id expander in
         let node : AstId = node_of site.tree nodes.MacroRules head.id in
@@ -403,7 +428,7 @@ module _ (tables : TablesValue) (w : Workspace) (finished : Maps) (from : Beginn
         (unlisted_one r site head (macro_rules name expander helpers) rest (leaf_one site head (macro_rules name expander helpers) [] may.enabled refl)
         (ap (λ (n : ℕ). 0 + (0 + (0 + n))) (macro_makes_none head name makro (module_id m site.home) node expander))
         (macro_unlisted head name makro (module_id m site.home) node expander) now)
-    back_rule (defines_macro site head name expander helpers rest) may sees numbers read edition q =
+    back_rule (defines_macro site head name expander helpers rest) may sees numbers read edition bare q =
         let r : Rule = defines_macro site head name expander helpers rest in
         let makro : MacroId = macro_def_id m site head.id expander in
         let def : ModuleDefId = definitions.MacroId makro in
@@ -415,12 +440,34 @@ module _ (tables : TablesValue) (w : Workspace) (finished : Maps) (from : Beginn
         (leaf_one site head (macro_def name expander helpers) (def ∷ []) may.enabled (same_definitions m answer.map f.id site head (macro_def name expander helpers)))
         (ap (λ (n : ℕ). 0 + (0 + (0 + (0 + n)))) (reporting_makes_none (module_id m site.home) node expander))
         (λ k. ap (λ (xs : List ModuleDefId). at_home site.home k (def ∷ []) ++ xs) (reporting_unlisted (module_id m site.home) node expander k) ∙ append-nil (at_home site.home k (def ∷ []))) now)
-    back_rule (closes_module parent child rest) may sees numbers read edition q =
+    back_rule (closes_module parent child rest) may sees numbers read edition bare q =
         let r : Rule = closes_module parent child rest in
         at_next may (back_same tables w finished from answer (asking s r) (acts finished s r) q q.pending refl (λ k. refl))
-    back_rule (passes_over site head l rest) may sees numbers read edition q =
-        at_next may.here.next (unlisted_one (passes_over site head l rest) site head l rest (leaf_one site head l [] may.here.enabled (passed_one site head l may.passed)) refl (λ k. refl) q)
-    back_rule (resolves_imports rule) may sees numbers read edition q =
+    back_rule (reaches_call site head path rest) may sees numbers read edition bare q =
+        at_next may.next (unlisted_one (reaches_call site head path rest) site head (macro_call path) rest (leaf_one site head (macro_call path) [] may.enabled refl) refl (λ k. refl) q)
+    back_rule rests may sees numbers read edition bare q = back_same tables w finished from answer (asking s rests) (acts finished s rests) q q.pending refl (λ k. refl)
+    back_rule (expands_call i d makro x) may sees numbers read edition bare q =
+        let r : Rule = expands_call i d makro x in
+        let at : ModuleId = module_id m d.site.home in
+        let items : KeptForest = x.tree.tree.items in
+        let started : State = perform (asking s r) (ends i Handled ∷ goes_on (visits_over (call_site d x.id) items) ∷ []) in
+        let now : Ahead (MapAfter r) (visits_over (call_site d x.id) items) = subst (λ (vs : List Task). Ahead (MapAfter r) vs) (failing_agenda started at d (error_of x.there)) q in
+        let call : IsExpanded tables w answer d.site.home d x.id =
+        record {
+          home = refl;
+          call = call_placed tables w from answer s.core.calls i d f.calls may.due.waiting.call;
+          loc = call_loc d x.entry;
+          is_number = numbers.call;
+          kind = refl;
+          key_asked = subst (λ (id : MapId). Contains answer.asked (keys.Tree (call_key id.krate x.id))) f.id (read (call_key m.id.krate x.id) (expansion_read m.id.krate d makro x));
+        } in
+        let are : items ≡ (tree_at tables w (call_key answer.map.id.krate x.id)).tree.items =
+        sym (ap (λ (t : Tree). t.items) (expansion_seen tables w finished m.id.krate d makro x sees)) ∙ ap (λ (id : MapId). (tree_at tables w (call_key id.krate x.id)).tree.items) f.id in
+        at_next may.due.visited
+        (back_call tables w finished from answer (asking s r) (acts finished s r) d x.id items call are
+        (ap (λ (n : ℕ). 0 + (0 + n)) (failing_makes_none at d (error_of x.there))) (failing_unlisted at d (error_of x.there)) now)
+    back_rule (drops_call i d) may sees numbers read edition bare q = back_same tables w finished from answer (asking s (drops_call i d)) (acts finished s (drops_call i d)) q q.pending refl (λ k. refl)
+    back_rule (resolves_imports rule) may sees numbers read edition bare q =
         let r : Rule = resolves_imports rule in
         let cs : List ImportChange = import_acts finished (import_state s) rule in
         let now : Ahead (MapAfter r) s.agenda = subst (λ (vs : List Task). Ahead (MapAfter r) vs) (same_agenda cs (asking s r)) q in

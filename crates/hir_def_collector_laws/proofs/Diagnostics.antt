@@ -1,4 +1,4 @@
--- Each diagnostic of a run speaks of an item that was visited, or of an import that was found.
+-- Each diagnostic of a run speaks of an item that was visited, of a call or of an import that was found.
 use Rattle.std.proofs.Common.{◌≡◌, ◌∙◌, ◌<◌, ◌≤◌, ℕ, zero, suc, List, [], ◌∷◌, ◌++◌, length, Bool, true, false, cond, Option, None, Some, inl, inr, refl, sym, ap, subst, arith, Contains}
 use Rattle.std.proofs.lemmas.List.Elements.{Contains-append_cases}
 use Rattle.hir_base.specs.declared.ast_id.AstId.{AstId}
@@ -6,7 +6,7 @@ use Rattle.hir_base.specs.declared.ast_id.AstKind.TheVariants as nodes
 use Rattle.hir_base.specs.declared.ids.Crate.{Crate}
 use Rattle.hir_base.specs.declared.ids.MapId.{MapId}
 use Rattle.hir_base.specs.declared.ids.ModuleId.{ModuleId}
-use Rattle.hir_item_tree.specs.KeptForest.{extern_crate, import, leaf, macro_def, macro_rules, outline_module}
+use Rattle.hir_item_tree.specs.KeptForest.{extern_crate, import, leaf, macro_call, macro_def, macro_rules, outline_module}
 use Rattle.hir_item_tree.specs.Kinds.{item_head, item_kind}
 use Rattle.hir_tables.specs.Tables.{TablesValue}
 use Rattle.hir_def_map.specs.Diagnostics.{diagnostic_view, node_of as node_told}
@@ -19,27 +19,32 @@ use Rattle.hir_import_resolution.specs.Rules.{acts as import_acts}
 use Rattle.hir_import_resolution.specs.declared.directive.ImportDirective.{ImportDirective}
 use Rattle.hir_import_resolution.specs.declared.directive.ImportSource.{ImportSource}
 use Rattle.hir_import_resolution.specs.declared.directive.ImportSource.TheVariants as sources
-use Rattle.hir_def_collector.specs.Changes.{Change, lists, makes, gives_variants, begins_paths, reaches, changes_imports, adds_textual, takes_textual, defines, uses_macros, tells, goes_on, act}
-use Rattle.hir_def_collector.specs.Derivation.{CollectedValue, Ends}
+use Rattle.hir_def_collector.specs.declared.collector.macro_directive.Fate.{Fate}
+use Rattle.hir_def_collector.specs.declared.collector.macro_directive.Fate.TheVariants as fates
+use Rattle.hir_def_collector.specs.declared.collector.macro_directive.MacroDirective.{MacroDirective}
+use Rattle.hir_def_collector.specs.Calls.{error_of, path_of_call}
+use Rattle.hir_def_collector.specs.Changes.{Change, lists, makes, gives_variants, begins_paths, reaches, awaits, ends, settles, changes_imports, adds_textual, takes_textual, defines, uses_macros, tells, goes_on, act}
+use Rattle.hir_def_collector.specs.Derivation.{CollectedValue, Ends, leftover_reports}
 use Rattle.hir_def_collector.specs.ItemIds.{module_id, node_of}
-use Rattle.hir_def_collector.specs.Keys.{environment}
-use Rattle.hir_def_collector.specs.Reports.{begins_with, crates_among, leftover_diagnostics, report_by, reports_of, unimplemented_macro, unresolved_among}
+use Rattle.hir_def_collector.specs.Keys.{environment, node_tree}
+use Rattle.hir_def_collector.specs.Reports.{begins_with, call_report, crates_among, failed_call, leftover_diagnostics, report_by, reports_of, unimplemented_macro, unresolved_among, unresolved_calls}
 use Rattle.hir_def_collector.specs.Start.{Beginning, begin_of, krate_of, read_by}
 use Rattle.hir_def_collector.specs.State.{State, Task, Visit, visits, import_state}
-use Rattle.hir_def_collector.specs.Steps.{Rule, drops_item, passes_over, defines_rules, defines_macro, closes_module, declares_item, declares_enum, lists_constant, lists_impl, opens_module, opens_file, drops_file, misses_file, enters_block, reaches_imports, reaches_crate, resolves_imports, May, Steps, acts, asking, more, none, visit}
+use Rattle.hir_def_collector.specs.Steps.{Rule, drops_item, reaches_call, rests, expands_call, drops_call, defines_rules, defines_macro, closes_module, declares_item, declares_enum, lists_constant, lists_impl, opens_module, opens_file, drops_file, misses_file, enters_block, reaches_imports, reaches_crate, resolves_imports, May, Steps, acts, asking, more, none, visit}
 use Rattle.hir_def_collector.specs.Workspace.{Workspace}
 use Rattle.hir_def_collector.proofs.Asks.{only, still_asked-Step}
-use Rattle.hir_def_collector.proofs.Changes.{AllFine, all_fine, fine_macro, fine_reporting, perform_keeps}
+use Rattle.hir_def_collector.proofs.Changes.{AllFine, all_fine, fine_failing, fine_macro, fine_reporting, perform_keeps}
 use Rattle.hir_def_collector.proofs.Grows.{Grows-Step}
 use Rattle.hir_def_collector.proofs.Holds.{in_range-start}
 use Rattle.hir_def_collector.proofs.ImportEdits.{Edit, edit_of, edited, map_after}
-use Rattle.hir_def_collector.proofs.InRange.{ImportsBelow, IsInRange, in_range-Steps, next_home}
+use Rattle.hir_def_collector.proofs.InRange.{CallsBelow, ImportsBelow, IsInRange, call_below, in_range-Steps, next_home}
 use Rattle.hir_def_collector_laws.specs.Diagnostics.{DiagnosticsAreOfItems, IsOfItem, IsToldOfItem}
 use Rattle.hir_def_collector_laws.specs.Imports.{IsImport, IsOfSource}
-use Rattle.hir_def_collector_laws.specs.Written.{IsWritten}
-use Rattle.hir_def_collector_laws.proofs.Imports.{answer_asked, answer_here, first_written, import_written}
+use Rattle.hir_def_collector_laws.specs.Modules.{key_of}
+use Rattle.hir_def_collector_laws.specs.Written.{IsCall, IsWritten}
+use Rattle.hir_def_collector_laws.proofs.Imports.{answer_asked, answer_here, call_written, first_written, import_written}
 use Rattle.hir_def_collector_laws.proofs.Lists.{later}
-use Rattle.hir_def_collector_laws.proofs.Written.{AreAsked, IsAllWritten, placed_next, written-Steps}
+use Rattle.hir_def_collector_laws.proofs.Written.{AreAsked, IsAllWritten, call_placed, placed_next, written-Steps}
 
 module _ (tables : TablesValue) (w : Workspace) (from : Beginning) (answer : CollectedValue) where
   abbrev IsTold : DefDiagnostic → Type 0
@@ -72,6 +77,9 @@ module _ (tables : TablesValue) (w : Workspace) (from : Beginning) (answer : Col
   IsFine s (gives_variants id variants) = Unit {0}
   IsFine s (begins_paths r) = Unit {0}
   IsFine s (reaches found) = Unit {0}
+  IsFine s (awaits calls) = Unit {0}
+  IsFine s (ends i fate) = Unit {0}
+  IsFine s settles = Unit {0}
   IsFine s (changes_imports c) = Unit {0}
   IsFine s (adds_textual home name makro) = Unit {0}
   IsFine s (takes_textual home from_) = Unit {0}
@@ -90,6 +98,9 @@ module _ (tables : TablesValue) (w : Workspace) (from : Beginning) (answer : Col
   told-act s (gives_variants id variants) f fine = record { each = f.each }
   told-act s (begins_paths r) f fine = record { each = f.each }
   told-act s (reaches found) f fine = record { each = f.each }
+  told-act s (awaits calls) f fine = record { each = f.each }
+  told-act s (ends i fate) f fine = record { each = f.each }
+  told-act s settles f fine = record { each = f.each }
   told-act s (changes_imports c) f fine = record {
     each = subst AllTold (sym (ap (λ (m : Map). m.diagnostics) (map_after (import_state s) c) ∙ same_edited s.core.map (edit_of (import_state s) c))) f.each;
   }
@@ -99,6 +110,26 @@ module _ (tables : TablesValue) (w : Workspace) (from : Beginning) (answer : Col
   told-act s (uses_macros macros by) f fine = record { each = f.each }
   told-act s (tells d) f fine = record { each = told_more s.core.map.diagnostics (d ∷ []) f.each (one_told d fine) }
   told-act s (goes_on vs) f fine = record { each = f.each }
+
+  -- ---- calls
+
+  -- a call is the item of which is told
+  call_item : (d : MacroDirective) → IsCall tables w answer.asked answer.map.id.krate d → IsOfItem tables w answer d.ast_id
+  call_item d call = record {
+    item = leaf call.head (macro_call call.path);
+    written = subst (λ (x : MacroDirective). IsWritten tables w answer.asked (key_of answer (node_tree x.ast_id)) (leaf call.head (macro_call call.path))) (sym call.is) call.written;
+    kind = sym (ap (λ (x : MacroDirective). x.ast_id.kind) call.is);
+    id = sym (ap (λ (x : MacroDirective). x.ast_id.id) call.is);
+  }
+
+  told_call : (m : MapId) (d : MacroDirective) (report : DefDiagnostic) → m ≡ answer.map.id → d.site.home < length answer.map.modules → IsCall tables w answer.asked answer.map.id.krate d
+      → report.in_module ≡ numbered m d.site.home → node_told (diagnostic_view report).kind ≡ d.ast_id → IsTold report
+  told_call m d report own there call at about = record {
+    number = d.site.home;
+    there = there;
+    module_is = at ∙ ap (λ (id : MapId). numbered id d.site.home) own;
+    of_item = subst (λ (node : AstId). IsOfItem tables w answer node) (sym about) (call_item d call);
+  }
 
   -- ---- rules
 
@@ -148,7 +179,16 @@ module _ (tables : TablesValue) (w : Workspace) (from : Beginning) (answer : Col
         next_told (visit site (leaf head (macro_def name expander helpers))) rest may.next (unimplemented_macro (module_id s.core.map site.home) (node_of site.tree nodes.MacroDef head.id)) refl refl in
         (tt, (tt, (tt, (tt, fine_reporting IsFine _ _ expander (λ t. speaks) _))))
     fine_rule (closes_module parent child rest) may = (tt, (tt, tt))
-    fine_rule (passes_over site head l rest) may = (tt, tt)
+    fine_rule (reaches_call site head path rest) may = (tt, (tt, tt))
+    fine_rule rests may = (tt, tt)
+    fine_rule (expands_call i d makro x) may =
+        let home : d.site.home < length s.core.map.modules = call_below (length s.core.map.modules) s.core.calls i d in_range.calls may.due.waiting.call in
+        let call : IsCall tables w answer.asked answer.map.id.krate d = call_placed tables w from answer s.core.calls i d written.calls may.due.waiting.call in
+        let there : d.site.home < length answer.map.modules = omega arith in
+        let told : (text : List ℕ) → IsTold (failed_call (module_id s.core.map d.site.home) d.ast_id (path_of_call d) text) =
+        λ text. told_call s.core.map.id d (failed_call (module_id s.core.map d.site.home) d.ast_id (path_of_call d) text) written.id there call refl refl in
+        (tt, (tt, fine_failing IsFine _ d (error_of x.there) (λ t text. told text) _))
+    fine_rule (drops_call i d) may = (tt, tt)
     fine_rule (resolves_imports rule) may = all_fine IsFine (λ t c. tt) (import_acts finished (import_state s) rule) (asking s (resolves_imports rule))
 
   -- ---- steps
@@ -208,6 +248,19 @@ module _ (tables : TablesValue) (w : Workspace) (from : Beginning) (answer : Col
       told_more (report_by (numbered answer.map.id r.home) names r.source r.path) (reports_of answer.map.id names rs)
       (told_source names r first.1 r.source first.0.of_source) (told_reports names rs (λ t h. f t (later r rs t h)))
 
+  -- calls that wait
+  abbrev AreCallsThere : List MacroDirective → Type 0
+  AreCallsThere ds = (d : MacroDirective) → Contains ds d → IsCall tables w answer.asked answer.map.id.krate d × (d.site.home < length answer.map.modules)
+
+  told_calls : (ds : List MacroDirective) (fs : List Fate) → AreCallsThere ds → AllTold (unresolved_calls answer.map.id ds fs)
+  told_calls [] fs f = none_told
+  told_calls (d ∷ ds) [] f = none_told
+  told_calls (d ∷ ds) (fates.Waits ∷ fs) f =
+      let first = f d (0, omega arith, refl) in
+      told_more (call_report answer.map.id d ∷ []) (unresolved_calls answer.map.id ds fs) (one_told _ (told_call answer.map.id d (call_report answer.map.id d) refl first.1 first.0 refl refl))
+      (told_calls ds fs (λ e h. f e (later d ds e h)))
+  told_calls (d ∷ ds) (fates.Handled ∷ fs) f = told_calls ds fs (λ e h. f e (later d ds e h))
+
 -- what is unresolved was found
 unresolved_found : (rs : List ImportDirective) (ts : List TakenValue) (r : ImportDirective) → Contains (unresolved_among rs ts) r → Contains rs r
 unresolved_found [] ts r h = h
@@ -223,6 +276,11 @@ import_below : (n : ℕ) (rs : List ImportDirective) (r : ImportDirective) → I
 import_below n [] r f (k, below, is) = let past : k < 0 = below in absurd (omega arith)
 import_below n (x ∷ xs) r f (zero, below, is) = subst (λ (y : ImportDirective). y.home < n) is f.0
 import_below n (x ∷ xs) r f (suc k, below, is) = import_below n xs r f.1 (k, omega (arith, below), is)
+
+call_home : (n : ℕ) (ds : List MacroDirective) (d : MacroDirective) → CallsBelow n ds → Contains ds d → d.site.home < n
+call_home n [] d f (k, below, is) = let past : k < 0 = below in absurd (omega arith)
+call_home n (x ∷ xs) d f (zero, below, is) = subst (λ (y : MacroDirective). y.site.home < n) is f.0
+call_home n (x ∷ xs) d f (suc k, below, is) = call_home n xs d f.1 (k, omega (arith, below), is)
 
 module _ (tables : TablesValue) (w : Workspace) (finished : Maps) (from : Beginning) (answer : CollectedValue) (e : Ends tables w finished from answer) where
   same_count : length answer.map.modules ≡ length e.last.core.map.modules
@@ -252,10 +310,24 @@ module _ (tables : TablesValue) (w : Workspace) (finished : Maps) (from : Beginn
       subst (λ (id : MapId). AllTold tables w from answer (reports_of id (crates_among [] unresolved) unresolved)) (sym last_id)
       (told_reports tables w from answer (crates_among [] unresolved) unresolved imports_there)
 
+  calls_there : AreCallsThere tables w from answer e.last.core.calls
+  calls_there d h =
+      let below : d.site.home < length e.last.core.map.modules = call_home (length e.last.core.map.modules) e.last.core.calls d (in_range-Steps e.derived begun_in_range).calls h in
+      (call_written tables w finished from answer e d h, omega (arith, same_count))
+
+  calls_told : AllTold tables w from answer (unresolved_calls e.last.core.map.id e.last.core.calls e.last.core.fates)
+  calls_told =
+      subst (λ (id : MapId). AllTold tables w from answer (unresolved_calls id e.last.core.calls e.last.core.fates)) (sym last_id)
+      (told_calls tables w from answer e.last.core.calls e.last.core.fates calls_there)
+
+  reports_told : AllTold tables w from answer (leftover_reports e.last.core)
+  reports_told =
+      told_more tables w from answer (unresolved_calls e.last.core.map.id e.last.core.calls e.last.core.fates) (leftover_diagnostics e.last.core.map e.last.core.reached e.last.core.taken) calls_told leftover_told
+
   all_told : AllTold tables w from answer answer.map.diagnostics
   all_told =
       subst (λ (ds : List DefDiagnostic). AllTold tables w from answer ds) (sym (ap (λ (m : Map). m.diagnostics) e.map_is))
-      (told_more tables w from answer e.last.core.map.diagnostics (leftover_diagnostics e.last.core.map e.last.core.reached e.last.core.taken) last_told.each leftover_told)
+      (told_more tables w from answer e.last.core.map.diagnostics (leftover_reports e.last.core) last_told.each reports_told)
 
 pub diagnostics_are_of_items : DiagnosticsAreOfItems
 diagnostics_are_of_items tables w finished from answer e d h = all_told tables w finished from answer e d h

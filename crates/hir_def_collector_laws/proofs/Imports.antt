@@ -8,6 +8,7 @@ use Rattle.hir_def_map.specs.Overlay.{Maps}
 use Rattle.hir_glob_imports.specs.declared.edge.Edge.{Edge}
 use Rattle.hir_import_resolution.specs.Directives.{TakenValue, glob_of, is_untaken, way_of}
 use Rattle.hir_import_resolution.specs.declared.directive.ImportDirective.{ImportDirective}
+use Rattle.hir_def_collector.specs.declared.collector.macro_directive.MacroDirective.{MacroDirective}
 use Rattle.hir_def_collector.specs.declared.source_database.Key.{Key}
 use Rattle.hir_def_collector.specs.Derivation.{CollectedValue, Ends, leftover_among}
 use Rattle.hir_def_collector.specs.Keys.{map_keys}
@@ -15,8 +16,9 @@ use Rattle.hir_def_collector.specs.Start.{Beginning, begin_of, krate_of, read_by
 use Rattle.hir_def_collector.specs.Workspace.{Workspace, transitive_dependencies_in}
 use Rattle.hir_def_collector.proofs.Asks.{still_asked}
 use Rattle.hir_def_collector_laws.specs.Imports.{GlobsAreWritten, HasImport, ImportsAreWritten, IsImport, LeftoversAreWritten}
+use Rattle.hir_def_collector_laws.specs.Written.{IsCall}
 use Rattle.hir_def_collector_laws.proofs.Lists.{at_first, later}
-use Rattle.hir_def_collector_laws.proofs.Written.{AreAsked, IsAllWritten, IsOfGlob, import_among, written-start, written-Steps}
+use Rattle.hir_def_collector_laws.proofs.Written.{AreAsked, IsAllWritten, IsOfGlob, call_among, import_among, written-start, written-Steps}
 
 -- an import that is left over was found
 record IsLeftOf (rs : List ImportDirective) (way : ImportOrExternCrate) : Type 0 where
@@ -53,12 +55,15 @@ module _ (tables : TablesValue) (w : Workspace) (finished : Maps) (from : Beginn
   pub import_written : (r : ImportDirective) → Contains e.last.core.reached r → IsImport tables w from answer r
   import_written r h = import_among tables w from answer e.last.core.reached r written.imports h
 
+  pub call_written : (d : MacroDirective) → Contains e.last.core.calls d → IsCall tables w answer.asked answer.map.id.krate d
+  call_written d h = call_among tables w from answer e.last.core.calls d written.calls h
+
   pub leftover_written : (way : ImportOrExternCrate) → Contains answer.leftover way → HasImport tables w from answer (λ r. way_of r.source ≡ way)
   leftover_written way h =
       let p : IsLeftOf e.last.core.reached way = left_of e.last.core.reached e.last.core.taken way (subst (λ (ways : List ImportOrExternCrate). Contains ways way) e.leftover_is h) in
       record { directive = p.directive; is_import = import_written p.directive p.among; is_such = p.is }
 
-  pub glob_written : (edge : Edge) → Contains e.last.globs.edges edge → HasImport tables w from answer (λ r. (glob_of r.source ≡ Some edge.id) × (r.home ≡ edge.importer))
+  pub glob_written : (edge : Edge) → Contains e.last.core.globs.edges edge → HasImport tables w from answer (λ r. (glob_of r.source ≡ Some edge.id) × (r.home ≡ edge.importer))
   glob_written edge h =
       let p : IsOfGlob tables w from answer e.last.core.reached edge = written.globs edge h in
       record { directive = p.directive; is_import = import_written p.directive p.among; is_such = (p.is_glob, p.into) }

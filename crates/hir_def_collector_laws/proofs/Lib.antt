@@ -14,6 +14,7 @@ pub mod NotedScopes
 pub mod GlobBindings
 -- ---- definitions
 pub mod Listings
+pub mod Idle
 pub mod Ahead
 pub mod Backwards
 pub mod Modules

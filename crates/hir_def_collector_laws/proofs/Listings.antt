@@ -16,13 +16,14 @@ use Rattle.hir_def_map.specs.declared.nameres.declaration.Declaration.TheVariant
 use Rattle.hir_def_map.proofs.Grown.{length-changed}
 use Rattle.hir_def_map.proofs.StaysWellFormed.{length-made}
 use Rattle.hir_import_resolution.specs.Changes.{Change as ImportChange, pushes}
+use Rattle.hir_def_collector.specs.declared.collector.macro_directive.MacroDirective.{MacroDirective}
 use Rattle.hir_def_collector.specs.Causes.{declarations_of}
-use Rattle.hir_def_collector.specs.Changes.{Change, lists, makes, gives_variants, begins_paths, reaches, changes_imports, adds_textual, takes_textual, defines, uses_macros, tells, goes_on, act, perform}
+use Rattle.hir_def_collector.specs.Changes.{Change, lists, makes, gives_variants, begins_paths, reaches, awaits, ends, settles, changes_imports, adds_textual, takes_textual, defines, uses_macros, tells, goes_on, act, perform}
 use Rattle.hir_def_collector.specs.ItemIds.{module_id}
 use Rattle.hir_def_collector.specs.Macros.{is_exported}
 use Rattle.hir_def_collector.specs.Reports.{is_unimplemented, unimplemented_macro}
 use Rattle.hir_def_collector.specs.State.{State, import_state}
-use Rattle.hir_def_collector.specs.Steps.{exporting, reporting}
+use Rattle.hir_def_collector.specs.Steps.{exporting, failing, reporting}
 use Rattle.hir_def_collector.proofs.Bound.{keeps-edit}
 use Rattle.hir_def_collector.proofs.Changes.{Keeps-act}
 use Rattle.hir_def_collector.proofs.Grows.{Grows-act}
@@ -65,6 +66,9 @@ added (makes home name origin visibility) k = []
 added (gives_variants id variants) k = []
 added (begins_paths r) k = []
 added (reaches rs) k = []
+added (awaits calls) k = []
+added (ends i fate) k = []
+added settles k = []
 added (changes_imports c) k = []
 added (adds_textual home name makro) k = []
 added (takes_textual home from_) k = []
@@ -97,7 +101,7 @@ added-edited : (m : Map) (o : Option (ℕ × Edit)) (k : ℕ) → declarations_o
 added-edited m None k = same_list (declarations_of (module_at m k)) refl
 added-edited m (Some e) k = added-scope m e.0 (edit (numbered m.id e.0) e.1) (λ s. (keeps-edit (numbered m.id e.0) e.1).declared s) k
 
-added-act : (s : State) (c : Change) (k : ℕ) → k < length s.core.map.modules
+pub added-act : (s : State) (c : Change) (k : ℕ) → k < length s.core.map.modules
     → declarations_of (module_at (act s c).core.map k) ≡ declarations_of (module_at s.core.map k) ++ added c k
 added-act s (lists home d) k low = added-listed s.core.map home d k low
 added-act s (makes home name origin visibility) k low =
@@ -108,6 +112,9 @@ added-act s (makes home name origin visibility) k low =
 added-act s (gives_variants id variants) k low = same_list (declarations_of (module_at s.core.map k)) refl
 added-act s (begins_paths r) k low = same_list (declarations_of (module_at s.core.map k)) refl
 added-act s (reaches rs) k low = same_list (declarations_of (module_at s.core.map k)) refl
+added-act s (awaits calls) k low = same_list (declarations_of (module_at s.core.map k)) refl
+added-act s (ends i fate) k low = same_list (declarations_of (module_at s.core.map k)) refl
+added-act s settles k low = same_list (declarations_of (module_at s.core.map k)) refl
 added-act s (changes_imports c) k low =
     ap (λ (m : Map). declarations_of (module_at m k)) (map_after (import_state s) c) ∙ added-edited s.core.map (edit_of (import_state s) c) k
 added-act s (adds_textual home name makro) k low = added-scope s.core.map home _ (λ x. refl) k
@@ -148,6 +155,11 @@ reporting_unlisted at node expander k = go (is_unimplemented expander)
     go true = refl
     go false = refl
 
+-- nor does what is reported of a call
+pub failing_unlisted : (at : ModuleId) (d : MacroDirective) (error : Option (List ℕ)) (k : ℕ) → all_added (failing at d error) k ≡ []
+failing_unlisted at d None k = refl
+failing_unlisted at d (Some text) k = refl
+
 -- ---- how many modules there are
 
 abbrev pub made_by : Change → ℕ
@@ -156,6 +168,9 @@ made_by (makes home name origin visibility) = 1
 made_by (gives_variants id variants) = 0
 made_by (begins_paths r) = 0
 made_by (reaches rs) = 0
+made_by (awaits calls) = 0
+made_by (ends i fate) = 0
+made_by settles = 0
 made_by (changes_imports c) = 0
 made_by (adds_textual home name makro) = 0
 made_by (takes_textual home from_) = 0
@@ -181,6 +196,9 @@ length-act s (makes home name origin visibility) = length-made s.core.map home n
 length-act s (gives_variants id variants) = omega arith
 length-act s (begins_paths r) = omega arith
 length-act s (reaches rs) = omega arith
+length-act s (awaits calls) = omega arith
+length-act s (ends i fate) = omega arith
+length-act s settles = omega arith
 length-act s (changes_imports c) = ap (λ (m : Map). length m.modules) (map_after (import_state s) c) ∙ length-edited s.core.map (edit_of (import_state s) c)
 length-act s (adds_textual home name makro) = length-scope s.core.map home _
 length-act s (takes_textual home from_) = length-scope s.core.map home _
@@ -214,7 +232,15 @@ reporting_makes_none at node expander = go (is_unimplemented expander)
     go true = refl
     go false = refl
 
+pub failing_makes_none : (at : ModuleId) (d : MacroDirective) (error : Option (List ℕ)) → all_made (failing at d error) ≡ 0
+failing_makes_none at d None = refl
+failing_makes_none at d (Some text) = refl
+
 -- nor do they change what comes next
+pub failing_agenda : (t : State) (at : ModuleId) (d : MacroDirective) (error : Option (List ℕ)) → (perform t (failing at d error)).agenda ≡ t.agenda
+failing_agenda t at d None = refl
+failing_agenda t at d (Some text) = refl
+
 pub macro_agenda : (t : State) (head : Head) (name : List ℕ) (makro : MacroId) (at : ModuleId) (node : AstId) (expander : MacroExpander)
     → (perform t (exporting head name makro ++ reporting at node expander)).agenda ≡ t.agenda
 macro_agenda t head name makro at node expander = go (is_exported head.attributes) (is_unimplemented expander)
@@ -278,6 +304,9 @@ Stays-act s (makes home name origin visibility) = λ k v e.
 Stays-act s (gives_variants id variants) = λ k v e. record { value = v; there = e; origin = refl; parent = refl }
 Stays-act s (begins_paths r) = Stays-same s.core.map
 Stays-act s (reaches rs) = Stays-same s.core.map
+Stays-act s (awaits calls) = Stays-same s.core.map
+Stays-act s (ends i fate) = Stays-same s.core.map
+Stays-act s settles = Stays-same s.core.map
 Stays-act s (changes_imports c) = subst (λ (m : Map). Stays s.core.map m) (sym (map_after (import_state s) c)) (Stays-edited s.core.map (edit_of (import_state s) c))
 Stays-act s (adds_textual home name makro) = Stays-scope s.core.map home _
 Stays-act s (takes_textual home from_) = Stays-scope s.core.map home _

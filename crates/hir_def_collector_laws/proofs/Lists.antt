@@ -1,5 +1,5 @@
 -- What lists contain.
-use Rattle.std.proofs.Common.{◌≡◌, ℕ, zero, suc, ◌<◌, List, [], ◌∷◌, ◌++◌, slice_get, slice_set, Some, ◌⊎◌, inl, inr, refl, arith, Contains}
+use Rattle.std.proofs.Common.{◌≡◌, ◌≢◌, ℕ, zero, suc, ◌<◌, List, [], ◌∷◌, ◌++◌, slice_get, slice_set, Some, ◌⊎◌, inl, inr, refl, ap, arith, Contains}
 
 module _ {A : Type 0} where
   pub later : (y : A) (ys : List A) (x : A) → Contains ys x → Contains (y ∷ ys) x
@@ -49,6 +49,12 @@ module _ {A : Type 0} where
   at_home-above zero k xs low = absurd (omega arith)
   at_home-above (suc h) zero xs low = refl
   at_home-above (suc h) (suc k) xs low = at_home-above h k xs (omega arith)
+
+  pub at_home-apart : (h k : ℕ) (xs : List A) → h ≢ k → at_home h k xs ≡ []
+  at_home-apart zero zero xs apart = absurd (apart refl)
+  at_home-apart zero (suc k) xs apart = refl
+  at_home-apart (suc h) zero xs apart = refl
+  at_home-apart (suc h) (suc k) xs apart = at_home-apart h k xs (λ e. apart (ap suc e))
 
   pub at_home-nothing : (h k : ℕ) → at_home h k [] ≡ []
   at_home-nothing zero zero = refl

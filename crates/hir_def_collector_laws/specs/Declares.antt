@@ -53,21 +53,28 @@ module_alone m number = definitions.ModuleId (numbered m.id number) ∷ []
 
 -- where the items of `mod name { .. }` are written
 abbrev pub site_inside : Site → ℕ → Directory → Site
-site_inside s number dir = record { home = number; tree = s.tree; extern_block = None; dir = dir; level = s.level }
+site_inside s number dir = record { home = number; tree = s.tree; file = s.file; extern_block = None; dir = dir; level = s.level }
+
+-- a list begins with definitions of which this holds
+pub record Begins (P : List ModuleDefId → Type 0) (defs : List ModuleDefId) : Type 0 where
+  pub own : List ModuleDefId
+  pub added : List ModuleDefId
+  pub holds : P own
+  pub is : defs ≡ own ++ added
 
 -- `mod name { .. }` declares a module
 pub record DeclaresInline (m : Map) (s : Site) (head : Head) (name : List ℕ) (inside : Site → List ModuleDefId → Type 0) (defs : List ModuleDefId) : Type 0 where
   pub number : ℕ
   pub made : IsModuleOf m s (inline_origin s.tree head.id) number
   pub is : defs ≡ module_alone m number
-  -- it lists what the items inside declare, and nothing where it is too deep
-  pub lists : (dir : Directory) → inline_directory s.dir name (path_of head) ≡ Some dir → inside (site_inside s number dir) (declarations_of (module_at m number))
+  -- it lists first what the items inside declare, and nothing where it is too deep
+  pub lists : (dir : Directory) → inline_directory s.dir name (path_of head) ≡ Some dir → Begins (inside (site_inside s number dir)) (declarations_of (module_at m number))
   pub deep : inline_directory s.dir name (path_of head) ≡ None → declarations_of (module_at m number) ≡ []
 
 -- the file of `mod name;` was looked for so, in what the workspace has
 pub record IsLookedFor (tables : TablesValue) (w : Workspace) (finished : Maps) (answer : CollectedValue) (s : Site) (head : Head) (name : List ℕ) (search : Search) : Type 0 where
   pub tries : IsSearch (candidates_of s.dir name (path_of head)) search
-  pub numbers : IsNumbered tables s.tree search
+  pub numbers : IsNumbered tables s.file search
   pub sees : Sees (environment tables w) finished (search_readings answer.map search)
 
 -- `mod name;` declares a module too

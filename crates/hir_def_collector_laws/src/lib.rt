@@ -28,7 +28,8 @@ pub fn globs_bring_what_is_shown()
 {}
 
 /// A module lists, in their order, the definitions that its enabled items declare: those of its file, or inside the `mod`
-/// item that declares it.
+/// item that declares it. Behind them it lists those that macro calls in it expand to, in the order in which they were
+/// expanded.
 pub fn modules_list_their_items()
     ensures modules { ModulesListTheirItems }
 {}

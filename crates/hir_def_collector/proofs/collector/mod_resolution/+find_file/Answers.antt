@@ -32,8 +32,14 @@ returns-then-is_there-clause-ok g t c =
 pub returns-in_err-later-clause-kept : goal.returns-in_err-later-clause-kept
 returns-in_err-later-clause-kept g t c = KeepsTables-trans c.args.locations.now c.look_at.new.locations c.find_file.new.locations c.in_ok-file.ensures.kept c.find_file.ensures.kept
 
+pub returns-in_err-later-clause-placed : goal.returns-in_err-later-clause-placed
+returns-in_err-later-clause-placed g t c = λ h. c.find_file.ensures.placed (c.in_ok-file.ensures.placed h)
+
 pub returns-clause-kept : goal.returns-clause-kept
 returns-clause-kept g t c = KeepsTables-trans c.args.locations.now c.look_at.new.locations c.find_file.new.locations c.in_ok-file.ensures.kept c.find_file.ensures.kept
+
+pub returns-clause-placed : goal.returns-clause-placed
+returns-clause-placed g t c = λ h. c.find_file.ensures.placed (c.in_ok-file.ensures.placed h)
 
 pub returns-clause-ok : goal.returns-clause-ok
 returns-clause-ok g t c =
