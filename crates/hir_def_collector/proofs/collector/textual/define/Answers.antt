@@ -7,7 +7,6 @@ use Rattle.hir_def_map.specs.State.{with_scope}
 use Rattle.hir_import_resolution.proofs.Lent.{scope_left}
 use Rattle.hir_def_collector.specs.Macros.{with_textual_macro}
 use Rattle.hir_def_collector.proofs.collector.textual.define.Goals as goal
-use Rattle.hir_def_collector.specs.State.{core_in}
 
 pub returns : goal.returns
 returns c =
@@ -15,6 +14,6 @@ returns c =
     record {
       ok =
           on_ok (λ (s : ScopeValue). with_scope c.args.map.now c.args.home (λ _. s) ≡ with_textual_macro c.args.map.now c.args.home c.args.name c.args.makro)
-          c.define_legacy_macro.result (change c.scope_mut.result.now) (core_in c.define_legacy_macro.new.self) c.define_legacy_macro.ensures.ok
+          c.define_legacy_macro.result (change c.scope_mut.result.now) c.define_legacy_macro.new.self c.define_legacy_macro.ensures.ok
           (scope_left c.args.map.now c.args.home c.scope_mut.result.now change c.scope_mut.ensures.value);
     }
