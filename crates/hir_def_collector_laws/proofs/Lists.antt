@@ -1,5 +1,6 @@
 -- What lists contain.
 use Rattle.std.proofs.Common.{◌≡◌, ℕ, zero, suc, ◌<◌, List, [], ◌∷◌, ◌++◌, slice_get, slice_set, Some, ◌⊎◌, inl, inr, refl, arith, Contains}
+use Rattle.hir_def_collector_laws.specs.Expansions.{at_home}
 
 module _ {A : Type 0} where
   pub later : (y : A) (ys : List A) (x : A) → Contains ys x → Contains (y ∷ ys) x
@@ -28,13 +29,6 @@ module _ {A : Type 0} where
 -- ---- what belongs to one module
 
 module _ {A : Type 0} where
-  -- a list at its own number, and nothing at another
-  abbrev pub at_home : ℕ → ℕ → List A → List A
-  at_home zero zero xs = xs
-  at_home zero (suc k) xs = []
-  at_home (suc h) zero xs = []
-  at_home (suc h) (suc k) xs = at_home h k xs
-
   pub at_home-same : (k : ℕ) (xs : List A) → at_home k k xs ≡ xs
   at_home-same zero xs = refl
   at_home-same (suc k) xs = at_home-same k xs
