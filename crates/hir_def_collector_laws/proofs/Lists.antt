@@ -1,5 +1,5 @@
 -- What lists contain.
-use Rattle.std.proofs.Common.{◌≡◌, ℕ, zero, suc, ◌<◌, List, [], ◌∷◌, ◌++◌, slice_get, slice_set, Some, ◌⊎◌, inl, inr, refl, arith, Contains}
+use Rattle.std.proofs.Common.{◌≡◌, ◌≢◌, ℕ, zero, suc, ◌<◌, List, [], ◌∷◌, ◌++◌, slice_get, slice_set, Some, ◌⊎◌, inl, inr, refl, ap, arith, Contains}
 use Rattle.hir_def_collector_laws.specs.Expansions.{at_home}
 
 module _ {A : Type 0} where
@@ -43,6 +43,12 @@ module _ {A : Type 0} where
   at_home-above zero k xs low = absurd (omega arith)
   at_home-above (suc h) zero xs low = refl
   at_home-above (suc h) (suc k) xs low = at_home-above h k xs (omega arith)
+
+  pub at_home-other : (h k : ℕ) (xs : List A) → h ≢ k → at_home h k xs ≡ []
+  at_home-other zero zero xs apart = absurd (apart refl)
+  at_home-other zero (suc k) xs apart = refl
+  at_home-other (suc h) zero xs apart = refl
+  at_home-other (suc h) (suc k) xs apart = at_home-other h k xs (λ e. apart (ap suc e))
 
   pub at_home-nothing : (h k : ℕ) → at_home h k [] ≡ []
   at_home-nothing zero zero = refl

@@ -29,9 +29,9 @@ at_home (suc h) zero xs = []
 at_home (suc h) (suc k) xs = at_home h k xs
 
 -- what the expansions of calls in a module declare, one after another
-abbrev pub declared_by : List Expansion → ℕ → List ModuleDefId
-declared_by [] number = []
-declared_by (e ∷ es) number = at_home e.call.site.home number e.defs ++ declared_by es number
+abbrev pub expanded_in : List Expansion → ℕ → List ModuleDefId
+expanded_in [] number = []
+expanded_in (e ∷ es) number = at_home e.call.site.home number e.defs ++ expanded_in es number
 
 -- a call was expanded so in a run, where this is what expansions declare in each module
 pub record IsExpansion (tables : TablesValue) (w : Workspace) (finished : Maps) (answer : CollectedValue) (more : ℕ → List ModuleDefId) (e : Expansion) : Type 0 where

@@ -27,7 +27,7 @@ use Rattle.hir_def_collector.specs.Steps.{path_of}
 use Rattle.hir_def_collector.specs.Workspace.{Workspace}
 use Rattle.hir_def_collector_laws.specs.Calls.{NoCallIsWritten}
 use Rattle.hir_def_collector_laws.specs.Declares.{Declares, IsLookedFor, ListsFirst}
-use Rattle.hir_def_collector_laws.specs.Expansions.{Expansion, IsDone, IsExpansion, declared_by}
+use Rattle.hir_def_collector_laws.specs.Expansions.{Expansion, IsDone, IsExpansion, expanded_in}
 use Rattle.hir_def_collector_laws.specs.Written.{IsWritten, key_of}
 
 -- the items of a tree; none where it is disabled at its top
@@ -70,10 +70,10 @@ pub record ListsItsItems (tables : TablesValue) (w : Workspace) (finished : Maps
 -- the calls that a run expanded, one after another, and what modules list
 pub record ListsAll (tables : TablesValue) (w : Workspace) (finished : Maps) (from : Beginning) (answer : CollectedValue) (last : Core) : Type 0 where
   pub expansions : List Expansion
-  pub each : (e : Expansion) → Contains expansions e → IsExpansion tables w finished answer (declared_by expansions) e
+  pub each : (e : Expansion) → Contains expansions e → IsExpansion tables w finished answer (expanded_in expansions) e
   -- each call that doesn't wait any more was expanded, unless it was too deep
   pub done : (i : ℕ) (d : MacroDirective) → slice_get last.calls i ≡ Some d → slice_get last.fates i ≡ Some Handled → IsDone answer.map.crate_data.recursion_limit expansions d
-  pub modules : (number : ℕ) → number < length answer.map.modules → ListsItsItems tables w finished from answer (declared_by expansions) number
+  pub modules : (number : ℕ) → number < length answer.map.modules → ListsItsItems tables w finished from answer (expanded_in expansions) number
 
 -- so a definition is listed exactly where an enabled item of a tree that was asked for writes it
 abbrev pub ModulesListTheirItems : Type 0
@@ -83,4 +83,4 @@ ModulesListTheirItems = (tables : TablesValue) (w : Workspace) (finished : Maps)
 -- where no call is written, nothing comes behind that
 abbrev pub ModulesListTheirItemsAlone : Type 0
 ModulesListTheirItemsAlone = (tables : TablesValue) (w : Workspace) (finished : Maps) (from : Beginning) (answer : CollectedValue) → Ends tables w finished from answer → NoCallIsWritten tables w answer
-    → (number : ℕ) → number < length answer.map.modules → ListsItsItems tables w (read_by w finished from.start) from answer (declared_by []) number
+    → (number : ℕ) → number < length answer.map.modules → ListsItsItems tables w (read_by w finished from.start) from answer (expanded_in []) number
