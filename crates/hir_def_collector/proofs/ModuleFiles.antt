@@ -64,15 +64,15 @@ module _ (tables grown : TablesValue) (kept : KeepsTables tables grown) where
   }
 
   -- and those of a site
-  pub site_kept : (site : Site) → IsMeantAt tables site → IsMeantAt grown site
-  site_kept site h = record { tree = source_kept site.tree h.tree; file = λ id e. file_kept id (h.file id e) }
+  file_there : (id : FileId) → IsSome (file_at tables id) → IsSome (file_at grown id)
+  file_there id h = go (file_at tables id) refl h
     where
-      file_kept : (id : FileId) → IsSome (file_at tables id) → IsSome (file_at grown id)
-      file_kept id there = go (file_at tables id) refl there
-        where
-          go : (o : Option (List ℕ)) → file_at tables id ≡ o → IsSome o → IsSome (file_at grown id)
-          go None e h = absurd (let no : ⊥ = cc in no)
-          go (Some path) e h = subst (λ (o : Option (List ℕ)). IsSome o) (sym (kept.files id.0 path e)) refl
+      go : (o : Option (List ℕ)) → file_at tables id ≡ o → IsSome o → IsSome (file_at grown id)
+      go None e there = absurd (let no : ⊥ = cc in no)
+      go (Some path) e there = subst (λ (o : Option (List ℕ)). IsSome o) (sym (kept.files id.0 path e)) refl
+
+  pub site_kept : (site : Site) → IsMeantAt tables site → IsMeantAt grown site
+  site_kept site h = record { tree = source_kept site.tree h.tree; file = λ id e. file_there id (h.file id e) }
 
   pub Numbered-kept : (s : State) (r : Rule) → Numbered tables s r → Numbered grown s r
   Numbered-kept s (opens_file site head name search f rest) h = numbered_kept site.file search h

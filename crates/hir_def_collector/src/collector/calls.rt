@@ -318,7 +318,7 @@ enum Due {
 }
 
 /// What is to be done about a call.
-fn due(run: &DefCollector, world: WorldPart<'_>, call: &MacroDirective) -> Due
+fn due_of(run: &DefCollector, world: WorldPart<'_>, call: &MacroDirective) -> Due
     ensures value { IsDueOf (part_of world.entry) run.now call.now result }
 {
     if run.is_too_deep(call) {
@@ -350,7 +350,7 @@ fn try_call<D: SourceDatabase>(
     let Some(call) = run.waiting(i) else {
         return Ok(false);
     };
-    match due(run, world, call) {
+    match due_of(run, world, call) {
         Due::Nothing => Ok(false),
         Due::TooDeep => {
             run.end_call(i);
