@@ -1,6 +1,6 @@
 -- Back over one step: what the next item declares is what it lists, and what the items that come next in it declare; and what an
 -- expansion declares is what its items do, which come next.
-use Rattle.std.proofs.Common.{◌≡◌, ◌∙◌, ◌<◌, ◌≤◌, ◌+◌, ℕ, zero, suc, List, [], ◌∷◌, ◌++◌, length, ◌||◌, Bool, true, false, Option, None, Some, map as list_map, refl, sym, ap, subst, arith, Contains, append-nil}
+use Rattle.std.proofs.Common.{◌≡◌, ◌∙◌, ◌<◌, ◌+◌, ℕ, zero, suc, List, [], ◌∷◌, ◌++◌, length, ◌||◌, Bool, true, false, Option, None, Some, map as list_map, refl, sym, ap, subst, arith, Contains, append-nil}
 use Rattle.hir_base.specs.Cfg.{Cfg}
 use Rattle.hir_base.specs.declared.edition.Edition.{Edition}
 use Rattle.hir_base.specs.declared.ast_id.AstId.{AstId}
@@ -219,7 +219,7 @@ module _ (tables : TablesValue) (w : Workspace) (finished : Maps) (from : Beginn
       filled_back : (i : KeptItem) (rest : List Task) (inner : Site) (items : KeptForest) → inner.home ≡ count → inner.extern_block ≡ None → VisitsBelow count rest
           → (HaveNoCall items → expanded_in es count ≡ [])
           → (IsModuleOf answer.map site origin count → (more : ℕ → List ModuleDefId) → ListsFirst answer.map more count items (λ own. Declares tables w finished answer more items inner own)
-            → DeclaresOne tables w finished answer more i site (module_alone answer.map count))
+          → DeclaresOne tables w finished answer more i site (module_alone answer.map count))
           → ((im : IsModuleOf answer.map site origin count) → HasItems tables w finished from answer im.value.origin inner items)
           → Ahead Made (visits_over inner items ++ rest) → Ahead m (visits (visit site i) ∷ rest)
       filled_back i rest inner items here alone apart quiet declares has q =
@@ -439,37 +439,55 @@ module _ (tables : TablesValue) (w : Workspace) (finished : Maps) (from : Beginn
         → ((key : TreeKey) → Contains (keys_read (reads s r)) (keys.Tree key) → Contains answer.asked (keys.Tree key))
         → m.crate_data ≡ answer.map.crate_data → QuietAfter (after finished s r) → Ahead (MapAfter r) (after finished s r).agenda → IsSooner r
     back_rule (drops_item v report rest) may sees numbers read same quiet q =
-        record { defs = []; ahead = at_next may.next
-        (back_one tables w finished from answer es (asking s (drops_item v report rest)) (acts finished s (drops_item v report rest)) v.site v.item rest [] (off_one v.site v.item (no_map (item_head v.item).attributes may.condition may.disabled)) refl
-        (λ k. sym (at_home-nothing v.site.home k)) q) }
+        record {
+          defs = [];
+          ahead = at_next may.next
+              (back_one tables w finished from answer es (asking s (drops_item v report rest)) (acts finished s (drops_item v report rest)) v.site v.item rest [] (off_one v.site v.item (no_map (item_head v.item).attributes may.condition may.disabled)) refl
+              (λ k. sym (at_home-nothing v.site.home k)) q);
+        }
     back_rule (declares_item v d rest) may sees numbers read same quiet q =
-        record { defs = []; ahead = at_next may.here.next
-        (back_one tables w finished from answer es (asking s (declares_item v d rest)) (acts finished s (declares_item v d rest)) v.site v.item rest (d.def ∷ []) (declared_one s v d f.id may.here.enabled may.declares) refl
-        (λ k. append-nil (at_home v.site.home k (d.def ∷ []))) q) }
+        record {
+          defs = [];
+          ahead = at_next may.here.next
+              (back_one tables w finished from answer es (asking s (declares_item v d rest)) (acts finished s (declares_item v d rest)) v.site v.item rest (d.def ∷ []) (declared_one s v d f.id may.here.enabled may.declares) refl
+              (λ k. append-nil (at_home v.site.home k (d.def ∷ []))) q);
+        }
     back_rule (declares_enum site head name found rest) may sees numbers read same quiet q =
         let r : Rule = declares_enum site head name found rest in
         let def : ModuleDefId = definitions.AdtId (adts.EnumId (enum_id m site head.id)) in
-        record { defs = []; ahead = at_next may.next
-        (back_one tables w finished from answer es (asking s r) (acts finished s r) site (leaf head (enumeration name)) rest (def ∷ [])
-        (leaf_one site head (enumeration name) (def ∷ []) may.enabled (same_definitions m answer.map f.id site head (enumeration name))) refl (λ k. append-nil (at_home site.home k (def ∷ []))) q) }
+        record {
+          defs = [];
+          ahead = at_next may.next
+              (back_one tables w finished from answer es (asking s r) (acts finished s r) site (leaf head (enumeration name)) rest (def ∷ [])
+              (leaf_one site head (enumeration name) (def ∷ []) may.enabled (same_definitions m answer.map f.id site head (enumeration name))) refl (λ k. append-nil (at_home site.home k (def ∷ []))) q);
+        }
     back_rule (lists_constant site head rest) may sees numbers read same quiet q =
         record { defs = []; ahead = at_next may.next (unlisted_one (lists_constant site head rest) site head (constant None) rest (leaf_one site head (constant None) [] may.enabled refl) refl (λ k. refl) q) }
     back_rule (lists_impl site head of_trait rest) may sees numbers read same quiet q =
         record { defs = []; ahead = at_next may.next (unlisted_one (lists_impl site head of_trait rest) site head (implementation of_trait) rest (leaf_one site head (implementation of_trait) [] may.enabled refl) refl (λ k. refl) q) }
     back_rule (opens_module site head name items rest) may sees numbers read same quiet q =
         let apart = below _ rest may.next in
-        record { defs = []; ahead = at_next may.next (inline_back site head name items rest may.enabled apart.0 apart.1 (placed _ rest may.next) (inline_directory site.dir name (path_of head)) refl
-        (quiet_made (after finished s (opens_module site head name items rest)) (length-perform (acts finished s (opens_module site head name items rest)) (asking s (opens_module site head name items rest))) refl quiet) q) }
+        record {
+          defs = [];
+          ahead = at_next may.next (inline_back site head name items rest may.enabled apart.0 apart.1 (placed _ rest may.next) (inline_directory site.dir name (path_of head)) refl
+              (quiet_made (after finished s (opens_module site head name items rest)) (length-perform (acts finished s (opens_module site head name items rest)) (asking s (opens_module site head name items rest))) refl quiet) q);
+        }
     back_rule (opens_file site head name search file rest) may sees numbers read same quiet q =
         let apart = below _ rest may.looks.here.next in
-        record { defs = []; ahead = at_next may.looks.here.next (file_back (same_edition same) site head name search rest may.looks numbers sees read file may apart.0 apart.1
-        (quiet_made (after finished s (opens_file site head name search file rest)) (length-perform (acts finished s (opens_file site head name search file rest)) (asking s (opens_file site head name search file rest))) refl quiet) q) }
+        record {
+          defs = [];
+          ahead = at_next may.looks.here.next (file_back (same_edition same) site head name search rest may.looks numbers sees read file may apart.0 apart.1
+              (quiet_made (after finished s (opens_file site head name search file rest)) (length-perform (acts finished s (opens_file site head name search file rest)) (asking s (opens_file site head name search file rest))) refl quiet) q);
+        }
     back_rule (drops_file site head name search report rest) may sees numbers read same quiet q =
         record { defs = []; ahead = at_next may.looks.here.next (drop_back (same_edition same) site head name search rest may.looks numbers sees read report may q) }
     back_rule (misses_file site head name search report rest) may sees numbers read same quiet q =
         let apart = below _ rest may.looks.here.next in
-        record { defs = []; ahead = at_next may.looks.here.next (miss_back (same_edition same) site head name search rest may.looks numbers sees read report may.missing apart.0 apart.1 (placed _ rest may.looks.here.next)
-        (quiet_made (after finished s (misses_file site head name search report rest)) (length-perform (acts finished s (misses_file site head name search report rest)) (asking s (misses_file site head name search report rest))) refl quiet) q) }
+        record {
+          defs = [];
+          ahead = at_next may.looks.here.next (miss_back (same_edition same) site head name search rest may.looks numbers sees read report may.missing apart.0 apart.1 (placed _ rest may.looks.here.next)
+              (quiet_made (after finished s (misses_file site head name search report rest)) (length-perform (acts finished s (misses_file site head name search report rest)) (asking s (misses_file site head name search report rest))) refl quiet) q);
+        }
     back_rule (enters_block site head items rest) may sees numbers read same quiet q =
         record { defs = []; ahead = at_next may.next (block_back site head items rest may.enabled q) }
     back_rule (reaches_imports site head tree rest) may sees numbers read same quiet q =
@@ -482,10 +500,13 @@ module _ (tables : TablesValue) (w : Workspace) (finished : Maps) (from : Beginn
         let node : AstId = node_of site.tree nodes.MacroRules head.id in
         let defined : State = perform (asking s r) (goes_on rest ∷ defines node makro ∷ adds_textual site.home name makro ∷ []) in
         let now : Ahead (MapAfter r) rest = subst (λ (vs : List Task). Ahead (MapAfter r) vs) (macro_agenda defined head name makro (module_id m site.home) node expander) q in
-        record { defs = []; ahead = at_next may.next
-        (unlisted_one r site head (macro_rules name expander helpers) rest (leaf_one site head (macro_rules name expander helpers) [] may.enabled refl)
-        (ap (λ (n : ℕ). 0 + (0 + (0 + n))) (macro_makes_none head name makro (module_id m site.home) node expander))
-        (macro_unlisted head name makro (module_id m site.home) node expander) now) }
+        record {
+          defs = [];
+          ahead = at_next may.next
+              (unlisted_one r site head (macro_rules name expander helpers) rest (leaf_one site head (macro_rules name expander helpers) [] may.enabled refl)
+              (ap (λ (n : ℕ). 0 + (0 + (0 + n))) (macro_makes_none head name makro (module_id m site.home) node expander))
+              (macro_unlisted head name makro (module_id m site.home) node expander) now);
+        }
     back_rule (defines_macro site head name expander helpers rest) may sees numbers read same quiet q =
         let r : Rule = defines_macro site head name expander helpers rest in
         let makro : MacroId = macro_def_id m site head.id expander in
@@ -493,11 +514,14 @@ module _ (tables : TablesValue) (w : Workspace) (finished : Maps) (from : Beginn
         let node : AstId = node_of site.tree nodes.MacroDef head.id in
         let bound : State = perform (asking s r) (goes_on rest ∷ defines node makro ∷ declaring site.home (macro_declaration name makro (own_visibility finished s.core.local m site head))) in
         let now : Ahead (MapAfter r) rest = subst (λ (vs : List Task). Ahead (MapAfter r) vs) (reporting_agenda bound (module_id m site.home) node expander) q in
-        record { defs = []; ahead = at_next may.next
-        (back_one tables w finished from answer es (asking s r) (acts finished s r) site (leaf head (macro_def name expander helpers)) rest (def ∷ [])
-        (leaf_one site head (macro_def name expander helpers) (def ∷ []) may.enabled (same_definitions m answer.map f.id site head (macro_def name expander helpers)))
-        (ap (λ (n : ℕ). 0 + (0 + (0 + (0 + n)))) (reporting_makes_none (module_id m site.home) node expander))
-        (λ k. ap (λ (xs : List ModuleDefId). at_home site.home k (def ∷ []) ++ xs) (reporting_unlisted (module_id m site.home) node expander k) ∙ append-nil (at_home site.home k (def ∷ []))) now) }
+        record {
+          defs = [];
+          ahead = at_next may.next
+              (back_one tables w finished from answer es (asking s r) (acts finished s r) site (leaf head (macro_def name expander helpers)) rest (def ∷ [])
+              (leaf_one site head (macro_def name expander helpers) (def ∷ []) may.enabled (same_definitions m answer.map f.id site head (macro_def name expander helpers)))
+              (ap (λ (n : ℕ). 0 + (0 + (0 + (0 + n)))) (reporting_makes_none (module_id m site.home) node expander))
+              (λ k. ap (λ (xs : List ModuleDefId). at_home site.home k (def ∷ []) ++ xs) (reporting_unlisted (module_id m site.home) node expander k) ∙ append-nil (at_home site.home k (def ∷ []))) now);
+        }
     back_rule (closes_module parent child rest) may sees numbers read same quiet q =
         let r : Rule = closes_module parent child rest in
         record { defs = []; ahead = at_next may (back_same tables w finished from answer es (asking s r) (acts finished s r) q q.listed refl (λ k. refl) (λ more g. g)) }

@@ -29,7 +29,7 @@ use Rattle.hir_def_collector.proofs.Changes.{Keeps-act}
 use Rattle.hir_def_collector.proofs.Grows.{Grows-act}
 use Rattle.hir_def_collector.proofs.ImportEdits.{Edit, edit, edit_of, edited, map_after}
 use Rattle.hir_def_collector.proofs.Lists.{get_left}
-use Rattle.hir_def_collector_laws.proofs.Lists.{at_home}
+use Rattle.hir_def_collector_laws.specs.Expansions.{at_home}
 
 -- ---- what is listed
 

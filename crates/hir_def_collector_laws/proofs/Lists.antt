@@ -50,7 +50,7 @@ module _ {A : Type 0} where
   at_home-other (suc h) zero xs apart = refl
   at_home-other (suc h) (suc k) xs apart = at_home-other h k xs (λ e. apart (ap suc e))
 
-  pub at_home-nothing : (h k : ℕ) → at_home h k [] ≡ []
+  pub at_home-nothing : (h k : ℕ) → at_home {A = A} h k [] ≡ []
   at_home-nothing zero zero = refl
   at_home-nothing zero (suc k) = refl
   at_home-nothing (suc h) zero = refl

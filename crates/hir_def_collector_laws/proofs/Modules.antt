@@ -1,5 +1,5 @@
 -- Each module of a run's map lists what its items declare, and what expansions in it do.
-use Rattle.std.proofs.Common.{◌≡◌, ◌≢◌, ◌∙◌, ◌<◌, ◌⊎◌, inl, inr, ℕ, zero, suc, List, [], ◌∷◌, ◌++◌, length, slice_get, Bool, true, false, None, Some, refl, sym, ap, subst, arith, Contains, append-nil}
+use Rattle.std.proofs.Common.{◌≡◌, ◌∙◌, ◌<◌, inl, inr, ℕ, zero, suc, List, [], ◌∷◌, ◌++◌, length, slice_get, Bool, true, false, None, Some, refl, sym, ap, subst, arith, Contains, append-nil}
 use Rattle.std.proofs.lemmas.List.Elements.{Contains-append_right}
 use Rattle.std.specs.Prelude.{if◌then◌else◌}
 use Rattle.hir_base.specs.declared.ids.ModuleDefId.{ModuleDefId}
@@ -18,10 +18,10 @@ use Rattle.hir_def_collector.specs.declared.collector.site.Site.{Site}
 use Rattle.hir_def_collector.specs.declared.source_database.Key.{Key}
 use Rattle.hir_def_collector.specs.declared.source_database.Key.TheVariants as keys
 use Rattle.hir_def_collector.specs.Causes.{declarations_of}
-use Rattle.hir_def_collector.specs.Derivation.{CollectedValue, Ends, leftover_reports}
+use Rattle.hir_def_collector.specs.Derivation.{CollectedValue, leftover_reports}
 use Rattle.hir_def_collector.specs.Keys.{environment}
 use Rattle.hir_def_collector.specs.Reports.{with_diagnostics}
-use Rattle.hir_def_collector.specs.Start.{Beginning, begin_of, krate_of, origin_of, read_by, root_site, root_tree, start_of, tree_visits}
+use Rattle.hir_def_collector.specs.Start.{Beginning, krate_of, origin_of, read_by, root_site, root_tree, start_of, tree_visits}
 use Rattle.hir_def_collector.specs.State.{Core, State, Task, visits_over}
 use Rattle.hir_def_collector.specs.Steps.{Rule, drops_item, reaches_call, rests, expands_call, drops_call, defines_rules, defines_macro, closes_module, declares_item, declares_enum, lists_constant, lists_impl, opens_module, opens_file, drops_file, misses_file, enters_block, reaches_imports, reaches_crate, resolves_imports, May, Step, Steps, acts, after, asking, keys_read, more, none, reads}
 use Rattle.hir_def_collector.specs.Workspace.{Workspace}
@@ -188,14 +188,14 @@ module _ (tables : TablesValue) (w : Workspace) (finished : Maps) (from : Beginn
       | inr later ↦ later d there
     ]
 
-    pub lists_all : ListsAll tables w finished from answer end
+    lists_all : ListsAll tables w finished from answer end
     lists_all = record { expansions = q.es; each = holds.expanded; done = all_done; modules = lists_at }
 
 -- where no call is written, none was expanded
-none_expanded : (tables : TablesValue) (w : Workspace) (finished : Maps) (answer : CollectedValue) (more : ℕ → List ModuleDefId) → NoCallIsWritten tables w answer
-    → (es : List Expansion) → ((e : Expansion) → Contains es e → IsExpansion tables w finished answer more e) → es ≡ []
-none_expanded tables w finished answer more no_call [] each = refl
-none_expanded tables w finished answer more no_call (e ∷ es) each =
+none_expanded : (tables : TablesValue) (w : Workspace) (finished : Maps) (answer : CollectedValue) (besides : ℕ → List ModuleDefId) → NoCallIsWritten tables w answer
+    → (es : List Expansion) → ((e : Expansion) → Contains es e → IsExpansion tables w finished answer besides e) → es ≡ []
+none_expanded tables w finished answer besides no_call [] each = refl
+none_expanded tables w finished answer besides no_call (e ∷ es) each =
     let c : IsCall tables w answer e.call = (each e (at_first e es)).written in
     let on : is_enabled c.head.attributes ≡ true = c.enabled in
     let off : is_enabled c.head.attributes ≡ false = no_call (key_of answer e.call.site.tree) c.head c.path c.written in

@@ -345,14 +345,14 @@ module _ (tables : TablesValue) (w : Workspace) (from : Beginning) (answer : Col
 
     -- the globs that are recorded once one is
     recorded : {v : View} (new : List Edge) (e : Edge) → IsOfGlob s.core.reached e → Records v s.core.globs.edges new e → AreOfGlobs s.core.reached new
-    recorded new e g (widens j d wide at ends by is) edge h =
+    recorded new e g (widens j d wide at apart by is) edge h =
         elim (replaced s.core.globs.edges j _ edge (subst (λ (xs : List Edge). Contains xs edge) is h)) as (λ _. IsOfGlob s.core.reached edge) [
           | inl old ↦ f.globs edge old
           | inr now ↦
               let before : IsOfGlob s.core.reached d = f.globs d (standing s.core.globs.edges j d at) in
               subst (λ (x : Edge). IsOfGlob s.core.reached x) now (record { directive = before.directive; among = before.among; is_glob = before.is_glob; into = before.into })
         ]
-    recorded new e g (stays j d at ends by is) edge h = f.globs edge (subst (λ (xs : List Edge). Contains xs edge) is h)
+    recorded new e g (stays j d at apart by is) edge h = f.globs edge (subst (λ (xs : List Edge). Contains xs edge) is h)
     recorded new e g (adds apart is) edge h =
         elim (Contains-append_cases s.core.globs.edges (e ∷ []) edge (subst (λ (xs : List Edge). Contains xs edge) is h)) as (λ _. IsOfGlob s.core.reached edge) [
           | inl old ↦ f.globs edge old
