@@ -12,14 +12,13 @@ use Rattle.hir_item_tree.specs.Kinds.{item_head, kind_content, kind_of}
 use Rattle.hir_item_tree.specs.Rows.{numbers_of, held_numbers, item_of, items_at}
 use Rattle.hir_item_tree.specs.SourceTree.{SourceTreeValue}
 use Rattle.hir_item_tree.specs.declared.rows.ModItemId.{ModItemId}
-use Rattle.hir_item_tree.specs.declared.tree_id.TreeId.{TreeId}
 use Rattle.hir_tables.proofs.Growth.{KeepsTables-trans}
 use Rattle.hir_def_map.specs.WorldParts.{part_of}
 use Rattle.hir_def_map.specs.declared.nameres.diagnostics.DefDiagnosticKind.TheVariants as diagnostics
 use Rattle.hir_def_collector.specs.ItemIds.{module_id, node_of}
 use Rattle.hir_def_collector.specs.Workspace.{Workspace}
 use Rattle.hir_def_collector.specs.Keys.{environment}
-use Rattle.hir_def_collector.specs.Moves.{GoesInside, Handles, IsHeld, IsOfFile, IsWithin, OnceGrown, Walks, WalksTooFar, tasks_of}
+use Rattle.hir_def_collector.specs.Moves.{GoesInside, Handles, IsOfFile, IsWithin, IsWritten, OnceGrown, Walks, WalksTooFar, tasks_of}
 use Rattle.hir_def_collector.specs.State.{Task, visits, visits_over}
 use Rattle.hir_def_collector.specs.Steps.{closing, none, visit}
 use Rattle.hir_def_collector.specs.TreeReads.{head_of, visits_at, above}
@@ -27,13 +26,14 @@ use Rattle.hir_def_collector.specs.declared.collector.mod_collector.Inside.{Insi
 use Rattle.hir_def_collector.proofs.Changes.{id-Step, id-Steps}
 use Rattle.hir_def_collector.proofs.Numbers.{tables_stay}
 use Rattle.hir_def_collector.proofs.Finding.{falls_inside, falls_to_file, falls_to_item}
-use Rattle.hir_def_collector.proofs.Outline.{held_grown}
+use Rattle.hir_def_collector.proofs.Outline.{written_grown, written_inside}
 use Rattle.hir_def_collector.proofs.Walked.{All-below, All-same_numbers, Walks-all, Walks-append, Walks-first, WalksTo-next, WalksTo-none, WalksTooFar-behind, WalksTooFar-first, WalksTooFar-inside, WalksTooFar-next, above_each, above_least, at_each, at_index, dropped_at, far_at, longer_after, still_there, visits_one}
 use Rattle.hir_def_collector.proofs.collector.mod_collector.+walk.Goals as goal
 
 pub walk_all-loop-id-init : goal.walk_all-loop-id-init
 walk_all-loop-id-init g t c = record {
   kept = tables_stay c.args.locations.now;
+  placed = λ h. h;
   same = refl;
   walked = λ grown k. WalksTo-none c.args.source.now.tree c.args.site.now (environment grown (g.D.SourceDatabase.workspace c.args.db.now)) (part_of c.args.world) c.args.ids.now c.args.run.now;
   in_range = c.requires.in_range;
@@ -52,10 +52,10 @@ walk_all-walk_item-requires g t c =
     let tree = c.args.source.now.tree in
     let part = part_of c.args.world in
     let there = at_each (length (all_items tree.items)) ids i x c.requires.there within e in
-    let held : IsHeld c.loop-id.locations (g.D.SourceDatabase.workspace c.loop-id.db) c.loop-id.run.map.id.krate site.tree c.args.source.now =
-    subst (λ (v : Workspace). IsHeld c.loop-id.locations v c.loop-id.run.map.id.krate site.tree c.args.source.now) (sym c.loop-id.invariant.same)
-    (subst (λ (id : MapId). IsHeld c.loop-id.locations w id.krate site.tree c.args.source.now) (sym c.loop-id.invariant.own)
-    (held_grown c.args.locations.now c.loop-id.locations w c.args.run.now.map.id.krate site.tree c.args.source.now c.loop-id.invariant.kept c.requires.held)) in
+    let held : IsWritten c.loop-id.locations (g.D.SourceDatabase.workspace c.loop-id.db) c.loop-id.run.map.id.krate site c.args.source.now =
+    subst (λ (v : Workspace). IsWritten c.loop-id.locations v c.loop-id.run.map.id.krate site c.args.source.now) (sym c.loop-id.invariant.same)
+    (subst (λ (id : MapId). IsWritten c.loop-id.locations w id.krate site c.args.source.now) (sym c.loop-id.invariant.own)
+    (written_grown c.args.locations.now c.loop-id.locations w c.args.run.now.map.id.krate site c.args.source.now c.loop-id.invariant.kept c.requires.held)) in
     let falls = falls_to_item site.dir.depth x.0 (above (numbers_of ids)) (above_each ids i x within e) (subst (λ (m : ℕ). m < 18446744073709551616) (sym c.counted.ensures.value) c.counted.ensures.below) in
     λ κs lives. (omega (arith, falls, c.decreases), (lives, (c.loop-id.invariant.in_range, (held, there))))
 
@@ -77,6 +77,7 @@ walk_all-loop-id-preserved g t c =
     let own : c.walk_item.new.run.map.id ≡ c.loop-id.run.map.id = id-Steps (walks.steps []) in
     record {
       kept = KeepsTables-trans c.args.locations.now c.loop-id.locations c.walk_item.new.locations c.loop-id.invariant.kept c.in_ok-walk_item.ensures.kept;
+      placed = λ h. c.in_ok-walk_item.ensures.placed (c.loop-id.invariant.placed h);
       same = c.in_ok-walk_item.ensures.same ∙ c.loop-id.invariant.same;
       walked = λ grown k.
           WalksTo-next tree site (environment grown w) part ids c.args.run.now c.loop-id.run c.walk_item.new.run i x within e
@@ -88,6 +89,9 @@ walk_all-loop-id-preserved g t c =
 pub walk_all-returns-in_err-walk_item-clause-kept : goal.walk_all-returns-in_err-walk_item-clause-kept
 walk_all-returns-in_err-walk_item-clause-kept g t c =
     KeepsTables-trans c.args.locations.now c.loop-id.locations c.walk_item.new.locations c.loop-id.invariant.kept c.in_err-walk_item.ensures.kept
+
+pub walk_all-returns-in_err-walk_item-clause-placed : goal.walk_all-returns-in_err-walk_item-clause-placed
+walk_all-returns-in_err-walk_item-clause-placed g t c = λ h. c.in_err-walk_item.ensures.placed (c.loop-id.invariant.placed h)
 
 pub walk_all-returns-in_err-walk_item-clause-many : goal.walk_all-returns-in_err-walk_item-clause-many
 walk_all-returns-in_err-walk_item-clause-many g t c = λ far_off grown k.
@@ -187,16 +191,19 @@ walk_item-walk_all-requires g t c =
     let least : above ns ≤ n = above_least n ns below in
     let there : n < size = c.requires.there in
     let falls = falls_inside site.dir.depth inner.dir.depth n (above ns) goes.0.deep least in
-    let held : IsHeld now (g.D.SourceDatabase.workspace c.visit_item.new.db) mid.map.id.krate inner.tree c.args.source.now =
-    subst (λ (v : Workspace). IsHeld now v mid.map.id.krate inner.tree c.args.source.now) (sym c.in_ok-inside.ensures.same)
-    (subst (λ (id : MapId). IsHeld now w id.krate inner.tree c.args.source.now) (sym own)
-    (subst (λ (t : TreeId). IsHeld now w c.args.run.now.map.id.krate t c.args.source.now) (sym goes.0.tree)
-    (held_grown c.args.locations.now now w c.args.run.now.map.id.krate site.tree c.args.source.now c.in_ok-inside.ensures.kept c.requires.held))) in
+    let held : IsWritten now (g.D.SourceDatabase.workspace c.visit_item.new.db) mid.map.id.krate inner c.args.source.now =
+    subst (λ (v : Workspace). IsWritten now v mid.map.id.krate inner c.args.source.now) (sym c.in_ok-inside.ensures.same)
+    (subst (λ (id : MapId). IsWritten now w id.krate inner c.args.source.now) (sym own)
+    (written_inside now w c.args.run.now.map.id.krate site inner c.args.source.now goes.0.tree goes.0.file
+    (written_grown c.args.locations.now now w c.args.run.now.map.id.krate site c.args.source.now c.in_ok-inside.ensures.kept c.requires.held))) in
     λ κs lives. (omega (arith, falls, c.decreases), (lives, (goes.0.there, (held, All-below n size ns (omega (arith, there)) below))))
 
 pub walk_item-returns-in_err-walk_all-in-Held-clause-kept : goal.walk_item-returns-in_err-walk_all-in-Held-clause-kept
 walk_item-returns-in_err-walk_all-in-Held-clause-kept g t c =
     KeepsTables-trans c.args.locations.now c.visit_item.new.locations c.walk_all.new.locations c.in_ok-inside.ensures.kept c.in_err-walk_all-in-Held.ensures.kept
+
+pub walk_item-returns-in_err-walk_all-in-Held-clause-placed : goal.walk_item-returns-in_err-walk_all-in-Held-clause-placed
+walk_item-returns-in_err-walk_all-in-Held-clause-placed g t c = λ h. c.in_err-walk_all-in-Held.ensures.placed (c.in_ok-inside.ensures.placed h)
 
 pub walk_item-returns-in_err-walk_all-in-Held-clause-many : goal.walk_item-returns-in_err-walk_all-in-Held-clause-many
 walk_item-returns-in_err-walk_all-in-Held-clause-many g t c = λ far_off grown k.
@@ -230,6 +237,9 @@ walk_item-returns-in_err-walk_all-in-Held-clause-many g t c = λ far_off grown k
 pub walk_item-returns-in_err-walk_all-in-File-clause-kept : goal.walk_item-returns-in_err-walk_all-in-File-clause-kept
 walk_item-returns-in_err-walk_all-in-File-clause-kept g t c =
     KeepsTables-trans c.args.locations.now c.visit_item.new.locations c.walk_all-in-File.new.locations c.in_ok-inside.ensures.kept c.in_err-walk_all-in-File.ensures.kept
+
+pub walk_item-returns-in_err-walk_all-in-File-clause-placed : goal.walk_item-returns-in_err-walk_all-in-File-clause-placed
+walk_item-returns-in_err-walk_all-in-File-clause-placed g t c = λ h. c.in_err-walk_all-in-File.ensures.placed (c.in_ok-inside.ensures.placed h)
 
 pub walk_item-returns-in_err-walk_all-in-File-clause-many : goal.walk_item-returns-in_err-walk_all-in-File-clause-many
 walk_item-returns-in_err-walk_all-in-File-clause-many g t c = λ far_off grown k.
@@ -287,22 +297,28 @@ walk_item-walk_all-requires-in-File g t c =
     subst (λ (o : Inside). GoesInside now w c.args.run.now.map.id.krate (length mid.map.modules) site (held_numbers (kind_content item)) o) c.in-File.is c.in_ok-inside.ensures.within in
     let ns = numbers_of c.top_level_items-ids.result.now in
     let falls = falls_to_file site.dir.depth inner.dir.depth n (above ns) goes.above goes.deeper in
-    let held : IsHeld now (g.D.SourceDatabase.workspace c.visit_item.new.db) mid.map.id.krate inner.tree source =
-    subst (λ (v : Workspace). IsHeld now v mid.map.id.krate inner.tree source) (sym c.in_ok-inside.ensures.same)
-    (subst (λ (id : MapId). IsHeld now w id.krate inner.tree source) (sym own) goes.held) in
+    let held : IsWritten now (g.D.SourceDatabase.workspace c.visit_item.new.db) mid.map.id.krate inner source =
+    subst (λ (v : Workspace). IsWritten now v mid.map.id.krate inner source) (sym c.in_ok-inside.ensures.same)
+    (subst (λ (id : MapId). IsWritten now w id.krate inner source) (sym own) goes.held) in
     let there : All (λ m. m < length (all_items c.deref-in-File.result.now.tree.items)) ns =
     subst (λ (s : SourceTreeValue). All (λ m. m < length (all_items s.tree.items)) ns) (sym c.deref-in-File.ensures)
     (All-map (λ m. m < length (all_items source.tree.items)) (λ (id : ModItemId). id.0) c.top_level_items-ids.result.now
     (subst (λ (t : Tree). All (λ (id : ModItemId). id.0 < length (all_items t.items)) c.top_level_items-ids.result.now) (c.tree-in-File.ensures.value ∙ ap (λ (s : SourceTreeValue). s.tree) c.deref.ensures) c.top_level_items-ids.ensures.there)) in
-    λ κs lives. (omega (arith, falls, c.decreases), (lives, (goes.there, (subst (λ (s : SourceTreeValue). IsHeld now (g.D.SourceDatabase.workspace c.visit_item.new.db) mid.map.id.krate inner.tree s) (sym c.deref-in-File.ensures) held, there))))
+    λ κs lives. (omega (arith, falls, c.decreases), (lives, (goes.there, (subst (λ (s : SourceTreeValue). IsWritten now (g.D.SourceDatabase.workspace c.visit_item.new.db) mid.map.id.krate inner s) (sym c.deref-in-File.ensures) held, there))))
 
 pub walk_item-returns-in_err-close-in-Held-clause-kept : goal.walk_item-returns-in_err-close-in-Held-clause-kept
 walk_item-returns-in_err-close-in-Held-clause-kept g t c =
     KeepsTables-trans c.args.locations.now c.visit_item.new.locations c.walk_all.new.locations c.in_ok-inside.ensures.kept c.in_ok-walk_all-in-Held.ensures.kept
 
+pub walk_item-returns-in_err-close-in-Held-clause-placed : goal.walk_item-returns-in_err-close-in-Held-clause-placed
+walk_item-returns-in_err-close-in-Held-clause-placed g t c = λ h. c.in_ok-walk_all-in-Held.ensures.placed (c.in_ok-inside.ensures.placed h)
+
 pub walk_item-returns-in_ok-close-in-Held-clause-kept : goal.walk_item-returns-in_ok-close-in-Held-clause-kept
 walk_item-returns-in_ok-close-in-Held-clause-kept g t c =
     KeepsTables-trans c.args.locations.now c.visit_item.new.locations c.walk_all.new.locations c.in_ok-inside.ensures.kept c.in_ok-walk_all-in-Held.ensures.kept
+
+pub walk_item-returns-in_ok-close-in-Held-clause-placed : goal.walk_item-returns-in_ok-close-in-Held-clause-placed
+walk_item-returns-in_ok-close-in-Held-clause-placed g t c = λ h. c.in_ok-walk_all-in-Held.ensures.placed (c.in_ok-inside.ensures.placed h)
 
 pub walk_item-returns-in_ok-close-in-Held-clause-ok : goal.walk_item-returns-in_ok-close-in-Held-clause-ok
 walk_item-returns-in_ok-close-in-Held-clause-ok g t c = λ grown k.
@@ -399,9 +415,15 @@ pub walk_item-returns-in_err-close-in-File-clause-kept : goal.walk_item-returns-
 walk_item-returns-in_err-close-in-File-clause-kept g t c =
     KeepsTables-trans c.args.locations.now c.visit_item.new.locations c.walk_all-in-File.new.locations c.in_ok-inside.ensures.kept c.in_ok-walk_all-in-File.ensures.kept
 
+pub walk_item-returns-in_err-close-in-File-clause-placed : goal.walk_item-returns-in_err-close-in-File-clause-placed
+walk_item-returns-in_err-close-in-File-clause-placed g t c = λ h. c.in_ok-walk_all-in-File.ensures.placed (c.in_ok-inside.ensures.placed h)
+
 pub walk_item-returns-in_ok-close-in-File-clause-kept : goal.walk_item-returns-in_ok-close-in-File-clause-kept
 walk_item-returns-in_ok-close-in-File-clause-kept g t c =
     KeepsTables-trans c.args.locations.now c.visit_item.new.locations c.walk_all-in-File.new.locations c.in_ok-inside.ensures.kept c.in_ok-walk_all-in-File.ensures.kept
+
+pub walk_item-returns-in_ok-close-in-File-clause-placed : goal.walk_item-returns-in_ok-close-in-File-clause-placed
+walk_item-returns-in_ok-close-in-File-clause-placed g t c = λ h. c.in_ok-walk_all-in-File.ensures.placed (c.in_ok-inside.ensures.placed h)
 
 pub walk_item-returns-in_ok-close-in-File-clause-ok : goal.walk_item-returns-in_ok-close-in-File-clause-ok
 walk_item-returns-in_ok-close-in-File-clause-ok g t c = λ grown k.

@@ -22,6 +22,7 @@ returns-clause-within c = λ tables w.
       record {
         there = longer_by_block c.args.run.now c.tick.new.self c.args.site.now.home (extern_block_id c.args.run.now.map c.args.site.now c.args.head.id) listed c.requires.in_range;
         tree = refl;
+        file = refl;
         deep = rw c.in_ok-dir.ensures.value (omega arith);
       },
       refl,

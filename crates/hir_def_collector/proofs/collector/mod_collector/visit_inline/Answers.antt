@@ -27,7 +27,7 @@ returns-clause-ok c = λ env items.
     ∙ sym c.in_ok-dir.ensures.value ∙ c.in-Some.is in
     inline_opened env (part_of c.args.world) c.args.site.now (head_of c.args.head) c.args.name.now (items_at items (numbers_of c.args.ids.now)) c.args.run.now c.open.new.run _ c.requires.enabled
     (search rules)
-    (ap (λ (home : ℕ). visits_over (record { home = home; tree = c.args.site.now.tree; extern_block = None; dir = c.in-Some.dir; level = c.args.site.now.level }) (items_at items (numbers_of c.args.ids.now))
+    (ap (λ (home : ℕ). visits_over (record { home = home; tree = c.args.site.now.tree; file = c.args.site.now.file; extern_block = None; dir = c.in-Some.dir; level = c.args.site.now.level }) (items_at items (numbers_of c.args.ids.now))
     ++ closing c.is_macro_use.result c.args.site.now.home home) c.in_ok-home.ensures.made
     ∙ ap (λ (b : Bool). visits_over (inside_module c.args.run.now.map c.args.site.now c.in-Some.dir) (items_at items (numbers_of c.args.ids.now)) ++ closing b c.args.site.now.home (length c.args.run.now.map.modules)) c.is_macro_use.ensures.value
     ∙ ap (λ (o : Option Directory). visits_inside c.args.run.now.map c.args.site.now (head_of c.args.head) o (items_at items (numbers_of c.args.ids.now))) (sym some))
@@ -41,6 +41,7 @@ returns-clause-within c = λ tables w.
       record {
         there = subst (λ (n : ℕ). n < length c.open.new.run.map.modules) (sym c.in_ok-home.ensures.made) longer;
         tree = refl;
+        file = refl;
         deep = inline_deeper c.args.site.now.dir c.args.name.now (path_of (head_of c.args.head)) c.in-Some.dir some;
       },
       refl,

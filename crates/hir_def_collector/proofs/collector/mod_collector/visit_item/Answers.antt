@@ -11,6 +11,7 @@ use Rattle.hir_def_collector.proofs.collector.mod_collector.visit_item.Goals as 
 pub returns-in_err-visit_leaf-in_default : goal.returns-in_err-visit_leaf-in_default
 returns-in_err-visit_leaf-in_default g c = record {
   kept = tables_stay c.args.locations.now;
+  placed = λ h. h;
   same = refl;
   ok = search rules;
   within = search rules;
@@ -33,11 +34,12 @@ returns-in-ExternBlock-clause-many g c = λ h grown k items.
 pub returns-in_ok-visit_leaf-in_default : goal.returns-in_ok-visit_leaf-in_default
 returns-in_ok-visit_leaf-in_default g c = record {
   kept = tables_stay c.args.locations.now;
+  placed = λ h. h;
   same = refl;
   ok = λ grown k items.
       let w = g.D.SourceDatabase.workspace c.args.db.now in
       let krate = c.args.run.now.map.id.krate in
-      let held = held_grown c.args.locations.now grown w krate c.args.site.now.tree c.args.source.now k c.requires.held in
+      let held = held_grown c.args.locations.now grown w krate c.args.site.now.tree c.args.source.now k c.requires.held.held in
       c.in_ok-visit_leaf-in_default.ensures.ok (environment grown w) (held_source grown w krate c.args.site.now.tree c.args.source.now held) items;
   within = tt;
   many = λ h. absurd (let no : ⊥ = cc in no);

@@ -8,7 +8,7 @@ use Rattle.hir_tables.specs.Tables.{KeepsTables, TablesValue}
 use Rattle.hir_tables.proofs.Growth.{KeepsTables-trans}
 use Rattle.hir_def_map.specs.WorldParts.{part_of}
 use Rattle.hir_def_collector.specs.declared.collector.mod_resolution.FoundFile.{FoundFile}
-use Rattle.hir_def_collector.specs.ModuleFiles.{IsNumberOf, file_of_tree, file_tree, path_attribute}
+use Rattle.hir_def_collector.specs.ModuleFiles.{IsNumberOf, file_tree, path_attribute}
 use Rattle.hir_def_collector.specs.Moves.{Finds, IsHeld, found_view}
 use Rattle.hir_def_collector.specs.Steps.{path_of}
 use Rattle.hir_def_collector.specs.TreeReads.{head_of}
@@ -28,8 +28,8 @@ returns-in_default-clause-ok g c = λ grown kept items.
     let tried : candidates ≡ candidates_of c.args.site.now.dir c.args.name.now (path_of (head_of c.args.head)) =
     c.as_slice-in_default.ensures.value ∙ c.in_ok-candidates.ensures.value
     ∙ ap (λ (p : Option (List ℕ)). candidates_of c.args.site.now.dir c.args.name.now p) (c.path_attr-path.ensures.value ∙ ap (λ (attrs : List Attr). path_attribute (map numbered attrs)) c.as_slice.ensures.value) in
-    let written : (grown : TablesValue) → KeepsTables tables grown → IsNumberOf grown (file_of_tree c.args.site.now.tree) declaring =
-    λ grown k. subst (λ (o : Option (List ℕ)). IsNumberOf grown (file_of_tree c.args.site.now.tree) o) (sym c.as_ref.ensures.value)
+    let written : (grown : TablesValue) → KeepsTables tables grown → IsNumberOf grown c.args.site.now.file declaring =
+    λ grown k. subst (λ (o : Option (List ℕ)). IsNumberOf grown c.args.site.now.file o) (sym c.as_ref.ensures.value)
     (c.in_ok-declaring.ensures.value grown (KeepsTables-trans c.args.locations.now tables grown c.in_ok-found.ensures.kept k)) in
     let finds : Finds tables w declaring candidates c.args.run.now c.find_file.new.run None =
     subst (λ (cs : List Candidate). Finds tables w declaring cs c.args.run.now c.find_file.new.run None) (c.as_slice-2.ensures.value ∙ sym c.as_slice-in_default.ensures.value)
@@ -45,8 +45,8 @@ returns-in_err-miss_file-clause-many g c = λ h.
     let tried : candidates ≡ candidates_of c.args.site.now.dir c.args.name.now (path_of (head_of c.args.head)) =
     c.as_slice-in_default.ensures.value ∙ c.in_ok-candidates.ensures.value
     ∙ ap (λ (p : Option (List ℕ)). candidates_of c.args.site.now.dir c.args.name.now p) (c.path_attr-path.ensures.value ∙ ap (λ (attrs : List Attr). path_attribute (map numbered attrs)) c.as_slice.ensures.value) in
-    let written : (grown : TablesValue) → KeepsTables tables grown → IsNumberOf grown (file_of_tree c.args.site.now.tree) declaring =
-    λ grown k. subst (λ (o : Option (List ℕ)). IsNumberOf grown (file_of_tree c.args.site.now.tree) o) (sym c.as_ref.ensures.value)
+    let written : (grown : TablesValue) → KeepsTables tables grown → IsNumberOf grown c.args.site.now.file declaring =
+    λ grown k. subst (λ (o : Option (List ℕ)). IsNumberOf grown c.args.site.now.file o) (sym c.as_ref.ensures.value)
     (c.in_ok-declaring.ensures.value grown (KeepsTables-trans c.args.locations.now tables grown c.in_ok-found.ensures.kept k)) in
     let finds : Finds tables w declaring candidates c.args.run.now c.find_file.new.run None =
     subst (λ (cs : List Candidate). Finds tables w declaring cs c.args.run.now c.find_file.new.run None) (c.as_slice-2.ensures.value ∙ sym c.as_slice-in_default.ensures.value)
@@ -63,8 +63,8 @@ returns-in_err-inside-clause-many g c = λ h.
     let tried : candidates ≡ candidates_of c.args.site.now.dir c.args.name.now (path_of (head_of c.args.head)) =
     c.as_slice-2.ensures.value ∙ c.in_ok-candidates.ensures.value
     ∙ ap (λ (p : Option (List ℕ)). candidates_of c.args.site.now.dir c.args.name.now p) (c.path_attr-path.ensures.value ∙ ap (λ (attrs : List Attr). path_attribute (map numbered attrs)) c.as_slice.ensures.value) in
-    let written : (grown : TablesValue) → KeepsTables tables grown → IsNumberOf grown (file_of_tree c.args.site.now.tree) declaring =
-    λ grown k. subst (λ (o : Option (List ℕ)). IsNumberOf grown (file_of_tree c.args.site.now.tree) o) (sym c.as_ref.ensures.value)
+    let written : (grown : TablesValue) → KeepsTables tables grown → IsNumberOf grown c.args.site.now.file declaring =
+    λ grown k. subst (λ (o : Option (List ℕ)). IsNumberOf grown c.args.site.now.file o) (sym c.as_ref.ensures.value)
     (c.in_ok-declaring.ensures.value grown (KeepsTables-trans c.args.locations.now tables grown c.in_ok-found.ensures.kept k)) in
     let finds : Finds tables w declaring candidates c.args.run.now c.find_file.new.run (Some (found_view c.in-Some.file)) =
     subst (λ (o : Option FoundFile). Finds tables w declaring candidates c.args.run.now c.find_file.new.run (option_map found_view o)) c.in-Some.is c.in_ok-found.ensures.ok in
@@ -80,8 +80,8 @@ returns-clause-ok g c =
     let tried : candidates ≡ candidates_of c.args.site.now.dir c.args.name.now (path_of (head_of c.args.head)) =
     c.as_slice-2.ensures.value ∙ c.in_ok-candidates.ensures.value
     ∙ ap (λ (p : Option (List ℕ)). candidates_of c.args.site.now.dir c.args.name.now p) (c.path_attr-path.ensures.value ∙ ap (λ (attrs : List Attr). path_attribute (map numbered attrs)) c.as_slice.ensures.value) in
-    let written : (grown : TablesValue) → KeepsTables tables grown → IsNumberOf grown (file_of_tree c.args.site.now.tree) declaring =
-    λ grown k. subst (λ (o : Option (List ℕ)). IsNumberOf grown (file_of_tree c.args.site.now.tree) o) (sym c.as_ref.ensures.value)
+    let written : (grown : TablesValue) → KeepsTables tables grown → IsNumberOf grown c.args.site.now.file declaring =
+    λ grown k. subst (λ (o : Option (List ℕ)). IsNumberOf grown c.args.site.now.file o) (sym c.as_ref.ensures.value)
     (c.in_ok-declaring.ensures.value grown (KeepsTables-trans c.args.locations.now tables grown c.in_ok-found.ensures.kept k)) in
     let finds : Finds tables w declaring candidates c.args.run.now c.find_file.new.run (Some (found_view c.in-Some.file)) =
     subst (λ (o : Option FoundFile). Finds tables w declaring candidates c.args.run.now c.find_file.new.run (option_map found_view o)) c.in-Some.is c.in_ok-found.ensures.ok in
@@ -96,8 +96,8 @@ returns-clause-within g c =
     let tried : candidates ≡ candidates_of c.args.site.now.dir c.args.name.now (path_of (head_of c.args.head)) =
     c.as_slice-2.ensures.value ∙ c.in_ok-candidates.ensures.value
     ∙ ap (λ (p : Option (List ℕ)). candidates_of c.args.site.now.dir c.args.name.now p) (c.path_attr-path.ensures.value ∙ ap (λ (attrs : List Attr). path_attribute (map numbered attrs)) c.as_slice.ensures.value) in
-    let written : (grown : TablesValue) → KeepsTables tables grown → IsNumberOf grown (file_of_tree c.args.site.now.tree) declaring =
-    λ grown k. subst (λ (o : Option (List ℕ)). IsNumberOf grown (file_of_tree c.args.site.now.tree) o) (sym c.as_ref.ensures.value)
+    let written : (grown : TablesValue) → KeepsTables tables grown → IsNumberOf grown c.args.site.now.file declaring =
+    λ grown k. subst (λ (o : Option (List ℕ)). IsNumberOf grown c.args.site.now.file o) (sym c.as_ref.ensures.value)
     (c.in_ok-declaring.ensures.value grown (KeepsTables-trans c.args.locations.now tables grown c.in_ok-found.ensures.kept k)) in
     let finds : Finds tables w declaring candidates c.args.run.now c.find_file.new.run (Some (found_view c.in-Some.file)) =
     subst (λ (o : Option FoundFile). Finds tables w declaring candidates c.args.run.now c.find_file.new.run (option_map found_view o)) c.in-Some.is c.in_ok-found.ensures.ok in
