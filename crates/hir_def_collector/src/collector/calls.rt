@@ -171,7 +171,7 @@ fn expansion_key(
 
 /// Why a call didn't expand, or not well.
 fn error_of(alloc: Global, look: ExpansionLook<'_>) -> Result<Option<Text>, AllocError>
-    ensures value { IfOk result (λ error. error ≡ error_of (entry_look look)) }
+    ensures value { IfOk result (λ error. error ≡ error_of (entry_look look.entry)) }
 {
     if !look.present {
         return Ok(Some(Text::from_str(alloc, "absent")?));

@@ -564,11 +564,11 @@ impl DefCollector {
         requires apart { apart ≡ true → IsApart (part_of world) self.map.id self.local }
         requires there { (i : ℕ) (r : ImportDirective) → slice_get self.reached i ≡ Some r → r.home < length self.map.modules }
         requires sound { IsSound (part_of world) (import_state (at_rest (core_in self))) }
-        ensures ok { IfOk result (λ run. (env : Environment) → Steps env (part_of world.entry) (at_rest (core_in self.entry)) (at_rest (core_in run))) }
+        ensures ok { IfOk result (λ run. (env : Environment) → Steps env (part_of world.entry) (at_rest (core_in self)) (at_rest (core_in run))) }
         ensures rests { IfOk result (λ run. IsAtRest (part_of world.entry) (import_state (at_rest (core_in run)))) }
         ensures sound { IfOk result (λ run. IsSound (part_of world.entry) (import_state (at_rest (core_in run)))) }
-        ensures others { IfOk result (λ run. core_in run ≡ core_with_imports (core_in self.entry) (import_state (at_rest (core_in run)))) }
-        ensures many { result ≡ Err CollectError.TooMany → (env : Environment) → IsSpent env (part_of world.entry) (at_rest (core_in self.entry)) }
+        ensures others { IfOk result (λ run. core_in run ≡ core_with_imports (core_in self) (import_state (at_rest (core_in run)))) }
+        ensures many { result ≡ Err CollectError.TooMany → (env : Environment) → IsSpent env (part_of world.entry) (at_rest (core_in self)) }
     {
         let alloc = self.allocator();
         let imports = restart_imports(
@@ -605,11 +605,11 @@ impl DefCollector {
     /// Lets names go along globs until none is left to go.
     pub fn spread(self, world: WorldPart<'_>) -> Result<DefCollector, CollectError>
         requires sound { IsSound (part_of world) (import_state (at_rest (core_in self))) }
-        ensures ok { IfOk result (λ run. (env : Environment) → Steps env (part_of world.entry) (at_rest (core_in self.entry)) (at_rest (core_in run))) }
+        ensures ok { IfOk result (λ run. (env : Environment) → Steps env (part_of world.entry) (at_rest (core_in self)) (at_rest (core_in run))) }
         ensures closed { IfOk result (λ run. IsClosed (part_of world.entry) (import_state (at_rest (core_in run)))) }
         ensures sound { IfOk result (λ run. IsSound (part_of world.entry) (import_state (at_rest (core_in run)))) }
-        ensures others { IfOk result (λ run. core_in run ≡ core_with_imports (core_in self.entry) (import_state (at_rest (core_in run)))) }
-        ensures many { result ≡ Err CollectError.TooMany → (env : Environment) → IsSpent env (part_of world.entry) (at_rest (core_in self.entry)) }
+        ensures others { IfOk result (λ run. core_in run ≡ core_with_imports (core_in self) (import_state (at_rest (core_in run)))) }
+        ensures many { result ≡ Err CollectError.TooMany → (env : Environment) → IsSpent env (part_of world.entry) (at_rest (core_in self)) }
     {
         let alloc = self.allocator();
         let imports = spread_globs(
@@ -650,7 +650,7 @@ impl DefCollector {
         round_limit_met: bool,
         transitive: Rc<CrateSet>,
     ) -> Result<Collected, AllocError>
-        ensures value { IfOk result (λ c. collected_view c ≡ finished_run (core_in self.entry) round_limit_met transitive.value) }
+        ensures value { IfOk result (λ c. collected_view c ≡ finished_run (core_in self) round_limit_met transitive.value) }
     {
         let alloc = self.allocator();
         let leftover = untaken(alloc, &self.reached, &self.taken)?;
