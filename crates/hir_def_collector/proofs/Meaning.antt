@@ -271,9 +271,9 @@ module _ (tables : TablesValue) where
 
   call_keys_meant : (own : Crate) (d : MacroDirective) (makro : MacroId) (x : Expanding) → IsMeantCall tables d → IsNumberedCall tables own d makro x
       → (key : Key) → Contains (keys_read (text_readings makro x.text ++ expansion_readings own d x)) key → HasMeaning tables key
-  call_keys_meant own d (macros.Macro2Id id) x call numbered key (zero, below, is) = subst (HasMeaning tables) is numbered.makro
+  call_keys_meant own d (macros.Macro2Id id) x call numbered key (zero, below, is) = subst (HasMeaning tables) is numbered.meant
   call_keys_meant own d (macros.Macro2Id id) x call numbered key (suc n, below, is) = rest_meant own d (macros.Macro2Id id) x call numbered key (n, omega arith, is)
-  call_keys_meant own d (macros.MacroRulesId id) x call numbered key (zero, below, is) = subst (HasMeaning tables) is numbered.makro
+  call_keys_meant own d (macros.MacroRulesId id) x call numbered key (zero, below, is) = subst (HasMeaning tables) is numbered.meant
   call_keys_meant own d (macros.MacroRulesId id) x call numbered key (suc n, below, is) = rest_meant own d (macros.MacroRulesId id) x call numbered key (n, omega arith, is)
   call_keys_meant own d (macros.ProcMacroId id) x call numbered key h = rest_meant own d (macros.ProcMacroId id) x call numbered key h
 

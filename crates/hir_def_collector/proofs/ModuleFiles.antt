@@ -58,7 +58,7 @@ module _ (tables grown : TablesValue) (kept : KeepsTables tables grown) where
 
   pub call_kept : (own : Crate) (d : MacroDirective) (makro : MacroId) (x : Expanding) → IsNumberedCall tables own d makro x → IsNumberedCall grown own d makro x
   call_kept own d makro x h = record {
-    makro = macro_kept makro h.makro;
+    meant = macro_kept makro h.meant;
     entry = kept.entries x.entry.0 (expansion_of_call own makro x.text x.input) h.entry;
     call = kept.calls x.id.0 (call_loc d x.entry) h.call;
   }

@@ -1,5 +1,5 @@
 -- A module in which nothing comes next and no call is lists what it lists.
-use Rattle.std.proofs.Common.{◌≡◌, ◌≢◌, ◌∙◌, ◌<◌, ◌+◌, ℕ, zero, suc, List, [], ◌∷◌, ◌++◌, length, ◌||◌, Bool, true, false, Option, None, Some, map as list_map, slice_get, refl, sym, ap, subst, arith, append-nil, append_assoc}
+use Rattle.std.proofs.Common.{◌≡◌, ◌≢◌, ◌∙◌, ◌<◌, ◌+◌, ℕ, zero, suc, List, [], ◌∷◌, ◌++◌, length, ◌||◌, Bool, true, false, Option, None, Some, slice_get, refl, sym, ap, subst, arith, append-nil, append_assoc}
 use Rattle.hir_base.specs.declared.ids.ModuleDefId.{ModuleDefId}
 use Rattle.hir_item_tree.specs.KeptForest.{Head, KeptForest, item, no_items}
 use Rattle.hir_mod_dir.specs.Directory.{Directory}
