@@ -15,7 +15,7 @@ use Rattle.hir_base.specs.declared.macro_kind.MacroId.{MacroId}
 use Rattle.hir_base.specs.declared.macro_kind.MacroId.TheVariants.{Macro2Id, MacroRulesId, ProcMacroId}
 use Rattle.hir_base.specs.declared.resolve_mode.BuiltinShadowMode.TheVariants as shadow_modes
 use Rattle.hir_base.specs.declared.resolve_mode.MacroSubNs.TheVariants as sub_namespaces
-use Rattle.hir_base.specs.declared.resolve_mode.ResolveMode.TheVariants as modes
+use Rattle.hir_def_map.specs.declared.nameres.path_resolution.ResolveMode.TheVariants as modes
 use Rattle.hir_item_tree.specs.declared.tree_id.TreeId.{TreeId}
 use Rattle.hir_item_tree.specs.declared.tree_id.TreeKey.{TreeKey}
 use Rattle.hir_scope.specs.PerNs.{Item}
@@ -117,7 +117,7 @@ pub record Expanding : Type 0 where
 
 -- the numbers of the macro mean something, and those of the expansion and of the call what they are taken for
 pub record IsNumberedCall (tables : TablesValue) (own : Crate) (d : MacroDirective) (makro : MacroId) (x : Expanding) : Type 0 where
-  pub makro : IsMeant tables makro
+  pub meant : IsMeant tables makro
   pub entry : entry_at tables x.entry ≡ Some (expansion_of_call own makro x.text x.input)
   pub call : call_at tables x.id ≡ Some (call_loc d x.entry)
 

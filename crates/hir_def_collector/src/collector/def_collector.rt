@@ -7,7 +7,7 @@ ghost use Rattle.hir_import_resolution.specs.Inner.State.{IsApart};
 ghost use Rattle.hir_import_resolution.specs.Rest.{IsAtRest, IsClosed, IsSound};
 ghost use Rattle.hir_import_resolution.specs.Visibilities.{visibility_in};
 ghost use Rattle.hir_def_collector.specs.Keys.{Environment};
-ghost use Rattle.hir_def_collector.specs.State.{at_rest, core_with_imports, counted, import_state, with_asked, with_bound, with_calls, with_fate, with_imports, with_local, with_map, with_settled};
+ghost use Rattle.hir_def_collector.specs.State.{at_rest, core_in, core_with_imports, counted, import_state, with_asked, with_bound, with_calls, with_fate, with_imports, with_local, with_map, with_settled};
 ghost use Rattle.hir_def_collector.specs.ItemIds.{container_of, module_id};
 ghost use Rattle.hir_def_collector.specs.Items.{own_visibility};
 ghost use Rattle.hir_def_collector.specs.Calls.{IsWaiting, called_macro, macro_among};
@@ -85,21 +85,21 @@ pub struct DefCollector {
 
 impl Model for DefCollector {
     ghost use Rattle.std.specs.Prelude.{◌≤◌};
-    ghost use Rattle.hir_glob_imports.specs.Waves.{brought_of};
-    ghost use Rattle.hir_def_collector.specs.Codes.{coded_core};
-    ghost use Rattle.hir_def_collector.specs.State.{Core};
+    ghost use Rattle.hir_def_collector.specs.Codes.{coded_run};
+    ghost use Rattle.hir_def_collector.specs.State.{Run};
     ghost use Rattle.hir_def_collector.specs.declared.collector.TheConstants.{STEP_LIMIT};
 
-    ghost Value = { Core };
+    ghost Value = { Run };
 
-    ghost coded = { coded_core };
+    ghost coded = { coded_run };
 
     ghost view = { λ r. record {
       map = r.map;
       local = r.local;
       dependencies = r.dependencies.items;
       options = r.options;
-      globs = record { names = r.from_glob_import; edges = r.globs.edges; brought = brought_of r.globs };
+      names = r.from_glob_import;
+      globs = r.globs;
       reached = r.reached.items;
       taken = r.taken.items;
       calls = r.calls.items;
@@ -155,7 +155,7 @@ impl DefCollector {
         start: Start,
         tree: TreeId,
     ) -> Result<DefCollector, AllocError>
-        ensures value { IfOk result (λ run. run ≡ core_by (part_of world.entry) crate_data local dependencies.items options start tree) }
+        ensures value { IfOk result (λ run. core_in run ≡ core_by (part_of world.entry) crate_data local dependencies.items options start tree) }
     {
         let krate = start.krate();
         let root = ModuleData::new(alloc, start.origin(), Visibility::Public, None);
@@ -243,7 +243,7 @@ impl DefCollector {
 
     /// Counts a step.
     pub fn tick(&mut self) -> Result<(), CollectError>
-        ensures ok { OnOk result (self.new ≡ counted self.old) }
+        ensures ok { OnOk result (core_in self.new ≡ counted (core_in self.old)) }
         ensures many { result ≡ Err CollectError.TooMany → STEP_LIMIT ≤ self.old.count }
     {
         if self.count >= STEP_LIMIT {
@@ -257,7 +257,7 @@ impl DefCollector {
     ///
     /// After rust-analyzer's `DefCollector::update`.
     pub fn bind(&mut self, home: u32, name: Name, items: PerNs) -> Result<(), AllocError>
-        ensures ok { OnOk result (self.new ≡ with_bound self.old home name items) }
+        ensures ok { OnOk result (core_in self.new ≡ with_bound (core_in self.old) home name items) }
     {
         forget(&mut self.globs, home, &name, items)?;
         self.map
@@ -273,7 +273,7 @@ impl DefCollector {
         makro: MacroId,
     ) -> Result<(), AllocError>
         requires in_range { home < length self.old.map.modules }
-        ensures ok { OnOk result (self.new ≡ with_map self.old (with_textual_macro self.old.map home name makro)) }
+        ensures ok { OnOk result (core_in self.new ≡ with_map (core_in self.old) (with_textual_macro self.old.map home name makro)) }
     {
         textual::define(&mut self.map, home, name, makro)?;
         Ok(())
@@ -282,7 +282,7 @@ impl DefCollector {
     /// Lets a module take over the macros that are in textual scope in another.
     pub fn take_textual(&mut self, home: u32, from: u32) -> Result<(), AllocError>
         requires in_range { home < length self.old.map.modules }
-        ensures ok { OnOk result (self.new ≡ with_map self.old (with_textual_scope self.old.map home (textual_at self.old.map from))) }
+        ensures ok { OnOk result (core_in self.new ≡ with_map (core_in self.old) (with_textual_scope self.old.map home (textual_at self.old.map from))) }
     {
         textual::take(self.allocator(), &mut self.map, home, from)?;
         Ok(())
@@ -290,7 +290,7 @@ impl DefCollector {
 
     /// Notes the macro that an item defines.
     pub fn define_macro(&mut self, node: AstId, makro: MacroId) -> Result<(), AllocError>
-        ensures ok { OnOk result (self.new ≡ with_map self.old (with_macro_def self.old.map node makro)) }
+        ensures ok { OnOk result (core_in self.new ≡ with_map (core_in self.old) (with_macro_def self.old.map node makro)) }
     {
         self.map.add_macro_def(node, makro)?;
         Ok(())
@@ -306,7 +306,7 @@ impl DefCollector {
     ) -> Result<ModuleId, CollectError>
         requires in_range { home < length self.old.map.modules }
         ensures made { IfOk result (λ id. id ≡ new_id self.old.map) }
-        ensures ok { OnOk result (self.new ≡ with_map self.old (begun self.old.map home name (new_module origin visibility (Some (module_id self.old.map home))))) }
+        ensures ok { OnOk result (core_in self.new ≡ with_map (core_in self.old) (begun self.old.map home name (new_module origin visibility (Some (module_id self.old.map home))))) }
         ensures many { result ≡ Err CollectError.TooMany → STEP_LIMIT ≤ length self.old.map.modules }
     {
         let parent = self.module_id(home);
@@ -318,7 +318,7 @@ impl DefCollector {
 
     /// Lists a definition in a module.
     pub fn declare(&mut self, home: u32, def: ModuleDefId) -> Result<(), AllocError>
-        ensures ok { OnOk result (self.new ≡ with_map self.old (with_declared self.old.map home def)) }
+        ensures ok { OnOk result (core_in self.new ≡ with_map (core_in self.old) (with_declared self.old.map home def)) }
     {
         self.map.declare(home, def)?;
         Ok(())
@@ -326,7 +326,7 @@ impl DefCollector {
 
     /// Keeps the variants of an enum, which were asked for.
     pub fn add_enum(&mut self, id: EnumId, variants: EnumVariants) -> Result<(), AllocError>
-        ensures ok { OnOk result (self.new ≡ with_asked (with_map self.old (with_enum self.old.map id variants)) (Key.Variants id)) }
+        ensures ok { OnOk result (core_in self.new ≡ with_asked (with_map (core_in self.old) (with_enum self.old.map id variants)) (Key.Variants id)) }
     {
         self.asked.push(Key::Variants(id))?;
         self.map.add_enum(id, variants)?;
@@ -351,7 +351,7 @@ impl DefCollector {
 
     /// Notes a key that was asked for.
     pub fn ask(&mut self, key: Key) -> Result<(), AllocError>
-        ensures ok { OnOk result (self.new ≡ with_asked self.old key) }
+        ensures ok { OnOk result (core_in self.new ≡ with_asked (core_in self.old) key) }
     {
         self.asked.push(key)?;
         Ok(())
@@ -359,7 +359,7 @@ impl DefCollector {
 
     /// Adds a diagnostic.
     pub fn tell(&mut self, report: DefDiagnostic) -> Result<(), AllocError>
-        ensures ok { OnOk result (self.new ≡ with_map self.old (with_diagnostic self.old.map report)) }
+        ensures ok { OnOk result (core_in self.new ≡ with_map (core_in self.old) (with_diagnostic self.old.map report)) }
     {
         self.map.add_diagnostic(report)?;
         Ok(())
@@ -374,7 +374,7 @@ impl DefCollector {
 
     /// Lists a `use` item in a module.
     pub fn list_use(&mut self, home: u32, use_: UseId) -> Result<(), AllocError>
-        ensures ok { OnOk result (self.new ≡ with_map self.old (with_use self.old.map home use_)) }
+        ensures ok { OnOk result (core_in self.new ≡ with_map (core_in self.old) (with_use self.old.map home use_)) }
     {
         self.map.define_use(home, use_)?;
         Ok(())
@@ -382,7 +382,7 @@ impl DefCollector {
 
     /// Lists an `extern crate` in a module.
     pub fn list_extern_crate(&mut self, home: u32, id: ExternCrateId) -> Result<(), AllocError>
-        ensures ok { OnOk result (self.new ≡ with_map self.old (with_extern_crate self.old.map home id)) }
+        ensures ok { OnOk result (core_in self.new ≡ with_map (core_in self.old) (with_extern_crate self.old.map home id)) }
     {
         self.map.define_extern_crate_decl(home, id)?;
         Ok(())
@@ -390,7 +390,7 @@ impl DefCollector {
 
     /// Lists an impl in a module.
     pub fn list_impl(&mut self, home: u32, id: ImplId, of_trait: bool) -> Result<(), AllocError>
-        ensures ok { OnOk result (self.new ≡ with_map self.old (with_impl self.old.map home id of_trait)) }
+        ensures ok { OnOk result (core_in self.new ≡ with_map (core_in self.old) (with_impl self.old.map home id of_trait)) }
     {
         self.map.define_impl(home, id, of_trait)?;
         Ok(())
@@ -398,7 +398,7 @@ impl DefCollector {
 
     /// Lists an extern block in a module.
     pub fn list_extern_block(&mut self, home: u32, id: ExternBlockId) -> Result<(), AllocError>
-        ensures ok { OnOk result (self.new ≡ with_map self.old (with_extern_block self.old.map home id)) }
+        ensures ok { OnOk result (core_in self.new ≡ with_map (core_in self.old) (with_extern_block self.old.map home id)) }
     {
         self.map.define_extern_block(home, id)?;
         Ok(())
@@ -406,7 +406,7 @@ impl DefCollector {
 
     /// Lists a constant without a name in a module.
     pub fn list_unnamed_const(&mut self, home: u32, id: ConstId) -> Result<(), AllocError>
-        ensures ok { OnOk result (self.new ≡ with_map self.old (with_unnamed_const self.old.map home id)) }
+        ensures ok { OnOk result (core_in self.new ≡ with_map (core_in self.old) (with_unnamed_const self.old.map home id)) }
     {
         self.map.define_unnamed_const(home, id)?;
         Ok(())
@@ -443,7 +443,7 @@ impl DefCollector {
         name: &ExternCrateName,
         by: ExternCrateId,
     ) -> Result<(), AllocError>
-        ensures ok { OnOk result (self.new ≡ with_map self.old (with_macros_used self.old.map
+        ensures ok { OnOk result (core_in self.new ≡ with_map (core_in self.old) (with_macros_used self.old.map
             (macros_brought (part_of world.entry) self.old.map self.old.dependencies (head_of head.entry) name.now) (Some by))) }
     {
         if self.map.id().block.is_some() {
@@ -459,7 +459,7 @@ impl DefCollector {
 
     /// Lets paths begin with the name of an `extern crate` of the crate's root module.
     pub fn add_extern(&mut self, import: &ImportDirective) -> Result<(), AllocError>
-        ensures ok { OnOk result (self.new ≡ with_local self.old (extern_after self.old.map self.old.local import.now)) }
+        ensures ok { OnOk result (core_in self.new ≡ with_local (core_in self.old) (extern_after self.old.map self.old.local import.now)) }
     {
         if import.home != 0 || self.map.id().block.is_some() {
             return Ok(());
@@ -484,7 +484,7 @@ impl DefCollector {
 
     /// Notes an import that was come upon.
     pub fn reach(&mut self, import: ImportDirective) -> Result<(), AllocError>
-        ensures ok { OnOk result (self.new ≡ with_imports self.old (import ∷ [])) }
+        ensures ok { OnOk result (core_in self.new ≡ with_imports (core_in self.old) (import ∷ [])) }
     {
         let taken = Taken::nothing(self.allocator());
         self.reached.push(import)?;
@@ -494,7 +494,7 @@ impl DefCollector {
 
     /// Notes a macro call that was come upon.
     pub fn await_call(&mut self, call: MacroDirective) -> Result<(), AllocError>
-        ensures ok { OnOk result (self.new ≡ with_calls self.old (call ∷ [])) }
+        ensures ok { OnOk result (core_in self.new ≡ with_calls (core_in self.old) (call ∷ [])) }
     {
         self.calls.push(call)?;
         self.fates.push(Fate::Waits)?;
@@ -510,8 +510,8 @@ impl DefCollector {
 
     /// The call at the place, where it waits.
     pub fn waiting(&self, i: usize) -> Option<&MacroDirective>
-        ensures waits { IfSome result (λ call. IsWaiting (at_rest self.now) i call.now) }
-        ensures none { IfNone result ((call : MacroDirective) → ¬ IsWaiting (at_rest self.now) i call) }
+        ensures waits { IfSome result (λ call. IsWaiting (at_rest (core_in self.now)) i call.now) }
+        ensures none { IfNone result ((call : MacroDirective) → ¬ IsWaiting (at_rest (core_in self.now)) i call) }
     {
         match self.fates.get(i)? {
             Fate::Waits => self.calls.get(i),
@@ -545,14 +545,14 @@ impl DefCollector {
 
     /// The call at the place is handled.
     pub fn end_call(&mut self, i: usize)
-        ensures value { self.new ≡ with_fate self.old i Fate.Handled }
+        ensures value { core_in self.new ≡ with_fate (core_in self.old) i Fate.Handled }
     {
         end(&mut self.fates, i);
     }
 
     /// All calls that there are may be expanded.
     pub fn rest(&mut self) -> Result<(), CollectError>
-        ensures ok { OnOk result (self.new ≡ counted (with_settled self.old)) }
+        ensures ok { OnOk result (core_in self.new ≡ counted (with_settled (core_in self.old))) }
         ensures many { result ≡ Err CollectError.TooMany → STEP_LIMIT ≤ self.old.count }
     {
         self.settled = self.calls.len();
@@ -563,12 +563,12 @@ impl DefCollector {
     pub fn settle(self, world: WorldPart<'_>, apart: bool) -> Result<DefCollector, CollectError>
         requires apart { apart ≡ true → IsApart (part_of world) self.map.id self.local }
         requires there { (i : ℕ) (r : ImportDirective) → slice_get self.reached i ≡ Some r → r.home < length self.map.modules }
-        requires sound { IsSound (part_of world) (import_state (at_rest self)) }
-        ensures ok { IfOk result (λ run. (env : Environment) → Steps env (part_of world.entry) (at_rest self.entry) (at_rest run)) }
-        ensures rests { IfOk result (λ run. IsAtRest (part_of world.entry) (import_state (at_rest run))) }
-        ensures sound { IfOk result (λ run. IsSound (part_of world.entry) (import_state (at_rest run))) }
-        ensures others { IfOk result (λ run. run ≡ core_with_imports self.entry (import_state (at_rest run))) }
-        ensures many { result ≡ Err CollectError.TooMany → (env : Environment) → IsSpent env (part_of world.entry) (at_rest self.entry) }
+        requires sound { IsSound (part_of world) (import_state (at_rest (core_in self))) }
+        ensures ok { IfOk result (λ run. (env : Environment) → Steps env (part_of world.entry) (at_rest (core_in self.entry)) (at_rest (core_in run))) }
+        ensures rests { IfOk result (λ run. IsAtRest (part_of world.entry) (import_state (at_rest (core_in run)))) }
+        ensures sound { IfOk result (λ run. IsSound (part_of world.entry) (import_state (at_rest (core_in run)))) }
+        ensures others { IfOk result (λ run. core_in run ≡ core_with_imports (core_in self.entry) (import_state (at_rest (core_in run)))) }
+        ensures many { result ≡ Err CollectError.TooMany → (env : Environment) → IsSpent env (part_of world.entry) (at_rest (core_in self.entry)) }
     {
         let alloc = self.allocator();
         let imports = restart_imports(
@@ -604,12 +604,12 @@ impl DefCollector {
 
     /// Lets names go along globs until none is left to go.
     pub fn spread(self, world: WorldPart<'_>) -> Result<DefCollector, CollectError>
-        requires sound { IsSound (part_of world) (import_state (at_rest self)) }
-        ensures ok { IfOk result (λ run. (env : Environment) → Steps env (part_of world.entry) (at_rest self.entry) (at_rest run)) }
-        ensures closed { IfOk result (λ run. IsClosed (part_of world.entry) (import_state (at_rest run))) }
-        ensures sound { IfOk result (λ run. IsSound (part_of world.entry) (import_state (at_rest run))) }
-        ensures others { IfOk result (λ run. run ≡ core_with_imports self.entry (import_state (at_rest run))) }
-        ensures many { result ≡ Err CollectError.TooMany → (env : Environment) → IsSpent env (part_of world.entry) (at_rest self.entry) }
+        requires sound { IsSound (part_of world) (import_state (at_rest (core_in self))) }
+        ensures ok { IfOk result (λ run. (env : Environment) → Steps env (part_of world.entry) (at_rest (core_in self.entry)) (at_rest (core_in run))) }
+        ensures closed { IfOk result (λ run. IsClosed (part_of world.entry) (import_state (at_rest (core_in run)))) }
+        ensures sound { IfOk result (λ run. IsSound (part_of world.entry) (import_state (at_rest (core_in run)))) }
+        ensures others { IfOk result (λ run. core_in run ≡ core_with_imports (core_in self.entry) (import_state (at_rest (core_in run)))) }
+        ensures many { result ≡ Err CollectError.TooMany → (env : Environment) → IsSpent env (part_of world.entry) (at_rest (core_in self.entry)) }
     {
         let alloc = self.allocator();
         let imports = spread_globs(
@@ -650,7 +650,7 @@ impl DefCollector {
         round_limit_met: bool,
         transitive: Rc<CrateSet>,
     ) -> Result<Collected, AllocError>
-        ensures value { IfOk result (λ c. collected_view c ≡ finished_run self.entry round_limit_met transitive.value) }
+        ensures value { IfOk result (λ c. collected_view c ≡ finished_run (core_in self.entry) round_limit_met transitive.value) }
     {
         let alloc = self.allocator();
         let leftover = untaken(alloc, &self.reached, &self.taken)?;

@@ -4,6 +4,7 @@ ghost use Rattle.hir_item_tree.specs.Collected.{collected_of, is_enabled};
 ghost use Rattle.hir_item_tree.specs.KeptForest.{leaf, macro_def, macro_rules};
 ghost use Rattle.hir_def_map.specs.Overlay.{Maps};
 ghost use Rattle.hir_def_map.specs.WorldParts.{part_of};
+ghost use Rattle.hir_def_collector.specs.State.{core_in};
 ghost use Rattle.hir_def_collector.specs.ItemIds.{macro_loc, node_of};
 ghost use Rattle.hir_def_collector.specs.Keys.{Environment};
 ghost use Rattle.hir_def_collector.specs.Macros.{is_exported, is_macro_use};
@@ -91,7 +92,7 @@ fn report(
     node: AstId,
     expander: MacroExpander,
 ) -> Result<(), AllocError>
-    ensures ok { OnOk result (Makes (reporting at node expander) run.old run.new) }
+    ensures ok { OnOk result (Makes (reporting at node expander) (core_in run.old) (core_in run.new)) }
 {
     if is_unimplemented(expander) {
         run.tell(DefDiagnostic::unimplemented_builtin_macro(at, node))?;
@@ -106,7 +107,7 @@ fn export(
     name: &Name,
     makro: MacroId,
 ) -> Result<(), AllocError>
-    ensures ok { OnOk result (Makes (exporting (head_of head.entry) name.now makro) run.old run.new) }
+    ensures ok { OnOk result (Makes (exporting (head_of head.entry) name.now makro) (core_in run.old) (core_in run.new)) }
 {
     if !is_exported(head.attrs) {
         return Ok(());
@@ -126,7 +127,7 @@ pub fn define_rules(
 ) -> Result<(), CollectError>
     requires in_range { site.now.home < length run.old.map.modules }
     requires enabled { is_enabled (head_of head).attributes ≡ true }
-    ensures ok { OnOk result ((env : Environment) (finished : Maps) → Handles env finished run.old run.new
+    ensures ok { OnOk result ((env : Environment) (finished : Maps) → Handles env finished (core_in run.old) (core_in run.new)
         (visit site.now (leaf (head_of head.entry) (macro_rules item.entry.name.now item.entry.expander item.entry.helpers.now))) []) }
     ensures many { result ≡ Err CollectError.TooMany → STEP_LIMIT ≤ run.old.count }
 {
@@ -152,7 +153,7 @@ pub fn define_macro(
     item: Macro2<'_>,
 ) -> Result<(), CollectError>
     requires enabled { is_enabled (head_of head).attributes ≡ true }
-    ensures ok { OnOk result ((env : Environment) → Handles env (part_of world.entry) run.old run.new
+    ensures ok { OnOk result ((env : Environment) → Handles env (part_of world.entry) (core_in run.old) (core_in run.new)
         (visit site.now (leaf (head_of head.entry) (macro_def item.entry.name.now item.entry.expander item.entry.helpers.now))) []) }
     ensures many { result ≡ Err CollectError.TooMany → STEP_LIMIT ≤ run.old.count }
 {
@@ -183,8 +184,8 @@ pub fn close(
     child: u32,
 ) -> Result<(), CollectError>
     requires in_range { parent < length run.old.map.modules }
-    ensures ok { OnOk result ((env : Environment) (finished : Maps) → Walks env finished run.old run.new (closing macro_use parent child)) }
-    ensures many { result ≡ Err CollectError.TooMany → (env : Environment) (finished : Maps) → WalksTooFar env finished run.old (closing macro_use parent child) }
+    ensures ok { OnOk result ((env : Environment) (finished : Maps) → Walks env finished (core_in run.old) (core_in run.new) (closing macro_use parent child)) }
+    ensures many { result ≡ Err CollectError.TooMany → (env : Environment) (finished : Maps) → WalksTooFar env finished (core_in run.old) (closing macro_use parent child) }
 {
     if !macro_use {
         return Ok(());
