@@ -89,7 +89,7 @@ pub record Run : Type 0 where
   pub count : ℕ
 
 -- where that is
-abbrev pub core_in : Run → Core
+unfoldable pub core_in : Run → Core
 core_in r = record {
   map = r.map;
   local = r.local;

@@ -338,8 +338,8 @@ fn walk_root<D: SourceDatabase>(
     source: &SourceTree,
     id: TreeId,
 ) -> Result<(), CollectError>
-    requires in_range { 0 < length run.old.map.modules }
-    requires held { IsHeld locations.old (D.workspace db.old) run.old.map.id.krate id source.now }
+    requires in_range { 0 < length (core_in run.old).map.modules }
+    requires held { IsHeld locations.old (D.workspace db.old) (core_in run.old).map.id.krate id source.now }
     ensures kept { KeepsTables locations.old locations.new }
     ensures placed { AreCallsPlaced locations.old → AreCallsPlaced locations.new }
     ensures same { D.workspace db.new ≡ D.workspace db.old }

@@ -193,7 +193,7 @@ struct Expansion {
 
 /// Notes the text of a macro as asked for, where a source writes it.
 fn ask_text(run: &mut DefCollector, makro: MacroId) -> Result<(), AllocError>
-    ensures ok { OnOk result ((text : _) → core_in run.new ≡ record (core_in run.old) { asked = with_keys run.old.asked (keys_read (text_readings makro text)) }) }
+    ensures ok { OnOk result ((text : _) → core_in run.new ≡ record (core_in run.old) { asked = with_keys (core_in run.old).asked (keys_read (text_readings makro text)) }) }
 {
     match makro {
         MacroId::Macro2Id(_) | MacroId::MacroRulesId(_) => run.ask(Key::Text(makro)),
@@ -270,7 +270,7 @@ fn report_failed(
     call: &MacroDirective,
     error: Option<Text>,
 ) -> Result<(), AllocError>
-    ensures ok { OnOk result (Makes (failing (module_id run.old.map call.now.site.home) call.now error) (core_in run.old) (core_in run.new)) }
+    ensures ok { OnOk result (Makes (failing (module_id (core_in run.old).map call.now.site.home) call.now error) (core_in run.old) (core_in run.new)) }
 {
     let Some(error) = error else {
         return Ok(());
@@ -295,7 +295,7 @@ fn expand<D: SourceDatabase>(
     ensures same { D.workspace db.new ≡ D.workspace db.old }
     ensures placed { AreCallsPlaced locations.old → AreCallsPlaced locations.new }
     ensures ok { OnOk result (OnceGrown locations.new (D.workspace db.old) (λ env. Steps env (part_of world.entry) (at_rest (core_in run.old)) (at_rest (core_in run.new)))) }
-    ensures handled { OnOk result (slice_get run.new.fates i ≡ Some Fate.Handled) }
+    ensures handled { OnOk result (slice_get (core_in run.new).fates i ≡ Some Fate.Handled) }
     ensures many { result ≡ Err CollectError.TooMany → OnceGrown locations.new (D.workspace db.old) (λ env. IsSpent env (part_of world.entry) (at_rest (core_in run.old))) }
 {
     let Expansion { id, error, source } = look_at_call(run, db, locations, call, makro)?;
@@ -339,7 +339,7 @@ fn try_call<D: SourceDatabase>(
     i: usize,
 ) -> Result<bool, CollectError>
     requires ready { IsReady locations.old (part_of world) (core_in run.old) }
-    requires settled { i < run.old.settled }
+    requires settled { i < (core_in run.old).settled }
     ensures kept { KeepsTables locations.old locations.new }
     ensures same { D.workspace db.new ≡ D.workspace db.old }
     ensures placed { AreCallsPlaced locations.old → AreCallsPlaced locations.new }
@@ -374,7 +374,7 @@ fn try_calls<D: SourceDatabase>(
     locations: &mut Tables,
 ) -> Result<bool, CollectError>
     requires ready { IsReady locations.old (part_of world) (core_in run.old) }
-    requires settled { run.old.settled ≡ length run.old.calls }
+    requires settled { (core_in run.old).settled ≡ length (core_in run.old).calls }
     ensures kept { KeepsTables locations.old locations.new }
     ensures same { D.workspace db.new ≡ D.workspace db.old }
     ensures placed { AreCallsPlaced locations.old → AreCallsPlaced locations.new }
@@ -398,8 +398,8 @@ fn settle(
     world: WorldPart<'_>,
     apart: bool,
 ) -> Result<DefCollector, CollectError>
-    requires apart { apart ≡ true → IsApart (part_of world) run.map.id run.local }
-    requires imports { (i : ℕ) (r : ImportDirective) → slice_get run.reached i ≡ Some r → r.home < length run.map.modules }
+    requires apart { apart ≡ true → IsApart (part_of world) (core_in run).map.id (core_in run).local }
+    requires imports { (i : ℕ) (r : ImportDirective) → slice_get (core_in run).reached i ≡ Some r → r.home < length (core_in run).map.modules }
     requires sound { IsSound (part_of world) (import_state (at_rest (core_in run))) }
     ensures ok { IfOk result (λ run'. (env : Environment) → Steps env (part_of world.entry) (at_rest (core_in run)) (at_rest (core_in run'))) }
     ensures rests { IfOk result (λ run'. IsAtRest (part_of world.entry) (import_state (at_rest (core_in run')))) }
@@ -422,7 +422,7 @@ pub fn resolve_rounds<D: SourceDatabase>(
     locations: &mut Tables,
     apart: bool,
 ) -> Result<(DefCollector, bool), CollectError>
-    requires apart { apart ≡ true → (local : Local) → IsApart (part_of world) run.map.id local }
+    requires apart { apart ≡ true → (local : Local) → IsApart (part_of world) (core_in run).map.id local }
     requires ready { IsReady locations.old (part_of world) (core_in run) }
     ensures kept { KeepsTables locations.old locations.new }
     ensures same { D.workspace db.new ≡ D.workspace db.old }

@@ -47,7 +47,7 @@ pub fn declare(
     declaration: Declaration,
 ) -> Result<(), CollectError>
     ensures ok { OnOk result (core_in run.new ≡ counted (with_declaration (core_in run.old) home declaration)) }
-    ensures many { result ≡ Err CollectError.TooMany → STEP_LIMIT ≤ run.old.count }
+    ensures many { result ≡ Err CollectError.TooMany → STEP_LIMIT ≤ (core_in run.old).count }
 {
     bind(run, home, declaration)?;
     run.tick()?;
@@ -64,8 +64,8 @@ fn declare_type(
     def: ModuleDefId,
 ) -> Result<(), CollectError>
     ensures ok { OnOk result (core_in run.new ≡ counted (with_declaration (core_in run.old) site.now.home
-        (type_declaration name.now def (own_visibility (part_of world.entry) run.old.local run.old.map site.now (head_of head.entry))))) }
-    ensures many { result ≡ Err CollectError.TooMany → STEP_LIMIT ≤ run.old.count }
+        (type_declaration name.now def (own_visibility (part_of world.entry) (core_in run.old).local (core_in run.old).map site.now (head_of head.entry))))) }
+    ensures many { result ≡ Err CollectError.TooMany → STEP_LIMIT ≤ (core_in run.old).count }
 {
     let vis = run.visibility(world, site, head);
     let declaration = Declaration {
@@ -87,8 +87,8 @@ fn declare_value(
     def: ModuleDefId,
 ) -> Result<(), CollectError>
     ensures ok { OnOk result (core_in run.new ≡ counted (with_declaration (core_in run.old) site.now.home
-        (value_declaration name.now def (own_visibility (part_of world.entry) run.old.local run.old.map site.now (head_of head.entry))))) }
-    ensures many { result ≡ Err CollectError.TooMany → STEP_LIMIT ≤ run.old.count }
+        (value_declaration name.now def (own_visibility (part_of world.entry) (core_in run.old).local (core_in run.old).map site.now (head_of head.entry))))) }
+    ensures many { result ≡ Err CollectError.TooMany → STEP_LIMIT ≤ (core_in run.old).count }
 {
     let vis = run.visibility(world, site, head);
     let declaration = Declaration {
@@ -110,7 +110,7 @@ pub fn declare_function(
 ) -> Result<(), CollectError>
     requires enabled { is_enabled (head_of head).attributes ≡ true }
     ensures ok { OnOk result ((env : Environment) → Handles env (part_of world.entry) (core_in run.old) (core_in run.new) (visit site.now (leaf (head_of head.entry) (function name.now))) []) }
-    ensures many { result ≡ Err CollectError.TooMany → STEP_LIMIT ≤ run.old.count }
+    ensures many { result ≡ Err CollectError.TooMany → STEP_LIMIT ≤ (core_in run.old).count }
 {
     let def = ModuleDefId::FunctionId(FunctionId {
         loc: ItemLoc {
@@ -134,7 +134,7 @@ pub fn declare_const(
 ) -> Result<(), CollectError>
     requires enabled { is_enabled (head_of head).attributes ≡ true }
     ensures ok { OnOk result ((env : Environment) → Handles env (part_of world.entry) (core_in run.old) (core_in run.new) (visit site.now (leaf (head_of head.entry) (constant (Some name.now)))) []) }
-    ensures many { result ≡ Err CollectError.TooMany → STEP_LIMIT ≤ run.old.count }
+    ensures many { result ≡ Err CollectError.TooMany → STEP_LIMIT ≤ (core_in run.old).count }
 {
     let def = ModuleDefId::ConstId(ConstId {
         loc: ItemLoc {
@@ -158,7 +158,7 @@ pub fn declare_static(
 ) -> Result<(), CollectError>
     requires enabled { is_enabled (head_of head).attributes ≡ true }
     ensures ok { OnOk result ((env : Environment) → Handles env (part_of world.entry) (core_in run.old) (core_in run.new) (visit site.now (leaf (head_of head.entry) (static_item name.now))) []) }
-    ensures many { result ≡ Err CollectError.TooMany → STEP_LIMIT ≤ run.old.count }
+    ensures many { result ≡ Err CollectError.TooMany → STEP_LIMIT ≤ (core_in run.old).count }
 {
     let def = ModuleDefId::StaticId(StaticId {
         loc: ItemLoc {
@@ -182,7 +182,7 @@ pub fn declare_type_alias(
 ) -> Result<(), CollectError>
     requires enabled { is_enabled (head_of head).attributes ≡ true }
     ensures ok { OnOk result ((env : Environment) → Handles env (part_of world.entry) (core_in run.old) (core_in run.new) (visit site.now (leaf (head_of head.entry) (type_alias name.now))) []) }
-    ensures many { result ≡ Err CollectError.TooMany → STEP_LIMIT ≤ run.old.count }
+    ensures many { result ≡ Err CollectError.TooMany → STEP_LIMIT ≤ (core_in run.old).count }
 {
     let def = ModuleDefId::TypeAliasId(TypeAliasId {
         loc: ItemLoc {
@@ -206,7 +206,7 @@ pub fn declare_trait(
 ) -> Result<(), CollectError>
     requires enabled { is_enabled (head_of head).attributes ≡ true }
     ensures ok { OnOk result ((env : Environment) → Handles env (part_of world.entry) (core_in run.old) (core_in run.new) (visit site.now (leaf (head_of head.entry) (trait_item name.now))) []) }
-    ensures many { result ≡ Err CollectError.TooMany → STEP_LIMIT ≤ run.old.count }
+    ensures many { result ≡ Err CollectError.TooMany → STEP_LIMIT ≤ (core_in run.old).count }
 {
     let def = ModuleDefId::TraitId(TraitId {
         loc: ItemLoc {
@@ -230,7 +230,7 @@ pub fn declare_union(
 ) -> Result<(), CollectError>
     requires enabled { is_enabled (head_of head).attributes ≡ true }
     ensures ok { OnOk result ((env : Environment) (fields : _) → Handles env (part_of world.entry) (core_in run.old) (core_in run.new) (visit site.now (leaf (head_of head.entry) (union_structure name.now fields))) []) }
-    ensures many { result ≡ Err CollectError.TooMany → STEP_LIMIT ≤ run.old.count }
+    ensures many { result ≡ Err CollectError.TooMany → STEP_LIMIT ≤ (core_in run.old).count }
 {
     let def = ModuleDefId::AdtId(AdtId::UnionId(UnionId {
         loc: ItemLoc {
@@ -252,8 +252,8 @@ fn meet(
     own: Visibility,
     others: &[RawVisibility],
 ) -> Option<Visibility>
-    ensures value { result ≡ meet_of (part_of world.entry) run.now.map own
-        (map (visibility_in (part_of world.entry) run.now.local run.now.map at) others.now) }
+    ensures value { result ≡ meet_of (part_of world.entry) (core_in run.now).map own
+        (map (visibility_in (part_of world.entry) (core_in run.now).local (core_in run.now).map at) others.now) }
 {
     let mut least = own;
     for other in others {
@@ -271,8 +271,8 @@ fn constructor(
     shape: FieldsShape,
     fields: &[RawVisibility],
 ) -> Option<Visibility>
-    ensures value { result ≡ constructor_of (part_of world.entry) run.now.map own shape
-        (map (visibility_in (part_of world.entry) run.now.local run.now.map at) fields.now) }
+    ensures value { result ≡ constructor_of (part_of world.entry) (core_in run.now).map own shape
+        (map (visibility_in (part_of world.entry) (core_in run.now).local (core_in run.now).map at) fields.now) }
 {
     match shape {
         FieldsShape::Record => None,
@@ -318,7 +318,7 @@ pub fn declare_struct(
 ) -> Result<(), CollectError>
     requires enabled { is_enabled (head_of head).attributes ≡ true }
     ensures ok { OnOk result ((env : Environment) → Handles env (part_of world.entry) (core_in run.old) (core_in run.new) (visit site.now (leaf (head_of head.entry) (structure item.entry.name.now item.entry.shape item.entry.fields.now))) []) }
-    ensures many { result ≡ Err CollectError.TooMany → STEP_LIMIT ≤ run.old.count }
+    ensures many { result ≡ Err CollectError.TooMany → STEP_LIMIT ≤ (core_in run.old).count }
 {
     let at = run.module_id(site.home);
     let def = ModuleDefId::AdtId(AdtId::StructId(StructId {

@@ -1,4 +1,6 @@
 //! Where a run stands, and what each change leaves.
+#![tactic(auto, unfolding(crate::specs::State::core_in))]
+
 ghost use Rattle.std.specs.Prelude.{◌≡◌, ◌<◌, ◌≤◌, ℕ, true, false, ◌∷◌, [], Some, length, option_map, slice_get, slice_set, IfNone, IfOk, IfSome, OnOk};
 ghost use Rattle.hir_def_map.specs.State.{with_enum, with_module, new_id, new_module, with_declared, with_use, with_impl, with_extern_block, with_extern_crate, with_unnamed_const};
 ghost use Rattle.hir_def_map.specs.WorldParts.{part_of};
@@ -184,14 +186,14 @@ impl DefCollector {
 
     /// The modules so far.
     pub fn map(&self) -> &DefMap
-        ensures value { result.now ≡ self.now.map }
+        ensures value { result.now ≡ (core_in self.now).map }
     {
         &self.map
     }
 
     /// The module of a number.
     pub fn module_id(&self, home: u32) -> ModuleId
-        ensures value { result ≡ module_id self.now.map home }
+        ensures value { result ≡ module_id (core_in self.now).map home }
     {
         ModuleId {
             map: self.map.id(),
@@ -201,7 +203,7 @@ impl DefCollector {
 
     /// What holds the items of a site.
     pub fn container(&self, site: &Site) -> ItemContainerId
-        ensures value { result ≡ container_of self.now.map site.now }
+        ensures value { result ≡ container_of (core_in self.now).map site.now }
     {
         match site.extern_block {
             Some(block) => ItemContainerId::ExternBlockId(block),
@@ -216,14 +218,14 @@ impl DefCollector {
         at: ModuleId,
         raw: &RawVisibility,
     ) -> Visibility
-        ensures value { result ≡ visibility_in (part_of world.entry) self.now.local self.now.map at raw.now }
+        ensures value { result ≡ visibility_in (part_of world.entry) (core_in self.now).local (core_in self.now).map at raw.now }
     {
         visibility(&self.map, &self.local, world, at, raw)
     }
 
     /// The visibility of an item at a site.
     pub fn visibility(&self, world: WorldPart<'_>, site: &Site, head: ItemHead<'_>) -> Visibility
-        ensures value { result ≡ own_visibility (part_of world.entry) self.now.local self.now.map site.now (head_of head.entry) }
+        ensures value { result ≡ own_visibility (part_of world.entry) (core_in self.now).local (core_in self.now).map site.now (head_of head.entry) }
     {
         self.visibility_in(world, self.module_id(site.home), head.visibility)
     }
@@ -235,7 +237,7 @@ impl DefCollector {
 
     /// How many steps were taken.
     pub fn count(&self) -> u32
-        ensures value { result ≡ self.now.count }
+        ensures value { result ≡ (core_in self.now).count }
         ensures small { result ≤ STEP_LIMIT }
     {
         self.count
@@ -244,7 +246,7 @@ impl DefCollector {
     /// Counts a step.
     pub fn tick(&mut self) -> Result<(), CollectError>
         ensures ok { OnOk result (core_in self.new ≡ counted (core_in self.old)) }
-        ensures many { result ≡ Err CollectError.TooMany → STEP_LIMIT ≤ self.old.count }
+        ensures many { result ≡ Err CollectError.TooMany → STEP_LIMIT ≤ (core_in self.old).count }
     {
         if self.count >= STEP_LIMIT {
             return Err(CollectError::TooMany);
@@ -272,8 +274,8 @@ impl DefCollector {
         name: Name,
         makro: MacroId,
     ) -> Result<(), AllocError>
-        requires in_range { home < length self.old.map.modules }
-        ensures ok { OnOk result (core_in self.new ≡ with_map (core_in self.old) (with_textual_macro self.old.map home name makro)) }
+        requires in_range { home < length (core_in self.old).map.modules }
+        ensures ok { OnOk result (core_in self.new ≡ with_map (core_in self.old) (with_textual_macro (core_in self.old).map home name makro)) }
     {
         textual::define(&mut self.map, home, name, makro)?;
         Ok(())
@@ -281,8 +283,8 @@ impl DefCollector {
 
     /// Lets a module take over the macros that are in textual scope in another.
     pub fn take_textual(&mut self, home: u32, from: u32) -> Result<(), AllocError>
-        requires in_range { home < length self.old.map.modules }
-        ensures ok { OnOk result (core_in self.new ≡ with_map (core_in self.old) (with_textual_scope self.old.map home (textual_at self.old.map from))) }
+        requires in_range { home < length (core_in self.old).map.modules }
+        ensures ok { OnOk result (core_in self.new ≡ with_map (core_in self.old) (with_textual_scope (core_in self.old).map home (textual_at (core_in self.old).map from))) }
     {
         textual::take(self.allocator(), &mut self.map, home, from)?;
         Ok(())
@@ -290,7 +292,7 @@ impl DefCollector {
 
     /// Notes the macro that an item defines.
     pub fn define_macro(&mut self, node: AstId, makro: MacroId) -> Result<(), AllocError>
-        ensures ok { OnOk result (core_in self.new ≡ with_map (core_in self.old) (with_macro_def self.old.map node makro)) }
+        ensures ok { OnOk result (core_in self.new ≡ with_map (core_in self.old) (with_macro_def (core_in self.old).map node makro)) }
     {
         self.map.add_macro_def(node, makro)?;
         Ok(())
@@ -304,10 +306,10 @@ impl DefCollector {
         origin: ModuleOrigin,
         visibility: Visibility,
     ) -> Result<ModuleId, CollectError>
-        requires in_range { home < length self.old.map.modules }
-        ensures made { IfOk result (λ id. id ≡ new_id self.old.map) }
-        ensures ok { OnOk result (core_in self.new ≡ with_map (core_in self.old) (begun self.old.map home name (new_module origin visibility (Some (module_id self.old.map home))))) }
-        ensures many { result ≡ Err CollectError.TooMany → STEP_LIMIT ≤ length self.old.map.modules }
+        requires in_range { home < length (core_in self.old).map.modules }
+        ensures made { IfOk result (λ id. id ≡ new_id (core_in self.old).map) }
+        ensures ok { OnOk result (core_in self.new ≡ with_map (core_in self.old) (begun (core_in self.old).map home name (new_module origin visibility (Some (module_id (core_in self.old).map home))))) }
+        ensures many { result ≡ Err CollectError.TooMany → STEP_LIMIT ≤ length (core_in self.old).map.modules }
     {
         let parent = self.module_id(home);
         let module = ModuleData::new(self.allocator(), origin, visibility, Some(parent));
@@ -318,7 +320,7 @@ impl DefCollector {
 
     /// Lists a definition in a module.
     pub fn declare(&mut self, home: u32, def: ModuleDefId) -> Result<(), AllocError>
-        ensures ok { OnOk result (core_in self.new ≡ with_map (core_in self.old) (with_declared self.old.map home def)) }
+        ensures ok { OnOk result (core_in self.new ≡ with_map (core_in self.old) (with_declared (core_in self.old).map home def)) }
     {
         self.map.declare(home, def)?;
         Ok(())
@@ -326,7 +328,7 @@ impl DefCollector {
 
     /// Keeps the variants of an enum, which were asked for.
     pub fn add_enum(&mut self, id: EnumId, variants: EnumVariants) -> Result<(), AllocError>
-        ensures ok { OnOk result (core_in self.new ≡ with_asked (with_map (core_in self.old) (with_enum self.old.map id variants)) (Key.Variants id)) }
+        ensures ok { OnOk result (core_in self.new ≡ with_asked (with_map (core_in self.old) (with_enum (core_in self.old).map id variants)) (Key.Variants id)) }
     {
         self.asked.push(Key::Variants(id))?;
         self.map.add_enum(id, variants)?;
@@ -335,7 +337,7 @@ impl DefCollector {
 
     /// The tree of a file in the crate's edition, under the crate.
     pub fn file_key(&self, id: FileId) -> TreeKey
-        ensures value { result ≡ file_key self.now.map.id.krate self.now.map.crate_data.edition id }
+        ensures value { result ≡ file_key (core_in self.now).map.id.krate (core_in self.now).map.crate_data.edition id }
     {
         TreeKey {
             krate: self.map.id().krate,
@@ -359,7 +361,7 @@ impl DefCollector {
 
     /// Adds a diagnostic.
     pub fn tell(&mut self, report: DefDiagnostic) -> Result<(), AllocError>
-        ensures ok { OnOk result (core_in self.new ≡ with_map (core_in self.old) (with_diagnostic self.old.map report)) }
+        ensures ok { OnOk result (core_in self.new ≡ with_map (core_in self.old) (with_diagnostic (core_in self.old).map report)) }
     {
         self.map.add_diagnostic(report)?;
         Ok(())
@@ -367,14 +369,14 @@ impl DefCollector {
 
     /// The options of the crate that are set.
     pub fn options(&self) -> &CfgOptions
-        ensures value { result.now ≡ self.now.options }
+        ensures value { result.now ≡ (core_in self.now).options }
     {
         &self.options
     }
 
     /// Lists a `use` item in a module.
     pub fn list_use(&mut self, home: u32, use_: UseId) -> Result<(), AllocError>
-        ensures ok { OnOk result (core_in self.new ≡ with_map (core_in self.old) (with_use self.old.map home use_)) }
+        ensures ok { OnOk result (core_in self.new ≡ with_map (core_in self.old) (with_use (core_in self.old).map home use_)) }
     {
         self.map.define_use(home, use_)?;
         Ok(())
@@ -382,7 +384,7 @@ impl DefCollector {
 
     /// Lists an `extern crate` in a module.
     pub fn list_extern_crate(&mut self, home: u32, id: ExternCrateId) -> Result<(), AllocError>
-        ensures ok { OnOk result (core_in self.new ≡ with_map (core_in self.old) (with_extern_crate self.old.map home id)) }
+        ensures ok { OnOk result (core_in self.new ≡ with_map (core_in self.old) (with_extern_crate (core_in self.old).map home id)) }
     {
         self.map.define_extern_crate_decl(home, id)?;
         Ok(())
@@ -390,7 +392,7 @@ impl DefCollector {
 
     /// Lists an impl in a module.
     pub fn list_impl(&mut self, home: u32, id: ImplId, of_trait: bool) -> Result<(), AllocError>
-        ensures ok { OnOk result (core_in self.new ≡ with_map (core_in self.old) (with_impl self.old.map home id of_trait)) }
+        ensures ok { OnOk result (core_in self.new ≡ with_map (core_in self.old) (with_impl (core_in self.old).map home id of_trait)) }
     {
         self.map.define_impl(home, id, of_trait)?;
         Ok(())
@@ -398,7 +400,7 @@ impl DefCollector {
 
     /// Lists an extern block in a module.
     pub fn list_extern_block(&mut self, home: u32, id: ExternBlockId) -> Result<(), AllocError>
-        ensures ok { OnOk result (core_in self.new ≡ with_map (core_in self.old) (with_extern_block self.old.map home id)) }
+        ensures ok { OnOk result (core_in self.new ≡ with_map (core_in self.old) (with_extern_block (core_in self.old).map home id)) }
     {
         self.map.define_extern_block(home, id)?;
         Ok(())
@@ -406,7 +408,7 @@ impl DefCollector {
 
     /// Lists a constant without a name in a module.
     pub fn list_unnamed_const(&mut self, home: u32, id: ConstId) -> Result<(), AllocError>
-        ensures ok { OnOk result (core_in self.new ≡ with_map (core_in self.old) (with_unnamed_const self.old.map home id)) }
+        ensures ok { OnOk result (core_in self.new ≡ with_map (core_in self.old) (with_unnamed_const (core_in self.old).map home id)) }
     {
         self.map.define_unnamed_const(home, id)?;
         Ok(())
@@ -414,7 +416,7 @@ impl DefCollector {
 
     /// The crate that an `extern crate` names: its own, or the first dependency of the name.
     pub fn crate_named(&self, name: &ExternCrateName) -> Option<Crate>
-        ensures value { result ≡ crate_named self.now.map.id.krate self.now.dependencies name.now }
+        ensures value { result ≡ crate_named (core_in self.now).map.id.krate (core_in self.now).dependencies name.now }
     {
         match name {
             ExternCrateName::SelfCrate => Some(self.map.id().krate),
@@ -424,7 +426,7 @@ impl DefCollector {
 
     /// What the root of the crate binds that an `extern crate` names, if it is another one.
     fn other_scope<'a>(&self, world: WorldPart<'a>, name: &ExternCrateName) -> Option<&'a ItemScope>
-        ensures value { option_map (λ s. s.now) result ≡ other_scope (part_of world.entry) self.now.dependencies name.now }
+        ensures value { option_map (λ s. s.now) result ≡ other_scope (part_of world.entry) (core_in self.now).dependencies name.now }
     {
         match name {
             ExternCrateName::SelfCrate => None,
@@ -443,8 +445,8 @@ impl DefCollector {
         name: &ExternCrateName,
         by: ExternCrateId,
     ) -> Result<(), AllocError>
-        ensures ok { OnOk result (core_in self.new ≡ with_map (core_in self.old) (with_macros_used self.old.map
-            (macros_brought (part_of world.entry) self.old.map self.old.dependencies (head_of head.entry) name.now) (Some by))) }
+        ensures ok { OnOk result (core_in self.new ≡ with_map (core_in self.old) (with_macros_used (core_in self.old).map
+            (macros_brought (part_of world.entry) (core_in self.old).map (core_in self.old).dependencies (head_of head.entry) name.now) (Some by))) }
     {
         if self.map.id().block.is_some() {
             return Ok(());
@@ -459,7 +461,7 @@ impl DefCollector {
 
     /// Lets paths begin with the name of an `extern crate` of the crate's root module.
     pub fn add_extern(&mut self, import: &ImportDirective) -> Result<(), AllocError>
-        ensures ok { OnOk result (core_in self.new ≡ with_local (core_in self.old) (extern_after self.old.map self.old.local import.now)) }
+        ensures ok { OnOk result (core_in self.new ≡ with_local (core_in self.old) (extern_after (core_in self.old).map (core_in self.old).local import.now)) }
     {
         if import.home != 0 || self.map.id().block.is_some() {
             return Ok(());
@@ -503,7 +505,7 @@ impl DefCollector {
 
     /// How many calls may be expanded.
     pub fn settled(&self) -> usize
-        ensures value { result ≡ self.now.settled }
+        ensures value { result ≡ (core_in self.now).settled }
     {
         self.settled
     }
@@ -521,7 +523,7 @@ impl DefCollector {
 
     /// The macro that the path of a call reaches.
     pub fn called_macro(&self, world: WorldPart<'_>, call: &MacroDirective) -> Option<MacroId>
-        ensures value { result ≡ called_macro (part_of world.entry) self.now.local self.now.map call.now }
+        ensures value { result ≡ called_macro (part_of world.entry) (core_in self.now).local (core_in self.now).map call.now }
     {
         let query = Query {
             maps: DefMaps::new(world, &self.map),
@@ -537,8 +539,8 @@ impl DefCollector {
 
     /// Whether a call is deeper than calls may be.
     pub fn is_too_deep(&self, call: &MacroDirective) -> bool
-        ensures deep { result ≡ true → self.now.map.crate_data.recursion_limit ≤ call.now.site.level }
-        ensures shallow { result ≡ false → call.now.site.level < self.now.map.crate_data.recursion_limit }
+        ensures deep { result ≡ true → (core_in self.now).map.crate_data.recursion_limit ≤ call.now.site.level }
+        ensures shallow { result ≡ false → call.now.site.level < (core_in self.now).map.crate_data.recursion_limit }
     {
         call.site.level >= self.map.recursion_limit()
     }
@@ -553,7 +555,7 @@ impl DefCollector {
     /// All calls that there are may be expanded.
     pub fn rest(&mut self) -> Result<(), CollectError>
         ensures ok { OnOk result (core_in self.new ≡ counted (with_settled (core_in self.old))) }
-        ensures many { result ≡ Err CollectError.TooMany → STEP_LIMIT ≤ self.old.count }
+        ensures many { result ≡ Err CollectError.TooMany → STEP_LIMIT ≤ (core_in self.old).count }
     {
         self.settled = self.calls.len();
         self.tick()
@@ -561,8 +563,8 @@ impl DefCollector {
 
     /// Takes imports, and what comes of them along globs, until no more comes.
     pub fn settle(self, world: WorldPart<'_>, apart: bool) -> Result<DefCollector, CollectError>
-        requires apart { apart ≡ true → IsApart (part_of world) self.map.id self.local }
-        requires there { (i : ℕ) (r : ImportDirective) → slice_get self.reached i ≡ Some r → r.home < length self.map.modules }
+        requires apart { apart ≡ true → IsApart (part_of world) (core_in self).map.id (core_in self).local }
+        requires there { (i : ℕ) (r : ImportDirective) → slice_get (core_in self).reached i ≡ Some r → r.home < length (core_in self).map.modules }
         requires sound { IsSound (part_of world) (import_state (at_rest (core_in self))) }
         ensures ok { IfOk result (λ run. (env : Environment) → Steps env (part_of world.entry) (at_rest (core_in self)) (at_rest (core_in run))) }
         ensures rests { IfOk result (λ run. IsAtRest (part_of world.entry) (import_state (at_rest (core_in run)))) }

@@ -96,7 +96,7 @@ pub fn reach_use(
 ) -> Result<(), CollectError>
     requires enabled { is_enabled (head_of head).attributes ≡ true }
     ensures ok { OnOk result ((env : Environment) (finished : Maps) → Handles env finished (core_in run.old) (core_in run.new) (visit site.now (leaf (head_of head.entry) (import (use_tree_view tree.now)))) []) }
-    ensures many { result ≡ Err CollectError.TooMany → STEP_LIMIT ≤ run.old.count }
+    ensures many { result ≡ Err CollectError.TooMany → STEP_LIMIT ≤ (core_in run.old).count }
 {
     let use_ = UseId {
         loc: ItemLoc {
@@ -146,9 +146,9 @@ fn crate_import(
     name: &ExternCrateName,
     alias: &Option<ImportAlias>,
 ) -> Result<ImportDirective, AllocError>
-    requires own { id ≡ extern_crate_id run.now.map site.now head.id }
+    requires own { id ≡ extern_crate_id (core_in run.now).map site.now head.id }
     ensures value { IfOk result (λ import. import
-        ≡ crate_import run.now.map run.now.dependencies site.now (head_of head.entry) name.now alias.now) }
+        ≡ crate_import (core_in run.now).map (core_in run.now).dependencies site.now (head_of head.entry) name.now alias.now) }
 {
     Ok(ImportDirective {
         home: site.home,
@@ -176,7 +176,7 @@ pub fn reach_extern_crate(
 ) -> Result<(), CollectError>
     requires enabled { is_enabled (head_of head).attributes ≡ true }
     ensures ok { OnOk result ((env : Environment) → Handles env (part_of world.entry) (core_in run.old) (core_in run.new) (visit site.now (leaf (head_of head.entry) (extern_crate name.now alias.now))) []) }
-    ensures many { result ≡ Err CollectError.TooMany → STEP_LIMIT ≤ run.old.count }
+    ensures many { result ≡ Err CollectError.TooMany → STEP_LIMIT ≤ (core_in run.old).count }
 {
     let id = ExternCrateId {
         loc: ItemLoc {

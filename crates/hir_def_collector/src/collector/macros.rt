@@ -48,7 +48,7 @@ pub fn is_macro_use(attrs: &AttrsOrCfg) -> bool
 
 /// The location of a macro that an item of a site defines.
 fn macro_loc(run: &DefCollector, site: &Site, id: SyntaxId, expander: MacroExpander) -> MacroLoc
-    ensures value { result ≡ macro_loc run.now.map site.now id expander }
+    ensures value { result ≡ macro_loc (core_in run.now).map site.now id expander }
 {
     MacroLoc {
         container: run.module_id(site.home),
@@ -125,11 +125,11 @@ pub fn define_rules(
     head: ItemHead<'_>,
     item: MacroRules<'_>,
 ) -> Result<(), CollectError>
-    requires in_range { site.now.home < length run.old.map.modules }
+    requires in_range { site.now.home < length (core_in run.old).map.modules }
     requires enabled { is_enabled (head_of head).attributes ≡ true }
     ensures ok { OnOk result ((env : Environment) (finished : Maps) → Handles env finished (core_in run.old) (core_in run.new)
         (visit site.now (leaf (head_of head.entry) (macro_rules item.entry.name.now item.entry.expander item.entry.helpers.now))) []) }
-    ensures many { result ≡ Err CollectError.TooMany → STEP_LIMIT ≤ run.old.count }
+    ensures many { result ≡ Err CollectError.TooMany → STEP_LIMIT ≤ (core_in run.old).count }
 {
     let loc = macro_loc(run, site, head.id, item.expander);
     let makro = MacroId::MacroRulesId(MacroRulesId { loc });
@@ -155,7 +155,7 @@ pub fn define_macro(
     requires enabled { is_enabled (head_of head).attributes ≡ true }
     ensures ok { OnOk result ((env : Environment) → Handles env (part_of world.entry) (core_in run.old) (core_in run.new)
         (visit site.now (leaf (head_of head.entry) (macro_def item.entry.name.now item.entry.expander item.entry.helpers.now))) []) }
-    ensures many { result ≡ Err CollectError.TooMany → STEP_LIMIT ≤ run.old.count }
+    ensures many { result ≡ Err CollectError.TooMany → STEP_LIMIT ≤ (core_in run.old).count }
 {
     let vis = run.visibility(world, site, head);
     let loc = macro_loc(run, site, head.id, item.expander);
@@ -183,7 +183,7 @@ pub fn close(
     parent: u32,
     child: u32,
 ) -> Result<(), CollectError>
-    requires in_range { parent < length run.old.map.modules }
+    requires in_range { parent < length (core_in run.old).map.modules }
     ensures ok { OnOk result ((env : Environment) (finished : Maps) → Walks env finished (core_in run.old) (core_in run.new) (closing macro_use parent child)) }
     ensures many { result ≡ Err CollectError.TooMany → (env : Environment) (finished : Maps) → WalksTooFar env finished (core_in run.old) (closing macro_use parent child) }
 {

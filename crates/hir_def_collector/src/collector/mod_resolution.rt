@@ -120,7 +120,7 @@ fn look_at<D: SourceDatabase>(
     ensures placed { AreCallsPlaced locations.old → AreCallsPlaced locations.new }
     ensures same { D.workspace db.new ≡ D.workspace db.old }
     ensures ok { IfOk result (λ file. LooksAt locations.new (D.workspace db.old) (option_map (λ p. p.now) declaring.entry) candidate.now (core_in run.old) (core_in run.new) (option_map looked_view file)) }
-    ensures held { IfOk result (λ file. IfSome file (λ f. IsHeld locations.new (D.workspace db.old) run.old.map.id.krate (file_tree run.old.map.crate_data.edition f.id) f.source.value)) }
+    ensures held { IfOk result (λ file. IfSome file (λ f. IsHeld locations.new (D.workspace db.old) (core_in run.old).map.id.krate (file_tree (core_in run.old).map.crate_data.edition f.id) f.source.value)) }
     ensures many { result ≡ Err CollectError.TooMany → max_locations ≤ length locations.new.files }
 {
     let Some(path) = named_by(run.allocator(), declaring, candidate)? else {
@@ -174,7 +174,7 @@ pub fn find_file<D: SourceDatabase>(
     ensures placed { AreCallsPlaced locations.old → AreCallsPlaced locations.new }
     ensures same { D.workspace db.new ≡ D.workspace db.old }
     ensures ok { IfOk result (λ file. Finds locations.new (D.workspace db.old) (option_map (λ p. p.now) declaring.entry) candidates.now (core_in run.old) (core_in run.new) (option_map found_view file)) }
-    ensures held { IfOk result (λ file. IfSome file (λ f. IsHeld locations.new (D.workspace db.old) run.old.map.id.krate (file_tree run.old.map.crate_data.edition f.id) f.source.value)) }
+    ensures held { IfOk result (λ file. IfSome file (λ f. IsHeld locations.new (D.workspace db.old) (core_in run.old).map.id.krate (file_tree (core_in run.old).map.crate_data.edition f.id) f.source.value)) }
     ensures many { result ≡ Err CollectError.TooMany → max_locations ≤ length locations.new.files }
 {
     let [candidate, others @ ..] = candidates else {

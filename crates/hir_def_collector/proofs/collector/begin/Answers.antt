@@ -66,7 +66,7 @@ walk_root-requires-clause-held g c =
     c.in_ok-run.ensures.value ∙ ap (λ (o : Option ConfigValue). core_of part c.tree-tree.result.now o transitive c.args.start c.args.id) config
     ∙ ap (λ (t : Tree). core_of part t (w.config (krate_of c.args.start)) transitive c.args.start c.args.id) tree in
     let there : IsSome (source_of tables c.args.id) = some_there source_value c.source_of.result (source_of tables c.args.id) c.is_none.result c.source_of.ensures.value c.is_none.ensures c.if-is_none.false in
-    let krate = (core_in c.in_ok-run.run) '.map.id.krate in
+    let krate = (core_in c.in_ok-run.run').map.id.krate in
     subst (λ (v : Workspace). IsHeld tables v krate c.args.id c.deref-2.result.now) (sym c.in_ok-source.ensures.same)
     (subst (λ (s : SourceTreeValue). IsHeld tables w krate c.args.id s) (sym c.deref-2.ensures) (held_root tables w part transitive c.args.start c.args.id (core_in c.in_ok-run.run') source seen is there))
 

@@ -27,7 +27,7 @@ pub walk_all-requires-clause-held : goal.walk_all-requires-clause-held
 walk_all-requires-clause-held g c =
     let tables = c.args.locations.now in
     let w = g.D.SourceDatabase.workspace c.args.db.now in
-    let krate = c.args.run.now.map.id.krate in
+    let krate = (core_in c.args.run.now).map.id.krate in
     record { held = c.requires.held; file = subst (λ (f : Option FileId). IsFileMeant tables f) (sym c.file_of_tree.ensures.value) (root_meant tables w krate c.args.id c.args.source.now c.requires.held) }
 
 pub returns-then-not-is_enabled_at_top-clause-ok : goal.returns-then-not-is_enabled_at_top-clause-ok

@@ -7,7 +7,7 @@ use Rattle.hir_def_collector.specs.State.{core_in}
 
 pub returns-in_err-tick-clause-many : goal.returns-in_err-tick-clause-many
 returns-in_err-tick-clause-many c =
-    let kept : c.report.new.run.count ≡ c.bind.new.run.count = count_kept _ _ _ c.in_ok-report.ensures.ok in
+    let kept : (core_in c.report.new.run).count ≡ (core_in c.bind.new.run).count = count_kept _ _ _ c.in_ok-report.ensures.ok in
     λ many. search (rules, many, kept, c.in_err-tick.ensures.many, c.from_residual-in_err-tick.ensures, c.in_ok-bind.ensures.ok, c.in_ok-define_macro.ensures.ok)
 
 pub returns-clause-ok : goal.returns-clause-ok

@@ -52,10 +52,10 @@ walk_all-walk_item-requires g t c =
     let tree = c.args.source.now.tree in
     let part = part_of c.args.world in
     let there = at_each (length (all_items tree.items)) ids i x c.requires.there within e in
-    let held : IsWritten c.loop-id.locations (g.D.SourceDatabase.workspace c.loop-id.db) c.loop-id.run.map.id.krate site c.args.source.now =
-    subst (λ (v : Workspace). IsWritten c.loop-id.locations v c.loop-id.run.map.id.krate site c.args.source.now) (sym c.loop-id.invariant.same)
+    let held : IsWritten c.loop-id.locations (g.D.SourceDatabase.workspace c.loop-id.db) (core_in c.loop-id.run).map.id.krate site c.args.source.now =
+    subst (λ (v : Workspace). IsWritten c.loop-id.locations v (core_in c.loop-id.run).map.id.krate site c.args.source.now) (sym c.loop-id.invariant.same)
     (subst (λ (id : MapId). IsWritten c.loop-id.locations w id.krate site c.args.source.now) (sym c.loop-id.invariant.own)
-    (written_grown c.args.locations.now c.loop-id.locations w c.args.run.now.map.id.krate site c.args.source.now c.loop-id.invariant.kept c.requires.held)) in
+    (written_grown c.args.locations.now c.loop-id.locations w (core_in c.args.run.now).map.id.krate site c.args.source.now c.loop-id.invariant.kept c.requires.held)) in
     let falls = falls_to_item site.dir.depth x.0 (above (numbers_of ids)) (above_each ids i x within e) (subst (λ (m : ℕ). m < 18446744073709551616) (sym c.counted.ensures.value) c.counted.ensures.below) in
     λ κs lives. (omega (arith, falls, c.decreases), (lives, (c.loop-id.invariant.in_range, (held, there))))
 
@@ -73,8 +73,8 @@ walk_all-loop-id-preserved g t c =
     let step : OnceGrown c.walk_item.new.locations w (λ env. Walks env part (core_in c.loop-id.run) (core_in c.walk_item.new.run) (visits_at tree site (x.0 ∷ []))) =
     subst (λ (v : Workspace). OnceGrown c.walk_item.new.locations v (λ env. Walks env part (core_in c.loop-id.run) (core_in c.walk_item.new.run) (visits_at tree site (x.0 ∷ [])))) c.loop-id.invariant.same c.in_ok-walk_item.ensures.ok in
     let walks = step c.walk_item.new.locations (tables_stay c.walk_item.new.locations) in
-    let longer : length c.loop-id.run.map.modules ≤ length c.walk_item.new.run.map.modules = longer_after (core_in c.loop-id.run) (core_in c.walk_item.new.run) (visits_at tree site (x.0 ∷ [])) walks in
-    let own : c.walk_item.new.run.map.id ≡ c.loop-id.run.map.id = id-Steps (walks.steps []) in
+    let longer : length (core_in c.loop-id.run).map.modules ≤ length (core_in c.walk_item.new.run).map.modules = longer_after (core_in c.loop-id.run) (core_in c.walk_item.new.run) (visits_at tree site (x.0 ∷ [])) walks in
+    let own : (core_in c.walk_item.new.run).map.id ≡ (core_in c.loop-id.run).map.id = id-Steps (walks.steps []) in
     record {
       kept = KeepsTables-trans c.args.locations.now c.loop-id.locations c.walk_item.new.locations c.loop-id.invariant.kept c.in_ok-walk_item.ensures.kept;
       placed = λ h. c.in_ok-walk_item.ensures.placed (c.loop-id.invariant.placed h);
@@ -180,11 +180,11 @@ walk_item-walk_all-requires g t c =
     let now = c.visit_item.new.locations in
     let mid = core_in c.visit_item.new.run in
     let handles = c.in_ok-inside.ensures.ok now (tables_stay now) (all_items tree.items) in
-    let own : mid.map.id ≡ c.args.run.now.map.id = id-Step (handles.step []) in
+    let own : mid.map.id ≡ (core_in c.args.run.now).map.id = id-Step (handles.step []) in
     let inner = c.in-Held.inner in
     let ns = numbers_of c.in-Held.ids.now in
     let goes : IsWithin (length mid.map.modules) site inner × (ns ≡ held_numbers (kind_content item)) =
-    subst (λ (o : Inside). GoesInside now w c.args.run.now.map.id.krate (length mid.map.modules) site (held_numbers (kind_content item)) o) c.in-Held.is c.in_ok-inside.ensures.within in
+    subst (λ (o : Inside). GoesInside now w (core_in c.args.run.now).map.id.krate (length mid.map.modules) site (held_numbers (kind_content item)) o) c.in-Held.is c.in_ok-inside.ensures.within in
     let size = length (all_items tree.items) in
     let below : All (λ m. m < n) ns =
     All-same_numbers (λ m. m < n) ns (held_numbers (kind_content item)) goes.1 c.index-item.ensures.below in
@@ -194,8 +194,8 @@ walk_item-walk_all-requires g t c =
     let held : IsWritten now (g.D.SourceDatabase.workspace c.visit_item.new.db) mid.map.id.krate inner c.args.source.now =
     subst (λ (v : Workspace). IsWritten now v mid.map.id.krate inner c.args.source.now) (sym c.in_ok-inside.ensures.same)
     (subst (λ (id : MapId). IsWritten now w id.krate inner c.args.source.now) (sym own)
-    (written_inside now w c.args.run.now.map.id.krate site inner c.args.source.now goes.0.tree goes.0.file
-    (written_grown c.args.locations.now now w c.args.run.now.map.id.krate site c.args.source.now c.in_ok-inside.ensures.kept c.requires.held))) in
+    (written_inside now w (core_in c.args.run.now).map.id.krate site inner c.args.source.now goes.0.tree goes.0.file
+    (written_grown c.args.locations.now now w (core_in c.args.run.now).map.id.krate site c.args.source.now c.in_ok-inside.ensures.kept c.requires.held))) in
     λ κs lives. (omega (arith, falls, c.decreases), (lives, (goes.0.there, (held, All-below n size ns (omega (arith, there)) below))))
 
 pub walk_item-returns-in_err-walk_all-in-Held-clause-kept : goal.walk_item-returns-in_err-walk_all-in-Held-clause-kept
@@ -221,11 +221,11 @@ walk_item-returns-in_err-walk_all-in-Held-clause-many g t c = λ far_off grown k
     let now = c.visit_item.new.locations in
     let mid = core_in c.visit_item.new.run in
     let handles = c.in_ok-inside.ensures.ok now (tables_stay now) (all_items tree.items) in
-    let own : mid.map.id ≡ c.args.run.now.map.id = id-Step (handles.step []) in
+    let own : mid.map.id ≡ (core_in c.args.run.now).map.id = id-Step (handles.step []) in
     let inner = c.in-Held.inner in
     let ns = numbers_of c.in-Held.ids.now in
     let goes : IsWithin (length mid.map.modules) site inner × (ns ≡ held_numbers (kind_content item)) =
-    subst (λ (o : Inside). GoesInside now w c.args.run.now.map.id.krate (length mid.map.modules) site (held_numbers (kind_content item)) o) c.in-Held.is c.in_ok-inside.ensures.within in
+    subst (λ (o : Inside). GoesInside now w (core_in c.args.run.now).map.id.krate (length mid.map.modules) site (held_numbers (kind_content item)) o) c.in-Held.is c.in_ok-inside.ensures.within in
     let first : Handles (environment grown w) part (core_in c.args.run.now) mid (visit site (item_of (all_items tree.items) h (kind_content item))) (visits_at tree inner ns ++ closing c.in-Held.macro_use site.home inner.home) =
     subst (λ (o : Inside). Handles (environment grown w) part (core_in c.args.run.now) mid (visit site (item_of (all_items tree.items) h (kind_content item))) (tasks_of site.home (all_items tree.items) o)) c.in-Held.is
     (c.in_ok-inside.ensures.ok grown (KeepsTables-trans now c.walk_all.new.locations grown c.in_err-walk_all-in-Held.ensures.kept k) (all_items tree.items)) in
@@ -257,11 +257,11 @@ walk_item-returns-in_err-walk_all-in-File-clause-many g t c = λ far_off grown k
     let now = c.visit_item.new.locations in
     let mid = core_in c.visit_item.new.run in
     let handles = c.in_ok-inside.ensures.ok now (tables_stay now) (all_items tree.items) in
-    let own : mid.map.id ≡ c.args.run.now.map.id = id-Step (handles.step []) in
+    let own : mid.map.id ≡ (core_in c.args.run.now).map.id = id-Step (handles.step []) in
     let inner = c.in-File.inner in
     let source = c.in-File.source.value in
-    let goes : IsOfFile now w c.args.run.now.map.id.krate (length mid.map.modules) site inner source =
-    subst (λ (o : Inside). GoesInside now w c.args.run.now.map.id.krate (length mid.map.modules) site (held_numbers (kind_content item)) o) c.in-File.is c.in_ok-inside.ensures.within in
+    let goes : IsOfFile now w (core_in c.args.run.now).map.id.krate (length mid.map.modules) site inner source =
+    subst (λ (o : Inside). GoesInside now w (core_in c.args.run.now).map.id.krate (length mid.map.modules) site (held_numbers (kind_content item)) o) c.in-File.is c.in_ok-inside.ensures.within in
     let first : Handles (environment grown w) part (core_in c.args.run.now) mid (visit site (item_of (all_items tree.items) h (kind_content item))) (visits_over inner source.tree.items ++ closing c.in-File.macro_use site.home inner.home) =
     subst (λ (o : Inside). Handles (environment grown w) part (core_in c.args.run.now) mid (visit site (item_of (all_items tree.items) h (kind_content item))) (tasks_of site.home (all_items tree.items) o)) c.in-File.is
     (c.in_ok-inside.ensures.ok grown (KeepsTables-trans now c.walk_all-in-File.new.locations grown c.in_err-walk_all-in-File.ensures.kept k) (all_items tree.items)) in
@@ -290,11 +290,11 @@ walk_item-walk_all-requires-in-File g t c =
     let now = c.visit_item.new.locations in
     let mid = core_in c.visit_item.new.run in
     let handles = c.in_ok-inside.ensures.ok now (tables_stay now) (all_items tree.items) in
-    let own : mid.map.id ≡ c.args.run.now.map.id = id-Step (handles.step []) in
+    let own : mid.map.id ≡ (core_in c.args.run.now).map.id = id-Step (handles.step []) in
     let inner = c.in-File.inner in
     let source = c.in-File.source.value in
-    let goes : IsOfFile now w c.args.run.now.map.id.krate (length mid.map.modules) site inner source =
-    subst (λ (o : Inside). GoesInside now w c.args.run.now.map.id.krate (length mid.map.modules) site (held_numbers (kind_content item)) o) c.in-File.is c.in_ok-inside.ensures.within in
+    let goes : IsOfFile now w (core_in c.args.run.now).map.id.krate (length mid.map.modules) site inner source =
+    subst (λ (o : Inside). GoesInside now w (core_in c.args.run.now).map.id.krate (length mid.map.modules) site (held_numbers (kind_content item)) o) c.in-File.is c.in_ok-inside.ensures.within in
     let ns = numbers_of c.top_level_items-ids.result.now in
     let falls = falls_to_file site.dir.depth inner.dir.depth n (above ns) goes.above goes.deeper in
     let held : IsWritten now (g.D.SourceDatabase.workspace c.visit_item.new.db) mid.map.id.krate inner source =
@@ -336,11 +336,11 @@ walk_item-returns-in_ok-close-in-Held-clause-ok g t c = λ grown k.
     let now = c.visit_item.new.locations in
     let mid = core_in c.visit_item.new.run in
     let handles = c.in_ok-inside.ensures.ok now (tables_stay now) (all_items tree.items) in
-    let own : mid.map.id ≡ c.args.run.now.map.id = id-Step (handles.step []) in
+    let own : mid.map.id ≡ (core_in c.args.run.now).map.id = id-Step (handles.step []) in
     let inner = c.in-Held.inner in
     let ns = numbers_of c.in-Held.ids.now in
     let goes : IsWithin (length mid.map.modules) site inner × (ns ≡ held_numbers (kind_content item)) =
-    subst (λ (o : Inside). GoesInside now w c.args.run.now.map.id.krate (length mid.map.modules) site (held_numbers (kind_content item)) o) c.in-Held.is c.in_ok-inside.ensures.within in
+    subst (λ (o : Inside). GoesInside now w (core_in c.args.run.now).map.id.krate (length mid.map.modules) site (held_numbers (kind_content item)) o) c.in-Held.is c.in_ok-inside.ensures.within in
     let first : Handles (environment grown w) part (core_in c.args.run.now) mid (visit site (item_of (all_items tree.items) h (kind_content item))) (visits_at tree inner ns ++ closing c.in-Held.macro_use site.home inner.home) =
     subst (λ (o : Inside). Handles (environment grown w) part (core_in c.args.run.now) mid (visit site (item_of (all_items tree.items) h (kind_content item))) (tasks_of site.home (all_items tree.items) o)) c.in-Held.is
     (c.in_ok-inside.ensures.ok grown (KeepsTables-trans now c.walk_all.new.locations grown c.in_ok-walk_all-in-Held.ensures.kept k) (all_items tree.items)) in
@@ -366,11 +366,11 @@ walk_item-returns-in_err-close-in-Held-clause-many g t c = λ far_off grown k.
     let now = c.visit_item.new.locations in
     let mid = core_in c.visit_item.new.run in
     let handles = c.in_ok-inside.ensures.ok now (tables_stay now) (all_items tree.items) in
-    let own : mid.map.id ≡ c.args.run.now.map.id = id-Step (handles.step []) in
+    let own : mid.map.id ≡ (core_in c.args.run.now).map.id = id-Step (handles.step []) in
     let inner = c.in-Held.inner in
     let ns = numbers_of c.in-Held.ids.now in
     let goes : IsWithin (length mid.map.modules) site inner × (ns ≡ held_numbers (kind_content item)) =
-    subst (λ (o : Inside). GoesInside now w c.args.run.now.map.id.krate (length mid.map.modules) site (held_numbers (kind_content item)) o) c.in-Held.is c.in_ok-inside.ensures.within in
+    subst (λ (o : Inside). GoesInside now w (core_in c.args.run.now).map.id.krate (length mid.map.modules) site (held_numbers (kind_content item)) o) c.in-Held.is c.in_ok-inside.ensures.within in
     let first : Handles (environment grown w) part (core_in c.args.run.now) mid (visit site (item_of (all_items tree.items) h (kind_content item))) (visits_at tree inner ns ++ closing c.in-Held.macro_use site.home inner.home) =
     subst (λ (o : Inside). Handles (environment grown w) part (core_in c.args.run.now) mid (visit site (item_of (all_items tree.items) h (kind_content item))) (tasks_of site.home (all_items tree.items) o)) c.in-Held.is
     (c.in_ok-inside.ensures.ok grown (KeepsTables-trans now c.walk_all.new.locations grown c.in_ok-walk_all-in-Held.ensures.kept k) (all_items tree.items)) in
@@ -397,18 +397,18 @@ walk_item-close-requires g t c =
     let last = c.walk_all.new.locations in
     let mid = core_in c.visit_item.new.run in
     let handles = c.in_ok-inside.ensures.ok now (tables_stay now) (all_items tree.items) in
-    let own : mid.map.id ≡ c.args.run.now.map.id = id-Step (handles.step []) in
+    let own : mid.map.id ≡ (core_in c.args.run.now).map.id = id-Step (handles.step []) in
     let inner = c.in-Held.inner in
     let ns = numbers_of c.in-Held.ids.now in
     let goes : IsWithin (length mid.map.modules) site inner × (ns ≡ held_numbers (kind_content item)) =
-    subst (λ (o : Inside). GoesInside now w c.args.run.now.map.id.krate (length mid.map.modules) site (held_numbers (kind_content item)) o) c.in-Held.is c.in_ok-inside.ensures.within in
+    subst (λ (o : Inside). GoesInside now w (core_in c.args.run.now).map.id.krate (length mid.map.modules) site (held_numbers (kind_content item)) o) c.in-Held.is c.in_ok-inside.ensures.within in
     let first : Handles (environment last w) part (core_in c.args.run.now) mid (visit site (item_of (all_items tree.items) h (kind_content item))) (visits_at tree inner ns ++ closing c.in-Held.macro_use site.home inner.home) =
     subst (λ (o : Inside). Handles (environment last w) part (core_in c.args.run.now) mid (visit site (item_of (all_items tree.items) h (kind_content item))) (tasks_of site.home (all_items tree.items) o)) c.in-Held.is
     (c.in_ok-inside.ensures.ok last c.in_ok-walk_all-in-Held.ensures.kept (all_items tree.items)) in
     let later : OnceGrown c.walk_all.new.locations w (λ env. Walks env part mid (core_in c.walk_all.new.run) (visits_at tree inner ns)) =
     subst (λ (v : Workspace). OnceGrown c.walk_all.new.locations v (λ env. Walks env part mid (core_in c.walk_all.new.run) (visits_at tree inner ns))) c.in_ok-inside.ensures.same c.in_ok-walk_all-in-Held.ensures.ok in
     let there : site.home < length mid.map.modules = still_there (core_in c.args.run.now) mid _ (visits_at tree inner ns ++ closing c.in-Held.macro_use site.home inner.home) site.home first c.requires.in_range in
-    let longer : length mid.map.modules ≤ length c.walk_all.new.run.map.modules = longer_after mid (core_in c.walk_all.new.run) (visits_at tree inner ns) (later last (tables_stay last)) in
+    let longer : length mid.map.modules ≤ length (core_in c.walk_all.new.run).map.modules = longer_after mid (core_in c.walk_all.new.run) (visits_at tree inner ns) (later last (tables_stay last)) in
     record { in_range = omega (arith, there, longer) }
 
 pub walk_item-returns-in_err-close-in-File-clause-kept : goal.walk_item-returns-in_err-close-in-File-clause-kept
@@ -441,11 +441,11 @@ walk_item-returns-in_ok-close-in-File-clause-ok g t c = λ grown k.
     let now = c.visit_item.new.locations in
     let mid = core_in c.visit_item.new.run in
     let handles = c.in_ok-inside.ensures.ok now (tables_stay now) (all_items tree.items) in
-    let own : mid.map.id ≡ c.args.run.now.map.id = id-Step (handles.step []) in
+    let own : mid.map.id ≡ (core_in c.args.run.now).map.id = id-Step (handles.step []) in
     let inner = c.in-File.inner in
     let source = c.in-File.source.value in
-    let goes : IsOfFile now w c.args.run.now.map.id.krate (length mid.map.modules) site inner source =
-    subst (λ (o : Inside). GoesInside now w c.args.run.now.map.id.krate (length mid.map.modules) site (held_numbers (kind_content item)) o) c.in-File.is c.in_ok-inside.ensures.within in
+    let goes : IsOfFile now w (core_in c.args.run.now).map.id.krate (length mid.map.modules) site inner source =
+    subst (λ (o : Inside). GoesInside now w (core_in c.args.run.now).map.id.krate (length mid.map.modules) site (held_numbers (kind_content item)) o) c.in-File.is c.in_ok-inside.ensures.within in
     let first : Handles (environment grown w) part (core_in c.args.run.now) mid (visit site (item_of (all_items tree.items) h (kind_content item))) (visits_over inner source.tree.items ++ closing c.in-File.macro_use site.home inner.home) =
     subst (λ (o : Inside). Handles (environment grown w) part (core_in c.args.run.now) mid (visit site (item_of (all_items tree.items) h (kind_content item))) (tasks_of site.home (all_items tree.items) o)) c.in-File.is
     (c.in_ok-inside.ensures.ok grown (KeepsTables-trans now c.walk_all-in-File.new.locations grown c.in_ok-walk_all-in-File.ensures.kept k) (all_items tree.items)) in
@@ -475,11 +475,11 @@ walk_item-returns-in_err-close-in-File-clause-many g t c = λ far_off grown k.
     let now = c.visit_item.new.locations in
     let mid = core_in c.visit_item.new.run in
     let handles = c.in_ok-inside.ensures.ok now (tables_stay now) (all_items tree.items) in
-    let own : mid.map.id ≡ c.args.run.now.map.id = id-Step (handles.step []) in
+    let own : mid.map.id ≡ (core_in c.args.run.now).map.id = id-Step (handles.step []) in
     let inner = c.in-File.inner in
     let source = c.in-File.source.value in
-    let goes : IsOfFile now w c.args.run.now.map.id.krate (length mid.map.modules) site inner source =
-    subst (λ (o : Inside). GoesInside now w c.args.run.now.map.id.krate (length mid.map.modules) site (held_numbers (kind_content item)) o) c.in-File.is c.in_ok-inside.ensures.within in
+    let goes : IsOfFile now w (core_in c.args.run.now).map.id.krate (length mid.map.modules) site inner source =
+    subst (λ (o : Inside). GoesInside now w (core_in c.args.run.now).map.id.krate (length mid.map.modules) site (held_numbers (kind_content item)) o) c.in-File.is c.in_ok-inside.ensures.within in
     let first : Handles (environment grown w) part (core_in c.args.run.now) mid (visit site (item_of (all_items tree.items) h (kind_content item))) (visits_over inner source.tree.items ++ closing c.in-File.macro_use site.home inner.home) =
     subst (λ (o : Inside). Handles (environment grown w) part (core_in c.args.run.now) mid (visit site (item_of (all_items tree.items) h (kind_content item))) (tasks_of site.home (all_items tree.items) o)) c.in-File.is
     (c.in_ok-inside.ensures.ok grown (KeepsTables-trans now c.walk_all-in-File.new.locations grown c.in_ok-walk_all-in-File.ensures.kept k) (all_items tree.items)) in
@@ -510,11 +510,11 @@ walk_item-close-requires-in-File g t c =
     let last = c.walk_all-in-File.new.locations in
     let mid = core_in c.visit_item.new.run in
     let handles = c.in_ok-inside.ensures.ok now (tables_stay now) (all_items tree.items) in
-    let own : mid.map.id ≡ c.args.run.now.map.id = id-Step (handles.step []) in
+    let own : mid.map.id ≡ (core_in c.args.run.now).map.id = id-Step (handles.step []) in
     let inner = c.in-File.inner in
     let source = c.in-File.source.value in
-    let goes : IsOfFile now w c.args.run.now.map.id.krate (length mid.map.modules) site inner source =
-    subst (λ (o : Inside). GoesInside now w c.args.run.now.map.id.krate (length mid.map.modules) site (held_numbers (kind_content item)) o) c.in-File.is c.in_ok-inside.ensures.within in
+    let goes : IsOfFile now w (core_in c.args.run.now).map.id.krate (length mid.map.modules) site inner source =
+    subst (λ (o : Inside). GoesInside now w (core_in c.args.run.now).map.id.krate (length mid.map.modules) site (held_numbers (kind_content item)) o) c.in-File.is c.in_ok-inside.ensures.within in
     let first : Handles (environment last w) part (core_in c.args.run.now) mid (visit site (item_of (all_items tree.items) h (kind_content item))) (visits_over inner source.tree.items ++ closing c.in-File.macro_use site.home inner.home) =
     subst (λ (o : Inside). Handles (environment last w) part (core_in c.args.run.now) mid (visit site (item_of (all_items tree.items) h (kind_content item))) (tasks_of site.home (all_items tree.items) o)) c.in-File.is
     (c.in_ok-inside.ensures.ok last c.in_ok-walk_all-in-File.ensures.kept (all_items tree.items)) in
@@ -525,7 +525,7 @@ walk_item-close-requires-in-File g t c =
     subst (λ (vs : List Task). OnceGrown c.walk_all-in-File.new.locations w (λ env. Walks env part mid (core_in c.walk_all-in-File.new.run) vs)) items_same
     (subst (λ (v : Workspace). OnceGrown c.walk_all-in-File.new.locations v (λ env. Walks env part mid (core_in c.walk_all-in-File.new.run) (visits_at c.deref-in-File.result.now.tree inner (numbers_of c.top_level_items-ids.result.now)))) c.in_ok-inside.ensures.same c.in_ok-walk_all-in-File.ensures.ok) in
     let there : site.home < length mid.map.modules = still_there (core_in c.args.run.now) mid _ (visits_over inner source.tree.items ++ closing c.in-File.macro_use site.home inner.home) site.home first c.requires.in_range in
-    let longer : length mid.map.modules ≤ length c.walk_all-in-File.new.run.map.modules = longer_after mid (core_in c.walk_all-in-File.new.run) (visits_over inner source.tree.items) (later last (tables_stay last)) in
+    let longer : length mid.map.modules ≤ length (core_in c.walk_all-in-File.new.run).map.modules = longer_after mid (core_in c.walk_all-in-File.new.run) (visits_over inner source.tree.items) (later last (tables_stay last)) in
     record { in_range = omega (arith, there, longer) }
 
 pub walk_item-returns-in-Nothing-clause-ok : goal.walk_item-returns-in-Nothing-clause-ok

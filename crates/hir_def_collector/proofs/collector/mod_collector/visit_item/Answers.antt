@@ -39,7 +39,7 @@ returns-in_ok-visit_leaf-in_default g c = record {
   same = refl;
   ok = λ grown k items.
       let w = g.D.SourceDatabase.workspace c.args.db.now in
-      let krate = c.args.run.now.map.id.krate in
+      let krate = (core_in c.args.run.now).map.id.krate in
       let held = held_grown c.args.locations.now grown w krate c.args.site.now.tree c.args.source.now k c.requires.held.held in
       c.in_ok-visit_leaf-in_default.ensures.ok (environment grown w) (held_source grown w krate c.args.site.now.tree c.args.source.now held) items;
   within = tt;

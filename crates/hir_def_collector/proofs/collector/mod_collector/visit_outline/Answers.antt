@@ -102,7 +102,7 @@ returns-clause-within g c =
     (c.in_ok-declaring.ensures.value grown (KeepsTables-trans c.args.locations.now tables grown c.in_ok-found.ensures.kept k)) in
     let finds : Finds tables w declaring candidates (core_in c.args.run.now) (core_in c.find_file.new.run) (Some (found_view c.in-Some.file)) =
     subst (λ (o : Option FoundFile). Finds tables w declaring candidates (core_in c.args.run.now) (core_in c.find_file.new.run) (option_map found_view o)) c.in-Some.is c.in_ok-found.ensures.ok in
-    let held : IsHeld tables w c.args.run.now.map.id.krate (file_tree c.args.run.now.map.crate_data.edition c.in-Some.file.id) c.in-Some.file.source.value =
-    subst (λ (o : Option FoundFile). IfSome o (λ f. IsHeld tables w c.args.run.now.map.id.krate (file_tree c.args.run.now.map.crate_data.edition f.id) f.source.value)) c.in-Some.is c.in_ok-found.ensures.held in
+    let held : IsHeld tables w (core_in c.args.run.now).map.id.krate (file_tree (core_in c.args.run.now).map.crate_data.edition c.in-Some.file.id) c.in-Some.file.source.value =
+    subst (λ (o : Option FoundFile). IfSome o (λ f. IsHeld tables w (core_in c.args.run.now).map.id.krate (file_tree (core_in c.args.run.now).map.crate_data.edition f.id) f.source.value)) c.in-Some.is c.in_ok-found.ensures.held in
     taken_within tables w (part_of c.args.world) c.args.site.now (head_of c.args.head) c.args.name.now declaring candidates (core_in c.args.run.now) (core_in c.find_file.new.run) (core_in c.take_file.new.run) tried written c.requires.enabled (found_view c.in-Some.file) c.in-Some.file.source.value refl finds
     held c.in_ok-inside.inside c.in_ok-inside.ensures.ok
