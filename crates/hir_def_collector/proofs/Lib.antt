@@ -21,6 +21,8 @@ pub mod Digits
 pub mod ModuleFiles
 pub mod Outline
 pub mod Begun
+pub mod Rootless
+pub mod CallPlaces
 pub mod Finding
 pub mod Asks
 pub mod Asked
@@ -33,6 +35,7 @@ pub mod WholeEdits
 pub mod WholeChanges
 pub mod Whole
 pub mod Placed
+pub mod SourcedItems
 pub mod SourcedEdits
 pub mod SourcedMacros
 pub mod SourcedState

@@ -1,5 +1,5 @@
 -- What binds only from sources?
-use Rattle.std.specs.Prelude.{◌≡◌, ◌==◌, ◌&&◌, ◌||◌, ℕ, zero, suc, ◌<◌, ◌≤◌, List, [], ◌∷◌, ◌++◌, length, Bool, true, false, is_some, Some, cond, option_and_then, slice_get, if◌then◌else◌}
+use Rattle.std.specs.Prelude.{◌≡◌, ℕ, zero, suc, ◌≤◌, List, [], ◌∷◌, length, Bool, true, false, is_some, Some, cond, option_and_then, slice_get}
 use Rattle.std.specs.List.{list_any}
 use Rattle.std.proofs.Common.{Contains, ap, refl, sym, ◌∙◌, arith}
 use mathlib.Core.Bool.{true≢false}
@@ -35,7 +35,7 @@ pub record IsSourced (t : SourceTest) (s : State) : Type 0 where
   pub local : HoldsOfNoExtern t s.core.local
   pub visits : list_any (on_site t) s.agenda ≡ false
   pub reached : list_any (on_reached t) s.core.reached ≡ false
-  pub edges : list_any (on_edge t) s.globs.edges ≡ false
+  pub edges : list_any (on_edge t) s.core.globs.edges ≡ false
 
 -- nor of a source that was asked for
 abbrev pub AreClear : SourceTest → State → Type 0

@@ -7,7 +7,7 @@ use Rattle.hir_def_collector.specs.declared.collector.macro_directive.MacroDirec
 use Rattle.hir_def_collector.specs.CallMoves.{TriesCall, TriesCalls, handled, idle, left, round}
 use Rattle.hir_def_collector.specs.Calls.{IsWaiting, LeadsNowhere}
 use Rattle.hir_def_collector.specs.Keys.{Environment}
-use Rattle.hir_def_collector.specs.Rounds.{IsRound, Rises, Rounds, WasTried, met, more, none}
+use Rattle.hir_def_collector.specs.Rounds.{IsRound, Rises, Rounds, WasTried, met, more}
 use Rattle.hir_def_collector.specs.Rounds as rounds
 use Rattle.hir_def_collector.specs.State.{Core, at_rest}
 use Rattle.hir_def_collector.specs.Steps as steps
@@ -73,11 +73,6 @@ module _ (env : Environment) (finished : Maps) (old : Core) where
   })
 
   -- ---- rounds
-
-  -- the steps of rounds
-  pub rounds_steps : {s : _} {n : ℕ} → Rounds env finished (at_rest old) s n → Steps env finished (at_rest old) s
-  rounds_steps (none to so_far) = so_far
-  rounds_steps (more a b to n before between of_round) = Steps-append (Steps-append (rounds_steps before) between) of_round.steps
 
   -- one more
   pub rounds_next : (now settled new : Core) (n : ℕ) → Rounds env finished (at_rest old) (at_rest now) n → Steps env finished (at_rest now) (at_rest settled) → IsRound env finished (at_rest settled) (at_rest new)

@@ -15,7 +15,7 @@ use Rattle.hir_base.specs.declared.macro_kind.MacroId.{MacroId}
 use Rattle.hir_base.specs.declared.macro_kind.MacroId.TheVariants.{Macro2Id, MacroRulesId, ProcMacroId}
 use Rattle.hir_base.specs.declared.resolve_mode.BuiltinShadowMode.TheVariants as shadow_modes
 use Rattle.hir_base.specs.declared.resolve_mode.MacroSubNs.TheVariants as sub_namespaces
-use Rattle.hir_base.specs.declared.resolve_mode.ResolveMode.TheVariants as modes
+use Rattle.hir_def_map.specs.declared.nameres.path_resolution.ResolveMode.TheVariants as modes
 use Rattle.hir_item_tree.specs.declared.tree_id.TreeId.{TreeId}
 use Rattle.hir_item_tree.specs.declared.tree_id.TreeKey.{TreeKey}
 use Rattle.hir_scope.specs.PerNs.{Item}

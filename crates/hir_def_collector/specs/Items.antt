@@ -1,5 +1,5 @@
 -- What does an item declare?
-use Rattle.std.specs.Prelude.{List, [], ◌∷◌, Option, None, Some, map, unwrap_or}
+use Rattle.std.specs.Prelude.{ℕ, List, [], ◌∷◌, Option, None, Some, map, unwrap_or}
 use Rattle.std.specs.Option.{option_and_then}
 use Rattle.hir_base.specs.declared.ast_id.AstKind.TheVariants as kinds
 use Rattle.hir_base.specs.declared.ast_id.SyntaxId.{SyntaxId}

@@ -6,6 +6,7 @@ use Rattle.hir_scope.specs.Globs.{GlobNames}
 use Rattle.hir_scope.specs.declared.per_ns.PerNs.{PerNs}
 use Rattle.hir_def_map.specs.State.{Local, Map, globs_after, no_globs, pushed}
 use Rattle.hir_glob_imports.specs.Rules.{BroughtBy}
+use Rattle.hir_glob_imports.specs.Waves.{GlobsValue, brought_of}
 use Rattle.hir_glob_imports.specs.declared.edge.Edge.{Edge}
 use Rattle.hir_import_resolution.specs.Changes.{forgotten}
 use Rattle.hir_import_resolution.specs.declared.directive.ImportDirective.{ImportDirective}
@@ -69,6 +70,40 @@ pub record Core : Type 0 where
   pub asked : List Key
   -- how many steps were taken
   pub count : ℕ
+
+-- what a run keeps of where it stands
+pub record Run : Type 0 where
+  pub map : Map
+  pub local : Local
+  pub dependencies : List Dependency
+  pub options : List CfgAtom
+  -- the names that globs brought, the globs, and what is to be looked at along them
+  pub names : GlobNames
+  pub globs : GlobsValue
+  pub reached : List ImportDirective
+  pub taken : List TakenValue
+  pub calls : List MacroDirective
+  pub fates : List Fate
+  pub settled : ℕ
+  pub asked : List Key
+  pub count : ℕ
+
+-- where that is
+unfoldable pub core_in : Run → Core
+core_in r = record {
+  map = r.map;
+  local = r.local;
+  dependencies = r.dependencies;
+  options = r.options;
+  globs = record { names = r.names; edges = r.globs.edges; brought = brought_of r.globs };
+  reached = r.reached;
+  taken = r.taken;
+  calls = r.calls;
+  fates = r.fates;
+  settled = r.settled;
+  asked = r.asked;
+  count = r.count;
+}
 
 -- where a run stands
 pub record State : Type 0 where

@@ -30,7 +30,7 @@ ghost use Rattle.hir_def_collector.specs.Keys.{AgreeOn, environment};
 ghost use Rattle.hir_def_collector.specs.Start.{began, beginning, core_of, edition_of, krate_of, origin_of, root_site, tree_visits};
 ghost use Rattle.hir_def_collector.specs.CallMoves.{IsReady};
 ghost use Rattle.hir_def_collector.specs.Calls.{AreCallsPlaced};
-ghost use Rattle.hir_def_collector.specs.State.{at_rest, joined};
+ghost use Rattle.hir_def_collector.specs.State.{at_rest, core_in, joined};
 ghost use Rattle.hir_def_collector.specs.Steps.{Steps};
 ghost use Rattle.hir_def_collector.specs.Derivation.{Ends, IsOverlong, IsSpent, collected_view};
 ghost use Rattle.hir_def_collector.specs.Moves.{IsHeld};
@@ -276,7 +276,7 @@ fn fresh(
     start: Start,
     id: TreeId,
 ) -> Result<DefCollector, AllocError>
-    ensures value { IfOk result (λ run. run
+    ensures value { IfOk result (λ run. core_in run
         ≡ core_of (part_of world.entry) tree.now (option_map (λ c. config_view c.now) config.entry) transitive.now.value start id) }
 {
     let data = top_data(
@@ -305,9 +305,9 @@ fn begin<D: SourceDatabase>(
     ensures kept { KeepsTables locations.old locations.new }
     ensures same { D.workspace db.new ≡ D.workspace db.old }
     ensures placed { AreCallsPlaced locations.old → AreCallsPlaced locations.new }
-    ensures ready { IfOk result (λ run. IsReady locations.new (part_of world.entry) run) }
+    ensures ready { IfOk result (λ run. IsReady locations.new (part_of world.entry) (core_in run)) }
     ensures ok { IfOk result (λ run. Steps (environment locations.new (D.workspace db.old)) (part_of world.entry)
-        (began locations.new (D.workspace db.old) (part_of world.entry) transitive.now.value start id) (at_rest run)) }
+        (began locations.new (D.workspace db.old) (part_of world.entry) transitive.now.value start id) (at_rest (core_in run))) }
     ensures many { result ≡ Err CollectError.TooMany → IsSpent (environment locations.new (D.workspace db.old)) (part_of world.entry)
         (began locations.new (D.workspace db.old) (part_of world.entry) transitive.now.value start id) }
 {
@@ -338,15 +338,15 @@ fn walk_root<D: SourceDatabase>(
     source: &SourceTree,
     id: TreeId,
 ) -> Result<(), CollectError>
-    requires in_range { 0 < length run.old.map.modules }
-    requires held { IsHeld locations.old (D.workspace db.old) run.old.map.id.krate id source.now }
+    requires in_range { 0 < length (core_in run.old).map.modules }
+    requires held { IsHeld locations.old (D.workspace db.old) (core_in run.old).map.id.krate id source.now }
     ensures kept { KeepsTables locations.old locations.new }
     ensures placed { AreCallsPlaced locations.old → AreCallsPlaced locations.new }
     ensures same { D.workspace db.new ≡ D.workspace db.old }
     ensures ok { OnOk result (Steps (environment locations.new (D.workspace db.old)) (part_of world.entry)
-        (joined run.old (tree_visits (root_site id) source.now.tree)) (at_rest run.new)) }
+        (joined (core_in run.old) (tree_visits (root_site id) source.now.tree)) (at_rest (core_in run.new))) }
     ensures many { result ≡ Err CollectError.TooMany → IsSpent (environment locations.new (D.workspace db.old)) (part_of world.entry)
-        (joined run.old (tree_visits (root_site id) source.now.tree)) }
+        (joined (core_in run.old) (tree_visits (root_site id) source.now.tree)) }
 {
     if !is_enabled_at_top(source.tree()) {
         return Ok(());

@@ -1,5 +1,5 @@
--- Each diagnostic of a run speaks of an item that was visited, of a call or of an import that was found.
-use Rattle.std.proofs.Common.{◌≡◌, ◌∙◌, ◌<◌, ◌≤◌, ℕ, zero, suc, List, [], ◌∷◌, ◌++◌, length, Bool, true, false, cond, Option, None, Some, inl, inr, refl, sym, ap, subst, arith, Contains}
+-- Each diagnostic of a run speaks of an item that was visited, or of a call or an import that was come upon.
+use Rattle.std.proofs.Common.{◌≡◌, ◌∙◌, ◌<◌, ◌≤◌, ℕ, zero, suc, List, [], ◌∷◌, ◌++◌, length, slice_get, Bool, true, false, cond, Option, None, Some, inl, inr, refl, sym, ap, subst, arith, Contains}
 use Rattle.std.proofs.lemmas.List.Elements.{Contains-append_cases}
 use Rattle.hir_base.specs.declared.ast_id.AstId.{AstId}
 use Rattle.hir_base.specs.declared.ast_id.AstKind.TheVariants as nodes
@@ -24,27 +24,27 @@ use Rattle.hir_def_collector.specs.declared.collector.macro_directive.Fate.TheVa
 use Rattle.hir_def_collector.specs.declared.collector.macro_directive.MacroDirective.{MacroDirective}
 use Rattle.hir_def_collector.specs.Calls.{error_of, path_of_call}
 use Rattle.hir_def_collector.specs.Changes.{Change, lists, makes, gives_variants, begins_paths, reaches, awaits, ends, settles, changes_imports, adds_textual, takes_textual, defines, uses_macros, tells, goes_on, act}
-use Rattle.hir_def_collector.specs.Derivation.{CollectedValue, Ends, leftover_reports}
+use Rattle.hir_def_collector.specs.Derivation.{CollectedValue, Ends}
 use Rattle.hir_def_collector.specs.ItemIds.{module_id, node_of}
-use Rattle.hir_def_collector.specs.Keys.{environment, node_tree}
+use Rattle.hir_def_collector.specs.Keys.{environment}
 use Rattle.hir_def_collector.specs.Reports.{begins_with, call_report, crates_among, failed_call, leftover_diagnostics, report_by, reports_of, unimplemented_macro, unresolved_among, unresolved_calls}
 use Rattle.hir_def_collector.specs.Start.{Beginning, begin_of, krate_of, read_by}
 use Rattle.hir_def_collector.specs.State.{State, Task, Visit, visits, import_state}
-use Rattle.hir_def_collector.specs.Steps.{Rule, drops_item, reaches_call, rests, expands_call, drops_call, defines_rules, defines_macro, closes_module, declares_item, declares_enum, lists_constant, lists_impl, opens_module, opens_file, drops_file, misses_file, enters_block, reaches_imports, reaches_crate, resolves_imports, May, Steps, acts, asking, more, none, visit}
+use Rattle.hir_def_collector.specs.Steps.{Rule, drops_item, reaches_call, rests, expands_call, drops_call, defines_rules, defines_macro, closes_module, declares_item, declares_enum, lists_constant, lists_impl, opens_module, opens_file, drops_file, misses_file, enters_block, reaches_imports, reaches_crate, resolves_imports, May, Steps, acts, asking, call_at, more, none, visit}
 use Rattle.hir_def_collector.specs.Workspace.{Workspace}
 use Rattle.hir_def_collector.proofs.Asks.{only, still_asked-Step}
 use Rattle.hir_def_collector.proofs.Changes.{AllFine, all_fine, fine_failing, fine_macro, fine_reporting, perform_keeps}
 use Rattle.hir_def_collector.proofs.Grows.{Grows-Step}
 use Rattle.hir_def_collector.proofs.Holds.{in_range-start}
 use Rattle.hir_def_collector.proofs.ImportEdits.{Edit, edit_of, edited, map_after}
-use Rattle.hir_def_collector.proofs.InRange.{CallsBelow, ImportsBelow, IsInRange, call_below, in_range-Steps, next_home}
+use Rattle.hir_def_collector.proofs.InRange.{ImportsBelow, IsInRange, call_below, in_range-Steps, next_home}
+use Rattle.hir_def_collector_laws.specs.Calls.{IsCall}
 use Rattle.hir_def_collector_laws.specs.Diagnostics.{DiagnosticsAreOfItems, IsOfItem, IsToldOfItem}
 use Rattle.hir_def_collector_laws.specs.Imports.{IsImport, IsOfSource}
-use Rattle.hir_def_collector_laws.specs.Modules.{key_of}
-use Rattle.hir_def_collector_laws.specs.Written.{IsCall, IsWritten}
-use Rattle.hir_def_collector_laws.proofs.Imports.{answer_asked, answer_here, call_written, first_written, import_written}
-use Rattle.hir_def_collector_laws.proofs.Lists.{later}
-use Rattle.hir_def_collector_laws.proofs.Written.{AreAsked, IsAllWritten, call_placed, placed_next, written-Steps}
+use Rattle.hir_def_collector_laws.specs.Written.{IsWritten}
+use Rattle.hir_def_collector_laws.proofs.Imports.{answer_asked, answer_here, call_there, first_written, import_written}
+use Rattle.hir_def_collector_laws.proofs.Lists.{at_first, later, standing}
+use Rattle.hir_def_collector_laws.proofs.Written.{AreAsked, IsAllWritten, call_among, placed_next, written-Steps}
 
 module _ (tables : TablesValue) (w : Workspace) (from : Beginning) (answer : CollectedValue) where
   abbrev IsTold : DefDiagnostic → Type 0
@@ -67,6 +67,12 @@ module _ (tables : TablesValue) (w : Workspace) (from : Beginning) (answer : Col
 
   pub record AreTold (s : State) : Type 0 where
     pub each : AllTold s.core.map.diagnostics
+
+  -- a call stands on the node of an item
+  call_item : (d : MacroDirective) → IsCall tables w answer d → IsOfItem tables w answer d.ast_id
+  call_item d c =
+      let item : IsOfItem tables w answer (call_at d.site c.head c.path).ast_id = record { item = leaf c.head (macro_call c.path); written = c.written; kind = refl; id = refl } in
+      subst (λ (x : MacroDirective). IsOfItem tables w answer x.ast_id) (sym c.is) item
 
   -- ---- changes
 
@@ -111,26 +117,6 @@ module _ (tables : TablesValue) (w : Workspace) (from : Beginning) (answer : Col
   told-act s (tells d) f fine = record { each = told_more s.core.map.diagnostics (d ∷ []) f.each (one_told d fine) }
   told-act s (goes_on vs) f fine = record { each = f.each }
 
-  -- ---- calls
-
-  -- a call is the item of which is told
-  call_item : (d : MacroDirective) → IsCall tables w answer.asked answer.map.id.krate d → IsOfItem tables w answer d.ast_id
-  call_item d call = record {
-    item = leaf call.head (macro_call call.path);
-    written = subst (λ (x : MacroDirective). IsWritten tables w answer.asked (key_of answer (node_tree x.ast_id)) (leaf call.head (macro_call call.path))) (sym call.is) call.written;
-    kind = sym (ap (λ (x : MacroDirective). x.ast_id.kind) call.is);
-    id = sym (ap (λ (x : MacroDirective). x.ast_id.id) call.is);
-  }
-
-  told_call : (m : MapId) (d : MacroDirective) (report : DefDiagnostic) → m ≡ answer.map.id → d.site.home < length answer.map.modules → IsCall tables w answer.asked answer.map.id.krate d
-      → report.in_module ≡ numbered m d.site.home → node_told (diagnostic_view report).kind ≡ d.ast_id → IsTold report
-  told_call m d report own there call at about = record {
-    number = d.site.home;
-    there = there;
-    module_is = at ∙ ap (λ (id : MapId). numbered id d.site.home) own;
-    of_item = subst (λ (node : AstId). IsOfItem tables w answer node) (sym about) (call_item d call);
-  }
-
   -- ---- rules
 
   module _ (finished : Maps) (s : State) (written : IsAllWritten tables w from answer s) (in_range : IsInRange s) (fits : length s.core.map.modules ≤ length answer.map.modules) where
@@ -146,6 +132,17 @@ module _ (tables : TablesValue) (w : Workspace) (from : Beginning) (answer : Col
           there = omega arith;
           module_is = at ∙ ap (λ (id : MapId). numbered id v.site.home) written.id;
           of_item = subst (λ (node : AstId). IsOfItem tables w answer node) (sym about) item;
+        }
+
+    -- so is a call
+    call_told : (d : MacroDirective) (i : ℕ) → slice_get s.core.calls i ≡ Some d → (error : List ℕ) → IsTold (failed_call (module_id s.core.map d.site.home) d.ast_id (path_of_call d) error)
+    call_told d i at error =
+        let home : d.site.home < length s.core.map.modules = call_below (length s.core.map.modules) s.core.calls i d in_range.calls at in
+        record {
+          number = d.site.home;
+          there = omega arith;
+          module_is = ap (λ (id : MapId). numbered id d.site.home) written.id;
+          of_item = call_item d (call_among tables w from answer s.core.calls d written.calls (standing s.core.calls i d at));
         }
 
     fine_rule : (r : Rule) → May finished s r → AllFine IsFine (asking s r) (acts finished s r)
@@ -181,13 +178,7 @@ module _ (tables : TablesValue) (w : Workspace) (from : Beginning) (answer : Col
     fine_rule (closes_module parent child rest) may = (tt, (tt, tt))
     fine_rule (reaches_call site head path rest) may = (tt, (tt, tt))
     fine_rule rests may = (tt, tt)
-    fine_rule (expands_call i d makro x) may =
-        let home : d.site.home < length s.core.map.modules = call_below (length s.core.map.modules) s.core.calls i d in_range.calls may.due.waiting.call in
-        let call : IsCall tables w answer.asked answer.map.id.krate d = call_placed tables w from answer s.core.calls i d written.calls may.due.waiting.call in
-        let there : d.site.home < length answer.map.modules = omega arith in
-        let told : (text : List ℕ) → IsTold (failed_call (module_id s.core.map d.site.home) d.ast_id (path_of_call d) text) =
-        λ text. told_call s.core.map.id d (failed_call (module_id s.core.map d.site.home) d.ast_id (path_of_call d) text) written.id there call refl refl in
-        (tt, (tt, fine_failing IsFine _ d (error_of x.there) (λ t text. told text) _))
+    fine_rule (expands_call i d makro x) may = (tt, (tt, fine_failing IsFine (module_id s.core.map d.site.home) d (error_of x.there) (λ t text. call_told d i may.due.waiting.call text) _))
     fine_rule (drops_call i d) may = (tt, tt)
     fine_rule (resolves_imports rule) may = all_fine IsFine (λ t c. tt) (import_acts finished (import_state s) rule) (asking s (resolves_imports rule))
 
@@ -238,6 +229,21 @@ module _ (tables : TablesValue) (w : Workspace) (from : Beginning) (answer : Col
         id = is.node;
       }
 
+  abbrev AreCallsThere : List MacroDirective → Type 0
+  AreCallsThere ds = (d : MacroDirective) → Contains ds d → IsCall tables w answer d × (d.site.home < length answer.map.modules)
+
+  -- a call that waits
+  told_call : (d : MacroDirective) → IsCall tables w answer d → d.site.home < length answer.map.modules → IsTold (call_report answer.map.id d)
+  told_call d c there = record { number = d.site.home; there = there; module_is = refl; of_item = call_item d c }
+
+  told_calls : (ds : List MacroDirective) (fs : List Fate) → AreCallsThere ds → AllTold (unresolved_calls answer.map.id ds fs)
+  told_calls [] fs f = none_told
+  told_calls (d ∷ ds) [] f = none_told
+  told_calls (d ∷ ds) (fates.Waits ∷ fs) f =
+      let first = f d (at_first d ds) in
+      told_more (call_report answer.map.id d ∷ []) (unresolved_calls answer.map.id ds fs) (one_told (call_report answer.map.id d) (told_call d first.0 first.1)) (told_calls ds fs (λ e h. f e (later d ds e h)))
+  told_calls (d ∷ ds) (fates.Handled ∷ fs) f = told_calls ds fs (λ e h. f e (later d ds e h))
+
   abbrev AreImportsThere : List ImportDirective → Type 0
   AreImportsThere rs = (r : ImportDirective) → Contains rs r → IsImport tables w from answer r × (r.home < length answer.map.modules)
 
@@ -247,19 +253,6 @@ module _ (tables : TablesValue) (w : Workspace) (from : Beginning) (answer : Col
       let first = f r (0, omega arith, refl) in
       told_more (report_by (numbered answer.map.id r.home) names r.source r.path) (reports_of answer.map.id names rs)
       (told_source names r first.1 r.source first.0.of_source) (told_reports names rs (λ t h. f t (later r rs t h)))
-
-  -- calls that wait
-  abbrev AreCallsThere : List MacroDirective → Type 0
-  AreCallsThere ds = (d : MacroDirective) → Contains ds d → IsCall tables w answer.asked answer.map.id.krate d × (d.site.home < length answer.map.modules)
-
-  told_calls : (ds : List MacroDirective) (fs : List Fate) → AreCallsThere ds → AllTold (unresolved_calls answer.map.id ds fs)
-  told_calls [] fs f = none_told
-  told_calls (d ∷ ds) [] f = none_told
-  told_calls (d ∷ ds) (fates.Waits ∷ fs) f =
-      let first = f d (0, omega arith, refl) in
-      told_more (call_report answer.map.id d ∷ []) (unresolved_calls answer.map.id ds fs) (one_told _ (told_call answer.map.id d (call_report answer.map.id d) refl first.1 first.0 refl refl))
-      (told_calls ds fs (λ e h. f e (later d ds e h)))
-  told_calls (d ∷ ds) (fates.Handled ∷ fs) f = told_calls ds fs (λ e h. f e (later d ds e h))
 
 -- what is unresolved was found
 unresolved_found : (rs : List ImportDirective) (ts : List TakenValue) (r : ImportDirective) → Contains (unresolved_among rs ts) r → Contains rs r
@@ -276,11 +269,6 @@ import_below : (n : ℕ) (rs : List ImportDirective) (r : ImportDirective) → I
 import_below n [] r f (k, below, is) = let past : k < 0 = below in absurd (omega arith)
 import_below n (x ∷ xs) r f (zero, below, is) = subst (λ (y : ImportDirective). y.home < n) is f.0
 import_below n (x ∷ xs) r f (suc k, below, is) = import_below n xs r f.1 (k, omega (arith, below), is)
-
-call_home : (n : ℕ) (ds : List MacroDirective) (d : MacroDirective) → CallsBelow n ds → Contains ds d → d.site.home < n
-call_home n [] d f (k, below, is) = let past : k < 0 = below in absurd (omega arith)
-call_home n (x ∷ xs) d f (zero, below, is) = subst (λ (y : MacroDirective). y.site.home < n) is f.0
-call_home n (x ∷ xs) d f (suc k, below, is) = call_home n xs d f.1 (k, omega (arith, below), is)
 
 module _ (tables : TablesValue) (w : Workspace) (finished : Maps) (from : Beginning) (answer : CollectedValue) (e : Ends tables w finished from answer) where
   same_count : length answer.map.modules ≡ length e.last.core.map.modules
@@ -310,24 +298,17 @@ module _ (tables : TablesValue) (w : Workspace) (finished : Maps) (from : Beginn
       subst (λ (id : MapId). AllTold tables w from answer (reports_of id (crates_among [] unresolved) unresolved)) (sym last_id)
       (told_reports tables w from answer (crates_among [] unresolved) unresolved imports_there)
 
-  calls_there : AreCallsThere tables w from answer e.last.core.calls
-  calls_there d h =
-      let below : d.site.home < length e.last.core.map.modules = call_home (length e.last.core.map.modules) e.last.core.calls d (in_range-Steps e.derived begun_in_range).calls h in
-      (call_written tables w finished from answer e d h, omega (arith, same_count))
-
   calls_told : AllTold tables w from answer (unresolved_calls e.last.core.map.id e.last.core.calls e.last.core.fates)
   calls_told =
       subst (λ (id : MapId). AllTold tables w from answer (unresolved_calls id e.last.core.calls e.last.core.fates)) (sym last_id)
-      (told_calls tables w from answer e.last.core.calls e.last.core.fates calls_there)
-
-  reports_told : AllTold tables w from answer (leftover_reports e.last.core)
-  reports_told =
-      told_more tables w from answer (unresolved_calls e.last.core.map.id e.last.core.calls e.last.core.fates) (leftover_diagnostics e.last.core.map e.last.core.reached e.last.core.taken) calls_told leftover_told
+      (told_calls tables w from answer e.last.core.calls e.last.core.fates (λ d h. call_there tables w finished from answer e d h))
 
   all_told : AllTold tables w from answer answer.map.diagnostics
   all_told =
+      let calls : List DefDiagnostic = unresolved_calls e.last.core.map.id e.last.core.calls e.last.core.fates in
+      let imports : List DefDiagnostic = leftover_diagnostics e.last.core.map e.last.core.reached e.last.core.taken in
       subst (λ (ds : List DefDiagnostic). AllTold tables w from answer ds) (sym (ap (λ (m : Map). m.diagnostics) e.map_is))
-      (told_more tables w from answer e.last.core.map.diagnostics (leftover_reports e.last.core) last_told.each reports_told)
+      (told_more tables w from answer e.last.core.map.diagnostics (calls ++ imports) last_told.each (told_more tables w from answer calls imports calls_told leftover_told))
 
 pub diagnostics_are_of_items : DiagnosticsAreOfItems
 diagnostics_are_of_items tables w finished from answer e d h = all_told tables w finished from answer e d h

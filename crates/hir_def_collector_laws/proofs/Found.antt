@@ -1,4 +1,4 @@
--- The file that is found for a module, and what a call expands to, is what is seen at its key.
+-- The file that is found for a module is what is seen at its key, and so is what a call expands to.
 use Rattle.std.proofs.Common.{◌≡◌, ◌∙◌, List, [], ◌∷◌, ◌++◌, Option, Some, None, refl, sym, ap, subst, arith, Contains}
 use Rattle.std.specs.Option.{option_to_list}
 use Rattle.hir_base.specs.declared.ast_id.FileId.{FileId}
@@ -35,16 +35,16 @@ module _ (tables : TablesValue) (w : Workspace) (finished : Maps) (krate : Crate
       left None s = s
       left (Some g) s = s.1
 
-module _ (krate : Crate) (d : MacroDirective) where
-  -- the tree of what a call expands to is read
-  pub expansion_read : (makro : MacroId) (x : Expanding) → Contains (keys_read (text_readings makro x.text ++ expansion_readings krate d x)) (keys.Tree (call_key krate x.id))
-  expansion_read (macros.Macro2Id id) x = (3, omega arith, refl)
-  expansion_read (macros.MacroRulesId id) x = (3, omega arith, refl)
-  expansion_read (macros.ProcMacroId id) x = (2, omega arith, refl)
-
+-- so is the tree of what a call expands to
 module _ (tables : TablesValue) (w : Workspace) (finished : Maps) (krate : Crate) (d : MacroDirective) where
-  pub expansion_seen : (makro : MacroId) (x : Expanding) → Sees (environment tables w) finished (text_readings makro x.text ++ expansion_readings krate d x)
-      → (tree_at tables w (call_key krate x.id)).tree ≡ x.tree.tree
-  expansion_seen (macros.Macro2Id id) x sees = ap (λ (l : Look). (seen_tree l (seen_of absent_source)).tree) sees.1.1.1.0
-  expansion_seen (macros.MacroRulesId id) x sees = ap (λ (l : Look). (seen_tree l (seen_of absent_source)).tree) sees.1.1.1.0
-  expansion_seen (macros.ProcMacroId id) x sees = ap (λ (l : Look). (seen_tree l (seen_of absent_source)).tree) sees.1.1.0
+  pub expansion_seen : (makro : MacroId) (x : Expanding) → Sees (environment tables w) finished (text_readings makro x.text ++ expansion_readings krate d x) → tree_at tables w (call_key krate x.id) ≡ x.tree
+  expansion_seen (macros.Macro2Id id) x sees = ap (λ (l : Look). seen_tree l (seen_of absent_source)) sees.1.1.1.0
+  expansion_seen (macros.MacroRulesId id) x sees = ap (λ (l : Look). seen_tree l (seen_of absent_source)) sees.1.1.1.0
+  expansion_seen (macros.ProcMacroId id) x sees = ap (λ (l : Look). seen_tree l (seen_of absent_source)) sees.1.1.0
+
+-- and its key is among those that are read
+pub expansion_read : (krate : Crate) (d : MacroDirective) (makro : MacroId) (x : Expanding)
+    → Contains (keys_read (text_readings makro x.text ++ expansion_readings krate d x)) (keys.Tree (call_key krate x.id))
+expansion_read krate d (macros.Macro2Id id) x = (3, omega arith, refl)
+expansion_read krate d (macros.MacroRulesId id) x = (3, omega arith, refl)
+expansion_read krate d (macros.ProcMacroId id) x = (2, omega arith, refl)

@@ -29,7 +29,7 @@ use Rattle.hir_def_collector.proofs.Changes.{Keeps-act}
 use Rattle.hir_def_collector.proofs.Grows.{Grows-act}
 use Rattle.hir_def_collector.proofs.ImportEdits.{Edit, edit, edit_of, edited, map_after}
 use Rattle.hir_def_collector.proofs.Lists.{get_left}
-use Rattle.hir_def_collector_laws.proofs.Lists.{at_home}
+use Rattle.hir_def_collector_laws.specs.Expansions.{at_home}
 
 -- ---- what is listed
 
@@ -101,7 +101,7 @@ added-edited : (m : Map) (o : Option (ℕ × Edit)) (k : ℕ) → declarations_o
 added-edited m None k = same_list (declarations_of (module_at m k)) refl
 added-edited m (Some e) k = added-scope m e.0 (edit (numbered m.id e.0) e.1) (λ s. (keeps-edit (numbered m.id e.0) e.1).declared s) k
 
-pub added-act : (s : State) (c : Change) (k : ℕ) → k < length s.core.map.modules
+added-act : (s : State) (c : Change) (k : ℕ) → k < length s.core.map.modules
     → declarations_of (module_at (act s c).core.map k) ≡ declarations_of (module_at s.core.map k) ++ added c k
 added-act s (lists home d) k low = added-listed s.core.map home d k low
 added-act s (makes home name origin visibility) k low =
@@ -155,7 +155,6 @@ reporting_unlisted at node expander k = go (is_unimplemented expander)
     go true = refl
     go false = refl
 
--- nor does what is reported of a call
 pub failing_unlisted : (at : ModuleId) (d : MacroDirective) (error : Option (List ℕ)) (k : ℕ) → all_added (failing at d error) k ≡ []
 failing_unlisted at d None k = refl
 failing_unlisted at d (Some text) k = refl
@@ -237,10 +236,6 @@ failing_makes_none at d None = refl
 failing_makes_none at d (Some text) = refl
 
 -- nor do they change what comes next
-pub failing_agenda : (t : State) (at : ModuleId) (d : MacroDirective) (error : Option (List ℕ)) → (perform t (failing at d error)).agenda ≡ t.agenda
-failing_agenda t at d None = refl
-failing_agenda t at d (Some text) = refl
-
 pub macro_agenda : (t : State) (head : Head) (name : List ℕ) (makro : MacroId) (at : ModuleId) (node : AstId) (expander : MacroExpander)
     → (perform t (exporting head name makro ++ reporting at node expander)).agenda ≡ t.agenda
 macro_agenda t head name makro at node expander = go (is_exported head.attributes) (is_unimplemented expander)
@@ -258,6 +253,10 @@ reporting_agenda t at node expander = go (is_unimplemented expander)
     go : (unimplemented : Bool) → (perform t (cond unimplemented (tells (unimplemented_macro at node) ∷ []) [])).agenda ≡ t.agenda
     go true = refl
     go false = refl
+
+pub failing_agenda : (t : State) (at : ModuleId) (d : MacroDirective) (error : Option (List ℕ)) → (perform t (failing at d error)).agenda ≡ t.agenda
+failing_agenda t at d None = refl
+failing_agenda t at d (Some text) = refl
 
 -- ---- what stays of modules, and of the map
 

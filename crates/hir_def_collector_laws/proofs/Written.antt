@@ -1,5 +1,5 @@
--- Each import and each macro call of a run is written in a tree that was asked for.
-use Rattle.std.proofs.Common.{◌≡◌, ◌∙◌, ◌<◌, ◌||◌, ℕ, zero, suc, List, [], ◌∷◌, ◌++◌, length, Bool, true, false, Option, None, Some, map as list_map, slice_get, inl, inr, refl, sym, ap, subst, arith, append_assoc, Contains}
+-- Each import and each call of a run is written in a tree that was asked for.
+use Rattle.std.proofs.Common.{◌≡◌, ◌∙◌, ◌<◌, ◌||◌, ℕ, zero, suc, List, [], ◌∷◌, ◌++◌, length, Bool, true, false, Option, None, Some, map as list_map, inl, inr, refl, sym, ap, subst, arith, append_assoc, Contains}
 use Rattle.std.proofs.lemmas.List.Elements.{Contains-append_cases, Contains-append_left, Contains-append_right}
 use Rattle.hir_base.specs.declared.ids.Crate.{Crate}
 use Rattle.hir_base.specs.declared.ids.MapId.{MapId}
@@ -33,8 +33,8 @@ use Rattle.hir_def_collector.specs.declared.collector.site.Site.{Site}
 use Rattle.hir_def_collector.specs.declared.source_database.Dependency.{Dependency}
 use Rattle.hir_def_collector.specs.declared.source_database.Key.{Key}
 use Rattle.hir_def_collector.specs.declared.source_database.Key.TheVariants as keys
-use Rattle.hir_def_collector.specs.Changes.{Change, lists, makes, gives_variants, begins_paths, reaches, awaits, ends, settles, changes_imports, adds_textual, takes_textual, defines, uses_macros, tells, goes_on, act}
 use Rattle.hir_def_collector.specs.Calls.{Expanding, call_key, call_site, call_tree, error_of, expansion_readings, text_readings}
+use Rattle.hir_def_collector.specs.Changes.{Change, lists, makes, gives_variants, begins_paths, reaches, awaits, ends, settles, changes_imports, adds_textual, takes_textual, defines, uses_macros, tells, goes_on, act}
 use Rattle.hir_def_collector.specs.Derivation.{CollectedValue}
 use Rattle.hir_def_collector.specs.Imports.{crate_import, crate_named, reached_import}
 use Rattle.hir_def_collector.specs.Keys.{environment, tree_at}
@@ -43,13 +43,14 @@ use Rattle.hir_def_collector.specs.ModuleFiles.{ModuleFile, Search, file_key, fi
 use Rattle.hir_def_collector.specs.Start.{Beginning, krate_of, root_key, root_site, root_tree, start_of, tree_visits}
 use Rattle.hir_def_collector.specs.State.{State, Task, Visit, visits, closes, import_state, visits_over}
 use Rattle.hir_def_collector.specs.Steps.{Rule, drops_item, reaches_call, rests, expands_call, drops_call, defines_rules, defines_macro, closes_module, closing, declares_item, declares_enum, lists_constant, lists_impl, opens_module, opens_file, drops_file, misses_file, enters_block, reaches_imports, reaches_crate, resolves_imports, May, Opens, Sees, Step, Steps, acts, asking, inside_block, inside_file, inside_module, keys_read, more, none, path_of, reads, search_readings, visits_in_file, visits_inside}
-use Rattle.hir_def_collector.specs.Workspace.{Workspace, dependencies_in}
+use Rattle.hir_def_collector.specs.Workspace.{TreeLook, Workspace, dependencies_in}
 use Rattle.hir_def_collector.proofs.Asks.{only, still_asked-Step}
 use Rattle.hir_def_collector.proofs.Changes.{AllFine, Keeps, Keeps-act, asked-Step, fine_failing, fine_macro, fine_reporting, perform_keeps}
 use Rattle.hir_def_collector.proofs.ImportEdits.{imports_after}
 use Rattle.hir_def_collector.proofs.ModuleFiles.{found_read}
+use Rattle.hir_def_collector_laws.specs.Calls.{IsCall}
 use Rattle.hir_def_collector_laws.specs.Imports.{IsImport}
-use Rattle.hir_def_collector_laws.specs.Written.{IsCall, IsIn, IsWritten, behind, first, inside}
+use Rattle.hir_def_collector_laws.specs.Written.{IsIn, IsWritten, behind, first, inside}
 use Rattle.hir_def_collector_laws.proofs.Found.{expansion_read, expansion_seen, found_seen}
 use Rattle.hir_def_collector_laws.proofs.Lists.{at_first, later, replaced, standing}
 
@@ -81,11 +82,6 @@ module _ (tables : TablesValue) (w : Workspace) (from : Beginning) (answer : Col
   AreImports [] = Unit {0}
   AreImports (r ∷ rs) = IsImport tables w from answer r × AreImports rs
 
-  -- so is each call
-  abbrev pub AreCalls : List MacroDirective → Type 0
-  AreCalls [] = Unit {0}
-  AreCalls (d ∷ ds) = IsCall tables w answer.asked own.krate d × AreCalls ds
-
   -- an import that is a glob of this id into this module
   pub record IsOfGlob (imports : List ImportDirective) (edge : Edge) : Type 0 where
     pub directive : ImportDirective
@@ -96,13 +92,18 @@ module _ (tables : TablesValue) (w : Workspace) (from : Beginning) (answer : Col
   abbrev pub AreOfGlobs : List ImportDirective → List Edge → Type 0
   AreOfGlobs imports edges = (edge : Edge) → Contains edges edge → IsOfGlob imports edge
 
+  -- each call is written
+  abbrev pub AreCalls : List MacroDirective → Type 0
+  AreCalls [] = Unit {0}
+  AreCalls (d ∷ ds) = IsCall tables w answer d × AreCalls ds
+
   pub record IsAllWritten (s : State) : Type 0 where
     pub id : s.core.map.id ≡ own
     pub dependencies : s.core.dependencies ≡ dependencies_in w (krate_of from.start)
     pub visits : ArePlaced s.agenda
     pub imports : AreImports s.core.reached
-    pub globs : AreOfGlobs s.core.reached s.core.globs.edges
     pub calls : AreCalls s.core.calls
+    pub globs : AreOfGlobs s.core.reached s.core.globs.edges
 
   -- ---- lists
 
@@ -144,14 +145,9 @@ module _ (tables : TablesValue) (w : Workspace) (from : Beginning) (answer : Col
   calls_joined [] es f g = g
   calls_joined (d ∷ ds) es f g = (f.0, calls_joined ds es f.1 g)
 
-  pub call_placed : (ds : List MacroDirective) (i : ℕ) (d : MacroDirective) → AreCalls ds → slice_get ds i ≡ Some d → IsCall tables w answer.asked own.krate d
-  call_placed [] i d f e = absurd cc
-  call_placed (x ∷ xs) zero d f e = let same : x ≡ d = cc in subst (λ (y : MacroDirective). IsCall tables w answer.asked own.krate y) same f.0
-  call_placed (x ∷ xs) (suc i) d f e = call_placed xs i d f.1 e
-
-  pub call_among : (ds : List MacroDirective) (d : MacroDirective) → AreCalls ds → Contains ds d → IsCall tables w answer.asked own.krate d
+  pub call_among : (ds : List MacroDirective) (d : MacroDirective) → AreCalls ds → Contains ds d → IsCall tables w answer d
   call_among [] d f (n, below, is) = absurd (omega arith)
-  call_among (x ∷ xs) d f (zero, below, is) = subst (λ (y : MacroDirective). IsCall tables w answer.asked own.krate y) is f.0
+  call_among (x ∷ xs) d f (zero, below, is) = subst (λ (y : MacroDirective). IsCall tables w answer y) is f.0
   call_among (x ∷ xs) d f (suc n, below, is) = call_among xs d f.1 (n, omega (arith, below), is)
 
   -- ---- imports of one item
@@ -244,8 +240,8 @@ module _ (tables : TablesValue) (w : Workspace) (from : Beginning) (answer : Col
     dependencies = keeps.dependencies ∙ f.dependencies;
     visits = subst ArePlaced (sym agenda) f.visits;
     imports = subst AreImports (sym reached) f.imports;
-    globs = subst (λ (rs : List ImportDirective). AreOfGlobs rs t.core.globs.edges) (sym reached) (subst (AreOfGlobs s.core.reached) (sym edges) f.globs);
     calls = subst AreCalls (sym calls) f.calls;
+    globs = subst (λ (rs : List ImportDirective). AreOfGlobs rs t.core.globs.edges) (sym reached) (subst (AreOfGlobs s.core.reached) (sym edges) f.globs);
   }
 
   written-imports : (s : State) (c : ImportChange) → IsAllWritten s → IsFineImport s c → IsAllWritten (act s (changes_imports c))
@@ -256,7 +252,7 @@ module _ (tables : TablesValue) (w : Workspace) (from : Beginning) (answer : Col
   written-imports s (takes i t) f fine = same_but s _ (Keeps-act s (changes_imports (takes i t))) refl refl refl refl f
   written-imports s (records edges) f fine =
       let keeps : Keeps s (act s (changes_imports (records edges))) = Keeps-act s (changes_imports (records edges)) in
-      record { id = keeps.id ∙ f.id; dependencies = keeps.dependencies ∙ f.dependencies; visits = f.visits; imports = f.imports; globs = fine; calls = f.calls }
+      record { id = keeps.id ∙ f.id; dependencies = keeps.dependencies ∙ f.dependencies; visits = f.visits; imports = f.imports; calls = f.calls; globs = fine }
   written-imports s (along finished a) f fine =
       same_but s _ (Keeps-act s (changes_imports (along finished a))) refl (imports_after (import_state s) (along finished a)) (edges_along finished a) refl f
     where
@@ -276,10 +272,17 @@ module _ (tables : TablesValue) (w : Workspace) (from : Beginning) (answer : Col
     dependencies = f.dependencies;
     visits = f.visits;
     imports = imports_joined s.core.reached rs f.imports fine;
-    globs = more_imports s.core.reached rs s.core.globs.edges f.globs;
     calls = f.calls;
+    globs = more_imports s.core.reached rs s.core.globs.edges f.globs;
   }
-  written-act s (awaits calls) f fine = record { id = f.id; dependencies = f.dependencies; visits = f.visits; imports = f.imports; globs = f.globs; calls = calls_joined s.core.calls calls f.calls fine }
+  written-act s (awaits calls) f fine = record {
+    id = f.id;
+    dependencies = f.dependencies;
+    visits = f.visits;
+    imports = f.imports;
+    calls = calls_joined s.core.calls calls f.calls fine;
+    globs = f.globs;
+  }
   written-act s (ends i fate) f fine = same_but s _ (Keeps-act s (ends i fate)) refl refl refl refl f
   written-act s settles f fine = same_but s _ (Keeps-act s settles) refl refl refl refl f
   written-act s (changes_imports c) f fine = written-imports s c f fine
@@ -288,7 +291,7 @@ module _ (tables : TablesValue) (w : Workspace) (from : Beginning) (answer : Col
   written-act s (defines node makro) f fine = same_but s _ (Keeps-act s (defines node makro)) refl refl refl refl f
   written-act s (uses_macros macros by) f fine = same_but s _ (Keeps-act s (uses_macros macros by)) refl refl refl refl f
   written-act s (tells d) f fine = same_but s _ (Keeps-act s (tells d)) refl refl refl refl f
-  written-act s (goes_on vs) f fine = record { id = f.id; dependencies = f.dependencies; visits = fine; imports = f.imports; globs = f.globs; calls = f.calls }
+  written-act s (goes_on vs) f fine = record { id = f.id; dependencies = f.dependencies; visits = fine; imports = f.imports; calls = f.calls; globs = f.globs }
 
   -- ---- rules
 
@@ -318,21 +321,22 @@ module _ (tables : TablesValue) (w : Workspace) (from : Beginning) (answer : Col
         subst (λ (id : MapId). Placed id (file_tree m.crate_data.edition file.id) i) f.id
         (record {
           key_asked = read key (found_read m.id.krate m.crate_data.edition search.absent search.found file may.found);
-          top = λ unexpanded. subst (λ (t : Tree). is_enabled t.attributes ≡ true) (sym is) may.enabled;
+          top = λ apart. subst (λ (t : Tree). is_enabled t.attributes ≡ true) (sym is) may.enabled;
           within = subst (λ (t : Tree). IsIn i t.items) (sym is) h;
         })
 
     -- those to which a call expands
-    expansion_inside : (d : MacroDirective) (makro : MacroId) (x : Expanding) → Sees (environment tables w) finished (text_readings makro x.text ++ expansion_readings s.core.map.id.krate d x)
+    call_inside : (d : MacroDirective) (makro : MacroId) (x : Expanding) → Sees (environment tables w) finished (text_readings makro x.text ++ expansion_readings s.core.map.id.krate d x)
         → ((key : TreeKey) → Contains (keys_read (text_readings makro x.text ++ expansion_readings s.core.map.id.krate d x)) (keys.Tree key) → Contains answer.asked (keys.Tree key))
         → (i : KeptItem) → IsIn i x.tree.tree.items → Placed own (call_tree x.id) i
-    expansion_inside d makro x sees read i h =
-        let is : (tree_at tables w (call_key s.core.map.id.krate x.id)).tree ≡ x.tree.tree = expansion_seen tables w finished s.core.map.id.krate d makro x sees in
+    call_inside d makro x sees read i h =
+        let krate : Crate = s.core.map.id.krate in
+        let is : tree_at tables w (call_key krate x.id) ≡ x.tree = expansion_seen tables w finished krate d makro x sees in
         subst (λ (id : MapId). Placed id (call_tree x.id) i) f.id
         (record {
-          key_asked = read (call_key s.core.map.id.krate x.id) (expansion_read s.core.map.id.krate d makro x);
-          top = λ unexpanded. absurd (let no : ⊥ = cc in no);
-          within = subst (λ (t : Tree). IsIn i t.items) (sym is) h;
+          key_asked = read (call_key krate x.id) (expansion_read krate d makro x);
+          top = λ apart. absurd (apart x.id refl);
+          within = subst (λ (t : TreeLook). IsIn i t.tree.items) (sym is) h;
         })
 
     along_fine : (acts : List Act) (t : State) → AllFine IsFine t (list_map changes_imports (list_map (along finished) acts))
@@ -341,14 +345,14 @@ module _ (tables : TablesValue) (w : Workspace) (from : Beginning) (answer : Col
 
     -- the globs that are recorded once one is
     recorded : {v : View} (new : List Edge) (e : Edge) → IsOfGlob s.core.reached e → Records v s.core.globs.edges new e → AreOfGlobs s.core.reached new
-    recorded new e g (widens j d wide at end by is) edge h =
+    recorded new e g (widens j d wide at apart by is) edge h =
         elim (replaced s.core.globs.edges j _ edge (subst (λ (xs : List Edge). Contains xs edge) is h)) as (λ _. IsOfGlob s.core.reached edge) [
           | inl old ↦ f.globs edge old
           | inr now ↦
               let before : IsOfGlob s.core.reached d = f.globs d (standing s.core.globs.edges j d at) in
               subst (λ (x : Edge). IsOfGlob s.core.reached x) now (record { directive = before.directive; among = before.among; is_glob = before.is_glob; into = before.into })
         ]
-    recorded new e g (stays j d at end by is) edge h = f.globs edge (subst (λ (xs : List Edge). Contains xs edge) is h)
+    recorded new e g (stays j d at apart by is) edge h = f.globs edge (subst (λ (xs : List Edge). Contains xs edge) is h)
     recorded new e g (adds apart is) edge h =
         elim (Contains-append_cases s.core.globs.edges (e ∷ []) edge (subst (λ (xs : List Edge). Contains xs edge) is h)) as (λ _. IsOfGlob s.core.reached edge) [
           | inl old ↦ f.globs edge old
@@ -395,7 +399,7 @@ module _ (tables : TablesValue) (w : Workspace) (from : Beginning) (answer : Col
         (left _ rest may.next, ((record { head = head; path = path; written = next _ rest may.next; enabled = may.enabled; is = refl }, tt), tt))
     all_fine rests may sees read = (tt, tt)
     all_fine (expands_call i d makro x) may sees read =
-        (tt, (placed_visits (call_site d x.id) x.tree.tree.items (expansion_inside d makro x sees read), fine_failing IsFine _ d (error_of x.there) (λ t text. tt) _))
+        (tt, (placed_visits (call_site d x.id) x.tree.tree.items (call_inside d makro x sees read), fine_failing IsFine _ d (error_of x.there) (λ t text. tt) _))
     all_fine (drops_call i d) may sees read = (tt, tt)
     all_fine (resolves_imports rule) may sees read = imports_fine rule may
 
@@ -409,9 +413,9 @@ module _ (tables : TablesValue) (w : Workspace) (from : Beginning) (answer : Col
   written-Step {finished = finished} {old = old} here step asked f =
       let read : (key : TreeKey) → Contains (keys_read (reads old step.rule)) (keys.Tree key) → Contains answer.asked (keys.Tree key) =
       λ key h. asked (keys.Tree key) (subst (λ (ks : List Key). Contains ks (keys.Tree key)) (sym (asked-Step step)) (Contains-append_right old.core.asked (keys_read (reads old step.rule)) (keys.Tree key) h)) in
-      let begun : IsAllWritten (asking old step.rule) = record { id = f.id; dependencies = f.dependencies; visits = f.visits; imports = f.imports; globs = f.globs; calls = f.calls } in
+      let begun : IsAllWritten (asking old step.rule) = record { id = f.id; dependencies = f.dependencies; visits = f.visits; imports = f.imports; calls = f.calls; globs = f.globs } in
       let done = perform_keeps IsAllWritten IsFine written-act (acts finished old step.rule) (asking old step.rule) begun (all_fine here finished old f step.rule step.may step.sees read) in
-      subst IsAllWritten (sym step.is) (record { id = done.id; dependencies = done.dependencies; visits = done.visits; imports = done.imports; globs = done.globs; calls = done.calls })
+      subst IsAllWritten (sym step.is) (record { id = done.id; dependencies = done.dependencies; visits = done.visits; imports = done.imports; calls = done.calls; globs = done.globs })
 
   pub written-Steps : {finished : Maps} {first_state last : State} → own.krate ≡ krate_of from.start → Steps (environment tables w) finished first_state last → AreAsked last → IsAllWritten first_state → IsAllWritten last
   written-Steps here none asked f = f
@@ -426,8 +430,8 @@ module _ (tables : TablesValue) (w : Workspace) (from : Beginning) (answer : Col
     dependencies = refl;
     visits = go (is_enabled (root_tree tables w from).attributes) refl;
     imports = tt;
-    globs = λ edge h. absurd (no_edge edge h);
     calls = tt;
+    globs = λ edge h. absurd (no_edge edge h);
   }
     where
       no_edge : (edge : Edge) → Contains [] edge → ⊥
@@ -436,7 +440,7 @@ module _ (tables : TablesValue) (w : Workspace) (from : Beginning) (answer : Col
       placed : is_enabled (root_tree tables w from).attributes ≡ true → (i : KeptItem) → IsIn i (root_tree tables w from).items → Placed own from.tree i
       placed on i h =
           subst (λ (k : Crate). IsWritten tables w answer.asked (record { krate = k; id = from.tree }) i) (sym here)
-          (record { key_asked = asked (root_key from.start from.tree) (0, omega arith, refl); top = λ unexpanded. on; within = h })
+          (record { key_asked = asked (root_key from.start from.tree) (0, omega arith, refl); top = λ apart. on; within = h })
 
       go : (b : Bool) → is_enabled (root_tree tables w from).attributes ≡ b → ArePlaced (tree_visits (root_site from.tree) (root_tree tables w from))
       go true e = rw e (placed_visits (root_site from.tree) (root_tree tables w from).items (placed e))

@@ -1,5 +1,5 @@
 -- Where all edges are to be looked at again, globs are kept.
-use Rattle.std.proofs.Common.{◌≡◌, ◌∙◌, ap, sym, subst, refl, ℕ, ◌<◌, ◌≤◌, ◌-◌, ◌⊎◌, inl, inr, List, Option, None, Some, slice_get}
+use Rattle.std.proofs.Common.{◌≡◌, ap, sym, subst, refl, ℕ, ◌<◌, ◌≤◌, ◌-◌, ◌⊎◌, inl, inr, true, List, Option, None, Some, slice_get}
 use Rattle.std.specs.Prelude.{Contains, IsSome}
 use Rattle.hir_glob_imports.specs.declared.edge.Bound.{Bound}
 use Rattle.hir_glob_imports.specs.declared.edge.Brought.{Brought}
@@ -24,15 +24,16 @@ reopened v g there stands each = record { there = there; settled = λ j e key is
     on j e key is (Some b) some = inl (each j e key is (subst (λ (o : Option Bound). IsSome o) (sym some) refl))
 
 -- the same where what is kept was seen otherwise
-pub reopened_from : (v : View) (old inside : GlobsValue) (pending : List (ℕ × Key)) → inside ≡ old
+pub reopened_from : (v : View) (old inside : GlobsValue) (edges : List Edge) (pending : List (ℕ × Key)) → inside ≡ old → edges ≡ inside.edges
     → ((j : ℕ) (e : Edge) → slice_get old.edges j ≡ Some e → v.has e.importer ≡ true)
     → ((q : Slot) (by : Brought) → brought_of old q ≡ Some by → Stands v q by)
-    → ((j : ℕ) (e : Edge) (key : Key) → slice_get inside.edges j ≡ Some e → IsSome (v.bound e.source key) → Contains pending (j, key))
+    → ((j : ℕ) (e : Edge) (key : Key) → slice_get edges j ≡ Some e → IsSome (v.bound e.source key) → Contains pending (j, key))
     → IsKept v (record { edges = inside.edges; brought = inside.brought; pending = pending })
-reopened_from v old inside pending view there stands each =
+reopened_from v old inside edges pending view same there stands each =
     reopened v (record { edges = inside.edges; brought = inside.brought; pending = pending })
     (subst (λ (g : GlobsValue). (j : ℕ) (e : Edge) → slice_get g.edges j ≡ Some e → v.has e.importer ≡ true) (sym view) there)
-    (subst (λ (g : GlobsValue). (q : Slot) (by : Brought) → brought_of g q ≡ Some by → Stands v q by) (sym view) stands) each
+    (subst (λ (g : GlobsValue). (q : Slot) (by : Brought) → brought_of g q ≡ Some by → Stands v q by) (sym view) stands)
+    (λ j e key is shows. each j e key (subst (λ (es : List Edge). slice_get es j ≡ Some e) (sym same) is) shows)
 
 -- one more edge is looked at at all keys of its source
 pub opened_more : (v : View) (old new : List (ℕ × Key)) (edges : List Edge) (left : ℕ) (keys : List Key) → 0 < left

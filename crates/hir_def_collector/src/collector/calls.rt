@@ -14,7 +14,7 @@ ghost use Rattle.hir_def_collector.specs.Derivation.{IsNumberedOut, IsSpent};
 ghost use Rattle.hir_def_collector.specs.ItemIds.{module_id};
 ghost use Rattle.hir_def_collector.specs.Keys.{Environment, IsMeant, input_at, macro_key, macro_tree, source_in, text_at, text_of};
 ghost use Rattle.hir_def_collector.specs.Moves.{Makes, OnceGrown};
-ghost use Rattle.hir_def_collector.specs.State.{at_rest, import_state};
+ghost use Rattle.hir_def_collector.specs.State.{at_rest, core_in, import_state};
 ghost use Rattle.hir_def_collector.specs.Steps.{Expands, Steps, failing, keys_read, with_keys};
 ghost use Rattle.hir_def_collector.specs.Workspace.{entry_look};
 
@@ -171,7 +171,7 @@ fn expansion_key(
 
 /// Why a call didn't expand, or not well.
 fn error_of(alloc: Global, look: ExpansionLook<'_>) -> Result<Option<Text>, AllocError>
-    ensures value { IfOk result (λ error. error ≡ error_of (entry_look look)) }
+    ensures value { IfOk result (λ error. error ≡ error_of (entry_look look.entry)) }
 {
     if !look.present {
         return Ok(Some(Text::from_str(alloc, "absent")?));
@@ -193,7 +193,7 @@ struct Expansion {
 
 /// Notes the text of a macro as asked for, where a source writes it.
 fn ask_text(run: &mut DefCollector, makro: MacroId) -> Result<(), AllocError>
-    ensures ok { OnOk result ((text : _) → run.new ≡ record run.old { asked = with_keys run.old.asked (keys_read (text_readings makro text)) }) }
+    ensures ok { OnOk result ((text : _) → core_in run.new ≡ record (core_in run.old) { asked = with_keys (core_in run.old).asked (keys_read (text_readings makro text)) }) }
 {
     match makro {
         MacroId::Macro2Id(_) | MacroId::MacroRulesId(_) => run.ask(Key::Text(makro)),
@@ -213,7 +213,7 @@ fn look_at_call<D: SourceDatabase>(
     ensures kept { KeepsTables locations.old locations.new }
     ensures same { D.workspace db.new ≡ D.workspace db.old }
     ensures placed { AreCallsPlaced locations.old → AreCallsPlaced locations.new }
-    ensures ok { IfOk result (λ e. (x : Expanding) × SeesCall locations.new (D.workspace db.old) call.now makro run.old run.new x e.source.value
+    ensures ok { IfOk result (λ e. (x : Expanding) × SeesCall locations.new (D.workspace db.old) call.now makro (core_in run.old) (core_in run.new) x e.source.value
         × (e.id ≡ x.id) × (e.error ≡ error_of x.there)) }
     ensures many { result ≡ Err CollectError.TooMany → IsNumberedOut locations.new }
 {
@@ -270,7 +270,7 @@ fn report_failed(
     call: &MacroDirective,
     error: Option<Text>,
 ) -> Result<(), AllocError>
-    ensures ok { OnOk result (Makes (failing (module_id run.old.map call.now.site.home) call.now error) run.old run.new) }
+    ensures ok { OnOk result (Makes (failing (module_id (core_in run.old).map call.now.site.home) call.now error) (core_in run.old) (core_in run.new)) }
 {
     let Some(error) = error else {
         return Ok(());
@@ -289,14 +289,14 @@ fn expand<D: SourceDatabase>(
     call: &MacroDirective,
     makro: MacroId,
 ) -> Result<(), CollectError>
-    requires ready { IsReady locations.old (part_of world) run.old }
-    requires expands { Expands (part_of world) (at_rest run.old) i call.now makro }
+    requires ready { IsReady locations.old (part_of world) (core_in run.old) }
+    requires expands { Expands (part_of world) (at_rest (core_in run.old)) i call.now makro }
     ensures kept { KeepsTables locations.old locations.new }
     ensures same { D.workspace db.new ≡ D.workspace db.old }
     ensures placed { AreCallsPlaced locations.old → AreCallsPlaced locations.new }
-    ensures ok { OnOk result (OnceGrown locations.new (D.workspace db.old) (λ env. Steps env (part_of world.entry) (at_rest run.old) (at_rest run.new))) }
-    ensures handled { OnOk result (slice_get run.new.fates i ≡ Some Fate.Handled) }
-    ensures many { result ≡ Err CollectError.TooMany → OnceGrown locations.new (D.workspace db.old) (λ env. IsSpent env (part_of world.entry) (at_rest run.old)) }
+    ensures ok { OnOk result (OnceGrown locations.new (D.workspace db.old) (λ env. Steps env (part_of world.entry) (at_rest (core_in run.old)) (at_rest (core_in run.new)))) }
+    ensures handled { OnOk result (slice_get (core_in run.new).fates i ≡ Some Fate.Handled) }
+    ensures many { result ≡ Err CollectError.TooMany → OnceGrown locations.new (D.workspace db.old) (λ env. IsSpent env (part_of world.entry) (at_rest (core_in run.old))) }
 {
     let Expansion { id, error, source } = look_at_call(run, db, locations, call, makro)?;
     let site = call_site(call, id)?;
@@ -319,7 +319,7 @@ enum Due {
 
 /// What is to be done about a call.
 fn due_of(run: &DefCollector, world: WorldPart<'_>, call: &MacroDirective) -> Due
-    ensures value { IsDueOf (part_of world.entry) run.now call.now result }
+    ensures value { IsDueOf (part_of world.entry) (core_in run.now) call.now result }
 {
     if run.is_too_deep(call) {
         return Due::TooDeep;
@@ -338,14 +338,14 @@ fn try_call<D: SourceDatabase>(
     locations: &mut Tables,
     i: usize,
 ) -> Result<bool, CollectError>
-    requires ready { IsReady locations.old (part_of world) run.old }
-    requires settled { i < run.old.settled }
+    requires ready { IsReady locations.old (part_of world) (core_in run.old) }
+    requires settled { i < (core_in run.old).settled }
     ensures kept { KeepsTables locations.old locations.new }
     ensures same { D.workspace db.new ≡ D.workspace db.old }
     ensures placed { AreCallsPlaced locations.old → AreCallsPlaced locations.new }
-    ensures ok { OnOk result (OnceGrown locations.new (D.workspace db.old) (λ env. Steps env (part_of world.entry) (at_rest run.old) (at_rest run.new))) }
-    ensures tried { IfOk result (λ done. TriesCall (part_of world.entry) run.old run.new i done) }
-    ensures many { result ≡ Err CollectError.TooMany → OnceGrown locations.new (D.workspace db.old) (λ env. IsSpent env (part_of world.entry) (at_rest run.old)) }
+    ensures ok { OnOk result (OnceGrown locations.new (D.workspace db.old) (λ env. Steps env (part_of world.entry) (at_rest (core_in run.old)) (at_rest (core_in run.new)))) }
+    ensures tried { IfOk result (λ done. TriesCall (part_of world.entry) (core_in run.old) (core_in run.new) i done) }
+    ensures many { result ≡ Err CollectError.TooMany → OnceGrown locations.new (D.workspace db.old) (λ env. IsSpent env (part_of world.entry) (at_rest (core_in run.old))) }
 {
     let Some(call) = run.waiting(i) else {
         return Ok(false);
@@ -373,14 +373,14 @@ fn try_calls<D: SourceDatabase>(
     world: WorldPart<'_>,
     locations: &mut Tables,
 ) -> Result<bool, CollectError>
-    requires ready { IsReady locations.old (part_of world) run.old }
-    requires settled { run.old.settled ≡ length run.old.calls }
+    requires ready { IsReady locations.old (part_of world) (core_in run.old) }
+    requires settled { (core_in run.old).settled ≡ length (core_in run.old).calls }
     ensures kept { KeepsTables locations.old locations.new }
     ensures same { D.workspace db.new ≡ D.workspace db.old }
     ensures placed { AreCallsPlaced locations.old → AreCallsPlaced locations.new }
-    ensures ok { OnOk result (OnceGrown locations.new (D.workspace db.old) (λ env. Steps env (part_of world.entry) (at_rest run.old) (at_rest run.new))) }
-    ensures tried { IfOk result (λ progress. OnceGrown locations.new (D.workspace db.old) (λ env. TriesCalls env (part_of world.entry) run.old run.new progress)) }
-    ensures many { result ≡ Err CollectError.TooMany → OnceGrown locations.new (D.workspace db.old) (λ env. IsSpent env (part_of world.entry) (at_rest run.old)) }
+    ensures ok { OnOk result (OnceGrown locations.new (D.workspace db.old) (λ env. Steps env (part_of world.entry) (at_rest (core_in run.old)) (at_rest (core_in run.new)))) }
+    ensures tried { IfOk result (λ progress. OnceGrown locations.new (D.workspace db.old) (λ env. TriesCalls env (part_of world.entry) (core_in run.old) (core_in run.new) progress)) }
+    ensures many { result ≡ Err CollectError.TooMany → OnceGrown locations.new (D.workspace db.old) (λ env. IsSpent env (part_of world.entry) (at_rest (core_in run.old))) }
 {
     let mut progress = false;
     let end = run.settled();
@@ -398,13 +398,13 @@ fn settle(
     world: WorldPart<'_>,
     apart: bool,
 ) -> Result<DefCollector, CollectError>
-    requires apart { apart ≡ true → IsApart (part_of world) run.map.id run.local }
-    requires imports { (i : ℕ) (r : ImportDirective) → slice_get run.reached i ≡ Some r → r.home < length run.map.modules }
-    requires sound { IsSound (part_of world) (import_state (at_rest run)) }
-    ensures ok { IfOk result (λ run'. (env : Environment) → Steps env (part_of world.entry) (at_rest run) (at_rest run')) }
-    ensures rests { IfOk result (λ run'. IsAtRest (part_of world.entry) (import_state (at_rest run'))) }
+    requires apart { apart ≡ true → IsApart (part_of world) (core_in run).map.id (core_in run).local }
+    requires imports { (i : ℕ) (r : ImportDirective) → slice_get (core_in run).reached i ≡ Some r → r.home < length (core_in run).map.modules }
+    requires sound { IsSound (part_of world) (import_state (at_rest (core_in run))) }
+    ensures ok { IfOk result (λ run'. (env : Environment) → Steps env (part_of world.entry) (at_rest (core_in run)) (at_rest (core_in run'))) }
+    ensures rests { IfOk result (λ run'. IsAtRest (part_of world.entry) (import_state (at_rest (core_in run')))) }
     ensures settled { IfOk result (λ run'. run'.settled ≡ length run'.calls) }
-    ensures many { result ≡ Err CollectError.TooMany → (env : Environment) → IsSpent env (part_of world.entry) (at_rest run) }
+    ensures many { result ≡ Err CollectError.TooMany → (env : Environment) → IsSpent env (part_of world.entry) (at_rest (core_in run)) }
 {
     let mut run = run.settle(world, apart)?;
     run.rest()?;
@@ -422,14 +422,14 @@ pub fn resolve_rounds<D: SourceDatabase>(
     locations: &mut Tables,
     apart: bool,
 ) -> Result<(DefCollector, bool), CollectError>
-    requires apart { apart ≡ true → (local : Local) → IsApart (part_of world) run.map.id local }
-    requires ready { IsReady locations.old (part_of world) run }
+    requires apart { apart ≡ true → (local : Local) → IsApart (part_of world) (core_in run).map.id local }
+    requires ready { IsReady locations.old (part_of world) (core_in run) }
     ensures kept { KeepsTables locations.old locations.new }
     ensures same { D.workspace db.new ≡ D.workspace db.old }
     ensures placed { AreCallsPlaced locations.old → AreCallsPlaced locations.new }
-    ensures ok { IfOk result (λ r. OnceGrown locations.new (D.workspace db.old) (λ env. Steps env (part_of world.entry) (at_rest run) (at_rest r.0))) }
-    ensures rests { IfOk result (λ r. OnceGrown locations.new (D.workspace db.old) (λ env. ComesToRest env (part_of world.entry) run r.0 r.1)) }
-    ensures many { result ≡ Err CollectError.TooMany → OnceGrown locations.new (D.workspace db.old) (λ env. IsSpent env (part_of world.entry) (at_rest run)) }
+    ensures ok { IfOk result (λ r. OnceGrown locations.new (D.workspace db.old) (λ env. Steps env (part_of world.entry) (at_rest (core_in run)) (at_rest (core_in r.0)))) }
+    ensures rests { IfOk result (λ r. OnceGrown locations.new (D.workspace db.old) (λ env. ComesToRest env (part_of world.entry) (core_in run) (core_in r.0) r.1)) }
+    ensures many { result ≡ Err CollectError.TooMany → OnceGrown locations.new (D.workspace db.old) (λ env. IsSpent env (part_of world.entry) (at_rest (core_in run))) }
 {
     let mut run = run;
     let mut rounds: u32 = 0;

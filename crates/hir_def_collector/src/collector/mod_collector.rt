@@ -17,7 +17,7 @@ ghost use Rattle.hir_def_collector.specs.Calls.{AreCallsPlaced};
 ghost use Rattle.hir_def_collector.specs.ModuleFiles.{IsFileMeant};
 ghost use Rattle.hir_def_collector.specs.Items.{file_origin, inline_origin};
 ghost use Rattle.hir_def_collector.specs.Reports.{IsUnconfigured, IsUnresolvedModule};
-ghost use Rattle.hir_def_collector.specs.State.{visits};
+ghost use Rattle.hir_def_collector.specs.State.{core_in, visits};
 ghost use Rattle.hir_def_collector.specs.Steps.{inside_file, visit};
 ghost use Rattle.hir_def_collector.specs.TreeReads.{head_of, visits_at};
 ghost use Rattle.hir_def_collector.specs.Derivation.{IsFull};
@@ -75,8 +75,8 @@ pub enum Inside<'a> {
 /// Lists a constant that has no name.
 fn list_const(run: &mut DefCollector, site: &Site, head: ItemHead<'_>) -> Result<(), CollectError>
     requires enabled { is_enabled (head_of head).attributes ≡ true }
-    ensures ok { OnOk result ((env : Environment) (finished : Maps) → Handles env finished run.old run.new (visit site.now (leaf (head_of head.entry) (constant None))) []) }
-    ensures many { result ≡ Err CollectError.TooMany → STEP_LIMIT ≤ run.old.count }
+    ensures ok { OnOk result ((env : Environment) (finished : Maps) → Handles env finished (core_in run.old) (core_in run.new) (visit site.now (leaf (head_of head.entry) (constant None))) []) }
+    ensures many { result ≡ Err CollectError.TooMany → STEP_LIMIT ≤ (core_in run.old).count }
 {
     let id = ConstId {
         loc: ItemLoc {
@@ -100,8 +100,8 @@ fn visit_const(
     name: &Option<Name>,
 ) -> Result<(), CollectError>
     requires enabled { is_enabled (head_of head).attributes ≡ true }
-    ensures ok { OnOk result ((env : Environment) → Handles env (part_of world.entry) run.old run.new (visit site.now (leaf (head_of head.entry) (constant name.now))) []) }
-    ensures many { result ≡ Err CollectError.TooMany → STEP_LIMIT ≤ run.old.count }
+    ensures ok { OnOk result ((env : Environment) → Handles env (part_of world.entry) (core_in run.old) (core_in run.new) (visit site.now (leaf (head_of head.entry) (constant name.now))) []) }
+    ensures many { result ≡ Err CollectError.TooMany → STEP_LIMIT ≤ (core_in run.old).count }
 {
     match name {
         Some(name) => declare_const(run, world, site, head, name)?,
@@ -118,8 +118,8 @@ fn list_impl(
     of_trait: bool,
 ) -> Result<(), CollectError>
     requires enabled { is_enabled (head_of head).attributes ≡ true }
-    ensures ok { OnOk result ((env : Environment) (finished : Maps) → Handles env finished run.old run.new (visit site.now (leaf (head_of head.entry) (implementation of_trait))) []) }
-    ensures many { result ≡ Err CollectError.TooMany → STEP_LIMIT ≤ run.old.count }
+    ensures ok { OnOk result ((env : Environment) (finished : Maps) → Handles env finished (core_in run.old) (core_in run.new) (visit site.now (leaf (head_of head.entry) (implementation of_trait))) []) }
+    ensures many { result ≡ Err CollectError.TooMany → STEP_LIMIT ≤ (core_in run.old).count }
 {
     let id = ImplId {
         loc: ItemLoc {
@@ -155,10 +155,10 @@ fn open(
     name: &Name,
     origin: ModuleOrigin,
 ) -> Result<u32, CollectError>
-    requires in_range { site.now.home < length run.old.map.modules }
-    ensures made { IfOk result (λ home. home ≡ length run.old.map.modules) }
-    ensures ok { OnOk result (run.new ≡ opened (part_of world.entry) run.old site.now (head_of head.entry) name.now origin) }
-    ensures many { result ≡ Err CollectError.TooMany → IsFull run.old.count run.old.map }
+    requires in_range { site.now.home < length (core_in run.old).map.modules }
+    ensures made { IfOk result (λ home. home ≡ length (core_in run.old).map.modules) }
+    ensures ok { OnOk result (core_in run.new ≡ opened (part_of world.entry) (core_in run.old) site.now (head_of head.entry) name.now origin) }
+    ensures many { result ≡ Err CollectError.TooMany → IsFull (core_in run.old).count (core_in run.old).map }
 {
     let vis = run.visibility(world, site, head);
     let made = run.open(site.home, name.clone()?, origin, vis)?;
@@ -181,13 +181,13 @@ fn visit_inline<'a>(
     name: &Name,
     ids: &'a [ModItemId],
 ) -> Result<Inside<'a>, CollectError>
-    requires in_range { site.now.home < length run.old.map.modules }
+    requires in_range { site.now.home < length (core_in run.old).map.modules }
     requires enabled { is_enabled (head_of head).attributes ≡ true }
-    ensures ok { IfOk result (λ inside. (env : Environment) (items : List KeptItem) → Handles env (part_of world.entry) run.old run.new
+    ensures ok { IfOk result (λ inside. (env : Environment) (items : List KeptItem) → Handles env (part_of world.entry) (core_in run.old) (core_in run.new)
         (visit site.now (holder (head_of head.entry) (inline_module name.now) (items_at items (numbers_of ids.entry.now)))) (tasks_of site.now.home items inside)) }
     ensures within { IfOk result (λ inside. (tables : TablesValue) (w : Workspace) →
-        GoesInside tables w run.old.map.id.krate (length run.new.map.modules) site.now (numbers_of ids.entry.now) inside) }
-    ensures many { result ≡ Err CollectError.TooMany → IsFull run.old.count run.old.map }
+        GoesInside tables w (core_in run.old).map.id.krate (length (core_in run.new).map.modules) site.now (numbers_of ids.entry.now) inside) }
+    ensures many { result ≡ Err CollectError.TooMany → IsFull (core_in run.old).count (core_in run.old).map }
 {
     let path = path_attr(head.attrs.attrs.as_slice());
     let dir = site
@@ -225,11 +225,11 @@ fn open_file(
     name: &Name,
     file: &FoundFile,
 ) -> Result<Site, CollectError>
-    requires in_range { site.now.home < length run.old.map.modules }
-    ensures inside { IfOk result (λ inside. inside ≡ inside_file run.old.map (found_view file.now)) }
-    ensures ok { OnOk result (run.new ≡ opened (part_of world.entry) run.old site.now (head_of head.entry) name.now
-        (file_origin site.now.tree head.entry.id run.old.map.crate_data.edition (found_view file.now))) }
-    ensures many { result ≡ Err CollectError.TooMany → IsFull run.old.count run.old.map }
+    requires in_range { site.now.home < length (core_in run.old).map.modules }
+    ensures inside { IfOk result (λ inside. inside ≡ inside_file (core_in run.old).map (found_view file.now)) }
+    ensures ok { OnOk result (core_in run.new ≡ opened (part_of world.entry) (core_in run.old) site.now (head_of head.entry) name.now
+        (file_origin site.now.tree head.entry.id (core_in run.old).map.crate_data.edition (found_view file.now))) }
+    ensures many { result ≡ Err CollectError.TooMany → IsFull (core_in run.old).count (core_in run.old).map }
 {
     let definition = EditionedFileId {
         file_id: file.id,
@@ -263,8 +263,8 @@ fn drop_file(
     head: ItemHead<'_>,
     cfg: &CfgExpr,
 ) -> Result<(), CollectError>
-    ensures ok { OnOk result (Drops (IsUnconfigured (module_id run.old.map site.now.home) (node_of site.now.tree AstKind.Module head.entry.id) (cfg_view cfg.now) run.old.options) run.old run.new) }
-    ensures many { result ≡ Err CollectError.TooMany → STEP_LIMIT ≤ run.old.count }
+    ensures ok { OnOk result (Drops (IsUnconfigured (module_id (core_in run.old).map site.now.home) (node_of site.now.tree AstKind.Module head.entry.id) (cfg_view cfg.now) (core_in run.old).options) (core_in run.old) (core_in run.new)) }
+    ensures many { result ≡ Err CollectError.TooMany → STEP_LIMIT ≤ (core_in run.old).count }
 {
     let at = run.module_id(site.home);
     let node = mod_node(site.tree, head.id);
@@ -283,11 +283,11 @@ fn miss_file(
     name: &Name,
     candidates: &[Candidate],
 ) -> Result<(), CollectError>
-    requires in_range { site.now.home < length run.old.map.modules }
-    ensures ok { OnOk result (Tells (IsUnresolvedModule (module_id run.old.map site.now.home) (node_of site.now.tree AstKind.Module head.entry.id) (map (λ c. c.text) candidates.now))
-        (opened (part_of world.entry) run.old site.now (head_of head.entry) name.now (inline_origin site.now.tree head.entry.id)) run.new) }
-    ensures many { result ≡ Err CollectError.TooMany → IsFull run.old.count run.old.map
-        × ((d : DefDiagnostic) × IsUnresolvedModule (module_id run.old.map site.now.home) (node_of site.now.tree AstKind.Module head.entry.id) (map (λ c. c.text) candidates.now) d) }
+    requires in_range { site.now.home < length (core_in run.old).map.modules }
+    ensures ok { OnOk result (Tells (IsUnresolvedModule (module_id (core_in run.old).map site.now.home) (node_of site.now.tree AstKind.Module head.entry.id) (map (λ c. c.text) candidates.now))
+        (opened (part_of world.entry) (core_in run.old) site.now (head_of head.entry) name.now (inline_origin site.now.tree head.entry.id)) (core_in run.new)) }
+    ensures many { result ≡ Err CollectError.TooMany → IsFull (core_in run.old).count (core_in run.old).map
+        × ((d : DefDiagnostic) × IsUnresolvedModule (module_id (core_in run.old).map site.now.home) (node_of site.now.tree AstKind.Module head.entry.id) (map (λ c. c.text) candidates.now) d) }
 {
     let node = mod_node(site.tree, head.id);
     let at = run.module_id(site.home);
@@ -311,9 +311,9 @@ fn take_file<'a>(
     name: &Name,
     file: FoundFile,
 ) -> Result<Inside<'a>, CollectError>
-    requires in_range { site.now.home < length run.old.map.modules }
-    ensures ok { IfOk result (λ inside. TakesFile (part_of world.entry) site.now (head_of head.entry) name.now (found_view file) file.source.value run.old run.new inside) }
-    ensures many { result ≡ Err CollectError.TooMany → IsFull run.old.count run.old.map × MayTake site.now (head_of head.entry) (found_view file) run.old }
+    requires in_range { site.now.home < length (core_in run.old).map.modules }
+    ensures ok { IfOk result (λ inside. TakesFile (part_of world.entry) site.now (head_of head.entry) name.now (found_view file) file.source.value (core_in run.old) (core_in run.new) inside) }
+    ensures many { result ≡ Err CollectError.TooMany → IsFull (core_in run.old).count (core_in run.old).map × MayTake site.now (head_of head.entry) (found_view file) (core_in run.old) }
 {
     if let Some(cfg) = &file.source.tree().top_level_attrs().disabled {
         drop_file(run, site, head, cfg)?;
@@ -338,17 +338,17 @@ fn visit_outline<'a, D: SourceDatabase>(
     head: ItemHead<'_>,
     name: &Name,
 ) -> Result<Inside<'a>, CollectError>
-    requires in_range { site.now.home < length run.old.map.modules }
+    requires in_range { site.now.home < length (core_in run.old).map.modules }
     requires enabled { is_enabled (head_of head).attributes ≡ true }
     requires meant { IsFileMeant locations.old site.now.file }
     ensures kept { KeepsTables locations.old locations.new }
     ensures placed { AreCallsPlaced locations.old → AreCallsPlaced locations.new }
     ensures same { D.workspace db.new ≡ D.workspace db.old }
-    ensures ok { IfOk result (λ inside. OnceGrown locations.new (D.workspace db.old) (λ env. (items : List KeptItem) → Handles env (part_of world.entry) run.old run.new
+    ensures ok { IfOk result (λ inside. OnceGrown locations.new (D.workspace db.old) (λ env. (items : List KeptItem) → Handles env (part_of world.entry) (core_in run.old) (core_in run.new)
         (visit site.now (leaf (head_of head.entry) (outline_module name.now))) (tasks_of site.now.home items inside))) }
-    ensures within { IfOk result (λ inside. GoesInside locations.new (D.workspace db.old) run.old.map.id.krate (length run.new.map.modules) site.now [] inside) }
+    ensures within { IfOk result (λ inside. GoesInside locations.new (D.workspace db.old) (core_in run.old).map.id.krate (length (core_in run.new).map.modules) site.now [] inside) }
     ensures many { result ≡ Err CollectError.TooMany → OnceGrown locations.new (D.workspace db.old)
-        (λ env. WalksTooFar env (part_of world.entry) run.old (visits (visit site.now (leaf (head_of head.entry) (outline_module name.now))) ∷ [])) }
+        (λ env. WalksTooFar env (part_of world.entry) (core_in run.old) (visits (visit site.now (leaf (head_of head.entry) (outline_module name.now))) ∷ [])) }
 {
     let path = path_attr(head.attrs.attrs.as_slice());
     let candidates = site.dir.candidates(run.allocator(), name, path)?;
@@ -375,13 +375,13 @@ fn enter<'a>(
     head: ItemHead<'_>,
     ids: &'a [ModItemId],
 ) -> Result<Inside<'a>, CollectError>
-    requires in_range { site.now.home < length run.old.map.modules }
+    requires in_range { site.now.home < length (core_in run.old).map.modules }
     requires enabled { is_enabled (head_of head).attributes ≡ true }
-    ensures ok { IfOk result (λ inside. (env : Environment) (finished : Maps) (items : List KeptItem) → Handles env finished run.old run.new
+    ensures ok { IfOk result (λ inside. (env : Environment) (finished : Maps) (items : List KeptItem) → Handles env finished (core_in run.old) (core_in run.new)
         (visit site.now (holder (head_of head.entry) extern_block (items_at items (numbers_of ids.entry.now)))) (tasks_of site.now.home items inside)) }
     ensures within { IfOk result (λ inside. (tables : TablesValue) (w : Workspace) →
-        GoesInside tables w run.old.map.id.krate (length run.new.map.modules) site.now (numbers_of ids.entry.now) inside) }
-    ensures many { result ≡ Err CollectError.TooMany → STEP_LIMIT ≤ run.old.count }
+        GoesInside tables w (core_in run.old).map.id.krate (length (core_in run.new).map.modules) site.now (numbers_of ids.entry.now) inside) }
+    ensures many { result ≡ Err CollectError.TooMany → STEP_LIMIT ≤ (core_in run.old).count }
 {
     let id = ExternBlockId {
         loc: ItemLoc {
@@ -416,8 +416,8 @@ fn reach_call(
     path: &ModPath,
 ) -> Result<(), CollectError>
     requires enabled { is_enabled (head_of head).attributes ≡ true }
-    ensures ok { OnOk result ((env : Environment) (finished : Maps) → Handles env finished run.old run.new (visit site.now (leaf (head_of head.entry) (macro_call path.now))) []) }
-    ensures many { result ≡ Err CollectError.TooMany → STEP_LIMIT ≤ run.old.count }
+    ensures ok { OnOk result ((env : Environment) (finished : Maps) → Handles env finished (core_in run.old) (core_in run.new) (visit site.now (leaf (head_of head.entry) (macro_call path.now))) []) }
+    ensures many { result ≡ Err CollectError.TooMany → STEP_LIMIT ≤ (core_in run.old).count }
 {
     let call = MacroDirective {
         site: site.clone()?,
@@ -445,13 +445,13 @@ fn visit_leaf(
     head: ItemHead<'_>,
     item: ModItemKind<'_>,
 ) -> Result<(), CollectError>
-    requires in_range { site.now.home < length run.old.map.modules }
+    requires in_range { site.now.home < length (core_in run.old).map.modules }
     requires enabled { is_enabled (head_of head).attributes ≡ true }
     requires single { is_single item ≡ true }
     ensures ok { OnOk result ((env : Environment)
-        → source_in env.tables env.workspace (record { krate = run.old.map.id.krate; id = site.now.tree }) ≡ source.now → (items : List KeptItem)
-        → Handles env (part_of world.entry) run.old run.new (visit site.now (item_of items (head_of head.entry) (kind_content item.entry))) []) }
-    ensures many { result ≡ Err CollectError.TooMany → STEP_LIMIT ≤ run.old.count }
+        → source_in env.tables env.workspace (record { krate = (core_in run.old).map.id.krate; id = site.now.tree }) ≡ source.now → (items : List KeptItem)
+        → Handles env (part_of world.entry) (core_in run.old) (core_in run.new) (visit site.now (item_of items (head_of head.entry) (kind_content item.entry))) []) }
+    ensures many { result ≡ Err CollectError.TooMany → STEP_LIMIT ≤ (core_in run.old).count }
 {
     match item {
         ModItemKind::Use(item) => reach_use(run, site, head, item.use_tree),
@@ -509,18 +509,18 @@ fn visit_item<'a, D: SourceDatabase>(
     head: ItemHead<'_>,
     item: ModItemKind<'a>,
 ) -> Result<Inside<'a>, CollectError>
-    requires in_range { site.now.home < length run.old.map.modules }
+    requires in_range { site.now.home < length (core_in run.old).map.modules }
     requires enabled { is_enabled (head_of head).attributes ≡ true }
-    requires held { IsWritten locations.old (D.workspace db.old) run.old.map.id.krate site.now source.now }
+    requires held { IsWritten locations.old (D.workspace db.old) (core_in run.old).map.id.krate site.now source.now }
     ensures kept { KeepsTables locations.old locations.new }
     ensures placed { AreCallsPlaced locations.old → AreCallsPlaced locations.new }
     ensures same { D.workspace db.new ≡ D.workspace db.old }
-    ensures ok { IfOk result (λ inside. OnceGrown locations.new (D.workspace db.old) (λ env. (items : List KeptItem) → Handles env (part_of world.entry) run.old run.new
+    ensures ok { IfOk result (λ inside. OnceGrown locations.new (D.workspace db.old) (λ env. (items : List KeptItem) → Handles env (part_of world.entry) (core_in run.old) (core_in run.new)
         (visit site.now (item_of items (head_of head.entry) (kind_content item.entry))) (tasks_of site.now.home items inside))) }
-    ensures within { IfOk result (λ inside. GoesInside locations.new (D.workspace db.old) run.old.map.id.krate (length run.new.map.modules) site.now
+    ensures within { IfOk result (λ inside. GoesInside locations.new (D.workspace db.old) (core_in run.old).map.id.krate (length (core_in run.new).map.modules) site.now
         (held_numbers (kind_content item.entry)) inside) }
     ensures many { result ≡ Err CollectError.TooMany → OnceGrown locations.new (D.workspace db.old) (λ env. (items : List KeptItem) →
-        WalksTooFar env (part_of world.entry) run.old (visits (visit site.now (item_of items (head_of head.entry) (kind_content item.entry))) ∷ [])) }
+        WalksTooFar env (part_of world.entry) (core_in run.old) (visits (visit site.now (item_of items (head_of head.entry) (kind_content item.entry))) ∷ [])) }
 {
     match item {
         ModItemKind::Mod(item) => match item.kind {
@@ -543,8 +543,8 @@ fn drop_item(
     item: ModItemKind<'_>,
     cfg: &CfgExpr,
 ) -> Result<(), CollectError>
-    ensures ok { OnOk result (Drops (IsUnconfigured (module_id run.old.map site.now.home) (node_of site.now.tree (kind_of item.entry) id) (cfg_view cfg.now) run.old.options) run.old run.new) }
-    ensures many { result ≡ Err CollectError.TooMany → STEP_LIMIT ≤ run.old.count }
+    ensures ok { OnOk result (Drops (IsUnconfigured (module_id (core_in run.old).map site.now.home) (node_of site.now.tree (kind_of item.entry) id) (cfg_view cfg.now) (core_in run.old).options) (core_in run.old) (core_in run.new)) }
+    ensures many { result ≡ Err CollectError.TooMany → STEP_LIMIT ≤ (core_in run.old).count }
 {
     let node = AstId {
         file_id: site.tree.file,
@@ -578,16 +578,16 @@ fn walk_item<D: SourceDatabase>(
     site: &Site,
     id: ModItemId,
 ) -> Result<(), CollectError>
-    requires in_range { site.now.home < length run.old.map.modules }
-    requires held { IsWritten locations.old (D.workspace db.old) run.old.map.id.krate site.now source.now }
+    requires in_range { site.now.home < length (core_in run.old).map.modules }
+    requires held { IsWritten locations.old (D.workspace db.old) (core_in run.old).map.id.krate site.now source.now }
     requires there { id.0 < length (all_items source.now.tree.items) }
     ensures kept { KeepsTables locations.old locations.new }
     ensures placed { AreCallsPlaced locations.old → AreCallsPlaced locations.new }
     ensures same { D.workspace db.new ≡ D.workspace db.old }
     ensures ok { OnOk result (OnceGrown locations.new (D.workspace db.old)
-        (λ env. Walks env (part_of world.entry) run.old run.new (visits_at source.now.tree site.now (id.0 ∷ [])))) }
+        (λ env. Walks env (part_of world.entry) (core_in run.old) (core_in run.new) (visits_at source.now.tree site.now (id.0 ∷ [])))) }
     ensures many { result ≡ Err CollectError.TooMany → OnceGrown locations.new (D.workspace db.old)
-        (λ env. WalksTooFar env (part_of world.entry) run.old (visits_at source.now.tree site.now (id.0 ∷ []))) }
+        (λ env. WalksTooFar env (part_of world.entry) (core_in run.old) (visits_at source.now.tree site.now (id.0 ∷ []))) }
 {
     let head = head_at(source.tree(), id);
     let item = source.tree().index(id);
@@ -631,16 +631,16 @@ pub fn walk_all<D: SourceDatabase>(
     site: &Site,
     ids: &[ModItemId],
 ) -> Result<(), CollectError>
-    requires in_range { site.now.home < length run.old.map.modules }
-    requires held { IsWritten locations.old (D.workspace db.old) run.old.map.id.krate site.now source.now }
+    requires in_range { site.now.home < length (core_in run.old).map.modules }
+    requires held { IsWritten locations.old (D.workspace db.old) (core_in run.old).map.id.krate site.now source.now }
     requires there { All (λ n. n < length (all_items source.now.tree.items)) (numbers_of ids.now) }
     ensures kept { KeepsTables locations.old locations.new }
     ensures placed { AreCallsPlaced locations.old → AreCallsPlaced locations.new }
     ensures same { D.workspace db.new ≡ D.workspace db.old }
     ensures ok { OnOk result (OnceGrown locations.new (D.workspace db.old)
-        (λ env. Walks env (part_of world.entry) run.old run.new (visits_at source.now.tree site.now (numbers_of ids.now)))) }
+        (λ env. Walks env (part_of world.entry) (core_in run.old) (core_in run.new) (visits_at source.now.tree site.now (numbers_of ids.now)))) }
     ensures many { result ≡ Err CollectError.TooMany → OnceGrown locations.new (D.workspace db.old)
-        (λ env. WalksTooFar env (part_of world.entry) run.old (visits_at source.now.tree site.now (numbers_of ids.now))) }
+        (λ env. WalksTooFar env (part_of world.entry) (core_in run.old) (visits_at source.now.tree site.now (numbers_of ids.now))) }
 {
     for id in ids {
         let id = ModItemId(counted(id.0));

@@ -4,6 +4,7 @@ ghost use Rattle.std.specs.Option.{option_map_or};
 ghost use Rattle.hir_base.specs.Locations.{max_locations};
 ghost use Rattle.hir_item_tree.specs.Collected.{numbered};
 ghost use Rattle.hir_tables.specs.Tables.{KeepsTables, TablesValue};
+ghost use Rattle.hir_def_collector.specs.State.{core_in};
 ghost use Rattle.hir_def_collector.specs.Calls.{AreCallsPlaced};
 ghost use Rattle.hir_def_collector.specs.ModuleFiles.{IsFileMeant, IsNumberOf, file_of_tree, file_tree, named_by, path_attribute, path_in, taken_by};
 ghost use Rattle.hir_def_collector.specs.Moves.{Finds, IsHeld, LooksAt, found_view, looked_view};
@@ -118,8 +119,8 @@ fn look_at<D: SourceDatabase>(
     ensures kept { KeepsTables locations.old locations.new }
     ensures placed { AreCallsPlaced locations.old → AreCallsPlaced locations.new }
     ensures same { D.workspace db.new ≡ D.workspace db.old }
-    ensures ok { IfOk result (λ file. LooksAt locations.new (D.workspace db.old) (option_map (λ p. p.now) declaring.entry) candidate.now run.old run.new (option_map looked_view file)) }
-    ensures held { IfOk result (λ file. IfSome file (λ f. IsHeld locations.new (D.workspace db.old) run.old.map.id.krate (file_tree run.old.map.crate_data.edition f.id) f.source.value)) }
+    ensures ok { IfOk result (λ file. LooksAt locations.new (D.workspace db.old) (option_map (λ p. p.now) declaring.entry) candidate.now (core_in run.old) (core_in run.new) (option_map looked_view file)) }
+    ensures held { IfOk result (λ file. IfSome file (λ f. IsHeld locations.new (D.workspace db.old) (core_in run.old).map.id.krate (file_tree (core_in run.old).map.crate_data.edition f.id) f.source.value)) }
     ensures many { result ≡ Err CollectError.TooMany → max_locations ≤ length locations.new.files }
 {
     let Some(path) = named_by(run.allocator(), declaring, candidate)? else {
@@ -172,8 +173,8 @@ pub fn find_file<D: SourceDatabase>(
     ensures kept { KeepsTables locations.old locations.new }
     ensures placed { AreCallsPlaced locations.old → AreCallsPlaced locations.new }
     ensures same { D.workspace db.new ≡ D.workspace db.old }
-    ensures ok { IfOk result (λ file. Finds locations.new (D.workspace db.old) (option_map (λ p. p.now) declaring.entry) candidates.now run.old run.new (option_map found_view file)) }
-    ensures held { IfOk result (λ file. IfSome file (λ f. IsHeld locations.new (D.workspace db.old) run.old.map.id.krate (file_tree run.old.map.crate_data.edition f.id) f.source.value)) }
+    ensures ok { IfOk result (λ file. Finds locations.new (D.workspace db.old) (option_map (λ p. p.now) declaring.entry) candidates.now (core_in run.old) (core_in run.new) (option_map found_view file)) }
+    ensures held { IfOk result (λ file. IfSome file (λ f. IsHeld locations.new (D.workspace db.old) (core_in run.old).map.id.krate (file_tree (core_in run.old).map.crate_data.edition f.id) f.source.value)) }
     ensures many { result ≡ Err CollectError.TooMany → max_locations ≤ length locations.new.files }
 {
     let [candidate, others @ ..] = candidates else {

@@ -1,56 +1,72 @@
 -- The imports are taken over, their globs are opened, and names go along them.
-use Rattle.std.proofs.Common.{◌≡◌, ◌≤◌, ◌∙◌, ap, rules, subst, sym}
+use Rattle.std.proofs.Common.{◌≤◌, ◌∙◌, ap, rules, subst, sym}
 use Rattle.hir_def_map.specs.WorldParts.{part_of}
 use Rattle.hir_glob_imports.specs.declared.step.TheConstants.{MAX_STEPS}
 use Rattle.hir_import_resolution.specs.Inner.State.{finished_by, state_by, state_in}
-use Rattle.hir_import_resolution.specs.Rest.{IsSound}
 use Rattle.hir_import_resolution.specs.State.{ImportState}
-use Rattle.hir_import_resolution.proofs.Restarting.{Reopened, closed_after, recorded_in, reopened, sound_after, sound_through}
+use Rattle.hir_import_resolution.proofs.Restarting.{closed_after, recorded_in, reopened, sound_after, sound_through}
 use Rattle.hir_import_resolution.proofs.Starting.{spent_through, steps_through}
 use Rattle.hir_import_resolution.proofs.restart.spread_globs.Goals as goal
 
-opened : (c : goal.In_ok-reopen) → Reopened (part_of c.args.world) c.new-queue.result (state_in c.args.imports) c.reopen.new.self
-opened c =
-    let new = c.new-resolver.ensures in
-    reopened (part_of c.args.world) c.new-queue.result (state_in c.args.imports) c.new-resolver.result c.reopen.new.self new.state new.finished new.queue new.changes
-    c.in_ok-reopen.ensures.state c.in_ok-reopen.ensures.rest
-
--- the finished maps stay
-beside : (c : goal.In_ok-spread) → finished_by c.spread.new.self ≡ part_of c.args.world
-beside c = ap part_of c.in_ok-spread.ensures.is.changes.world ∙ (opened c).beside
-
-sound : (c : goal.In_ok-spread) → IsSound (part_of c.args.world) (state_in c.finish-resting.result.imports)
-sound c =
-    sound_after (part_of c.args.world) (state_in c.finish-resting.result.imports) c.spread.new.self c.in_ok-spread.ensures.kept
-    (c.in_ok-spread.ensures.recorded (recorded_in (state_in c.args.imports) c.reopen.new.self (opened c).state c.requires.sound.recorded)) (beside c) c.finish-resting.ensures.state
-
-pub reopen-requires-clause-sound : goal.reopen-requires-clause-sound
-reopen-requires-clause-sound c =
-    sound_through (part_of c.args.world) (finished_by c.new-resolver.result) (state_in c.args.imports) (state_by c.new-resolver.result) (sym c.new-resolver.ensures.finished)
-    c.new-resolver.ensures.state c.requires.sound
+pub reopen-requires : goal.reopen-requires
+reopen-requires c = record {
+  sound =
+      sound_through (part_of c.args.world) (finished_by c.new-resolver.result) (state_in c.args.imports) (state_by c.new-resolver.result) (sym c.new-resolver.ensures.finished)
+      c.new-resolver.ensures.state c.requires.sound;
+}
 
 pub spread-requires-clause-small : goal.spread-requires-clause-small
-spread-requires-clause-small c = subst (λ (s : ImportState). s.count ≤ MAX_STEPS) (sym (opened c).state) c.requires.small
+spread-requires-clause-small c =
+    let new = c.new-resolver.ensures in
+    let at = reopened (part_of c.args.world) c.new-queue.result (state_in c.args.imports) c.new-resolver.result c.reopen.new.self new.state new.finished new.queue new.changes
+    c.in_ok-reopen.ensures.state c.in_ok-reopen.ensures.rest in
+    subst (λ (s : ImportState). s.count ≤ MAX_STEPS) (sym at.state) c.requires.small
 
 pub spread-requires-clause-fresh : goal.spread-requires-clause-fresh
-spread-requires-clause-fresh c = (opened c).fresh
+spread-requires-clause-fresh c =
+    let new = c.new-resolver.ensures in
+    let at = reopened (part_of c.args.world) c.new-queue.result (state_in c.args.imports) c.new-resolver.result c.reopen.new.self new.state new.finished new.queue new.changes
+    c.in_ok-reopen.ensures.state c.in_ok-reopen.ensures.rest in
+    at.fresh
 
 pub returns-in_err-spread-clause-many : goal.returns-in_err-spread-clause-many
 returns-in_err-spread-clause-many c = λ h.
-    spent_through (finished_by c.reopen.new.self) (part_of c.args.world) (state_by c.reopen.new.self) (state_in c.args.imports) (opened c).beside (opened c).state
+    let new = c.new-resolver.ensures in
+    let at = reopened (part_of c.args.world) c.new-queue.result (state_in c.args.imports) c.new-resolver.result c.reopen.new.self new.state new.finished new.queue new.changes
+    c.in_ok-reopen.ensures.state c.in_ok-reopen.ensures.rest in
+    spent_through (finished_by c.reopen.new.self) (part_of c.args.world) (state_by c.reopen.new.self) (state_in c.args.imports) at.beside at.state
     (c.in_err-spread.ensures.many (search rules))
 
 pub returns-clause-derived : goal.returns-clause-derived
 returns-clause-derived c =
+    let new = c.new-resolver.ensures in
+    let at = reopened (part_of c.args.world) c.new-queue.result (state_in c.args.imports) c.new-resolver.result c.reopen.new.self new.state new.finished new.queue new.changes
+    c.in_ok-reopen.ensures.state c.in_ok-reopen.ensures.rest in
     steps_through (finished_by c.reopen.new.self) (part_of c.args.world) (state_by c.reopen.new.self) (state_by c.spread.new.self) (state_in c.args.imports) (state_in c.finish-resting.result.imports)
-    (opened c).beside (opened c).state c.finish-resting.ensures.state c.in_ok-spread.ensures.steps
+    at.beside at.state c.finish-resting.ensures.state c.in_ok-spread.ensures.steps
 
 pub returns-clause-closed : goal.returns-clause-closed
 returns-clause-closed c =
-    closed_after (part_of c.args.world) (state_in c.finish-resting.result.imports) c.spread.new.self c.in_ok-spread.ensures.kept c.in_ok-spread.ensures.pending (beside c) c.finish-resting.ensures.state
+    let new = c.new-resolver.ensures in
+    let at = reopened (part_of c.args.world) c.new-queue.result (state_in c.args.imports) c.new-resolver.result c.reopen.new.self new.state new.finished new.queue new.changes
+    c.in_ok-reopen.ensures.state c.in_ok-reopen.ensures.rest in
+    closed_after (part_of c.args.world) (state_in c.finish-resting.result.imports) c.spread.new.self c.in_ok-spread.ensures.kept c.in_ok-spread.ensures.pending (ap part_of c.in_ok-spread.ensures.is.changes.world ∙ at.beside) c.finish-resting.ensures.state
 
 pub returns-clause-stands : goal.returns-clause-stands
-returns-clause-stands c = (sound c).stands
+returns-clause-stands c =
+    let new = c.new-resolver.ensures in
+    let at = reopened (part_of c.args.world) c.new-queue.result (state_in c.args.imports) c.new-resolver.result c.reopen.new.self new.state new.finished new.queue new.changes
+    c.in_ok-reopen.ensures.state c.in_ok-reopen.ensures.rest in
+    let now = sound_after (part_of c.args.world) (state_in c.finish-resting.result.imports) c.spread.new.self c.in_ok-spread.ensures.kept
+    (c.in_ok-spread.ensures.recorded (recorded_in (state_in c.args.imports) c.reopen.new.self at.state c.requires.sound.recorded))
+    (ap part_of c.in_ok-spread.ensures.is.changes.world ∙ at.beside) c.finish-resting.ensures.state in
+    now.stands
 
 pub returns-clause-sound : goal.returns-clause-sound
-returns-clause-sound c = sound c
+returns-clause-sound c =
+    let new = c.new-resolver.ensures in
+    let at = reopened (part_of c.args.world) c.new-queue.result (state_in c.args.imports) c.new-resolver.result c.reopen.new.self new.state new.finished new.queue new.changes
+    c.in_ok-reopen.ensures.state c.in_ok-reopen.ensures.rest in
+    sound_after (part_of c.args.world) (state_in c.finish-resting.result.imports) c.spread.new.self c.in_ok-spread.ensures.kept
+    (c.in_ok-spread.ensures.recorded (recorded_in (state_in c.args.imports) c.reopen.new.self at.state c.requires.sound.recorded))
+    (ap part_of c.in_ok-spread.ensures.is.changes.world ∙ at.beside) c.finish-resting.ensures.state
