@@ -78,4 +78,4 @@ module _ (env : Environment) (finished : Maps) (old : Core) where
   pub rounds_next : (now settled new : Core) (n : ℕ) → Rounds env finished (at_rest old) (at_rest now) n → Steps env finished (at_rest now) (at_rest settled) → IsRound env finished (at_rest settled) (at_rest new)
       → Rounds env finished (at_rest old) (at_rest new) (n + 1)
   rounds_next now settled new n before between of_round =
-      subst (λ (m : ℕ). Rounds env finished (at_rest old) (at_rest new) m) (sym add-one) (more (at_rest now) (at_rest settled) (at_rest new) n before between of_round)
+      subst (λ (m : ℕ). Rounds env finished (at_rest old) (at_rest new) m) (sym (add-one n)) (more (at_rest now) (at_rest settled) (at_rest new) n before between of_round)
