@@ -1,5 +1,5 @@
 -- Calls that have numbers stay where numbers lead, as tables grow by files.
-use Rattle.std.proofs.Common.{◌≡◌, ◌∙◌, List, Option, Some, slice_get, sym, ap}
+use Rattle.std.proofs.Common.{◌≡◌, ◌∙◌, List, slice_get, sym, ap}
 use Rattle.hir_base.specs.declared.macro_kind.MacroCallLoc.{MacroCallLoc}
 use Rattle.hir_tables.specs.Tables.{KeepsTables, TablesValue}
 use Rattle.hir_def_map.specs.Diagnostics.{call_node}

@@ -6,13 +6,11 @@ use mathlib.Core.Bool.{true≢false}
 use Rattle.hir_base.specs.contracts.ids.MapIdPartialEq.TheImpl as map_id
 use Rattle.hir_base.specs.declared.ids.MapId.{MapId}
 use Rattle.hir_base.specs.declared.ids.ModuleId.{ModuleId}
-use Rattle.hir_item_tree.specs.KeptForest.{holder}
 use Rattle.hir_item_tree.specs.declared.tree_id.TreeKey.{TreeKey}
 use Rattle.hir_def_map.specs.Closed.{ModuleIsThere}
 use Rattle.hir_def_map.specs.Sources.{HoldsNowhereIn, HoldsOfNoExtern, SourceTest, on_import}
 use Rattle.hir_def_map.specs.State.{Map, module_at}
 use Rattle.hir_def_map.specs.Overlay.{Maps, Placed, overlay, placed_in}
-use Rattle.hir_glob_imports.specs.Rules.{brings}
 use Rattle.hir_import_resolution.specs.declared.directive.ImportDirective.{ImportDirective}
 use Rattle.hir_import_resolution.specs.Directives.{way_of}
 use Rattle.hir_def_collector.specs.State.{State, Task, visits, closes}

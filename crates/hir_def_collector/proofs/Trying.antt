@@ -1,5 +1,5 @@
 -- Calls that are tried one after another, and rounds of them.
-use Rattle.std.proofs.Common.{◌≡◌, ◌∙◌, ◌⊎◌, ℕ, zero, suc, ◌+◌, ◌<◌, ◌≤◌, Bool, true, false, ◌||◌, length, slice_get, Option, Some, None, inl, inr, refl, sym, ap, subst, arith, add-one, cond}
+use Rattle.std.proofs.Common.{◌≡◌, ◌∙◌, ◌⊎◌, ℕ, ◌+◌, ◌<◌, ◌≤◌, Bool, true, false, length, slice_get, Some, inl, inr, refl, sym, subst, arith, add-one, cond}
 use Rattle.std.proofs.lemmas.Bool.{cases_lt}
 use Rattle.hir_def_map.specs.Overlay.{Maps}
 use Rattle.hir_def_collector.specs.declared.collector.macro_directive.Fate.TheVariants.{Handled}

@@ -1,5 +1,5 @@
 -- A run leaves maps that name only what is there.
-use Rattle.std.specs.Prelude.{◌≡◌, ◌==◌, ◌&&◌, ℕ, zero, suc, ◌<◌, List, [], ◌∷◌, ◌++◌, length, Bool, true, false, not, is_some, Option, None, Some, cond, map as list_map, option_and_then, slice_get}
+use Rattle.std.specs.Prelude.{◌≡◌, ℕ, zero, suc, ◌<◌, List, [], ◌∷◌, ◌++◌, length, Bool, true, false, not, is_some, Option, None, Some, cond, map as list_map, option_and_then, slice_get}
 use Rattle.std.specs.List.{list_any}
 use Rattle.std.proofs.Common.{ap, refl, subst, sym, ◌∙◌, arith}
 use Rattle.std.specs.Prelude.{nat_eq}
@@ -17,7 +17,7 @@ use Rattle.hir_base.specs.declared.ids.ModuleDefId.TheVariants as definitions
 use Rattle.hir_base.specs.declared.ids.TraitId.{TraitId}
 use Rattle.hir_base.specs.declared.macro_kind.MacroId.{MacroId}
 use Rattle.hir_item_tree.specs.Shape.{has_constructor}
-use Rattle.hir_item_tree.specs.KeptForest.{Head, import}
+use Rattle.hir_item_tree.specs.KeptForest.{Head}
 use Rattle.hir_item_tree.specs.Imports.{imports_of}
 use Rattle.hir_item_tree.specs.declared.shape.ExternCrateName.{ExternCrateName}
 use Rattle.hir_item_tree.specs.declared.shape.ExternCrateName.TheVariants.{SelfCrate, Name}
@@ -59,7 +59,7 @@ use Rattle.hir_def_collector.specs.declared.collector.Start.{Start}
 use Rattle.hir_def_collector.specs.declared.collector.declaration.Declaration.{Declaration}
 use Rattle.hir_glob_imports.specs.Moves.{brought_vis, shown as shown_along}
 use Rattle.hir_glob_imports.specs.declared.edge.Edge.{Edge}
-use Rattle.hir_glob_imports.specs.Rules.{Rule as GlobRule, acts as glob_acts, copies_along, follows_along, raises_along, May as MayAlong, brings}
+use Rattle.hir_glob_imports.specs.Rules.{Rule as GlobRule, acts as glob_acts, copies_along, follows_along, raises_along, May as MayAlong}
 use Rattle.hir_glob_imports.specs.declared.edge.Bound.{Bound}
 use Rattle.hir_glob_imports.specs.declared.edge.Key.{Key}
 use Rattle.hir_glob_imports.specs.declared.edge.Key.TheVariants.{Types, Values, Macros, Unnamed}
@@ -85,7 +85,7 @@ use Rattle.hir_import_resolution.specs.Rules.{Rule as ImportRule, May as MayImpo
 use Rattle.hir_import_resolution.specs.State.{ImportState, scopes_of, glob_state}
 use Rattle.hir_def_collector.specs.Imports.{crate_import, crate_named, dependency_named}
 use Rattle.hir_def_collector.specs.Calls.{error_of}
-use Rattle.hir_def_collector.specs.Changes.{reaches, changes_imports, act}
+use Rattle.hir_def_collector.specs.Changes.{changes_imports, act}
 use Rattle.hir_def_collector.specs.Macros.{macros_beside, macros_brought, with_macros_used}
 use Rattle.hir_def_collector.specs.Moves.{begun}
 use Rattle.hir_def_collector.specs.Preludes.{by_prelude, extern_prelude, joins, module_by, module_named, module_of, prelude_of, prelude_path, with_dependency}
@@ -101,7 +101,7 @@ use Rattle.hir_def_collector.proofs.SourcedEdits.{shown_stands}
 use Rattle.hir_def_collector.proofs.Visible.{greater, imported_fails, lesser_or, on_edge, recorded_fail, some_or, target_reference, visible_there}
 use Rattle.hir_def_collector.proofs.WholeEdits.{DefIsThere, EditIsThere, EditsWhatIsThere}
 use Rattle.hir_def_collector.proofs.WholeEnums.{enum_there, own_variants}
-use Rattle.hir_def_collector.proofs.WholeChanges.{crate_of, root_named, test_import, NamesWhatIsThere, uses_name_none, still_there, seen_still, items_still, root_stands, type_there, value_there, macro_there, declared_item_there, kept_there, open_there, sourced_there, BoundIsThere, BringsWhatIsThere, beside, Extends-beside, Extends-reported, NamesOnly-reported, Extends-used, NamesOnly-used, Extends-edited, trait_seen, names-act}
+use Rattle.hir_def_collector.proofs.WholeChanges.{crate_of, root_named, test_import, NamesWhatIsThere, uses_name_none, still_there, seen_still, items_still, root_stands, type_there, value_there, macro_there, declared_item_there, kept_there, open_there, sourced_there, BoundIsThere, BringsWhatIsThere, Extends-beside, Extends-reported, NamesOnly-reported, Extends-used, NamesOnly-used, Extends-edited, trait_seen, names-act}
 
 -- ---- rules
 

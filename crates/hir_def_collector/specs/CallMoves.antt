@@ -10,12 +10,12 @@ use Rattle.hir_def_collector.specs.declared.collector.calls.Due.{Due}
 use Rattle.hir_def_collector.specs.declared.collector.calls.Due.TheVariants.{Nothing, TooDeep, Reaches}
 use Rattle.hir_def_collector.specs.declared.collector.macro_directive.Fate.TheVariants.{Handled}
 use Rattle.hir_def_collector.specs.declared.collector.macro_directive.MacroDirective.{MacroDirective}
-use Rattle.hir_def_collector.specs.Calls.{Expanding, IsMeantCall, IsNumberedCall, IsWaiting, LeadsNowhere, call_site, called_macro, error_of, expansion_readings, text_readings}
+use Rattle.hir_def_collector.specs.Calls.{Expanding, IsMeantCall, IsNumberedCall, IsWaiting, LeadsNowhere, call_site, called_macro, expansion_readings, text_readings}
 use Rattle.hir_def_collector.specs.Keys.{Environment}
 use Rattle.hir_def_collector.specs.Moves.{IsWritten, OnceGrown}
 use Rattle.hir_def_collector.specs.Rounds.{HasManyRounds, IsRound}
 use Rattle.hir_def_collector.specs.State.{Core, at_rest, import_state}
-use Rattle.hir_def_collector.specs.Steps.{Sees, Steps, keys_read, with_keys}
+use Rattle.hir_def_collector.specs.Steps.{Sees, keys_read, with_keys}
 use Rattle.hir_def_collector.specs.Workspace.{Workspace, seen_of}
 
 -- what holds of a run wherever steps lead that began with a tree whose number means something

@@ -28,7 +28,6 @@ use Rattle.hir_def_map.specs.Overlay.{Maps, overlay}
 use Rattle.hir_def_map.specs.Scoping.{resolution_of}
 use Rattle.hir_def_map.specs.Scoping.Asking.{Asking}
 use Rattle.hir_def_map.specs.State.{Local, Map, numbered}
-use Rattle.hir_def_collector.specs.declared.collector.macro_directive.Fate.{Fate}
 use Rattle.hir_def_collector.specs.declared.collector.macro_directive.Fate.TheVariants as fates
 use Rattle.hir_def_collector.specs.declared.collector.macro_directive.MacroDirective.{MacroDirective}
 use Rattle.hir_def_collector.specs.declared.collector.macro_directive.MacroDirectiveKind.{MacroDirectiveKind}
