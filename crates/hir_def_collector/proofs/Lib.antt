@@ -44,3 +44,4 @@ pub mod Numbers
 pub mod Meaning
 pub mod CallSteps
 pub mod Trying
+pub mod Looking
