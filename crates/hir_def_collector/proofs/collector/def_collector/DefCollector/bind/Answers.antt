@@ -5,9 +5,8 @@ use Rattle.hir_def_map.specs.State.{pushed}
 use Rattle.hir_def_collector.specs.State.{core_in}
 use Rattle.hir_def_collector.proofs.collector.def_collector.DefCollector.bind.Goals as goal
 
-unfolding core_in
-
 pub returns : goal.returns
+unfolding core_in
 returns c = λ i. record {
   map = c.in_ok-push.ensures.ok i;
   local = c.self.inside.local;
