@@ -138,12 +138,12 @@ fn input_at<D: SourceDatabase>(
 }
 
 /// A text, or an empty one.
-fn or_empty(text: Option<Text>) -> Text
-    ensures value { result ≡ unwrap_or text [] }
+fn or_empty(alloc: Global, text: Option<Text>) -> Result<Text, AllocError>
+    ensures value { IfOk result (λ t. t ≡ unwrap_or text []) }
 {
     match text {
-        Some(text) => text,
-        None => Text::blank(),
+        Some(text) => Ok(text),
+        None => Text::from_str(alloc, ""),
     }
 }
 
@@ -154,19 +154,19 @@ fn expansion_key(
     makro: MacroId,
     text: Option<Text>,
     input: Option<Text>,
-) -> ExpansionKey
-    ensures value { expansion_value result ≡ expansion_of_call caller makro text input }
+) -> Result<ExpansionKey, AllocError>
+    ensures value { IfOk result (λ key. expansion_value key ≡ expansion_of_call caller makro text input) }
 {
-    ExpansionKey {
+    Ok(ExpansionKey {
         caller,
         called: MacroText {
             krate: makro.module().map.krate,
-            text: or_empty(text),
+            text: or_empty(alloc, text)?,
         },
         call: CallStyle::Bang,
-        input: or_empty(input),
+        input: or_empty(alloc, input)?,
         reached: Vec::new(alloc),
-    }
+    })
 }
 
 /// Why a call didn't expand, or not well.
@@ -224,7 +224,7 @@ fn look_at_call<D: SourceDatabase>(
     let krate = run.map().id().krate;
     let text = text_at(alloc, db, locations, makro)?;
     let input = input_at(alloc, db, locations, krate, call.ast_id)?;
-    let key = expansion_key(alloc, krate, makro, text, input);
+    let key = expansion_key(alloc, krate, makro, text, input)?;
     let error = error_of(alloc, db.expansion(&key))?;
     let entry = locations.intern_entry(key)?;
     let id = locations.intern_call(MacroCallLoc {

@@ -1,0 +1,20 @@
+-- Names that go along globs do so in the run.
+use Rattle.std.proofs.Common.{rules, refl, subst}
+use Rattle.hir_def_map.specs.WorldParts.{part_of}
+use Rattle.hir_def_collector.specs.Derivation.{IsSpent}
+use Rattle.hir_def_collector.specs.State.{Run, at_rest, core_in}
+use Rattle.hir_def_collector.specs.Steps.{Steps}
+use Rattle.hir_def_collector.proofs.ImportSteps.{spent_from, steps_from}
+use Rattle.hir_def_collector.proofs.collector.def_collector.DefCollector.spread.Goals as goal
+
+pub returns-in_err-imports-clause-many : goal.returns-in_err-imports-clause-many
+unfolding core_in
+returns-in_err-imports-clause-many c = λ h env.
+    subst (λ (r : Run). IsSpent env (part_of c.args.world) (at_rest (core_in r))) c.self.view_is
+    (spent_from _ _ refl (c.in_err-imports.ensures.many (search rules)))
+
+pub returns-clause-ok : goal.returns-clause-ok
+unfolding core_in
+returns-clause-ok c = λ env.
+    subst (λ (r : Run). Steps env (part_of c.args.world) (at_rest (core_in r)) _) c.self.view_is
+    (steps_from _ _ refl c.in_ok-imports.ensures.derived)
