@@ -10,8 +10,8 @@ use Rattle.hir_def_collector.specs.Steps.{Steps, none}
 use Rattle.hir_def_collector.specs.Workspace.{Workspace}
 use Rattle.hir_def_collector.proofs.Moves.{Steps-append, spent_after}
 use Rattle.hir_def_collector.proofs.Numbers.{tables_stay}
-use Rattle.hir_def_collector.proofs.Ready.{ready_after}
-use Rattle.hir_def_collector.proofs.Tried.{settled_more}
+use Rattle.hir_def_collector.proofs.Ready.{ready_after, ready_grown}
+use Rattle.hir_def_collector.proofs.Tried.{settled_bounded, settled_more}
 use Rattle.hir_def_collector.proofs.Trying.{tried_all, tried_next, tried_none}
 use Rattle.hir_def_collector.proofs.collector.calls.try_calls.Goals as goal
 
@@ -23,6 +23,7 @@ loop-i-init g c = record {
   steps = λ grown k. none;
   ready = c.requires.ready;
   more = omega arith;
+  bounded = omega (arith, c.requires.settled);
   tried = λ grown k. tried_none (environment grown (g.D.SourceDatabase.workspace c.args.db.now)) (part_of c.args.world) (core_in c.args.run.now);
 }
 
@@ -47,7 +48,8 @@ loop-i-preserved g c =
       placed = λ placed. c.in_ok-try_call.ensures.placed (c.loop-i.invariant.placed placed);
       steps = λ grown k. Steps-append (c.loop-i.invariant.steps grown (KeepsTables-trans c.loop-i.locations later grown kept k)) (step grown k);
       ready = ready_after here (ready_grown kept c.loop-i.invariant.ready);
-      more = omega (arith, c.loop-i.invariant.more, settled_more here (settled_bounded _ _));
+      more = let longer : now.settled ≤ new.settled = settled_more here c.loop-i.invariant.bounded in omega (arith, longer, c.loop-i.invariant.more);
+      bounded = settled_bounded here c.loop-i.invariant.bounded;
       tried = λ grown k.
           tried_next (environment grown w) part old now new c.loop-i.i _ c.requires.ready.fated (c.loop-i.invariant.steps grown (KeepsTables-trans c.loop-i.locations later grown kept k)) (step grown k) _ _
           (c.loop-i.invariant.tried grown (KeepsTables-trans c.loop-i.locations later grown kept k)) c.in_ok-try_call.ensures.tried;

@@ -1,4 +1,4 @@
-use Rattle.std.proofs.Common.{◌≡◌, ◌≤◌}
+use Rattle.std.proofs.Common.{◌≡◌, ◌≤◌, length}
 use Rattle.hir_tables.specs.Tables.{KeepsTables}
 use Rattle.hir_def_map.specs.WorldParts.{part_of}
 use Rattle.hir_def_collector.specs.CallMoves.{IsReady}
@@ -17,5 +17,6 @@ invariant-loop-i g l = record {
   steps : OnceGrown l.locations (g.D.SourceDatabase.workspace l.initial.db) (λ env. Steps env (part_of l.world) (at_rest (core_in l.initial.run)) (at_rest (core_in l.run)));
   ready : IsReady l.locations (part_of l.world) (core_in l.run);
   more : (core_in l.initial.run).settled ≤ (core_in l.run).settled;
+  bounded : (core_in l.run).settled ≤ length (core_in l.run).calls;
   tried : OnceGrown l.locations (g.D.SourceDatabase.workspace l.initial.db) (λ env. AreTried env (part_of l.world) (core_in l.initial.run) (core_in l.run) l.i l.progress);
 }
