@@ -1,10 +1,11 @@
 #!/usr/bin/env python3
 """Random crates with imports, globs and macros, and what a plain model of the rules (tools/model) answers of their names.
 
-Usage, at the top of the repository: tools/import_model.py [--sessions N] [--seed S] [--macros | --calls] [--program FILE]
-[--write FOLDER] [--rows].
+Usage, at the top of the repository: tools/import_model.py [--sessions N] [--seed S] [--macros | --calls | --edits]
+[--program FILE] [--write FOLDER] [--rows].
 With --macros the crates define macros too, in textual scope and as items. With --calls they also call them, over a table of
-expansions that define, import and call further, modules are in files too, and files and expansions are edited.
+expansions that define, import and call further, modules are in files too, and files and expansions are edited. With --edits
+the sessions are those of tools/random_sessions.py.
 It runs the program, by default crates/hir_session_main/out/hir_session_main, over each session, and ends with 1 at the first
 whose answers aren't those of the model, which it writes to standard error. With --write it runs nothing, and writes the
 sessions and their answers as FOLDER/stdin and FOLDER/stdout, as crates/hir_session_rows has them. With --rows it draws
@@ -19,6 +20,7 @@ import random
 import subprocess
 import sys
 
+import random_sessions
 from model.syntax import dump
 from model.workspace import Workspace
 
@@ -320,12 +322,23 @@ class Session:
         for name, child in module.children.items():
             yield from self.places(child, place + [name])
 
-    def lines(self):
-        """Commands and replies as lines; None where the rules leave the replies open."""
-        said = self.conversation(Workspace("push"))
-        if self.calls and any(self.conversation(Workspace(copies)) != said for copies in ("first", "last", "after")):
-            return None
-        return [dump(command) for command, _ in said], [dump(reply) for _, reply in said]
+
+class Edits:
+    """A session of tools/random_sessions.py."""
+
+    def __init__(self, seed):
+        self.calls, self.commands = True, random_sessions.session(seed)[0]
+
+    def conversation(self, workspace):
+        return [(command, workspace.reply(command)) for command in self.commands]
+
+
+def lines_of(session):
+    """Commands and replies as lines; None where the rules leave the replies open."""
+    said = session.conversation(Workspace("push"))
+    if session.calls and any(session.conversation(Workspace(copies)) != said for copies in ("first", "last", "after")):
+        return None
+    return [dump(command) for command, _ in said], [dump(reply) for _, reply in said]
 
 
 def rows(name):
@@ -376,6 +389,7 @@ def main():
     parser.add_argument("--seed", type=int, default=0)
     parser.add_argument("--macros", action="store_true")
     parser.add_argument("--calls", action="store_true")
+    parser.add_argument("--edits", action="store_true")
     parser.add_argument("--rows", action="store_true")
     parser.add_argument("--program", default="crates/hir_session_main/out/hir_session_main")
     parser.add_argument("--write")
@@ -385,7 +399,7 @@ def main():
         return compare_rows()
     written, left_open = [], 0
     for seed in range(options.seed, options.seed + options.sessions):
-        lines = Session(seed, options.macros, options.calls).lines()
+        lines = lines_of(Edits(seed) if options.edits else Session(seed, options.macros, options.calls))
         if lines is None:
             left_open += 1
         elif options.write:
