@@ -80,6 +80,17 @@ def of_nothing_beside_a_chain(n):
     return waiting + nodes, entries, place, path
 
 
+def beside_imports(n):
+    """n calls of which each waits for the next, beside n imports and a glob that came to rest before the first round."""
+    made = Calls()
+    items = [made.module("a", *(made.struct(f"T{k}") for k in range(n))), made.glob("a")]
+    items += [made.use(f"a::T{k}", f"U{k}") for k in range(n)]
+    nodes, entries, place, path = each_by_the_next(n)
+    for node in nodes:
+        node["id"] = made.make("Fn")["id"]
+    return items + nodes, entries, place, path
+
+
 def textual_scope(n):
     """n modules in chains of 25, below n macros in textual scope; the innermost of each calls the last macro."""
     made = Calls()
@@ -121,6 +132,7 @@ INPUTS = {
     each_by_the_one_before: [2000, 4000],
     of_nothing: [4000, 8000],
     of_nothing_beside_a_chain: [1000, 2000],
+    beside_imports: [250, 500],
     textual_scope: [1000, 2000],
     macro_use: [2000, 4000],
     imports_of_expansions: [2000, 4000],
