@@ -403,7 +403,7 @@ fn settle(
     requires sound { IsSound (part_of world) (import_state (at_rest (core_in run))) }
     ensures ok { IfOk result (λ run'. (env : Environment) → Steps env (part_of world.entry) (at_rest (core_in run)) (at_rest (core_in run'))) }
     ensures rests { IfOk result (λ run'. IsAtRest (part_of world.entry) (import_state (at_rest (core_in run')))) }
-    ensures settled { IfOk result (λ run'. run'.settled ≡ length run'.calls) }
+    ensures settled { IfOk result (λ run'. (core_in run').settled ≡ length (core_in run').calls) }
     ensures many { result ≡ Err CollectError.TooMany → (env : Environment) → IsSpent env (part_of world.entry) (at_rest (core_in run)) }
 {
     let mut run = run.settle(world, apart)?;
