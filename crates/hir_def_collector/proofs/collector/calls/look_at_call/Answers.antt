@@ -94,20 +94,19 @@ returns-clause-ok g c =
     let after_input = c.in_ok-input.ensures.same ∙ after_text in
     let key = c.in_ok-key.ensures.value ∙ ap (λ (i : MapId). expansion_of_call i.krate c.args.makro x.text x.input) own in (
       x,
-      (
-        sees_call c.args.locations.now c.intern_entry.new.self c.intern_call.new.self w old (core_in c.ask-3.new.self) c.args.call.now c.args.makro x c.in_ok-source.source.value
-            c.intern_entry.ensures.kept c.intern_call.ensures.kept c.requires.meant (c.is_meant.ensures.meant c.if-is_meant.false)
-            (c.in_ok-entry.ensures.found ∙ ap Some key)
-            (c.in_ok-id.ensures.found ∙ ap (λ (k : MacroCallKind). Some (record { kind = k; entry = x.entry })) c.call_kind.ensures.value)
-            c.in_ok-text.ensures.value
-            (c.in_ok-input.ensures.value ∙ ap (λ (v : Workspace). input_at c.args.locations.now v c.id.result.krate node) after_text ∙ ap (λ (i : MapId). input_at c.args.locations.now w i.krate node) own)
-            (c.expansion.ensures.value ∙ ap (λ (v : Workspace). v.entry (expansion_value c.in_ok-key.key)) after_input ∙ ap w.entry key)
-            refl
-            (c.in_ok-source.ensures.value ∙ ap (λ (v : Workspace). source_in c.intern_call.new.self v (call_key c.id.result.krate x.id)) after_input
-            ∙ ap (λ (i : MapId). source_in c.intern_call.new.self w (call_key i.krate x.id)) own)
-            (asked_all old (core_in c.ask_text.new.run) (core_in c.ask.new.self) (core_in c.ask-2.new.self) (core_in c.ask-3.new.self) old.map.id.krate c.args.call.now c.args.makro x (c.in_ok-ask_text.ensures.ok x.text)
-            (c.in_ok-ask.ensures.ok ∙ ap (λ (i : MapId). with_asked (core_in c.ask_text.new.run) (keys.Input i.krate node)) own) c.in_ok-ask-2.ensures.ok
-            (c.in_ok-ask-3.ensures.ok ∙ ap (λ (i : MapId). with_asked (core_in c.ask-2.new.self) (keys.Tree (call_key i.krate x.id))) own)),
-        (refl, c.in_ok-error.ensures.value),
-      ),
+      sees_call c.args.locations.now c.intern_entry.new.self c.intern_call.new.self w old (core_in c.ask-3.new.self) c.args.call.now c.args.makro x c.in_ok-source.source.value
+          c.intern_entry.ensures.kept c.intern_call.ensures.kept c.requires.meant (c.is_meant.ensures.meant c.if-is_meant.false)
+          (c.in_ok-entry.ensures.found ∙ ap Some key)
+          (c.in_ok-id.ensures.found ∙ ap (λ (k : MacroCallKind). Some (record { kind = k; entry = x.entry })) c.call_kind.ensures.value)
+          c.in_ok-text.ensures.value
+          (c.in_ok-input.ensures.value ∙ ap (λ (v : Workspace). input_at c.args.locations.now v c.id.result.krate node) after_text ∙ ap (λ (i : MapId). input_at c.args.locations.now w i.krate node) own)
+          (c.expansion.ensures.value ∙ ap (λ (v : Workspace). v.entry (expansion_value c.in_ok-key.key)) after_input ∙ ap w.entry key)
+          refl
+          (c.in_ok-source.ensures.value ∙ ap (λ (v : Workspace). source_in c.intern_call.new.self v (call_key c.id.result.krate x.id)) after_input
+          ∙ ap (λ (i : MapId). source_in c.intern_call.new.self w (call_key i.krate x.id)) own)
+          (asked_all old (core_in c.ask_text.new.run) (core_in c.ask.new.self) (core_in c.ask-2.new.self) (core_in c.ask-3.new.self) old.map.id.krate c.args.call.now c.args.makro x (c.in_ok-ask_text.ensures.ok x.text)
+          (c.in_ok-ask.ensures.ok ∙ ap (λ (i : MapId). with_asked (core_in c.ask_text.new.run) (keys.Input i.krate node)) own) c.in_ok-ask-2.ensures.ok
+          (c.in_ok-ask-3.ensures.ok ∙ ap (λ (i : MapId). with_asked (core_in c.ask-2.new.self) (keys.Tree (call_key i.krate x.id))) own)),
+      refl,
+      c.in_ok-error.ensures.value,
     )
