@@ -9,7 +9,7 @@ ghost use Rattle.hir_import_resolution.specs.Inner.State.{IsApart};
 ghost use Rattle.hir_import_resolution.specs.Rest.{IsAtRest, IsSound};
 ghost use Rattle.hir_import_resolution.specs.declared.directive.ImportDirective.{ImportDirective};
 ghost use Rattle.hir_def_collector.specs.CallMoves.{ComesToRest, IsDueOf, IsReady, SeesCall, TriesCall, TriesCalls};
-ghost use Rattle.hir_def_collector.specs.Calls.{AreCallsPlaced, Expanding, IsMeantAt, call_site, error_of, expansion_of_call, text_readings};
+ghost use Rattle.hir_def_collector.specs.Calls.{AreCallsPlaced, Expanding, IsMeantCall, call_site, error_of, expansion_of_call, text_readings};
 ghost use Rattle.hir_def_collector.specs.Derivation.{IsNumberedOut, IsSpent};
 ghost use Rattle.hir_def_collector.specs.ItemIds.{module_id};
 ghost use Rattle.hir_def_collector.specs.Keys.{Environment, IsMeant, input_at, macro_key, macro_tree, source_in, text_at, text_of};
@@ -209,7 +209,7 @@ fn look_at_call<D: SourceDatabase>(
     call: &MacroDirective,
     makro: MacroId,
 ) -> Result<Expansion, CollectError>
-    requires meant { IsMeantAt locations.old call.now.site }
+    requires meant { IsMeantCall locations.old call.now }
     ensures kept { KeepsTables locations.old locations.new }
     ensures same { D.workspace db.new ≡ D.workspace db.old }
     ensures placed { AreCallsPlaced locations.old → AreCallsPlaced locations.new }
@@ -403,7 +403,7 @@ fn settle(
     requires sound { IsSound (part_of world) (import_state (at_rest (core_in run))) }
     ensures ok { IfOk result (λ run'. (env : Environment) → Steps env (part_of world.entry) (at_rest (core_in run)) (at_rest (core_in run'))) }
     ensures rests { IfOk result (λ run'. IsAtRest (part_of world.entry) (import_state (at_rest (core_in run')))) }
-    ensures settled { IfOk result (λ run'. run'.settled ≡ length run'.calls) }
+    ensures settled { IfOk result (λ run'. (core_in run').settled ≡ length (core_in run').calls) }
     ensures many { result ≡ Err CollectError.TooMany → (env : Environment) → IsSpent env (part_of world.entry) (at_rest (core_in run)) }
 {
     let mut run = run.settle(world, apart)?;

@@ -1,5 +1,5 @@
 -- Imports rest, and then calls may be expanded.
-use Rattle.std.proofs.Common.{◌∙◌, ap, subst, sym}
+use Rattle.std.proofs.Common.{rules, ◌∙◌, ap, length, subst, sym}
 use Rattle.hir_def_map.specs.WorldParts.{part_of}
 use Rattle.hir_import_resolution.specs.Rest.{IsAtRest}
 use Rattle.hir_def_collector.specs.State.{Core, at_rest, core_in, import_state}
@@ -20,3 +20,6 @@ returns-clause-rests c =
 pub returns-in_err-rest-clause-many : goal.returns-in_err-rest-clause-many
 returns-in_err-rest-clause-many c = λ h env.
     spent_after (c.in_ok-run.ensures.ok env) (rested_past env (part_of c.args.world) (core_in c.in_ok-run.run') c.in_ok-run.ensures.rests (c.in_err-rest.ensures.many (search rules)))
+
+pub returns-clause-settled : goal.returns-clause-settled
+returns-clause-settled c = ap (λ (n : Core). n.settled) c.in_ok-rest.ensures.ok ∙ sym (ap (λ (n : Core). length n.calls) c.in_ok-rest.ensures.ok)
