@@ -36,7 +36,7 @@ use Rattle.hir_tables.specs.SourcePlaces.{SourcePlaceValue}
 use Rattle.hir_tables.specs.Tables.{KeepsTables, TablesValue, source_of}
 use Rattle.hir_def_collector.specs.Keys.{Environment, environment}
 use Rattle.hir_def_collector.specs.Workspace.{Workspace, seen_of}
-use Rattle.hir_def_collector.specs.ModuleFiles.{AreNumbered, IsNumberOf, IsSearch, LookedAt, ModuleFile, Tried, file_reading, file_readings, module_file, named_by}
+use Rattle.hir_def_collector.specs.ModuleFiles.{AreNumbered, IsFileMeant, IsNumberOf, IsSearch, LookedAt, ModuleFile, Tried, file_reading, file_readings, module_file, named_by}
 use Rattle.hir_def_collector.specs.ItemIds.{module_id, node_of}
 use Rattle.hir_def_collector.specs.Items.{file_origin, own_visibility}
 use Rattle.hir_def_collector.specs.Macros.{is_macro_use, textual_at, with_textual_scope}
@@ -59,6 +59,11 @@ pub record IsHeld (tables : TablesValue) (w : Workspace) (krate : Crate) (tree :
   pub place : SourcePlaceValue
   pub at : source_of tables tree ≡ Some place
   pub is : w.tree krate place ≡ source
+
+-- this is what the source of a site has under a crate, and the numbers of the site mean something
+pub record IsWritten (tables : TablesValue) (w : Workspace) (krate : Crate) (site : Site) (source : SourceTreeValue) : Type 0 where
+  pub held : IsHeld tables w krate site.tree source
+  pub file : IsFileMeant tables site.file
 
 -- one step over the workspace handles the visit, and these tasks come next
 pub record Handles (env : Environment) (finished : Maps) (old new : Core) (v : Visit) (inside : List Task) : Type 0 where
@@ -130,12 +135,13 @@ tasks_of home items (File site source marked) = visits_over site source.value.tr
 pub record IsWithin (count : ℕ) (site inner : Site) : Type 0 where
   pub there : inner.home < count
   pub tree : inner.tree ≡ site.tree
+  pub file : inner.file ≡ site.file
   pub deep : site.dir.depth ≤ inner.dir.depth
 
 -- those of a file are written in a module that is there, one deeper
 pub record IsOfFile (tables : TablesValue) (w : Workspace) (krate : Crate) (count : ℕ) (site inner : Site) (source : SourceTreeValue) : Type 0 where
   pub there : inner.home < count
-  pub held : IsHeld tables w krate inner.tree source
+  pub held : IsWritten tables w krate inner source
   pub above : site.dir.depth < 32
   pub deeper : inner.dir.depth ≡ site.dir.depth + 1
 
@@ -153,7 +159,7 @@ begun m home name new = let made : Map = with_module m home name new in with_tex
 abbrev pub opened : Maps → Core → Site → Head → List ℕ → ModuleOrigin → Core
 opened finished c site head name origin =
     let vis : Visibility = own_visibility finished c.local c.map site head in
-    counted (with_map c (with_declaration (begun c.map site.home name (new_module origin vis (Some (module_id c.map site.home)))) site.home (module_declaration c.map name vis)))
+    counted (with_declaration (with_map c (begun c.map site.home name (new_module origin vis (Some (module_id c.map site.home))))) site.home (module_declaration c.map name vis))
 
 -- a diagnostic like this is added, and a step is counted
 pub record Drops (P : DefDiagnostic → Type 0) (old new : Core) : Type 0 where
