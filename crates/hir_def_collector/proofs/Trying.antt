@@ -2,14 +2,15 @@
 use Rattle.std.proofs.Common.{◌≡◌, ◌∙◌, ◌⊎◌, ℕ, ◌+◌, ◌<◌, ◌≤◌, Bool, true, false, length, slice_get, Some, inl, inr, refl, sym, subst, arith, add-one, cond}
 use Rattle.std.proofs.lemmas.Bool.{cases_lt}
 use Rattle.hir_def_map.specs.Overlay.{Maps}
+use Rattle.hir_import_resolution.specs.Rest.{IsAtRest}
 use Rattle.hir_def_collector.specs.declared.collector.macro_directive.Fate.TheVariants.{Handled}
 use Rattle.hir_def_collector.specs.declared.collector.macro_directive.MacroDirective.{MacroDirective}
-use Rattle.hir_def_collector.specs.CallMoves.{TriesCall, TriesCalls, handled, idle, left, round}
+use Rattle.hir_def_collector.specs.CallMoves.{ComesToRest, TriesCall, TriesCalls, handled, idle, left, rested, round}
 use Rattle.hir_def_collector.specs.Calls.{IsWaiting, LeadsNowhere}
 use Rattle.hir_def_collector.specs.Keys.{Environment}
 use Rattle.hir_def_collector.specs.Rounds.{IsRound, Rises, Rounds, WasTried, met, more}
 use Rattle.hir_def_collector.specs.Rounds as rounds
-use Rattle.hir_def_collector.specs.State.{Core, at_rest}
+use Rattle.hir_def_collector.specs.State.{Core, at_rest, import_state}
 use Rattle.hir_def_collector.specs.Steps as steps
 use Rattle.hir_def_collector.specs.Steps.{Steps}
 use Rattle.hir_def_collector.proofs.Lists.{get_inside}
@@ -79,3 +80,16 @@ module _ (env : Environment) (finished : Maps) (old : Core) where
       → Rounds env finished (at_rest old) (at_rest new) (n + 1)
   rounds_next now settled new n before between of_round =
       subst (λ (m : ℕ). Rounds env finished (at_rest old) (at_rest new) m) (sym (add-one n)) (more (at_rest now) (at_rest settled) (at_rest new) n before between of_round)
+
+  -- where a call was handled, this was one
+  pub of_round : (settled new : Core) (progress : Bool) → progress ≡ true → TriesCalls env finished settled new progress → IsRound env finished (at_rest settled) (at_rest new)
+  of_round settled new false yes tried = absurd (let no : ⊥ = cc in no)
+  of_round settled new true yes (round is) = is
+
+  -- where none was, imports rest and no call that waits reaches a macro
+  pub rests_idle : (settled new : Core) (progress : Bool) → progress ≡ false → IsAtRest finished (import_state (at_rest settled)) → TriesCalls env finished settled new progress
+      → ComesToRest env finished old new false
+  rests_idle settled new true none_handled rest tried = absurd (let no : ⊥ = cc in no)
+  rests_idle settled new false none_handled rest (idle same nowhere) =
+      rested (subst (λ (c : Core). IsAtRest finished (import_state (at_rest c))) (sym same) rest)
+      (λ i. subst (λ (c : Core). LeadsNowhere finished (at_rest c) i) (sym same) (nowhere i))

@@ -1,7 +1,6 @@
 -- When may rounds of macro calls be cut off?
 use Rattle.std.specs.Prelude.{◌≡◌, ◌<◌, ℕ, suc, Some, slice_get}
 use Rattle.hir_def_map.specs.Overlay.{Maps}
-use Rattle.hir_def_collector.specs.declared.collector.calls.TheConstants.{ROUND_LIMIT}
 use Rattle.hir_def_collector.specs.declared.collector.macro_directive.Fate.TheVariants.{Handled}
 use Rattle.hir_def_collector.specs.declared.collector.macro_directive.MacroDirective.{MacroDirective}
 use Rattle.hir_def_collector.specs.Calls.{IsWaiting, LeadsNowhere}
@@ -32,10 +31,10 @@ pub data Rounds (env : Environment) (finished : Maps) (from : State) : State →
   none : (to : State) → Steps env finished from to → Rounds env finished from to 0
   more : (a b to : State) (n : ℕ) → Rounds env finished from a n → Steps env finished a b → IsRound env finished b to → Rounds env finished from to (suc n)
 
--- more of them than the limit, and behind them no name is left to go along a glob
+-- more of them than 8,192, and behind them no name is left to go along a glob
 pub record HasManyRounds (env : Environment) (finished : Maps) (from to : State) : Type 0 where
   pub count : ℕ
   pub last : State
   pub rounds : Rounds env finished from last count
-  pub many : ROUND_LIMIT < count
+  pub many : 8192 < count
   pub after : Steps env finished last to

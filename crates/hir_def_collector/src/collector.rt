@@ -19,21 +19,21 @@
 //! When no import waits, none would bind anything, no name is left to go along an edge, and no call that waits reaches a
 //! macro. That isn't told by these loops but by the rules in `specs/Steps`: each function below makes one step by a
 //! rule, and the whole is a derivation to which no step can be added.
-ghost use Rattle.std.specs.Prelude.{◌≡◌, ◌<◌, IfOk, OnOk, length, option_map, unwrap_or, []};
+ghost use Rattle.std.specs.Prelude.{◌≡◌, ◌<◌, IfOk, IsSome, None, OnOk, false, length, option_map, unwrap_or, []};
 ghost use Rattle.hir_item_tree.specs.Collected.{is_enabled};
-ghost use Rattle.hir_tables.specs.Tables.{KeepsTables};
+ghost use Rattle.hir_tables.specs.Tables.{KeepsTables, source_of};
 ghost use Rattle.hir_def_map.specs.WorldParts.{part_of};
 ghost use Rattle.hir_def_map.specs.Overlay.{Maps};
 ghost use Rattle.hir_def_map.specs.World.{finished_in};
 ghost use Rattle.hir_def_collector.specs.Workspace.{Workspace, config_view, dependencies_of, options_of};
-ghost use Rattle.hir_def_collector.specs.Keys.{AgreeOn, environment};
+ghost use Rattle.hir_def_collector.specs.Keys.{AgreeOn, Environment, environment};
 ghost use Rattle.hir_def_collector.specs.Start.{began, beginning, core_of, edition_of, krate_of, origin_of, root_site, tree_visits};
-ghost use Rattle.hir_def_collector.specs.CallMoves.{IsReady};
+ghost use Rattle.hir_def_collector.specs.CallMoves.{ComesToRest, IsReady};
 ghost use Rattle.hir_def_collector.specs.Calls.{AreCallsPlaced};
 ghost use Rattle.hir_def_collector.specs.State.{at_rest, core_in, joined};
 ghost use Rattle.hir_def_collector.specs.Steps.{Steps};
 ghost use Rattle.hir_def_collector.specs.Derivation.{Ends, IsOverlong, IsSpent, collected_view};
-ghost use Rattle.hir_def_collector.specs.Moves.{IsHeld};
+ghost use Rattle.hir_def_collector.specs.Moves.{IsHeld, OnceGrown};
 
 pub mod calls;
 pub mod collected;
@@ -216,7 +216,11 @@ pub fn collect_defs<D: SourceDatabase>(
 {
     let transitive = transitive_of(alloc, db.transitive_dependencies(start.krate()))?;
     let part = WorldPart::among(world, &transitive, &[]);
+    let is_unknown = locations.source_of(tree).is_none();
     let run = begin(alloc, db, part, locations, &transitive, start, tree)?;
+    if is_unknown {
+        return Ok(run.finish(false, transitive)?);
+    }
     let apart = world.map(MapId::of_crate(start.krate())).is_none();
     let (run, round_limit_met) = resolve_rounds(run, db, part, locations, apart)?;
     Ok(run.finish(round_limit_met, transitive)?)
@@ -308,6 +312,9 @@ fn begin<D: SourceDatabase>(
     ensures ready { IfOk result (λ run. IsReady locations.new (part_of world.entry) (core_in run)) }
     ensures ok { IfOk result (λ run. Steps (environment locations.new (D.workspace db.old)) (part_of world.entry)
         (began locations.new (D.workspace db.old) (part_of world.entry) transitive.now.value start id) (at_rest (core_in run))) }
+    ensures grown { IfOk result (λ run. IsSome (source_of locations.old id) → OnceGrown locations.new (D.workspace db.old) (λ env. Steps env (part_of world.entry)
+        (began env.tables (D.workspace db.old) (part_of world.entry) transitive.now.value start id) (at_rest (core_in run)))) }
+    ensures idle { IfOk result (λ run. source_of locations.old id ≡ None → (env : Environment) → ComesToRest env (part_of world.entry) (core_in run) (core_in run) false) }
     ensures many { result ≡ Err CollectError.TooMany → IsSpent (environment locations.new (D.workspace db.old)) (part_of world.entry)
         (began locations.new (D.workspace db.old) (part_of world.entry) transitive.now.value start id) }
 {
@@ -343,8 +350,8 @@ fn walk_root<D: SourceDatabase>(
     ensures kept { KeepsTables locations.old locations.new }
     ensures placed { AreCallsPlaced locations.old → AreCallsPlaced locations.new }
     ensures same { D.workspace db.new ≡ D.workspace db.old }
-    ensures ok { OnOk result (Steps (environment locations.new (D.workspace db.old)) (part_of world.entry)
-        (joined (core_in run.old) (tree_visits (root_site id) source.now.tree)) (at_rest (core_in run.new))) }
+    ensures ok { OnOk result (OnceGrown locations.new (D.workspace db.old) (λ env. Steps env (part_of world.entry)
+        (joined (core_in run.old) (tree_visits (root_site id) source.now.tree)) (at_rest (core_in run.new)))) }
     ensures many { result ≡ Err CollectError.TooMany → IsSpent (environment locations.new (D.workspace db.old)) (part_of world.entry)
         (joined (core_in run.old) (tree_visits (root_site id) source.now.tree)) }
 {

@@ -1,5 +1,5 @@
 //! Macro calls: what each expands to, and rounds in which they are tried.
-ghost use Rattle.std.specs.Prelude.{◌≡◌, ◌<◌, ℕ, true, [], IfOk, OnOk, Some, length, option_map, slice_get, unwrap_or};
+ghost use Rattle.std.specs.Prelude.{◌≡◌, ◌<◌, ℕ, cond, true, [], IfOk, OnOk, Some, length, option_map, slice_get, unwrap_or};
 ghost use Rattle.hir_item_tree.specs.SyntaxIds.{node_id};
 ghost use Rattle.hir_tables.specs.SourcePlaces.{expansion_value};
 ghost use Rattle.hir_tables.specs.Tables.{KeepsTables};
@@ -365,6 +365,13 @@ fn try_call<D: SourceDatabase>(
     }
 }
 
+/// Whether one of two holds.
+fn either(first: bool, second: bool) -> bool
+    ensures value { result ≡ cond first true second }
+{
+    first || second
+}
+
 /// Tries each call that waits, one after another: whether one was handled. A call sees what those before it have
 /// expanded to; those that are come upon meanwhile wait for the next round.
 fn try_calls<D: SourceDatabase>(
@@ -385,9 +392,8 @@ fn try_calls<D: SourceDatabase>(
     let mut progress = false;
     let end = run.settled();
     for i in 0..end {
-        if try_call(run, db, world, locations, i)? {
-            progress = true;
-        }
+        let done = try_call(run, db, world, locations, i)?;
+        progress = either(done, progress);
     }
     Ok(progress)
 }

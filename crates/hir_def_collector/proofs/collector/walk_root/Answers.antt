@@ -31,10 +31,10 @@ walk_all-requires-clause-held g c =
     record { held = c.requires.held; file = subst (λ (f : Option FileId). IsFileMeant tables f) (sym c.file_of_tree.ensures.value) (root_meant tables w krate c.args.id c.args.source.now c.requires.held) }
 
 pub returns-then-not-is_enabled_at_top-clause-ok : goal.returns-then-not-is_enabled_at_top-clause-ok
-returns-then-not-is_enabled_at_top-clause-ok g c =
+returns-then-not-is_enabled_at_top-clause-ok g c = λ grown k.
     let off : is_enabled c.args.source.now.tree.attributes ≡ false =
     ap (λ (t : Tree). is_enabled t.attributes) (sym c.tree.ensures.value) ∙ sym c.is_enabled_at_top.ensures.value ∙ c.if-not-is_enabled_at_top.true in
-    walks_disabled (environment c.args.locations.now (g.D.SourceDatabase.workspace c.args.db.now)) (part_of c.args.world) (root_site c.args.id) c.args.source.now.tree (core_in c.args.run.now) off
+    walks_disabled (environment grown (g.D.SourceDatabase.workspace c.args.db.now)) (part_of c.args.world) (root_site c.args.id) c.args.source.now.tree (core_in c.args.run.now) off
 
 pub walk_all-requires-clause-there : goal.walk_all-requires-clause-there
 walk_all-requires-clause-there g c =
@@ -42,8 +42,8 @@ walk_all-requires-clause-there g c =
     (subst (λ (t : Tree). All (λ (id : ModItemId). id.0 < length (all_items t.items)) c.top_level_items-ids.result.now) c.tree-2.ensures.value c.top_level_items-ids.ensures.there)
 
 pub returns-clause-ok : goal.returns-clause-ok
-returns-clause-ok g c =
-    let env = environment c.walk_all.new.locations (g.D.SourceDatabase.workspace c.args.db.now) in
+returns-clause-ok g c = λ grown k.
+    let env = environment grown (g.D.SourceDatabase.workspace c.args.db.now) in
     let part = part_of c.args.world in
     let tree = c.args.source.now.tree in
     let ids = c.top_level_items-ids.result.now in
@@ -54,7 +54,7 @@ returns-clause-ok g c =
     let walks : Walks env part (core_in c.args.run.now) (core_in c.walk_all.new.run) (visits_at tree (root_site c.args.id) (numbers_of ids)) =
     subst (λ (d : Directory). Walks env part (core_in c.args.run.now) (core_in c.walk_all.new.run) (visits_at tree (record { home = 0; tree = c.args.id; file = file_of_tree c.args.id; extern_block = None; dir = d; level = 0 }) (numbers_of ids))) c.root.ensures.value
     (subst (λ (f : Option FileId). Walks env part (core_in c.args.run.now) (core_in c.walk_all.new.run) (visits_at tree (record { home = 0; tree = c.args.id; file = f; extern_block = None; dir = c.root.result; level = 0 }) (numbers_of ids))) c.file_of_tree.ensures.value
-    (c.in_ok-walk_all.ensures.ok c.walk_all.new.locations (tables_stay c.walk_all.new.locations))) in
+    (c.in_ok-walk_all.ensures.ok grown k)) in
     walks_present env part (root_site c.args.id) tree (core_in c.args.run.now) ids on all (core_in c.walk_all.new.run) walks
 
 pub returns-in_err-walk_all-clause-many : goal.returns-in_err-walk_all-clause-many
