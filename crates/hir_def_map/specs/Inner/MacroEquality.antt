@@ -1,7 +1,8 @@
 -- When do two maps have the same diagnostics, the same derive helpers, and the same kept of a macro?
 use Rattle.std.specs.Prelude.{ℕ, Bool, List, nat_eq}
-use Rattle.std.specs.Cmp.{IsEquivalence, and_equiv, eq_of_both, nat_list_eq_equiv, on, on_equiv}
-use Rattle.std.specs.Cmp.Lexicographic.{pointwise, lists_equiv}
+use Rattle.std.specs.Ordering.{on, eq_of_both}
+use Rattle.std.specs.Cmp.{IsEquivalence, on_equiv, and_equiv}
+use Rattle.std.specs.Cmp.Lexicographic.{pointwise, lists_equiv, nat_list_eq_equiv}
 use Rattle.hir_def_map.specs.declared.nameres.derive_helpers.DeriveHelper.{DeriveHelper}
 use Rattle.hir_def_map.specs.declared.nameres.diagnostics.DefDiagnostic.{DefDiagnostic}
 use Rattle.hir_def_map.specs.contracts.nameres.derive_helpers.DeriveHelperPartialEq.TheImpl as helper
