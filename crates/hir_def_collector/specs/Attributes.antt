@@ -140,13 +140,13 @@ export_of name attributes =
 abbrev pub exports_from : Bool → Map → ℕ → Bool
 exports_from is_proc_macro m home = is_proc_macro && (is_none m.id.block && (home == 0))
 
-abbrev pub export_by : Head → Leaf → Option ExportValue
-export_by h (function name) = export_of name h.attributes.attributes
-export_by h _ = None
+abbrev pub export_by : Bool → Map → Site → Head → Leaf → Option ExportValue
+export_by is_proc_macro m s h (function name) = cond (exports_from is_proc_macro m s.home) (export_of name h.attributes.attributes) None
+export_by is_proc_macro m s h _ = None
 
 -- what an item of a site exports
 abbrev pub export_at : Bool → Map → Site → KeptItem → Option ExportValue
-export_at is_proc_macro m s (leaf head l) = cond (exports_from is_proc_macro m s.home) (export_by head l) None
+export_at is_proc_macro m s (leaf head l) = export_by is_proc_macro m s head l
 export_at is_proc_macro m s (holder head k items) = None
 
 -- the macro that a function of a site exports, by the function's node

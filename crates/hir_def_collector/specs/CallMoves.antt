@@ -1,5 +1,5 @@
 -- What a part of a run does with macro calls.
-use Rattle.std.specs.Prelude.{◌≡◌, ◌<◌, ◌≤◌, ℕ, Bool, true, false, ◌++◌, length, None, Some, slice_get}
+use Rattle.std.specs.Prelude.{◌≡◌, ◌<◌, ◌≤◌, ℕ, Bool, true, false, ◌++◌, length, None, Some, IsSome, slice_get}
 use Rattle.hir_base.specs.declared.macro_kind.MacroId.{MacroId}
 use Rattle.hir_item_tree.specs.SourceTree.{SourceTreeValue}
 use Rattle.hir_tables.specs.Tables.{TablesValue}
@@ -7,15 +7,16 @@ use Rattle.hir_def_map.specs.Overlay.{Maps}
 use Rattle.hir_import_resolution.specs.Rest.{BroughtStands, IsAtRest, IsClosed, IsSound}
 use Rattle.hir_import_resolution.specs.declared.directive.ImportDirective.{ImportDirective}
 use Rattle.hir_def_collector.specs.declared.collector.calls.Due.{Due}
-use Rattle.hir_def_collector.specs.declared.collector.calls.Due.TheVariants.{Nothing, TooDeep, Reaches}
+use Rattle.hir_def_collector.specs.declared.collector.calls.Due.TheVariants.{Derives, Drops, Nothing, Reaches, Skips, TooDeep}
 use Rattle.hir_def_collector.specs.declared.collector.macro_directive.Fate.TheVariants.{Handled}
 use Rattle.hir_def_collector.specs.declared.collector.macro_directive.MacroDirective.{MacroDirective}
-use Rattle.hir_def_collector.specs.Calls.{Expanding, IsMeantCall, IsNumberedCall, IsWaiting, LeadsNowhere, call_site, called_macro, expansion_readings, text_readings}
+use Rattle.hir_def_collector.specs.declared.collector.macro_directive.WaitingItem.{WaitingItem}
+use Rattle.hir_def_collector.specs.Calls.{Expanding, IsMeantAt, IsMeantCall, IsNumberedCall, IsTextOf, IsWaiting, LeadsNowhere, call_site, called_macro, expansion_readings, has_expansion, is_call, is_inert_now, item_kept, text_readings, waiting_item}
 use Rattle.hir_def_collector.specs.Keys.{Environment}
-use Rattle.hir_def_collector.specs.Moves.{IsWritten, OnceGrown}
+use Rattle.hir_def_collector.specs.Moves.{OnceGrown}
 use Rattle.hir_def_collector.specs.Rounds.{HasManyRounds, IsRound}
 use Rattle.hir_def_collector.specs.State.{Core, at_rest, import_state}
-use Rattle.hir_def_collector.specs.Steps.{Sees, keys_read, with_keys}
+use Rattle.hir_def_collector.specs.Steps.{IsPassedOver, Sees, keys_read, with_keys}
 use Rattle.hir_def_collector.specs.Workspace.{Workspace, seen_of}
 
 -- what holds of a run wherever steps lead that began with a tree whose number means something
@@ -26,22 +27,39 @@ pub record IsReady (tables : TablesValue) (finished : Maps) (c : Core) : Type 0 
   pub fated : length c.fates ≡ length c.calls
   pub calls : (i : ℕ) (d : MacroDirective) → slice_get c.calls i ≡ Some d → d.site.home < length c.map.modules
   pub meant : (i : ℕ) (d : MacroDirective) → slice_get c.calls i ≡ Some d → IsMeantCall tables d
+  pub items : (i : ℕ) (d : MacroDirective) (k : WaitingItem) → slice_get c.calls i ≡ Some d → waiting_item d ≡ Some k → IsSome (item_kept k)
 
 -- what there is of a call that reaches a macro was asked for: its number, why it didn't expand well, and what its expansion has
-pub record SeesCall (tables : TablesValue) (w : Workspace) (d : MacroDirective) (makro : MacroId) (old new : Core) (x : Expanding) (source : SourceTreeValue) : Type 0 where
+pub record SeesCall (tables : TablesValue) (w : Workspace) (finished : Maps) (d : MacroDirective) (makro : MacroId) (old new : Core) (x : Expanding) (source : SourceTreeValue) : Type 0 where
+  pub text : IsTextOf finished old.map makro x.text
   pub numbered : OnceGrown tables w (λ env. IsNumberedCall env.tables old.map.id.krate d makro x)
   pub sees : OnceGrown tables w (λ env. (finished : Maps) → Sees env finished (text_readings makro x.text ++ expansion_readings old.map.id.krate d x))
   pub tree : x.tree ≡ seen_of source
   pub asked : new ≡ record old { asked = with_keys old.asked (keys_read (text_readings makro x.text ++ expansion_readings old.map.id.krate d x)) }
-  pub written : IsWritten tables w old.map.id.krate (call_site d x.id) source
+  pub written : IsMeantAt tables (call_site d x.id)
 
--- what is to be done about a call that waits: it is dropped where it is too deep, and expanded where it reaches a macro
+-- it reaches a macro that has an expansion, and isn't inert
+pub record FindsMacro (finished : Maps) (c : Core) (d : MacroDirective) (makro : MacroId) : Type 0 where
+  pub active : is_inert_now c.map d ≡ false
+  pub reaches : called_macro finished c.local c.map d ≡ Some makro
+  pub expands : has_expansion d makro ≡ true
+
+-- or one that has none
+pub record FindsBuiltin (finished : Maps) (c : Core) (d : MacroDirective) (makro : MacroId) : Type 0 where
+  pub reaches : called_macro finished c.local c.map d ≡ Some makro
+  pub builtin : has_expansion d makro ≡ false
+
+-- what is to be done about what waits: nothing where it reaches nothing; a call that is too deep is dropped; the item of an attribute goes on where that is
+-- inert or builtin; a builtin derive stands for an impl; what reaches another macro is expanded, or dropped where it is too deep
 abbrev pub IsDueOf : Maps → Core → MacroDirective → Due → Type 0
-IsDueOf finished c d Nothing = called_macro finished c.local c.map d ≡ None
-IsDueOf finished c d TooDeep = c.map.crate_data.recursion_limit ≤ d.site.level
-IsDueOf finished c d (Reaches makro) = (d.site.level < c.map.crate_data.recursion_limit) × (called_macro finished c.local c.map d ≡ Some makro)
+IsDueOf finished c d Nothing = (called_macro finished c.local c.map d ≡ None) × (is_inert_now c.map d ≡ false)
+IsDueOf finished c d TooDeep = (is_call d ≡ true) × (c.map.crate_data.recursion_limit ≤ d.site.level)
+IsDueOf finished c d Skips = (k : WaitingItem) × (waiting_item d ≡ Some k) × IsPassedOver finished (at_rest c) d
+IsDueOf finished c d (Derives makro) = FindsBuiltin finished c d makro × (waiting_item d ≡ None)
+IsDueOf finished c d (Drops makro) = FindsMacro finished c d makro × (is_call d ≡ false) × (c.map.crate_data.recursion_limit ≤ d.site.level)
+IsDueOf finished c d (Reaches makro) = FindsMacro finished c d makro × (d.site.level < c.map.crate_data.recursion_limit)
 
--- the call at the place was handled, where it waited; or nothing was done, and it doesn't wait or reaches no macro
+-- what waited at the place was handled; or nothing was done, and it doesn't wait or reaches no macro
 pub data TriesCall (finished : Maps) (old new : Core) (i : ℕ) : Bool → Type 0 where
   handled : (d : MacroDirective) → IsWaiting (at_rest old) i d → slice_get new.fates i ≡ Some Handled → TriesCall finished old new i true
   left : new ≡ old → LeadsNowhere finished (at_rest old) i → TriesCall finished old new i false
@@ -51,8 +69,16 @@ pub data TriesCalls (env : Environment) (finished : Maps) (old new : Core) : Boo
   round : IsRound env finished (at_rest old) (at_rest new) → TriesCalls env finished old new true
   idle : new ≡ old → ((i : ℕ) → LeadsNowhere finished (at_rest old) i) → TriesCalls env finished old new false
 
--- imports rest, and no call that waits reaches a macro; or there were more rounds than may be, and no name is left to go along a glob
+-- no attribute waits before this place
+abbrev pub NoneWaitsBefore : Core → ℕ → Type 0
+NoneWaitsBefore c first = (j : ℕ) (d : MacroDirective) (k : WaitingItem) → IsWaiting (at_rest c) j d → waiting_item d ≡ Some k → first ≤ j
+
+-- no attribute waits
+abbrev pub NoneWaits : Core → Type 0
+NoneWaits c = (j : ℕ) (d : MacroDirective) → IsWaiting (at_rest c) j d → waiting_item d ≡ None
+
+-- imports rest, nothing that waits reaches a macro, and no attribute waits; or there were more rounds than may be, and no name is left to go along a glob
 pub data ComesToRest (env : Environment) (finished : Maps) (old new : Core) : Bool → Type 0 where
-  rested : IsAtRest finished (import_state (at_rest new)) → ((i : ℕ) → LeadsNowhere finished (at_rest new) i) → ComesToRest env finished old new false
+  rested : IsAtRest finished (import_state (at_rest new)) → ((i : ℕ) → LeadsNowhere finished (at_rest new) i) → NoneWaits new → ComesToRest env finished old new false
   cut_off : IsClosed finished (import_state (at_rest new)) → BroughtStands finished (import_state (at_rest new)) → HasManyRounds env finished (at_rest old) (at_rest new)
       → ComesToRest env finished old new true

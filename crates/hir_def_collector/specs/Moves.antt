@@ -1,5 +1,5 @@
 -- What a part of a run does.
-use Rattle.std.specs.Prelude.{◌≡◌, ◌<◌, ◌≤◌, ◌+◌, ℕ, Bool, true, false, ◌||◌, List, [], ◌∷◌, ◌++◌, length, Option, Some, option_map, slice_get}
+use Rattle.std.specs.Prelude.{◌≡◌, ◌<◌, ◌≤◌, ◌+◌, ℕ, Bool, true, false, ◌||◌, List, [], ◌∷◌, ◌++◌, length, Option, None, Some, option_map, slice_get}
 use Rattle.std.specs.Option.{option_to_list}
 use Rattle.hir_base.specs.Cfg.{Cfg}
 use Rattle.hir_base.specs.declared.ast_id.AstKind.TheVariants as nodes
@@ -36,14 +36,16 @@ use Rattle.hir_tables.specs.SourcePlaces.{SourcePlaceValue}
 use Rattle.hir_tables.specs.Tables.{KeepsTables, TablesValue, source_of}
 use Rattle.hir_def_collector.specs.Keys.{Environment, environment}
 use Rattle.hir_def_collector.specs.Workspace.{Workspace, seen_of}
-use Rattle.hir_def_collector.specs.ModuleFiles.{AreNumbered, IsFileMeant, IsNumberOf, IsSearch, LookedAt, ModuleFile, Tried, file_reading, file_readings, module_file, named_by}
+use Rattle.hir_def_collector.specs.ModuleFiles.{AreNumbered, IsNumberOf, IsSearch, LookedAt, ModuleFile, Tried, file_reading, file_readings, module_file, named_by}
+use Rattle.hir_def_collector.specs.Attributes.{next_attribute}
+use Rattle.hir_def_collector.specs.Calls.{IsMeantAt}
 use Rattle.hir_def_collector.specs.ItemIds.{module_id, node_of}
 use Rattle.hir_def_collector.specs.Items.{file_origin, own_visibility}
 use Rattle.hir_def_collector.specs.Macros.{is_macro_use, textual_at, with_textual_scope}
 use Rattle.hir_def_collector.specs.Reports.{IsUnconfigured}
 use Rattle.hir_def_collector.specs.State.{Core, Task, Visit, visits, counted, joined, visits_over, with_map}
 use Rattle.hir_def_collector.specs.Changes.{Change, perform}
-use Rattle.hir_def_collector.specs.Steps.{Sees, Step, Steps, closing, inside_file, keys_read, module_declaration, with_declaration, with_keys}
+use Rattle.hir_def_collector.specs.Steps.{Sees, Step, Steps, behind, closing, inside_file, keys_read, module_declaration, with_declaration, with_keys}
 use Rattle.hir_def_collector.specs.Derivation.{IsSpent}
 
 -- it holds over the tables as they are, and over each that they grow to
@@ -60,14 +62,34 @@ pub record IsHeld (tables : TablesValue) (w : Workspace) (krate : Crate) (tree :
   pub at : source_of tables tree ≡ Some place
   pub is : w.tree krate place ≡ source
 
--- this is what the source of a site has under a crate, and the numbers of the site mean something
-pub record IsWritten (tables : TablesValue) (w : Workspace) (krate : Crate) (site : Site) (source : SourceTreeValue) : Type 0 where
-  pub held : IsHeld tables w krate site.tree source
-  pub file : IsFileMeant tables site.file
+-- nothing is to be looked up for an attribute of the visited item any more, where so many are done with
+abbrev pub IsPassed : Core → Visit → ℕ → Type 0
+IsPassed c v done = next_attribute c.map v.site v.item done ≡ None
 
--- one step over the workspace handles the visit, and these tasks come next
+-- one step over the workspace handles the visit once its attributes are done with, and these tasks come next
 pub record Handles (env : Environment) (finished : Maps) (old new : Core) (v : Visit) (inside : List Task) : Type 0 where
-  pub step : (rest : List Task) → Step env finished (joined old (visits v ∷ rest)) (joined new (inside ++ rest))
+  pub step : (done : ℕ) → IsPassed old v done → (rest : List Task) → Step env finished (joined old (visits (behind v done) ∷ rest)) (joined new (inside ++ rest))
+
+-- as many steps as are counted were taken by then
+pub record HandlesTooFar (env : Environment) (finished : Maps) (old : Core) (v : Visit) : Type 0 where
+  pub spent : (done : ℕ) → IsPassed old v done → (rest : List Task) → IsSpent env finished (joined old (visits (behind v done) ∷ rest))
+
+-- steps go through attributes of the visited item, and come to where it is next, or to where it waits
+abbrev pub GoesThrough : Environment → Maps → Core → Core → Visit → ℕ → Option ℕ → Type 0
+GoesThrough env finished old new v from None = (rest : List Task) → Steps env finished (joined old (visits (behind v from) ∷ rest)) (joined new rest)
+GoesThrough env finished old new v from (Some done) =
+    IsPassed new v done × ((rest : List Task) → Steps env finished (joined old (visits (behind v from) ∷ rest)) (joined new (visits (behind v done) ∷ rest)))
+
+pub record Passes (env : Environment) (finished : Maps) (old new : Core) (v : Visit) (from : ℕ) (done : Option ℕ) : Type 0 where
+  pub goes : GoesThrough env finished old new v from done
+
+-- steps through them lead to as many as are counted
+pub record PassesTooFar (env : Environment) (finished : Maps) (old : Core) (v : Visit) (from : ℕ) : Type 0 where
+  pub spent : (rest : List Task) → IsSpent env finished (joined old (visits (behind v from) ∷ rest))
+
+-- one step handles an attribute of the visited item, and this is still to be done
+pub record HandlesAttribute (env : Environment) (finished : Maps) (old new : Core) (v : Visit) (done : ℕ) (next : List Task) : Type 0 where
+  pub step : (rest : List Task) → Step env finished (joined old (visits (behind v done) ∷ rest)) (joined new (next ++ rest))
 
 -- these changes are made, whatever is still to be done
 pub record Makes (changes : List Change) (old new : Core) : Type 0 where
@@ -138,18 +160,18 @@ pub record IsWithin (count : ℕ) (site inner : Site) : Type 0 where
   pub file : inner.file ≡ site.file
   pub deep : site.dir.depth ≤ inner.dir.depth
 
--- those of a file are written in a module that is there, one deeper
-pub record IsOfFile (tables : TablesValue) (w : Workspace) (krate : Crate) (count : ℕ) (site inner : Site) (source : SourceTreeValue) : Type 0 where
+-- those of a file are written in a module that is there, one deeper; the numbers mean something
+pub record IsOfFile (tables : TablesValue) (count : ℕ) (site inner : Site) : Type 0 where
   pub there : inner.home < count
-  pub held : IsWritten tables w krate inner source
+  pub meant : IsMeantAt tables inner
   pub above : site.dir.depth < 32
   pub deeper : inner.dir.depth ≡ site.dir.depth + 1
 
 -- so are those that come next behind an item that holds these
-abbrev pub GoesInside : TablesValue → Workspace → Crate → ℕ → Site → List ℕ → Inside → Type 0
-GoesInside tables w krate count site numbers Nothing = Unit {0}
-GoesInside tables w krate count site numbers (Held inner ids marked) = IsWithin count site inner × (numbers_of ids.now ≡ numbers)
-GoesInside tables w krate count site numbers (File inner source marked) = IsOfFile tables w krate count site inner source.value
+abbrev pub GoesInside : TablesValue → ℕ → Site → List ℕ → Inside → Type 0
+GoesInside tables count site numbers Nothing = Unit {0}
+GoesInside tables count site numbers (Held inner ids marked) = IsWithin count site inner × (numbers_of ids.now ≡ numbers)
+GoesInside tables count site numbers (File inner source marked) = IsOfFile tables count site inner
 
 -- the map with one more module, which begins with the macros in textual scope in the one around it
 abbrev pub begun : Map → ℕ → List ℕ → ModuleValue → Map

@@ -1,6 +1,5 @@
 -- The steps that the import rules allow: each is a rule, which reads of the workspace and makes changes.
-use Rattle.std.specs.Prelude.{◌≡◌, ◌<◌, ◌≤◌, ◌⊎◌, ℕ, suc, ◌+◌, Bool, ◌||◌, true, false, List, [], ◌∷◌, ◌++◌, length, map as list_map, Option, Some, None, cond, unwrap_or}
-use Rattle.std.specs.Option.{option_and_then}
+use Rattle.std.specs.Prelude.{◌≡◌, ◌<◌, ◌≤◌, ℕ, suc, ◌+◌, Bool, ◌||◌, true, false, List, [], ◌∷◌, ◌++◌, length, map as list_map, Option, Some, None, cond}
 use Rattle.either.specs.declared.Either.TheVariants as either
 use Rattle.hir_base.specs.Cfg.{Cfg}
 use Rattle.hir_base.specs.ModPath.{Path}
@@ -54,7 +53,7 @@ use Rattle.hir_def_collector.specs.declared.source_database.Key.TheVariants as k
 use Rattle.hir_def_collector.specs.Keys.{Environment, of_variants, look}
 use Rattle.hir_def_collector.specs.ModuleFiles.{IsNumbered, IsSearch, ModuleFile, Reading, Search, file_readings, file_tree, module_file, path_attribute, tried_in}
 use Rattle.hir_def_collector.specs.Attributes.{ExportValue, adt_of, attr_id, export_at, is_derive, item_node, next_attribute, paths_in, proc_macro_id}
-use Rattle.hir_def_collector.specs.Calls.{DerivedCall, Expanding, IsNumberedCall, IsTextOf, IsWaiting, LeadsNowhere, builtin_impl, call_site, called_macro, error_of, expansion_readings, has_expansion, helpers_brought, is_call, is_inert_now, item_kept, path_of_call, text_readings, waiting_item}
+use Rattle.hir_def_collector.specs.Calls.{Expanding, IsNumberedCall, IsTextOf, IsWaiting, LeadsNowhere, builtin_impl, call_site, called_macro, error_of, expansion_readings, has_expansion, helpers_brought, is_call, is_inert_now, item_kept, path_of_call, text_readings, waiting_item}
 use Rattle.hir_def_collector.specs.Reports.{IsUnconfigured, IsUnresolvedModule, call_report, failed_call, invalid_target, is_unimplemented, malformed_derive, unimplemented_macro}
 pub use Rattle.hir_def_collector.specs.State.{behind, visit}
 use Rattle.hir_def_collector.specs.State.{Core, Visit, Task, visits, closes, State, import_state, visits_over, ticked, with_bound, with_map}
@@ -192,7 +191,7 @@ pub data Rule : Type 0 where
   -- the attribute at the place is inert by now, or builtin: its item goes on behind it
   skips_attribute : (i : ℕ) (d : MacroDirective) (k : WaitingItem) (item : KeptItem) → Rule
   -- nothing that waits reaches anything: the first attribute that waits is given up, and its item goes on behind it
-  gives_up : (i : ℕ) (d : MacroDirective) (k : WaitingItem) (item : KeptItem) → Rule
+  falls_back : (i : ℕ) (d : MacroDirective) (k : WaitingItem) (item : KeptItem) → Rule
   -- an import is taken, or a name goes along a glob
   resolves_imports : (rule : ImportRule) → Rule
 
@@ -296,7 +295,7 @@ pub record IsDue (s : State) (i : ℕ) (d : MacroDirective) : Type 0 where
   pub settled : i < s.core.settled
 
 -- it is active, and reaches a macro that has an expansion
-pub record Reaches (finished : Maps) (s : State) (i : ℕ) (d : MacroDirective) (makro : MacroId) : Type 0 where
+pub record CallsMacro (finished : Maps) (s : State) (i : ℕ) (d : MacroDirective) (makro : MacroId) : Type 0 where
   pub due : IsDue s i d
   pub active : is_inert_now s.core.map d ≡ false
   pub reaches : called_macro finished s.core.local s.core.map d ≡ Some makro
@@ -304,7 +303,7 @@ pub record Reaches (finished : Maps) (s : State) (i : ℕ) (d : MacroDirective) 
 
 -- and isn't deeper than calls may be; this is the macro's text
 pub record Expands (finished : Maps) (s : State) (i : ℕ) (d : MacroDirective) (makro : MacroId) (x : Expanding) : Type 0 where
-  pub called : Reaches finished s i d makro
+  pub called : CallsMacro finished s i d makro
   pub shallow : d.site.level < s.core.map.crate_data.recursion_limit
   pub text : IsTextOf finished s.core.map makro x.text
 
@@ -316,7 +315,7 @@ pub record IsDeep (s : State) (i : ℕ) (d : MacroDirective) : Type 0 where
 
 -- a path of a derive, or an attribute, that reaches a macro and is too deep
 pub record IsReachedDeep (finished : Maps) (s : State) (i : ℕ) (d : MacroDirective) (makro : MacroId) : Type 0 where
-  pub called : Reaches finished s i d makro
+  pub called : CallsMacro finished s i d makro
   pub no_call : is_call d ≡ false
   pub deep : s.core.map.crate_data.recursion_limit ≤ d.site.level
 
@@ -343,7 +342,7 @@ pub record Skips (finished : Maps) (s : State) (i : ℕ) (d : MacroDirective) (k
   pub passed : IsPassedOver finished s d
 
 -- the first attribute that waits, where no import, call, path of a derive or attribute reaches anything
-pub record GivesUp (finished : Maps) (s : State) (i : ℕ) (d : MacroDirective) (k : WaitingItem) (item : KeptItem) : Type 0 where
+pub record FallsBack (finished : Maps) (s : State) (i : ℕ) (d : MacroDirective) (k : WaitingItem) (item : KeptItem) : Type 0 where
   pub waiting : IsWaiting s i d
   pub of : IsItemOf d k item
   pub quiet : IsQuiet finished s
@@ -377,7 +376,7 @@ May finished s (drops_call i d) = IsDeep s i d
 May finished s (drops_reached i d makro) = IsReachedDeep finished s i d makro
 May finished s (derives_builtin i d makro imp) = DerivesBuiltin finished s i d makro imp
 May finished s (skips_attribute i d k item) = Skips finished s i d k item
-May finished s (gives_up i d k item) = GivesUp finished s i d k item
+May finished s (falls_back i d k item) = FallsBack finished s i d k item
 May finished s (resolves_imports rule) = MayImport finished (import_state s) rule
 
 -- ---- what it reads
@@ -413,7 +412,7 @@ reads s (drops_call i d) = []
 reads s (drops_reached i d makro) = []
 reads s (derives_builtin i d makro imp) = []
 reads s (skips_attribute i d k item) = []
-reads s (gives_up i d k item) = []
+reads s (falls_back i d k item) = []
 reads s (resolves_imports rule) = []
 
 -- the numbers of files, expansions and calls that a rule speaks of mean what they are taken for
@@ -444,7 +443,7 @@ Numbered tables s (drops_call i d) = Unit {0}
 Numbered tables s (drops_reached i d makro) = Unit {0}
 Numbered tables s (derives_builtin i d makro imp) = Unit {0}
 Numbered tables s (skips_attribute i d k item) = Unit {0}
-Numbered tables s (gives_up i d k item) = Unit {0}
+Numbered tables s (falls_back i d k item) = Unit {0}
 Numbered tables s (resolves_imports rule) = Unit {0}
 
 -- ---- what it changes
@@ -537,7 +536,7 @@ acts finished s (drops_reached i d makro) = ends i Handled ∷ bringing d.ast_id
 acts finished s (derives_builtin i d makro imp) =
     ends i Handled ∷ lists_derive d.site.home imp ∷ bringing d.ast_id (helpers_brought finished s.core.map d makro (Some (either.Right imp)))
 acts finished s (skips_attribute i d k item) = ends i Handled ∷ goes_on (visits (visit_behind d k item) ∷ []) ∷ []
-acts finished s (gives_up i d k item) =
+acts finished s (falls_back i d k item) =
     ends i GivenUp ∷ tells (call_report s.core.map.id d) ∷ goes_on (visits (visit_behind d k item) ∷ []) ∷ []
 acts finished s (resolves_imports rule) = list_map changes_imports (import_acts finished (import_state s) rule)
 
