@@ -1,6 +1,6 @@
 -- Which attributes of an item are looked up, which of them lists derives, and what does a function export?
-use Rattle.std.specs.Prelude.{ℕ, suc, ◌+◌, ◌==◌, Bool, false, true, ◌||◌, ◌&&◌, is_none, List, [], ◌∷◌, map, drop, codes, Option, None, Some, cond, unwrap_or}
-use Rattle.hir_base.specs.Display.{is_one_of}
+use Rattle.std.specs.Prelude.{ℕ, suc, ◌+◌, ◌==◌, Bool, false, true, ◌||◌, ◌&&◌, is_none, List, [], ◌∷◌, drop, codes, Option, None, Some, cond, unwrap_or}
+use Rattle.std.specs.Str.{bytes_eq}
 use Rattle.hir_base.specs.ModPath.{Path}
 use Rattle.hir_base.specs.declared.ast_id.AstId.{AstId}
 use Rattle.hir_base.specs.declared.ast_id.AttrId.{AttrId}
@@ -26,9 +26,14 @@ use Rattle.hir_def_collector.specs.ItemIds.{enum_id, module_id, node_of, struct_
 
 -- ---- which attributes are looked up
 
+-- whether a name is one of these
+abbrev pub is_among : List (List ℕ) → List ℕ → Bool
+is_among [] name = false
+is_among (other ∷ others) name = bytes_eq other name || is_among others name
+
 -- whether a path is that of a tool's attribute: of several segments, of which the first is a registered tool
 abbrev pub is_tool : List (List ℕ) → PathKind → List (List ℕ) → Bool
-is_tool tools roots.Plain (tool ∷ (next ∷ rest)) = is_one_of tools tool
+is_tool tools roots.Plain (tool ∷ (next ∷ rest)) = is_among tools tool
 is_tool tools roots.Plain [] = false
 is_tool tools roots.Plain (name ∷ []) = false
 is_tool tools (roots.Super levels) segments = false
@@ -36,22 +41,24 @@ is_tool tools roots.Crate segments = false
 is_tool tools roots.Abs segments = false
 is_tool tools (roots.DollarCrate krate) segments = false
 
--- the names of the helpers that derives brought into scope on a node
-abbrev pub helper_names : Map → AstId → List (List ℕ)
-helper_names m node = map (λ (h : DeriveHelper). h.name) (unwrap_or (helpers_at m node) [])
+-- whether a name is that of one of these helpers
+abbrev pub is_named_by : List DeriveHelper → List ℕ → Bool
+is_named_by [] name = false
+is_named_by (h ∷ hs) name = bytes_eq h.name name || is_named_by hs name
 
 -- whether a path is such a name alone
-abbrev pub is_helper_among : List (List ℕ) → PathKind → List (List ℕ) → Bool
-is_helper_among names roots.Plain (name ∷ []) = is_one_of names name
-is_helper_among names roots.Plain [] = false
-is_helper_among names roots.Plain (name ∷ (next ∷ rest)) = false
-is_helper_among names (roots.Super levels) segments = false
-is_helper_among names roots.Crate segments = false
-is_helper_among names roots.Abs segments = false
-is_helper_among names (roots.DollarCrate krate) segments = false
+abbrev pub is_helper_among : List DeriveHelper → PathKind → List (List ℕ) → Bool
+is_helper_among helpers roots.Plain (name ∷ []) = is_named_by helpers name
+is_helper_among helpers roots.Plain [] = false
+is_helper_among helpers roots.Plain (name ∷ (next ∷ rest)) = false
+is_helper_among helpers (roots.Super levels) segments = false
+is_helper_among helpers roots.Crate segments = false
+is_helper_among helpers roots.Abs segments = false
+is_helper_among helpers (roots.DollarCrate krate) segments = false
 
+-- whether it is that of a helper which a derive brought into scope on a node
 abbrev pub is_helper : Map → AstId → Path → Bool
-is_helper m node path = is_helper_among (helper_names m node) path.kind path.segments
+is_helper m node path = is_helper_among (unwrap_or (helpers_at m node) []) path.kind path.segments
 
 -- whether nothing is looked up for an attribute on a node: it is builtin and inert, a tool's, or a helper
 abbrev pub is_passed : Map → AstId → Numbered → Bool

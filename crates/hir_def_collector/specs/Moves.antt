@@ -1,10 +1,14 @@
 -- What a part of a run does.
-use Rattle.std.specs.Prelude.{◌≡◌, ◌<◌, ◌≤◌, ◌+◌, ℕ, Bool, true, false, ◌||◌, List, [], ◌∷◌, ◌++◌, length, Option, None, Some, option_map, slice_get}
+use Rattle.std.specs.Prelude.{◌≡◌, ◌<◌, ◌≤◌, ◌+◌, ℕ, suc, map, Bool, true, false, ◌||◌, List, [], ◌∷◌, ◌++◌, length, Option, None, Some, option_map, slice_get}
 use Rattle.std.specs.Option.{option_to_list}
 use Rattle.hir_base.specs.Cfg.{Cfg}
 use Rattle.hir_base.specs.declared.ast_id.AstKind.TheVariants as nodes
-use Rattle.hir_item_tree.specs.Collected.{is_enabled}
-use Rattle.hir_item_tree.specs.KeptForest.{Head, KeptItem}
+use Rattle.hir_item_tree.specs.Collected.{Numbered as Attribute, is_enabled, numbered}
+use Rattle.hir_item_tree.specs.KeptForest.{Head, KeptItem, all_items}
+use Rattle.hir_item_tree.specs.Kinds.{item_head}
+use Rattle.hir_base.specs.ModPath.{Path}
+use Rattle.hir_base.specs.declared.ast_id.AstId.{AstId}
+use Rattle.hir_base.specs.declared.ids.AdtId.{AdtId}
 use Rattle.hir_item_tree.specs.declared.kinds.ModItemKind.{ModItemKind}
 use Rattle.hir_item_tree.specs.declared.kinds.ModItemKind.TheVariants as kinds
 use Rattle.hir_item_tree.specs.Rows.{items_at, numbers_of}
@@ -13,6 +17,7 @@ use Rattle.hir_def_map.specs.Macros.{with_diagnostic}
 use Rattle.hir_def_map.specs.declared.nameres.diagnostics.DefDiagnostic.{DefDiagnostic}
 use Rattle.hir_def_collector.specs.declared.collector.mod_resolution.FoundFile.{FoundFile}
 use Rattle.hir_def_collector.specs.declared.collector.mod_resolution.LookedFile.{LookedFile}
+use Rattle.hir_def_collector.specs.declared.collector.attributes.Visited.{Visited}
 use Rattle.hir_def_collector.specs.declared.collector.mod_collector.Inside.{Inside}
 use Rattle.hir_def_collector.specs.declared.collector.mod_collector.Inside.TheVariants.{Nothing, Held, File}
 use Rattle.hir_scope.specs.declared.visibility.Visibility.{Visibility}
@@ -37,15 +42,15 @@ use Rattle.hir_tables.specs.Tables.{KeepsTables, TablesValue, source_of}
 use Rattle.hir_def_collector.specs.Keys.{Environment, environment}
 use Rattle.hir_def_collector.specs.Workspace.{Workspace, seen_of}
 use Rattle.hir_def_collector.specs.ModuleFiles.{AreNumbered, IsNumberOf, IsSearch, LookedAt, ModuleFile, Tried, file_reading, file_readings, module_file, named_by}
-use Rattle.hir_def_collector.specs.Attributes.{next_attribute}
+use Rattle.hir_def_collector.specs.Attributes.{adt_of, attr_id, item_node, next_attribute, paths_in}
 use Rattle.hir_def_collector.specs.Calls.{IsMeantAt}
 use Rattle.hir_def_collector.specs.ItemIds.{module_id, node_of}
 use Rattle.hir_def_collector.specs.Items.{file_origin, own_visibility}
 use Rattle.hir_def_collector.specs.Macros.{is_macro_use, textual_at, with_textual_scope}
-use Rattle.hir_def_collector.specs.Reports.{IsUnconfigured}
-use Rattle.hir_def_collector.specs.State.{Core, Task, Visit, visits, counted, joined, visits_over, with_map}
+use Rattle.hir_def_collector.specs.Reports.{IsUnconfigured, invalid_target, malformed_derive}
+use Rattle.hir_def_collector.specs.State.{Core, Task, Visit, visits, counted, joined, visits_over, with_calls, with_map}
 use Rattle.hir_def_collector.specs.Changes.{Change, perform}
-use Rattle.hir_def_collector.specs.Steps.{Sees, Step, Steps, behind, closing, inside_file, keys_read, module_declaration, with_declaration, with_keys}
+use Rattle.hir_def_collector.specs.Steps.{Sees, Step, Steps, behind, closing, derives_from, inside_file, keys_read, module_declaration, with_declaration, with_keys}
 use Rattle.hir_def_collector.specs.Derivation.{IsSpent}
 
 -- it holds over the tables as they are, and over each that they grow to
@@ -86,6 +91,27 @@ pub record Passes (env : Environment) (finished : Maps) (old new : Core) (v : Vi
 -- steps through them lead to as many as are counted
 pub record PassesTooFar (env : Environment) (finished : Maps) (old : Core) (v : Visit) (from : ℕ) : Type 0 where
   pub spent : (rest : List Task) → IsSpent env finished (joined old (visits (behind v from) ∷ rest))
+
+-- this is what the item that is visited is: the item of a number in a tree, with its node, its attributes, and the struct, union or enum that it is
+pub record IsVisited (m : Map) (visited : Visited) (item : KeptItem) : Type 0 where
+  pub kept : slice_get (all_items visited.source.now.value.tree.items) visited.id.0 ≡ Some item
+  pub node : visited.node ≡ item_node visited.site.now item
+  pub enabled : is_enabled (item_head item).attributes ≡ true
+  pub attributes : map numbered visited.attrs.now ≡ (item_head item).attributes.attributes
+  pub adt : visited.adt ≡ adt_of m visited.site.now item
+
+-- a `derive` on a node becomes calls of its paths, or is reported
+pub data TakesDerive (site : Site) (node : AstId) (a : Attribute) (adt : Option AdtId) (old new : Core) : Type 0 where
+  listed : (target : AdtId) (paths : List Path) → adt ≡ Some target → paths_in a.meta.input ≡ Some paths → new ≡ with_calls old (derives_from site node (attr_id a) target 0 paths)
+      → TakesDerive site node a adt old new
+  no_target : adt ≡ None → new ≡ with_map old (with_diagnostic old.map (invalid_target (module_id old.map site.home) node (attr_id a))) → TakesDerive site node a adt old new
+  no_paths : (target : AdtId) → adt ≡ Some target → paths_in a.meta.input ≡ None → new ≡ with_map old (with_diagnostic old.map (malformed_derive (module_id old.map site.home) node (attr_id a)))
+      → TakesDerive site node a adt old new
+
+-- what is to be done once the attribute at a place is handled: the item goes on behind it, unless it waits
+abbrev pub goes_behind : Visit → ℕ → Bool → List Task
+goes_behind v at false = []
+goes_behind v at true = visits (behind v (suc at)) ∷ []
 
 -- one step handles an attribute of the visited item, and this is still to be done
 pub record HandlesAttribute (env : Environment) (finished : Maps) (old new : Core) (v : Visit) (done : ℕ) (next : List Task) : Type 0 where

@@ -113,18 +113,18 @@ visits_in_file m s head f = visits_over (inside_file m f) f.tree.items ++ closin
 
 -- ---- what waits
 
--- a path of a `derive` attribute of an item that is a struct, enum or union
-abbrev pub derive_at : Visit → AdtId → Attribute → ℕ → Path → MacroDirective
-derive_at v adt a index path = record { site = v.site; ast_id = item_node v.site v.item; kind = Derive path (attr_id a) index adt }
+-- a path of a `derive` attribute on the node of a struct, enum or union
+abbrev pub derive_at : Site → AstId → AttrId → AdtId → ℕ → Path → MacroDirective
+derive_at site node attr adt index path = record { site = site; ast_id = node; kind = Derive path attr index adt }
 
 -- its paths, of which the first has this place
-abbrev pub derives_from : Visit → AdtId → Attribute → ℕ → List Path → List MacroDirective
-derives_from v adt a index [] = []
-derives_from v adt a index (path ∷ paths) = derive_at v adt a index path ∷ derives_from v adt a (suc index) paths
+abbrev pub derives_from : Site → AstId → AttrId → AdtId → ℕ → List Path → List MacroDirective
+derives_from site node attr adt index [] = []
+derives_from site node attr adt index (path ∷ paths) = derive_at site node attr adt index path ∷ derives_from site node attr adt (count_of (index + 1)) paths
 
--- an attribute of an item that waits
-abbrev pub attribute_at : Visit → Attribute → WaitingItem → MacroDirective
-attribute_at v a k = record { site = v.site; ast_id = item_node v.site v.item; kind = Attr a.meta.path (attr_id a) k }
+-- an attribute on the node of an item, which waits
+abbrev pub attribute_at : Site → AstId → AttrId → Path → WaitingItem → MacroDirective
+attribute_at site node attr path k = record { site = site; ast_id = node; kind = Attr path attr k }
 
 -- where an item goes on that waited for an attribute: one level deeper, at most as deep as is counted
 abbrev pub site_behind : Site → Site
@@ -519,8 +519,8 @@ acts finished s (defines_macro site head name expander helpers rest) =
     goes_on rest ∷ defines node makro ∷ describes makro (macro_data_of name helpers)
     ∷ declaring site.home (macro_declaration name makro (own_visibility finished s.core.local s.core.map site head)) ++ reporting (module_id s.core.map site.home) node expander
 acts finished s (closes_module parent child rest) = goes_on rest ∷ takes_textual parent child ∷ []
-acts finished s (awaits_attribute v a k rest) = goes_on rest ∷ awaits (attribute_at v a k ∷ []) ∷ []
-acts finished s (lists_derives v at a adt paths rest) = goes_on (visits (behind v (suc at)) ∷ rest) ∷ awaits (derives_from v adt a 0 paths) ∷ []
+acts finished s (awaits_attribute v a k rest) = goes_on rest ∷ awaits (attribute_at v.site (item_node v.site v.item) (attr_id a) a.meta.path k ∷ []) ∷ []
+acts finished s (lists_derives v at a adt paths rest) = goes_on (visits (behind v (suc at)) ∷ rest) ∷ awaits (derives_from v.site (item_node v.site v.item) (attr_id a) adt 0 paths) ∷ []
 acts finished s (faults_derive v at report rest) = goes_on (visits (behind v (suc at)) ∷ rest) ∷ tells report ∷ []
 acts finished s (exports_macro site head name d e rest) =
     let makro = proc_macro_id s.core.map site head.id e.style in
