@@ -17,8 +17,9 @@ use Rattle.hir_item_tree.specs.Collected.{Numbered}
 use Rattle.hir_item_tree.specs.KeptForest.{Head, KeptItem, Leaf, enumeration, function, holder, leaf, structure, union_structure}
 use Rattle.hir_item_tree.specs.Kinds.{item_head, item_kind}
 use Rattle.hir_def_map.specs.Macros.{helpers_at}
-use Rattle.hir_def_map.specs.State.{MacroDataValue, Map}
+use Rattle.hir_def_map.specs.State.{Map}
 use Rattle.hir_def_map.specs.declared.nameres.derive_helpers.DeriveHelper.{DeriveHelper}
+use Rattle.hir_def_collector.specs.declared.collector.exports.Export.{Export}
 use Rattle.hir_def_collector.specs.declared.collector.site.Site.{Site}
 use Rattle.hir_def_collector.specs.BuiltinAttributes.{is_inert}
 use Rattle.hir_def_collector.specs.CrateTop.{is_keyed, says}
@@ -114,30 +115,25 @@ paths_in (Some (parentheses (derive name helpers))) = None
 
 -- ---- what functions of a procedural-macro crate export
 
--- a macro that a function exports: how it may be called, under which name, and which attributes deriving with it brings
-pub record ExportValue : Type 0 where
-  pub style : ProcMacroStyle
-  pub what : MacroDataValue
-
 -- a derive macro, with its own name and its helpers
-abbrev pub derive_export : Option Input → Option ExportValue
+abbrev pub derive_export : Option Input → Option Export
 derive_export None = None
 derive_export (Some (literal text)) = None
 derive_export (Some (parentheses (paths ps))) = None
 derive_export (Some (parentheses (tokens text))) = None
 derive_export (Some (parentheses (derive name helpers))) = Some (record { style = Derive; what = record { name = name; helpers = helpers } })
 
-abbrev pub or_later : Option ExportValue → Option ExportValue → Option ExportValue
+abbrev pub or_later : Option Export → Option Export → Option Export
 or_later None later = later
 or_later (Some e) later = Some e
 
 -- that of the first `proc_macro_derive` that names one
-abbrev pub first_derive : List Numbered → Option ExportValue
+abbrev pub first_derive : List Numbered → Option Export
 first_derive [] = None
 first_derive (a ∷ rest) = or_later (cond (is_keyed (codes "proc_macro_derive") a) (derive_export a.meta.input) None) (first_derive rest)
 
 -- what the attributes of a function of this name export: a macro under its name, or a derive macro
-abbrev pub export_of : List ℕ → List Numbered → Option ExportValue
+abbrev pub export_of : List ℕ → List Numbered → Option Export
 export_of name attributes =
     cond (says (codes "proc_macro") attributes) (Some (record { style = FnLike; what = record { name = name; helpers = [] } }))
     (cond (says (codes "proc_macro_attribute") attributes) (Some (record { style = Attr; what = record { name = name; helpers = [] } }))
@@ -147,12 +143,12 @@ export_of name attributes =
 abbrev pub exports_from : Bool → Map → ℕ → Bool
 exports_from is_proc_macro m home = is_proc_macro && (is_none m.id.block && (home == 0))
 
-abbrev pub export_by : Bool → Map → Site → Head → Leaf → Option ExportValue
+abbrev pub export_by : Bool → Map → Site → Head → Leaf → Option Export
 export_by is_proc_macro m s h (function name) = cond (exports_from is_proc_macro m s.home) (export_of name h.attributes.attributes) None
 export_by is_proc_macro m s h _ = None
 
 -- what an item of a site exports
-abbrev pub export_at : Bool → Map → Site → KeptItem → Option ExportValue
+abbrev pub export_at : Bool → Map → Site → KeptItem → Option Export
 export_at is_proc_macro m s (leaf head l) = export_by is_proc_macro m s head l
 export_at is_proc_macro m s (holder head k items) = None
 

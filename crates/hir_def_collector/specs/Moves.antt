@@ -13,14 +13,18 @@ use Rattle.hir_item_tree.specs.declared.kinds.ModItemKind.{ModItemKind}
 use Rattle.hir_item_tree.specs.declared.kinds.ModItemKind.TheVariants as kinds
 use Rattle.hir_item_tree.specs.Rows.{items_at, numbers_of}
 use Rattle.hir_mod_dir.specs.declared.candidate.Candidate.{Candidate}
-use Rattle.hir_def_map.specs.Macros.{with_diagnostic}
+use Rattle.hir_def_map.specs.Macros.{with_diagnostic, with_exported, with_macro_data}
 use Rattle.hir_def_map.specs.declared.nameres.diagnostics.DefDiagnostic.{DefDiagnostic}
 use Rattle.hir_def_collector.specs.declared.collector.mod_resolution.FoundFile.{FoundFile}
 use Rattle.hir_def_collector.specs.declared.collector.mod_resolution.LookedFile.{LookedFile}
 use Rattle.hir_def_collector.specs.declared.collector.attributes.Visited.{Visited}
 use Rattle.hir_def_collector.specs.declared.collector.mod_collector.Inside.{Inside}
 use Rattle.hir_def_collector.specs.declared.collector.mod_collector.Inside.TheVariants.{Nothing, Held, File}
+use Rattle.hir_base.specs.declared.macro_kind.MacroId.TheVariants.{ProcMacroId}
+use Rattle.hir_def_collector.specs.declared.collector.declaration.Declaration.{Declaration}
+use Rattle.hir_def_collector.specs.declared.collector.exports.Export.{Export}
 use Rattle.hir_scope.specs.declared.visibility.Visibility.{Visibility}
+use Rattle.hir_scope.specs.declared.visibility.Visibility.TheVariants.{Public}
 use Rattle.hir_def_map.specs.Overlay.{Maps}
 use Rattle.hir_def_map.specs.State.{Map, ModuleValue, new_module, with_module}
 use Rattle.hir_def_map.specs.declared.nameres.origin.ModuleOrigin.{ModuleOrigin}
@@ -42,15 +46,15 @@ use Rattle.hir_tables.specs.Tables.{KeepsTables, TablesValue, source_of}
 use Rattle.hir_def_collector.specs.Keys.{Environment, environment}
 use Rattle.hir_def_collector.specs.Workspace.{Workspace, seen_of}
 use Rattle.hir_def_collector.specs.ModuleFiles.{AreNumbered, IsNumberOf, IsSearch, LookedAt, ModuleFile, Tried, file_reading, file_readings, module_file, named_by}
-use Rattle.hir_def_collector.specs.Attributes.{adt_of, attr_id, item_node, next_attribute, paths_in}
+use Rattle.hir_def_collector.specs.Attributes.{adt_of, attr_id, item_node, next_attribute, paths_in, proc_macro_id}
 use Rattle.hir_def_collector.specs.Calls.{IsMeantAt}
-use Rattle.hir_def_collector.specs.ItemIds.{module_id, node_of}
+use Rattle.hir_def_collector.specs.ItemIds.{function_id, module_id, node_of}
 use Rattle.hir_def_collector.specs.Items.{file_origin, own_visibility}
-use Rattle.hir_def_collector.specs.Macros.{is_macro_use, textual_at, with_textual_scope}
+use Rattle.hir_def_collector.specs.Macros.{is_macro_use, macro_declaration, textual_at, with_textual_scope}
 use Rattle.hir_def_collector.specs.Reports.{IsUnconfigured, invalid_target, malformed_derive}
-use Rattle.hir_def_collector.specs.State.{Core, Task, Visit, visits, counted, joined, visits_over, with_calls, with_map}
+use Rattle.hir_def_collector.specs.State.{Core, Task, Visit, visits, counted, joined, visits_over, with_calls, with_exported_function, with_map}
 use Rattle.hir_def_collector.specs.Changes.{Change, perform}
-use Rattle.hir_def_collector.specs.Steps.{Sees, Step, Steps, behind, closing, derives_from, inside_file, keys_read, module_declaration, with_declaration, with_keys}
+use Rattle.hir_def_collector.specs.Steps.{Sees, Step, Steps, behind, closing, derives_from, exported_function, inside_file, keys_read, module_declaration, with_declaration, with_keys}
 use Rattle.hir_def_collector.specs.Derivation.{IsSpent}
 
 -- it holds over the tables as they are, and over each that they grow to
@@ -202,6 +206,14 @@ GoesInside tables count site numbers (File inner source marked) = IsOfFile table
 -- the map with one more module, which begins with the macros in textual scope in the one around it
 abbrev pub begun : Map → ℕ → List ℕ → ModuleValue → Map
 begun m home name new = let made : Map = with_module m home name new in with_textual_scope made (length m.modules) (textual_at made home)
+
+-- the core once a function that exports a macro is declared, with the macro
+abbrev pub with_export : Core → Site → Head → List ℕ → Declaration → Export → Core
+with_export c site head name d e =
+    let makro = proc_macro_id c.map site head.id e.style in
+    let noted = with_exported_function (with_map c (with_exported c.map (function_id c.map site head.id) makro)) (exported_function c.map site head name) in
+    with_declaration (with_declaration (with_map noted (with_macro_data noted.map (ProcMacroId makro) e.what)) site.home d) site.home
+    (macro_declaration e.what.name (ProcMacroId makro) Public)
 
 -- a run once a module is made, listed and bound
 abbrev pub opened : Maps → Core → Site → Head → List ℕ → ModuleOrigin → Core

@@ -42,6 +42,7 @@ use Rattle.hir_import_resolution.specs.declared.directive.ImportDirective.{Impor
 use Rattle.hir_import_resolution.specs.Changes.{pushes}
 use Rattle.hir_import_resolution.specs.Rest.{IsClosed, IsSettled}
 use Rattle.hir_import_resolution.specs.Rules.{Rule as ImportRule, May as MayImport, acts as import_acts}
+use Rattle.hir_def_collector.specs.declared.collector.exports.Export.{Export}
 use Rattle.hir_def_collector.specs.declared.collector.exports.ExportedFunction.{ExportedFunction}
 use Rattle.hir_def_collector.specs.declared.collector.macro_directive.Fate.TheVariants.{GivenUp, Handled}
 use Rattle.hir_def_collector.specs.declared.collector.macro_directive.MacroDirective.{MacroDirective}
@@ -52,7 +53,7 @@ use Rattle.hir_def_collector.specs.declared.source_database.Key.{Key}
 use Rattle.hir_def_collector.specs.declared.source_database.Key.TheVariants as keys
 use Rattle.hir_def_collector.specs.Keys.{Environment, of_variants, look}
 use Rattle.hir_def_collector.specs.ModuleFiles.{IsNumbered, IsSearch, ModuleFile, Reading, Search, file_readings, file_tree, module_file, path_attribute, tried_in}
-use Rattle.hir_def_collector.specs.Attributes.{ExportValue, adt_of, attr_id, export_at, is_derive, item_node, next_attribute, paths_in, proc_macro_id}
+use Rattle.hir_def_collector.specs.Attributes.{adt_of, attr_id, export_at, is_derive, item_node, next_attribute, paths_in, proc_macro_id}
 use Rattle.hir_def_collector.specs.Calls.{Expanding, IsNumberedCall, IsTextOf, IsWaiting, LeadsNowhere, builtin_impl, call_site, called_macro, error_of, expansion_readings, has_expansion, helpers_brought, is_call, is_inert_now, item_kept, path_of_call, text_readings, waiting_item}
 use Rattle.hir_def_collector.specs.Reports.{IsUnconfigured, IsUnresolvedModule, call_report, failed_call, invalid_target, is_unimplemented, malformed_derive, unimplemented_macro}
 pub use Rattle.hir_def_collector.specs.State.{behind, visit}
@@ -175,7 +176,7 @@ pub data Rule : Type 0 where
   -- the next item has a `derive` that is reported, and goes on behind it
   faults_derive : (v : Visit) (at : ℕ) (report : DefDiagnostic) (rest : List Task) → Rule
   -- the next item is a function that exports a macro
-  exports_macro : (site : Site) (head : Head) (name : List ℕ) (d : Declaration) (e : ExportValue) (rest : List Task) → Rule
+  exports_macro : (site : Site) (head : Head) (name : List ℕ) (d : Declaration) (e : Export) (rest : List Task) → Rule
   -- the next item is a macro call, which waits
   reaches_call : (site : Site) (head : Head) (path : Path) (rest : List Task) → Rule
   -- nothing is left to do but to expand calls, and those that there are may be expanded now
@@ -253,7 +254,7 @@ pub record Declares (finished : Maps) (s : State) (v : Visit) (d : Declaration) 
   pub exports_none : export_at s.core.is_proc_macro s.core.map v.site v.item ≡ None
 
 -- or it is a function that declares this and exports that
-pub record Exports (finished : Maps) (s : State) (site : Site) (head : Head) (name : List ℕ) (d : Declaration) (e : ExportValue) (rest : List Task) : Type 0 where
+pub record Exports (finished : Maps) (s : State) (site : Site) (head : Head) (name : List ℕ) (d : Declaration) (e : Export) (rest : List Task) : Type 0 where
   pub here : IsNext s (visit site (leaf head (function name))) rest
   pub declares : declaration_of finished s.core.local s.core.map (visit site (leaf head (function name))) ≡ Some d
   pub exports : export_at s.core.is_proc_macro s.core.map site (leaf head (function name)) ≡ Some e

@@ -254,7 +254,6 @@ fn handle_attribute(
     ensures ok { IfOk result (λ goes_on. (env : Environment) (finished : Maps) (item : KeptItem) (from : _) → IsVisited (core_in run.old).map visited item
         → next_attribute (core_in run.old).map visited.site.now item from ≡ Some (at, numbered (slice_index visited.attrs.now at))
         → HandlesAttribute env finished (core_in run.old) (core_in run.new) (visit visited.site.now item) from (goes_behind (visit visited.site.now item) at goes_on)) }
-    ensures same { OnOk result ((core_in run.new).map.derive_helpers ≡ (core_in run.old).map.derive_helpers) }
     ensures many { result ≡ Err CollectError.TooMany → STEP_LIMIT ≤ (core_in run.old).count }
 {
     let attr = &visited.attrs[at];
@@ -284,7 +283,6 @@ pub fn pass_attributes(
 ) -> Result<Option<usize>, CollectError>
     ensures ok { IfOk result (λ done. (env : Environment) (finished : Maps) (item : KeptItem) → IsVisited (core_in run.old).map visited item
         → Passes env finished (core_in run.old) (core_in run.new) (visit visited.site.now item) from done) }
-    ensures others { IfOk result (λ done. (core_in run.new).map.modules ≡ (core_in run.old).map.modules) }
     ensures many { result ≡ Err CollectError.TooMany → (env : Environment) (finished : Maps) (item : KeptItem) → IsVisited (core_in run.old).map visited item
         → PassesTooFar env finished (core_in run.old) (visit visited.site.now item) from }
 {

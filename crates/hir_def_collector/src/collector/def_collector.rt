@@ -4,15 +4,18 @@
 ghost use Rattle.std.specs.Prelude.{◌≡◌, ◌<◌, ◌≤◌, ℕ, true, false, ◌∷◌, [], Some, length, option_map, slice_get, slice_set, IfNone, IfOk, IfSome, OnOk};
 ghost use Rattle.hir_def_map.specs.State.{with_enum, with_module, new_id, new_module, with_declared, with_use, with_impl, with_extern_block, with_extern_crate, with_unnamed_const};
 ghost use Rattle.hir_def_map.specs.WorldParts.{part_of};
-ghost use Rattle.hir_def_map.specs.Macros.{with_diagnostic, with_macro_def};
+ghost use Rattle.hir_def_map.specs.Macros.{with_derive_helper, with_diagnostic, with_exported, with_macro_data, with_macro_def};
 ghost use Rattle.hir_import_resolution.specs.Inner.State.{IsApart};
 ghost use Rattle.hir_import_resolution.specs.Rest.{IsAtRest, IsClosed, IsSound};
 ghost use Rattle.hir_import_resolution.specs.Visibilities.{visibility_in};
 ghost use Rattle.hir_def_collector.specs.Keys.{Environment};
-ghost use Rattle.hir_def_collector.specs.State.{at_rest, core_in, core_with_imports, counted, import_state, with_asked, with_bound, with_calls, with_fate, with_imports, with_local, with_map, with_settled};
+ghost use Rattle.hir_def_collector.specs.State.{at_rest, core_in, core_with_imports, counted, import_state, with_asked, with_bound, with_calls, with_exported_function, with_fate, with_imports, with_local, with_map, with_settled};
 ghost use Rattle.hir_def_collector.specs.ItemIds.{container_of, module_id};
 ghost use Rattle.hir_def_collector.specs.Items.{own_visibility};
-ghost use Rattle.hir_def_collector.specs.Calls.{IsWaiting, called_macro, macro_among};
+ghost use Rattle.hir_def_collector.specs.Attributes.{exports_from};
+ghost use Rattle.hir_def_collector.specs.Calls.{IsWaiting, called_macro, helpers_brought, helpers_of, is_inert_now, kept_of, macro_among, suited};
+ghost use Rattle.hir_def_collector.specs.Changes.{with_derived};
+ghost use Rattle.hir_def_collector.specs.Ended.{ended};
 ghost use Rattle.hir_def_collector.specs.TreeReads.{head_of};
 ghost use Rattle.hir_def_collector.specs.Imports.{crate_named, dependency_named, extern_after};
 ghost use Rattle.hir_def_collector.specs.Macros.{macros_brought, other_scope, textual_at, with_macros_used, with_textual_macro, with_textual_scope};
@@ -22,10 +25,12 @@ ghost use Rattle.hir_def_collector.specs.Steps.{Steps};
 ghost use Rattle.hir_def_collector.specs.Derivation.{IsSpent, collected_view, finished_run};
 ghost use Rattle.hir_def_collector.specs.Moves.{begun};
 
+use crate::collector::attributes::is_helper;
 use crate::collector::collected::{Asked, Collected};
 use crate::collector::diagnostics::{report_calls, report_unresolved, unresolved_crates};
+use crate::collector::exports::{ExportedFunction, censor_root};
 use crate::collector::leftovers::untaken;
-use crate::collector::macro_directive::{Fate, MacroDirective};
+use crate::collector::macro_directive::{Fate, MacroDirective, MacroDirectiveKind};
 use crate::collector::macro_use::{root_scope, use_prelude_macros, use_wanted};
 use crate::collector::preludes::prelude;
 use crate::collector::site::{ItemHead, Site};
@@ -34,22 +39,24 @@ use crate::source_database::{Dependency, Key};
 use hir_base::ast_id::{AstId, EditionedFileId, FileId, HirFileId};
 use hir_base::cfg_options::CfgOptions;
 use hir_base::ids::{
-    ConstId, Crate, EnumId, ExternBlockId, ExternCrateId, ImplId, ItemContainerId, MapId,
-    ModuleDefId, ModuleId, UseId,
+    ConstId, Crate, EnumId, ExternBlockId, ExternCrateId, HasModule, ImplId, ItemContainerId,
+    MapId, ModuleDefId, ModuleId, UseId,
 };
-use hir_base::macro_kind::MacroId;
+use hir_base::macro_kind::{BuiltinDeriveImplId, MacroId, ProcMacroId};
 use hir_base::name::Name;
 use hir_crate_graph::crate_set::CrateSet;
 use hir_def_map::def_maps::DefMaps;
 use hir_def_map::nameres::DefMap;
 use hir_def_map::nameres::crate_data::DefMapCrateData;
+use hir_def_map::nameres::derive_helpers::DeriveHelper;
 use hir_def_map::nameres::diagnostics::DefDiagnostic;
 use hir_def_map::nameres::enum_variants::EnumVariants;
 use hir_def_map::nameres::local_def_map::LocalDefMap;
+use hir_def_map::nameres::macro_data::MacroData;
 use hir_def_map::nameres::module_data::ModuleData;
 use hir_def_map::nameres::origin::ModuleOrigin;
 use hir_def_map::nameres::path_resolution::query::Query;
-use hir_def_map::nameres::path_resolution::{BuiltinShadowMode, MacroSubNs, ResolveMode};
+use hir_def_map::nameres::path_resolution::{BuiltinShadowMode, ResolveMode};
 use hir_def_map::world::part::WorldPart;
 use hir_glob_imports::GlobImports;
 use hir_import_resolution::answers::visibility;
@@ -81,6 +88,8 @@ pub struct DefCollector {
     calls: Vec<MacroDirective>,
     fates: Vec<Fate>,
     settled: usize,
+    is_proc_macro: bool,
+    exported: Vec<ExportedFunction>,
     asked: Vec<Key>,
     count: u32,
 }
@@ -107,6 +116,8 @@ impl Model for DefCollector {
       calls = r.calls.items;
       fates = r.fates.items;
       settled = r.settled;
+      is_proc_macro = r.is_proc_macro;
+      exported = r.exported.items;
       asked = r.asked.items;
       count = r.count;
     } };
@@ -136,13 +147,21 @@ fn macro_among(items: PerNs) -> Option<MacroId>
     }
 }
 
-/// The call at the place is handled.
-fn end(fates: &mut Vec<Fate>, i: usize)
-    ensures value { fates.new.items ≡ slice_set fates.old.items i Fate.Handled }
+/// This becomes of the call at the place.
+fn end(fates: &mut Vec<Fate>, i: usize, fate: Fate)
+    ensures value { fates.new.items ≡ slice_set fates.old.items i fate }
 {
     if i < fates.len() {
-        fates[i] = Fate::Handled;
+        fates[i] = fate;
     }
+}
+
+/// A macro, if it will do for what asks for one.
+fn suited(call: &MacroDirective, found: Option<MacroId>) -> Option<MacroId>
+    ensures value { result ≡ suited call.now.kind found }
+{
+    let makro = found?;
+    if call.suits(makro) { Some(makro) } else { None }
 }
 
 impl DefCollector {
@@ -154,10 +173,11 @@ impl DefCollector {
         local: LocalDefMap,
         dependencies: Vec<Dependency>,
         options: CfgOptions,
+        is_proc_macro: bool,
         start: Start,
         tree: TreeId,
     ) -> Result<DefCollector, AllocError>
-        ensures value { IfOk result (λ run. core_in run ≡ core_by (part_of world.entry) crate_data local dependencies.items options start tree) }
+        ensures value { IfOk result (λ run. core_in run ≡ core_by (part_of world.entry) crate_data local dependencies.items options is_proc_macro start tree) }
     {
         let krate = start.krate();
         let root = ModuleData::new(alloc, start.origin(), Visibility::Public, None);
@@ -179,6 +199,8 @@ impl DefCollector {
             calls: Vec::new(alloc),
             fates: Vec::new(alloc),
             settled: 0,
+            is_proc_macro,
+            exported: Vec::new(alloc),
             asked,
             count: 0,
         })
@@ -295,6 +317,51 @@ impl DefCollector {
         ensures ok { OnOk result (core_in self.new ≡ with_map (core_in self.old) (with_macro_def (core_in self.old).map node makro)) }
     {
         self.map.add_macro_def(node, makro)?;
+        Ok(())
+    }
+
+    /// Keeps the name of a macro, and the attributes that deriving with it brings into scope.
+    pub fn describe_macro(&mut self, makro: MacroId, what: MacroData) -> Result<(), AllocError>
+        ensures ok { OnOk result (core_in self.new ≡ with_map (core_in self.old) (with_macro_data (core_in self.old).map makro what)) }
+    {
+        self.map.add_macro_data(makro, what)?;
+        Ok(())
+    }
+
+    /// Whether functions of a module export macros: those of the root of a procedural-macro crate.
+    pub fn exports_from(&self, home: u32) -> bool
+        ensures value { result ≡ exports_from (core_in self.now).is_proc_macro (core_in self.now).map home }
+    {
+        self.is_proc_macro && self.map.id().block.is_none() && home == 0
+    }
+
+    /// Notes a function that exports a macro.
+    pub fn export(
+        &mut self,
+        function: ExportedFunction,
+        makro: ProcMacroId,
+    ) -> Result<(), AllocError>
+        ensures ok { OnOk result (core_in self.new ≡ with_exported_function (with_map (core_in self.old) (with_exported (core_in self.old).map function.id makro)) function) }
+    {
+        self.map.export_proc_macro(function.id, makro)?;
+        self.exported.push(function)?;
+        Ok(())
+    }
+
+    /// Brings a helper of a derive into scope on an item.
+    pub fn help(&mut self, node: AstId, helper: DeriveHelper) -> Result<(), AllocError>
+        ensures ok { OnOk result (core_in self.new ≡ with_map (core_in self.old) (with_derive_helper (core_in self.old).map node helper)) }
+    {
+        self.map.add_derive_helper(node, helper)?;
+        Ok(())
+    }
+
+    /// Lists the impl that a builtin derive macro stands for in a module.
+    pub fn list_derived(&mut self, home: u32, imp: BuiltinDeriveImplId) -> Result<(), AllocError>
+        requires in_range { home < length (core_in self.old).map.modules }
+        ensures ok { OnOk result (core_in self.new ≡ with_map (core_in self.old) (with_derived (core_in self.old).map home imp)) }
+    {
+        self.map.scope_mut(home).define_builtin_derive_impl(imp)?;
         Ok(())
     }
 
@@ -494,7 +561,7 @@ impl DefCollector {
         Ok(())
     }
 
-    /// Notes a macro call that was come upon.
+    /// Notes a macro call, a path of a derive or an attribute that was come upon.
     pub fn await_call(&mut self, call: MacroDirective) -> Result<(), AllocError>
         ensures ok { OnOk result (core_in self.new ≡ with_calls (core_in self.old) (call ∷ [])) }
     {
@@ -517,11 +584,11 @@ impl DefCollector {
     {
         match self.fates.get(i)? {
             Fate::Waits => self.calls.get(i),
-            Fate::Handled => None,
+            Fate::Handled | Fate::GivenUp => None,
         }
     }
 
-    /// The macro that the path of a call reaches.
+    /// The macro that a call, a path of a derive or an attribute reaches.
     pub fn called_macro(&self, world: WorldPart<'_>, call: &MacroDirective) -> Option<MacroId>
         ensures value { result ≡ called_macro (part_of world.entry) (core_in self.now).local (core_in self.now).map call.now }
     {
@@ -530,11 +597,32 @@ impl DefCollector {
             local: Some(&self.local),
             mode: ResolveMode::Other,
             shadow: BuiltinShadowMode::Module,
-            sub_ns: Some(MacroSubNs::Bang),
+            sub_ns: Some(call.sub_ns()),
         };
         let path = call.path();
         let answer = query.resolve(self.module_id(call.site.home), path.kind(), path.segments());
-        macro_among(answer.resolved_def)
+        suited(call, macro_among(answer.resolved_def))
+    }
+
+    /// Whether what waits is an attribute, and inert by now: a helper.
+    pub fn is_inert_now(&self, call: &MacroDirective) -> bool
+        ensures value { result ≡ is_inert_now (core_in self.now).map call.now }
+    {
+        match &call.kind {
+            MacroDirectiveKind::Attr { path, .. } => is_helper(&self.map, call.ast_id, path),
+            MacroDirectiveKind::FnLike { .. } | MacroDirectiveKind::Derive { .. } => false,
+        }
+    }
+
+    /// What is kept of a macro in its map.
+    pub fn kept_of<'a>(&'a self, world: WorldPart<'a>, makro: MacroId) -> Option<&'a MacroData>
+        ensures value { option_map (λ what. what.now) result ≡ kept_of (part_of world.entry) (core_in self.now).map makro }
+    {
+        let maps = DefMaps::new(world, &self.map);
+        match maps.map(makro.module().map) {
+            Some(map) => map.macro_data(makro),
+            None => None,
+        }
     }
 
     /// Whether a call is deeper than calls may be.
@@ -545,11 +633,11 @@ impl DefCollector {
         call.site.level >= self.map.recursion_limit()
     }
 
-    /// The call at the place is handled.
-    pub fn end_call(&mut self, i: usize)
-        ensures value { core_in self.new ≡ with_fate (core_in self.old) i Fate.Handled }
+    /// This becomes of the call at the place.
+    pub fn end_call(&mut self, i: usize, fate: Fate)
+        ensures value { core_in self.new ≡ with_fate (core_in self.old) i fate }
     {
-        end(&mut self.fates, i);
+        end(&mut self.fates, i, fate);
     }
 
     /// All calls that there are may be expanded.
@@ -599,6 +687,8 @@ impl DefCollector {
             calls: self.calls,
             fates: self.fates,
             settled: self.settled,
+            is_proc_macro: self.is_proc_macro,
+            exported: self.exported,
             asked: self.asked,
             count: imports.count,
         })
@@ -639,6 +729,8 @@ impl DefCollector {
             calls: self.calls,
             fates: self.fates,
             settled: self.settled,
+            is_proc_macro: self.is_proc_macro,
+            exported: self.exported,
             asked: self.asked,
             count: imports.count,
         })
@@ -658,6 +750,9 @@ impl DefCollector {
         let leftover = untaken(alloc, &self.reached, &self.taken)?;
         let names = unresolved_crates(alloc, &self.reached, &self.taken)?;
         let mut map = self.map;
+        if self.is_proc_macro {
+            censor_root(&mut map, &self.exported);
+        }
         report_calls(&mut map, &self.calls, &self.fates)?;
         report_unresolved(&mut map, &names, &self.reached, &self.taken)?;
         Ok(Collected {
