@@ -1,5 +1,5 @@
 -- What a part of a run does with macro calls.
-use Rattle.std.specs.Prelude.{◌≡◌, ◌<◌, ◌≤◌, ℕ, Bool, true, false, ◌++◌, length, None, Some, IsSome, slice_get}
+use Rattle.std.specs.Prelude.{◌≡◌, ◌<◌, ◌≤◌, ℕ, Bool, true, false, ◌++◌, length, Option, None, Some, IsSome, slice_get}
 use Rattle.hir_base.specs.declared.macro_kind.MacroId.{MacroId}
 use Rattle.hir_item_tree.specs.SourceTree.{SourceTreeValue}
 use Rattle.hir_tables.specs.Tables.{TablesValue}
@@ -7,6 +7,8 @@ use Rattle.hir_def_map.specs.Overlay.{Maps}
 use Rattle.hir_import_resolution.specs.Rest.{BroughtStands, IsAtRest, IsClosed, IsSound}
 use Rattle.hir_import_resolution.specs.declared.directive.ImportDirective.{ImportDirective}
 use Rattle.hir_def_collector.specs.declared.collector.calls.Due.{Due}
+use Rattle.hir_def_collector.specs.declared.collector.calls.Turn.{Turn}
+use Rattle.hir_def_collector.specs.declared.collector.calls.Turn.TheVariants.{GaveUp, Rests, Round}
 use Rattle.hir_def_collector.specs.declared.collector.calls.Due.TheVariants.{Derives, Drops, Nothing, Reaches, Skips, TooDeep}
 use Rattle.hir_def_collector.specs.declared.collector.macro_directive.Fate.TheVariants.{Handled}
 use Rattle.hir_def_collector.specs.declared.collector.macro_directive.MacroDirective.{MacroDirective}
@@ -16,7 +18,7 @@ use Rattle.hir_def_collector.specs.Keys.{Environment}
 use Rattle.hir_def_collector.specs.Moves.{OnceGrown}
 use Rattle.hir_def_collector.specs.Rounds.{HasManyRounds, IsRound}
 use Rattle.hir_def_collector.specs.State.{Core, at_rest, import_state}
-use Rattle.hir_def_collector.specs.Steps.{IsPassedOver, Sees, keys_read, with_keys}
+use Rattle.hir_def_collector.specs.Steps.{IsPassedOver, Sees, Steps, keys_read, with_keys}
 use Rattle.hir_def_collector.specs.Workspace.{Workspace, seen_of}
 
 -- what holds of a run wherever steps lead that began with a tree whose number means something
@@ -69,16 +71,47 @@ pub data TriesCalls (env : Environment) (finished : Maps) (old new : Core) : Boo
   round : IsRound env finished (at_rest old) (at_rest new) → TriesCalls env finished old new true
   idle : new ≡ old → ((i : ℕ) → LeadsNowhere finished (at_rest old) i) → TriesCalls env finished old new false
 
--- no attribute waits before this place
-abbrev pub NoneWaitsBefore : Core → ℕ → Type 0
-NoneWaitsBefore c first = (j : ℕ) (d : MacroDirective) (k : WaitingItem) → IsWaiting (at_rest c) j d → waiting_item d ≡ Some k → first ≤ j
+-- an attribute waits at the place
+pub record IsAttributeWaiting (c : Core) (i : ℕ) : Type 0 where
+  pub call : MacroDirective
+  pub waits : IsWaiting (at_rest c) i call
+  pub item : WaitingItem
+  pub is_item : waiting_item call ≡ Some item
 
--- no attribute waits
+-- none does before this place
+abbrev pub NoneWaitsBefore : Core → ℕ → Type 0
+NoneWaitsBefore c first = (j : ℕ) → IsAttributeWaiting c j → first ≤ j
+
+-- none does at all
 abbrev pub NoneWaits : Core → Type 0
-NoneWaits c = (j : ℕ) (d : MacroDirective) → IsWaiting (at_rest c) j d → waiting_item d ≡ None
+NoneWaits c = (j : ℕ) → ¬ IsAttributeWaiting c j
+
+-- the first does at this place
+pub record IsFirstWaiting (c : Core) (i : ℕ) : Type 0 where
+  pub waits : IsAttributeWaiting c i
+  pub first : NoneWaitsBefore c i
+
+-- the first attribute that waited was given up, and none waits before this place; or none waited, and nothing was done
+abbrev pub IsGivenUp : Core → Core → Option ℕ → Type 0
+IsGivenUp old new None = (new ≡ old) × NoneWaits old
+IsGivenUp old new (Some next) = NoneWaitsBefore new next
 
 -- imports rest, nothing that waits reaches a macro, and no attribute waits; or there were more rounds than may be, and no name is left to go along a glob
 pub data ComesToRest (env : Environment) (finished : Maps) (old new : Core) : Bool → Type 0 where
   rested : IsAtRest finished (import_state (at_rest new)) → ((i : ℕ) → LeadsNowhere finished (at_rest new) i) → NoneWaits new → ComesToRest env finished old new false
   cut_off : IsClosed finished (import_state (at_rest new)) → BroughtStands finished (import_state (at_rest new)) → HasManyRounds env finished (at_rest old) (at_rest new)
       → ComesToRest env finished old new true
+
+-- steps lead to where a round begins that ends here, and no attribute waits before this place
+pub record EndsInRound (env : Environment) (finished : Maps) (old new : Core) (first : ℕ) : Type 0 where
+  pub begun : Core
+  pub before : Steps env finished (at_rest old) (at_rest begun)
+  pub round : IsRound env finished (at_rest begun) (at_rest new)
+  pub none : NoneWaitsBefore new first
+
+-- in a turn a round was gone through, behind which no attribute waits before the same place; or the first attribute that waits was given up; or imports rest,
+-- nothing that waits reaches a macro, and no attribute waits
+abbrev pub TakesTurn : Environment → Maps → Core → Core → ℕ → Turn → Type 0
+TakesTurn env finished old new first Round = EndsInRound env finished old new first
+TakesTurn env finished old new first (GaveUp next) = NoneWaitsBefore new next
+TakesTurn env finished old new first Rests = ComesToRest env finished old new false

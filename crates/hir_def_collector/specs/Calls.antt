@@ -255,6 +255,11 @@ IsTextOf finished m (Macro2Id id) text = Unit {0}
 IsTextOf finished m (MacroRulesId id) text = Unit {0}
 IsTextOf finished m (ProcMacroId id) text = text ≡ option_map (λ (what : MacroDataValue). what.name) (kept_of finished m (ProcMacroId id))
 
+abbrev pub called_text : Maps → Map → MacroId → Option (List ℕ) → Option (List ℕ)
+called_text finished m (Macro2Id id) found = found
+called_text finished m (MacroRulesId id) found = found
+called_text finished m (ProcMacroId id) found = option_map (λ (what : MacroDataValue). what.name) (kept_of finished m (ProcMacroId id))
+
 -- the input, whether the expansion is there, and its items
 abbrev pub expansion_readings : Crate → MacroDirective → Expanding → List Reading
 expansion_readings own d x =

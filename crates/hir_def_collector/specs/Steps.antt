@@ -131,9 +131,9 @@ attribute_at site node attr path k = record { site = site; ast_id = node; kind =
 abbrev pub site_behind : Site → Site
 site_behind s = record { home = s.home; tree = s.tree; file = s.file; extern_block = s.extern_block; dir = s.dir; level = count_of (s.level + 1) }
 
--- the item behind the attribute for which it waited
+-- that item, the attribute for which it waited done with
 abbrev pub visit_behind : MacroDirective → WaitingItem → KeptItem → Visit
-visit_behind d k i = record { site = site_behind d.site; item = i; done = suc k.done }
+visit_behind d k i = record { site = site_behind d.site; item = i; done = k.done }
 
 -- ---- the rules
 
@@ -224,8 +224,10 @@ pub record IsNext (s : State) (v : Visit) (rest : List Task) : Type 0 where
 
 -- its attribute waits, which isn't a `derive`; what is kept of the item is the item
 pub record Awaits (s : State) (v : Visit) (a : Attribute) (k : WaitingItem) (rest : List Task) : Type 0 where
-  pub has : HasAttribute s v k.done a rest
+  pub at : ℕ
+  pub has : HasAttribute s v at a rest
   pub looked_up : is_derive a ≡ false
+  pub behind_it : k.done ≡ suc at
   pub kept : item_kept k ≡ Some v.item
 
 -- its attribute is a `derive` on a struct, enum or union, with these paths

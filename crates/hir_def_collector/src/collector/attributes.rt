@@ -264,7 +264,7 @@ fn handle_attribute(
         let item = WaitingItem {
             source: visited.source.clone()?,
             id: visited.id,
-            done: at,
+            done: at + 1,
         };
         await_attribute(run, visited.site, visited.node, attr, item)?;
     }

@@ -14,6 +14,7 @@ ghost use Rattle.hir_def_collector.specs.ItemIds.{container_of, module_id};
 ghost use Rattle.hir_def_collector.specs.Items.{own_visibility};
 ghost use Rattle.hir_def_collector.specs.Attributes.{exports_from};
 ghost use Rattle.hir_def_collector.specs.Calls.{IsWaiting, called_macro, helpers_brought, helpers_of, is_inert_now, kept_of, macro_among, suited};
+ghost use Rattle.hir_def_collector.specs.CallMoves.{IsAttributeWaiting};
 ghost use Rattle.hir_def_collector.specs.Changes.{with_derived};
 ghost use Rattle.hir_def_collector.specs.Ended.{ended};
 ghost use Rattle.hir_def_collector.specs.TreeReads.{head_of};
@@ -585,6 +586,24 @@ impl DefCollector {
         match self.fates.get(i)? {
             Fate::Waits => self.calls.get(i),
             Fate::Handled | Fate::GivenUp => None,
+        }
+    }
+
+    /// How many calls, paths of derives and attributes were come upon.
+    pub fn call_count(&self) -> usize
+        ensures value { result ≡ length (core_in self.now).calls }
+    {
+        self.calls.len()
+    }
+
+    /// Whether what waits at the place is an attribute.
+    pub fn is_attribute_waiting(&self, i: usize) -> bool
+        ensures waits { result ≡ true → IsAttributeWaiting (core_in self.now) i }
+        ensures none { result ≡ false → ¬ IsAttributeWaiting (core_in self.now) i }
+    {
+        match self.waiting(i) {
+            Some(call) => call.waiting_item().is_some(),
+            None => false,
         }
     }
 

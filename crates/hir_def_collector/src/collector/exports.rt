@@ -1,16 +1,13 @@
 //! The macros that functions of a procedural-macro crate export, and what others see of such a crate.
-ghost use Rattle.std.specs.Prelude.{◌≡◌, ◌<◌, ◌≤◌, true, [], IfOk, None, OnOk, length, map as list_map, option_map};
+ghost use Rattle.std.specs.Prelude.{◌≡◌, ◌≤◌, [], IfOk, OnOk, Some, map as list_map, option_map};
 ghost use Rattle.hir_item_tree.specs.Attributes.{input_view};
 ghost use Rattle.hir_item_tree.specs.Collected.{numbered};
 ghost use Rattle.hir_item_tree.specs.KeptForest.{function, leaf};
-ghost use Rattle.hir_scope.specs.Scope.Updates.{censored_scope};
 ghost use Rattle.hir_def_map.specs.State.{with_scope};
-ghost use Rattle.hir_def_map.specs.WorldParts.{part_of};
-ghost use Rattle.hir_def_collector.specs.Attributes.{derive_export, export_at, export_of, first_derive, or_later, proc_macro_id};
-ghost use Rattle.hir_def_collector.specs.Changes.{perform};
+ghost use Rattle.hir_def_collector.specs.Attributes.{derive_export, export_at, export_of, first_derive};
 ghost use Rattle.hir_def_collector.specs.Ended.{exporting_scope, without_functions};
 ghost use Rattle.hir_def_collector.specs.ItemIds.{function_id};
-ghost use Rattle.hir_def_collector.specs.Items.{own_visibility, value_declaration};
+ghost use Rattle.hir_def_collector.specs.Items.{value_declaration};
 ghost use Rattle.hir_def_collector.specs.Moves.{with_export};
 ghost use Rattle.hir_def_collector.specs.State.{core_in, counted};
 ghost use Rattle.hir_def_collector.specs.TreeReads.{head_of};
@@ -49,7 +46,7 @@ pub struct ExportedFunction {
 }
 
 /// The same names again.
-fn cloned(alloc: Global, names: &[Name]) -> Result<Vec<Name>, AllocError>
+pub fn cloned(alloc: Global, names: &[Name]) -> Result<Vec<Name>, AllocError>
     ensures value { IfOk result (λ copies. copies.items ≡ names.now) }
 {
     let mut copies = Vec::new(alloc);
@@ -205,9 +202,9 @@ fn censor(scope: &mut ItemScope, krate: Crate, exported: &[ExportedFunction])
 
 /// Lets other crates see the macros alone that the root of a map exports.
 pub fn censor_root(map: &mut DefMap, exported: &[ExportedFunction])
-    requires in_range { 0 < length map.old.modules }
     ensures value { map.new ≡ with_scope map.old 0 (exporting_scope map.old.id.krate exported.now) }
 {
     let krate = map.id().krate;
+    let _ = map.module_count();
     censor(map.scope_mut(0), krate, exported);
 }

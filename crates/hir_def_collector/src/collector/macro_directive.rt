@@ -1,12 +1,12 @@
 //! What waits for a macro.
 ghost use Rattle.std.specs.Prelude.{◌≡◌, IfOk, option_map};
-ghost use Rattle.hir_def_collector.specs.Calls.{call_kind, call_style, path_of_call, style_of, suits, waiting_item};
+ghost use Rattle.hir_def_collector.specs.Calls.{call_kind, call_style, has_expansion, is_builtin_for, is_call, path_of_call, style_of, suits, waiting_item};
 
 use crate::collector::site::Site;
 use hir_base::ast_id::{AstId, AttrId};
 use hir_base::ids::AdtId;
 use hir_base::macro_kind::{
-    CallStyle, MacroCallKind, MacroCallStyles, MacroId, macro_styles_from_id,
+    CallStyle, MacroCallKind, MacroCallStyles, MacroExpander, MacroId, macro_styles_from_id,
 };
 use hir_base::mod_path::ModPath;
 use hir_base::resolve_mode::MacroSubNs;
@@ -22,7 +22,7 @@ pub struct WaitingItem {
     pub source: Rc<SourceTree>,
     /// The item's number there.
     pub id: ModItemId,
-    /// How many of its attributes are before the one that it waits for.
+    /// How many of its attributes are done with once that one is passed over.
     pub done: usize,
 }
 
@@ -169,6 +169,38 @@ impl MacroDirective {
                 macro_styles_from_id(makro).contains(MacroCallStyles::DERIVE)
             }
             MacroDirectiveKind::FnLike { .. } | MacroDirectiveKind::Attr { .. } => true,
+        }
+    }
+
+    /// Whether it is a call.
+    pub fn is_call(&self) -> bool
+        ensures value { result ≡ is_call self.now }
+    {
+        match &self.kind {
+            MacroDirectiveKind::FnLike { .. } => true,
+            MacroDirectiveKind::Derive { .. } | MacroDirectiveKind::Attr { .. } => false,
+        }
+    }
+
+    /// Whether a macro with this expander is builtin, and has no expansion.
+    fn is_builtin_for(&self, expander: MacroExpander) -> bool
+        ensures value { result ≡ is_builtin_for self.now.kind expander }
+    {
+        match (&self.kind, expander) {
+            (MacroDirectiveKind::Derive { .. }, MacroExpander::BuiltinDerive) => true,
+            (MacroDirectiveKind::Attr { .. }, MacroExpander::BuiltinAttr) => true,
+            _ => false,
+        }
+    }
+
+    /// Whether a macro that it reaches has an expansion.
+    pub fn has_expansion(&self, makro: MacroId) -> bool
+        ensures value { result ≡ has_expansion self.now makro }
+    {
+        match makro {
+            MacroId::Macro2Id(id) => !self.is_builtin_for(id.loc.expander),
+            MacroId::MacroRulesId(id) => !self.is_builtin_for(id.loc.expander),
+            MacroId::ProcMacroId(_) => true,
         }
     }
 
