@@ -1,5 +1,5 @@
 //! Macro calls, derives and attributes: what each expands to, and rounds in which they are tried.
-ghost use Rattle.std.specs.Prelude.{◌≡◌, ◌<◌, ◌≤◌, ◌+◌, ℕ, cond, true, [], IfOk, IfSome, None, OnOk, Some, length, map, option_map, slice_get, unwrap_or};
+ghost use Rattle.std.specs.Prelude.{◌≡◌, ◌<◌, ℕ, cond, true, [], IfOk, OnOk, Some, length, option_map, slice_get, unwrap_or};
 ghost use Rattle.hir_item_tree.specs.SyntaxIds.{node_id};
 ghost use Rattle.hir_tables.specs.SourcePlaces.{expansion_value};
 ghost use Rattle.hir_tables.specs.Tables.{KeepsTables};
@@ -8,40 +8,39 @@ ghost use Rattle.hir_def_map.specs.WorldParts.{part_of};
 ghost use Rattle.hir_import_resolution.specs.Inner.State.{IsApart};
 ghost use Rattle.hir_import_resolution.specs.Rest.{IsAtRest, IsSound};
 ghost use Rattle.hir_import_resolution.specs.declared.directive.ImportDirective.{ImportDirective};
-ghost use Rattle.hir_def_collector.specs.CallMoves.{ComesToRest, IsDueOf, IsFirstWaiting, IsGivenUp, IsReady, NoneWaits, NoneWaitsBefore, SeesCall, TakesTurn, TriesCall, TriesCalls};
-ghost use Rattle.hir_def_collector.specs.Calls.{AreCallsPlaced, DerivedCall, Expanding, IsMeantCall, IsWaiting, LeadsNowhere, builtin_impl, call_site, called_text, error_of, expansion_of_call, helper_by, helpers_brought, text_readings, waiting_item};
+ghost use Rattle.hir_def_collector.specs.CallMoves.{ComesToRest, IsDueOf, IsReady, NoneWaitsBefore, SeesCall, TakesTurn, TriesCall, TriesCalls};
+ghost use Rattle.hir_def_collector.specs.Calls.{AreCallsPlaced, Expanding, IsMeantCall, call_site, called_text, error_of, expansion_of_call, text_readings, waiting_item};
+ghost use Rattle.hir_def_collector.specs.declared.collector.macro_directive.WaitingItem.{WaitingItem};
 ghost use Rattle.hir_def_collector.specs.Derivation.{IsNumberedOut, IsSpent};
 ghost use Rattle.hir_def_collector.specs.ItemIds.{module_id};
 ghost use Rattle.hir_def_collector.specs.Keys.{Environment, IsMeant, input_at, macro_key, macro_tree, source_in, text_at, text_of};
 ghost use Rattle.hir_def_collector.specs.Moves.{Makes, OnceGrown};
-ghost use Rattle.hir_def_collector.specs.State.{at_rest, core_in, counted, import_state, with_fate};
-ghost use Rattle.hir_def_collector.specs.Steps.{CallsMacro, DerivesBuiltin, IsDue, IsPassedOver, IsReachedDeep, Steps, bringing, failing, keys_read, site_behind, with_keys};
+ghost use Rattle.hir_def_collector.specs.State.{at_rest, core_in, import_state};
+ghost use Rattle.hir_def_collector.specs.Steps.{CallsMacro, IsDue, Steps, failing, keys_read, with_keys};
 ghost use Rattle.hir_def_collector.specs.Workspace.{entry_look};
 
-use crate::collector::exports::cloned;
-use crate::collector::{CollectError, STEP_LIMIT};
+use crate::collector::CollectError;
 use crate::collector::def_collector::DefCollector;
-use crate::collector::macro_directive::{Fate, MacroDirective, MacroDirectiveKind, WaitingItem};
-use crate::collector::mod_collector::{walk_all, walk_item};
+use crate::collector::derives::{
+    bring_helpers, builtin_impl, derive_builtin, drop_call, drop_reached,
+};
+use crate::collector::macro_directive::{Fate, MacroDirective};
+use crate::collector::mod_collector::walk_all;
+use crate::collector::resume::{give_up, skip};
 use crate::collector::site::Site;
 use crate::collector::sources::source_at;
 use crate::source_database::{ExpansionLook, Key, SourceDatabase};
 use either::Either;
 use hir_base::ast_id::{AstId, AstKind, HirFileId, MacroCallId};
 use hir_base::ids::{Crate, HasModule};
-use hir_base::macro_kind::{
-    BuiltinDeriveImplId, CallStyle, ExpansionKey, MacroCallLoc, MacroId, MacroLoc, MacroText,
-};
-use hir_base::name::Name;
+use hir_base::macro_kind::{CallStyle, ExpansionKey, MacroCallLoc, MacroId, MacroLoc, MacroText};
 use hir_base::text::Text;
-use hir_def_map::nameres::derive_helpers::DeriveHelper;
 use hir_def_map::nameres::diagnostics::DefDiagnostic;
 use hir_def_map::world::part::WorldPart;
 use hir_item_tree::check::NodeId;
 use hir_item_tree::source_tree::SourceTree;
 use hir_item_tree::tree_id::{TreeId, TreeKey};
 use hir_tables::Tables;
-use hir_use_tree::use_tree::place_after;
 use std::alloc::{AllocError, Global};
 use std::rc::Rc;
 
@@ -310,62 +309,6 @@ fn report_failed(
     run.tell(DefDiagnostic::macro_error(at, call.ast_id, call.path().clone()?, error))
 }
 
-/// The names of the helpers that come into scope with a macro: none but those of a derive.
-fn helper_names(
-    run: &DefCollector,
-    world: WorldPart<'_>,
-    call: &MacroDirective,
-    makro: MacroId,
-) -> Result<Vec<Name>, AllocError>
-    ensures value { IfOk result (λ names. (became : DerivedCall) → map (helper_by makro became) names.items ≡ helpers_brought (part_of world.entry) (core_in run.now).map call.now makro became) }
-{
-    let alloc = run.allocator();
-    match &call.kind {
-        MacroDirectiveKind::Derive { .. } => match run.kept_of(world, makro) {
-            Some(what) => cloned(alloc, what.helpers.as_slice()),
-            None => Ok(Vec::new(alloc)),
-        },
-        MacroDirectiveKind::FnLike { .. } | MacroDirectiveKind::Attr { .. } => Ok(Vec::new(alloc)),
-    }
-}
-
-/// Brings helpers of these names into scope on an item.
-fn help_all(
-    run: &mut DefCollector,
-    node: AstId,
-    makro: MacroId,
-    became: Option<Either<MacroCallId, BuiltinDeriveImplId>>,
-    names: &[Name],
-) -> Result<(), AllocError>
-    ensures ok { OnOk result (Makes (bringing node (map (helper_by makro became) names.now)) (core_in run.old) (core_in run.new)) }
-{
-    for name in names {
-        run.help(
-            node,
-            DeriveHelper {
-                name: name.clone()?,
-                makro,
-                call: became,
-            },
-        )?;
-    }
-    Ok(())
-}
-
-/// Brings the helpers of a derive into scope on its item.
-fn bring_helpers(
-    run: &mut DefCollector,
-    world: WorldPart<'_>,
-    call: &MacroDirective,
-    makro: MacroId,
-    became: Option<Either<MacroCallId, BuiltinDeriveImplId>>,
-) -> Result<(), AllocError>
-    ensures ok { OnOk result (Makes (bringing call.now.ast_id (helpers_brought (part_of world.entry) (core_in run.old).map call.now makro became)) (core_in run.old) (core_in run.new)) }
-{
-    let names = helper_names(run, world, call, makro)?;
-    help_all(run, call.ast_id, makro, became, names.as_slice())
-}
-
 /// Expands what waits at the place, which reaches a macro: handles the items of its expansion, with all that is in them.
 fn expand<D: SourceDatabase>(
     run: &mut DefCollector,
@@ -397,114 +340,6 @@ fn expand<D: SourceDatabase>(
     Ok(())
 }
 
-/// Drops what waits at the place: a call that is too deep.
-fn drop_call(run: &mut DefCollector, i: usize) -> Result<(), CollectError>
-    ensures ok { OnOk result (core_in run.new ≡ counted (with_fate (core_in run.old) i Fate.Handled)) }
-    ensures many { result ≡ Err CollectError.TooMany → STEP_LIMIT ≤ (core_in run.old).count }
-{
-    run.end_call(i, Fate::Handled);
-    run.tick()
-}
-
-/// Drops what waits at the place, a path of a derive or an attribute that reaches a macro and is too deep. The helpers of
-/// a derive come into scope.
-fn drop_reached(
-    run: &mut DefCollector,
-    world: WorldPart<'_>,
-    i: usize,
-    call: &MacroDirective,
-    makro: MacroId,
-) -> Result<(), CollectError>
-    requires deep { IsReachedDeep (part_of world) (at_rest (core_in run.old)) i call.now makro }
-    ensures ok { OnOk result ((env : Environment) → Steps env (part_of world.entry) (at_rest (core_in run.old)) (at_rest (core_in run.new))) }
-    ensures handled { OnOk result (slice_get (core_in run.new).fates i ≡ Some Fate.Handled) }
-    ensures many { result ≡ Err CollectError.TooMany → (env : Environment) → IsSpent env (part_of world.entry) (at_rest (core_in run.old)) }
-{
-    run.end_call(i, Fate::Handled);
-    bring_helpers(run, world, call, makro, None)?;
-    run.tick()
-}
-
-/// The impl that a builtin derive macro stands for.
-fn builtin_impl(call: &MacroDirective, makro: MacroId) -> Option<BuiltinDeriveImplId>
-    ensures value { result ≡ builtin_impl makro call.now.kind }
-{
-    match &call.kind {
-        MacroDirectiveKind::Derive {
-            attr, index, adt, ..
-        } => Some(BuiltinDeriveImplId {
-            adt: *adt,
-            derive: makro,
-            derive_attr_id: *attr,
-            derive_index: *index,
-        }),
-        MacroDirectiveKind::FnLike { .. } | MacroDirectiveKind::Attr { .. } => None,
-    }
-}
-
-/// Lists the impl for which the path of a derive at the place stands, which reaches a builtin macro.
-fn derive_builtin(
-    run: &mut DefCollector,
-    world: WorldPart<'_>,
-    i: usize,
-    call: &MacroDirective,
-    makro: MacroId,
-    imp: BuiltinDeriveImplId,
-) -> Result<(), CollectError>
-    requires in_range { call.now.site.home < length (core_in run.old).map.modules }
-    requires builtin { DerivesBuiltin (part_of world) (at_rest (core_in run.old)) i call.now makro imp }
-    ensures ok { OnOk result ((env : Environment) → Steps env (part_of world.entry) (at_rest (core_in run.old)) (at_rest (core_in run.new))) }
-    ensures handled { OnOk result (slice_get (core_in run.new).fates i ≡ Some Fate.Handled) }
-    ensures many { result ≡ Err CollectError.TooMany → (env : Environment) → IsSpent env (part_of world.entry) (at_rest (core_in run.old)) }
-{
-    run.end_call(i, Fate::Handled);
-    run.list_derived(call.site.home, imp)?;
-    bring_helpers(run, world, call, makro, Some(Either::Right(imp)))?;
-    run.tick()
-}
-
-/// Where an item goes on that waited for an attribute: one level deeper.
-fn site_behind(site: &Site) -> Result<Site, AllocError>
-    ensures value { IfOk result (λ deeper. deeper ≡ site_behind site.now) }
-{
-    Ok(Site {
-        home: site.home,
-        tree: site.tree,
-        file: site.file,
-        extern_block: site.extern_block,
-        dir: site.dir.clone()?,
-        level: place_after(site.level, 1),
-    })
-}
-
-/// Lets the item of the attribute at the place go on behind it, since that is inert by now, or builtin: handles the item,
-/// with all that is in it.
-fn skip<D: SourceDatabase>(
-    run: &mut DefCollector,
-    db: &mut D,
-    world: WorldPart<'_>,
-    locations: &mut Tables,
-    i: usize,
-    call: &MacroDirective,
-    item: &WaitingItem,
-) -> Result<(), CollectError>
-    requires ready { IsReady locations.old (part_of world) (core_in run.old) }
-    requires due { IsDue (at_rest (core_in run.old)) i call.now }
-    requires of { waiting_item call.now ≡ Some item.now }
-    requires passed { IsPassedOver (part_of world) (at_rest (core_in run.old)) call.now }
-    ensures kept { KeepsTables locations.old locations.new }
-    ensures same { D.workspace db.new ≡ D.workspace db.old }
-    ensures placed { AreCallsPlaced locations.old → AreCallsPlaced locations.new }
-    ensures ok { OnOk result (OnceGrown locations.new (D.workspace db.old) (λ env. Steps env (part_of world.entry) (at_rest (core_in run.old)) (at_rest (core_in run.new)))) }
-    ensures handled { OnOk result (slice_get (core_in run.new).fates i ≡ Some Fate.Handled) }
-    ensures many { result ≡ Err CollectError.TooMany → OnceGrown locations.new (D.workspace db.old) (λ env. IsSpent env (part_of world.entry) (at_rest (core_in run.old))) }
-{
-    let site = site_behind(&call.site)?;
-    run.end_call(i, Fate::Handled);
-    run.tick()?;
-    walk_item(run, db, world, locations, &item.source, &site, item.id, item.done)
-}
-
 /// What is to be done about what waits.
 enum Due {
     Nothing,
@@ -521,7 +356,10 @@ enum Due {
 }
 
 /// What is to be done about what reaches a builtin macro that has no expansion.
-fn due_of_builtin(call: &MacroDirective, makro: MacroId) -> Due {
+fn due_of_builtin(call: &MacroDirective, makro: MacroId) -> Due
+    ensures derives { waiting_item call.now ≡ None → result ≡ Due.Derives makro }
+    ensures skips { (k : WaitingItem) → waiting_item call.now ≡ Some k → result ≡ Due.Skips }
+{
     if call.waiting_item().is_some() {
         Due::Skips
     } else {
@@ -670,88 +508,6 @@ fn settle(
     let mut run = run.settle(world, apart)?;
     run.rest()?;
     Ok(run)
-}
-
-/// Where the first attribute waits at a place behind the first so many.
-fn first_waiting(run: &DefCollector, first: usize) -> Option<usize>
-    requires first { NoneWaitsBefore (core_in run.now) first }
-    ensures found { IfSome result (λ i. IsFirstWaiting (core_in run.now) i) }
-    ensures none { result ≡ None → NoneWaits (core_in run.now) }
-{
-    let mut i = first;
-    while i < run.call_count() {
-        if run.is_attribute_waiting(i) {
-            return Some(i);
-        }
-        i += 1;
-    }
-    None
-}
-
-/// Gives up the attribute at the place, the first that waits: reports it, and handles its item, with all that is in it.
-fn give_up_at<D: SourceDatabase>(
-    run: &mut DefCollector,
-    db: &mut D,
-    world: WorldPart<'_>,
-    locations: &mut Tables,
-    i: usize,
-    call: &MacroDirective,
-    item: &WaitingItem,
-) -> Result<(), CollectError>
-    requires ready { IsReady locations.old (part_of world) (core_in run.old) }
-    requires rests { IsAtRest (part_of world) (import_state (at_rest (core_in run.old))) }
-    requires nowhere { (j : ℕ) → LeadsNowhere (part_of world) (at_rest (core_in run.old)) j }
-    requires first { IsFirstWaiting (core_in run.old) i }
-    requires waits { IsWaiting (at_rest (core_in run.old)) i call.now }
-    requires of { waiting_item call.now ≡ Some item.now }
-    ensures kept { KeepsTables locations.old locations.new }
-    ensures same { D.workspace db.new ≡ D.workspace db.old }
-    ensures placed { AreCallsPlaced locations.old → AreCallsPlaced locations.new }
-    ensures ok { OnOk result (OnceGrown locations.new (D.workspace db.old) (λ env. Steps env (part_of world.entry) (at_rest (core_in run.old)) (at_rest (core_in run.new)))) }
-    ensures before { OnOk result (NoneWaitsBefore (core_in run.new) (i + 1)) }
-    ensures many { result ≡ Err CollectError.TooMany → OnceGrown locations.new (D.workspace db.old) (λ env. IsSpent env (part_of world.entry) (at_rest (core_in run.old))) }
-{
-    let site = site_behind(&call.site)?;
-    let at = run.module_id(call.site.home);
-    let told = DefDiagnostic::unresolved_macro_call(at, call.call_kind(), call.path().clone()?);
-    run.end_call(i, Fate::GivenUp);
-    run.tell(told)?;
-    run.tick()?;
-    walk_item(run, db, world, locations, &item.source, &site, item.id, item.done)
-}
-
-/// Gives up the first attribute that waits, of which none does at the first so many places: how many places are before
-/// the next; none where no attribute waits.
-fn give_up<D: SourceDatabase>(
-    run: &mut DefCollector,
-    db: &mut D,
-    world: WorldPart<'_>,
-    locations: &mut Tables,
-    first: usize,
-) -> Result<Option<usize>, CollectError>
-    requires ready { IsReady locations.old (part_of world) (core_in run.old) }
-    requires rests { IsAtRest (part_of world) (import_state (at_rest (core_in run.old))) }
-    requires nowhere { (j : ℕ) → LeadsNowhere (part_of world) (at_rest (core_in run.old)) j }
-    requires first { NoneWaitsBefore (core_in run.old) first }
-    ensures kept { KeepsTables locations.old locations.new }
-    ensures same { D.workspace db.new ≡ D.workspace db.old }
-    ensures placed { AreCallsPlaced locations.old → AreCallsPlaced locations.new }
-    ensures ok { OnOk result (OnceGrown locations.new (D.workspace db.old) (λ env. Steps env (part_of world.entry) (at_rest (core_in run.old)) (at_rest (core_in run.new)))) }
-    ensures given { IfOk result (λ next. IsGivenUp (core_in run.old) (core_in run.new) next) }
-    ensures many { result ≡ Err CollectError.TooMany → OnceGrown locations.new (D.workspace db.old) (λ env. IsSpent env (part_of world.entry) (at_rest (core_in run.old))) }
-{
-    let Some(i) = first_waiting(run, first) else {
-        return Ok(None);
-    };
-    let Some(call) = run.waiting(i) else {
-        return Ok(None);
-    };
-    let call = call.clone()?;
-    let Some(item) = call.waiting_item() else {
-        return Ok(None);
-    };
-    give_up_at(run, db, world, locations, i, &call, item)?;
-    Ok(Some(i + 1))
 }
 
 /// What a turn came to.

@@ -65,18 +65,20 @@ fn variants_of(
 /// Declares an enum, and keeps its variants, which it asks for.
 ///
 /// After rust-analyzer's `EnumVariants`.
-pub fn declare_enum(
+pub fn declare_enum<D: SourceDatabase>(
     run: &mut DefCollector,
+    db: &mut D,
     world: WorldPart<'_>,
-    source: &SourceTree,
+    locations: &Tables,
     site: &Site,
     head: ItemHead<'_>,
     name: &Name,
 ) -> Result<(), CollectError>
     requires enabled { is_enabled (head_of head).attributes ≡ true }
-    ensures ok { OnOk result ((env : Environment)
-        → source_in env.tables env.workspace (record { krate = (core_in run.old).map.id.krate; id = site.now.tree }) ≡ source.now
-        → Handles env (part_of world.entry) (core_in run.old) (core_in run.new) (visit site.now (leaf (head_of head.entry) (enumeration name.now))) []) }
+    requires meant { IsMeantAt locations.now site.now }
+    ensures same { D.workspace db.new ≡ D.workspace db.old }
+    ensures ok { OnOk result (OnceGrown locations.now (D.workspace db.old)
+        (λ env. Handles env (part_of world.entry) (core_in run.old) (core_in run.new) (visit site.now (leaf (head_of head.entry) (enumeration name.now))) [])) }
     ensures many { result ≡ Err CollectError.TooMany → STEP_LIMIT ≤ (core_in run.old).count }
 {
     let id = EnumId {
@@ -88,6 +90,11 @@ pub fn declare_enum(
         },
     };
     let vis = run.visibility(world, site, head);
+    let key = TreeKey {
+        krate: run.map().id().krate,
+        id: site.tree,
+    };
+    let source = source_at(run.allocator(), db, locations, key)?;
     let variants = variants_of(run.allocator(), id, source.variants(head.id))?;
     run.add_enum(id, variants)?;
     let def = ModuleDefId::AdtId(AdtId::EnumId(id));
