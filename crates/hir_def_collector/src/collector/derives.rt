@@ -110,7 +110,10 @@ pub fn builtin_impl(call: &MacroDirective, makro: MacroId) -> Option<BuiltinDeri
 {
     match &call.kind {
         MacroDirectiveKind::Derive {
-            attr, index, adt, ..
+            attr,
+            index,
+            adt,
+            ..
         } => Some(BuiltinDeriveImplId {
             adt: *adt,
             derive: makro,

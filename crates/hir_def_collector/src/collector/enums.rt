@@ -4,24 +4,27 @@ ghost use Rattle.hir_item_tree.specs.Collected.{is_enabled};
 ghost use Rattle.hir_item_tree.specs.KeptForest.{leaf, enumeration};
 ghost use Rattle.hir_def_map.specs.WorldParts.{part_of};
 ghost use Rattle.hir_def_collector.specs.State.{core_in};
-ghost use Rattle.hir_def_collector.specs.Keys.{Environment, source_in};
+ghost use Rattle.hir_def_collector.specs.Calls.{IsMeantAt};
 ghost use Rattle.hir_def_collector.specs.Enums.{variant_of, variants_by_name, variants_of};
 ghost use Rattle.hir_def_collector.specs.TreeReads.{head_of};
 ghost use Rattle.hir_def_collector.specs.Steps.{visit};
-ghost use Rattle.hir_def_collector.specs.Moves.{Handles};
+ghost use Rattle.hir_def_collector.specs.Moves.{Handles, OnceGrown};
 
 use crate::collector::declaration::Declaration;
 use crate::collector::declare::declare;
 use crate::collector::def_collector::DefCollector;
 use crate::collector::site::{ItemHead, Site};
+use crate::collector::sources::source_at;
 use crate::collector::{CollectError, STEP_LIMIT};
+use crate::source_database::SourceDatabase;
 use hir_base::ids::{AdtId, EnumId, EnumVariantId, ItemLoc, ModuleDefId};
 use hir_base::name::Name;
 use hir_def_map::nameres::enum_variants::{EnumVariant, EnumVariants};
 use hir_def_map::world::part::WorldPart;
 use hir_item_tree::side_lists::VariantItem;
-use hir_item_tree::source_tree::SourceTree;
+use hir_item_tree::tree_id::TreeKey;
 use hir_scope::per_ns::PerNs;
+use hir_tables::Tables;
 use std::alloc::{AllocError, Global};
 
 /// A variant of an enum.

@@ -88,7 +88,11 @@ fn first_derive(alloc: Global, attrs: &[Attr]) -> Result<Option<Export>, AllocEr
 }
 
 /// A macro under the function's name.
-fn under_name(alloc: Global, style: ProcMacroStyle, name: &Name) -> Result<Option<Export>, AllocError>
+fn under_name(
+    alloc: Global,
+    style: ProcMacroStyle,
+    name: &Name,
+) -> Result<Option<Export>, AllocError>
     ensures value { IfOk result (λ export. export ≡ Some (record { style = style; what = record { name = name.now; helpers = [] } })) }
 {
     Ok(Some(Export {

@@ -30,7 +30,9 @@ pub struct WaitingItem {
 #[derive(Drop)]
 pub enum MacroDirectiveKind {
     /// By the path of a call.
-    FnLike { path: ModPath },
+    FnLike {
+        path: ModPath,
+    },
     /// By a path of a `derive` attribute, and by its place among those.
     Derive {
         path: ModPath,

@@ -61,7 +61,16 @@ pub fn skip<D: SourceDatabase>(
     let site = site_behind(&call.site)?;
     run.end_call(i, Fate::Handled);
     run.tick()?;
-    walk_item(run, db, world, locations, &item.source, &site, item.id, item.done)
+    walk_item(
+        run,
+        db,
+        world,
+        locations,
+        &item.source,
+        &site,
+        item.id,
+        item.done,
+    )
 }
 
 /// Where the first attribute waits at a place behind the first so many.
@@ -109,7 +118,16 @@ fn give_up_at<D: SourceDatabase>(
     run.end_call(i, Fate::GivenUp);
     run.tell(told)?;
     run.tick()?;
-    walk_item(run, db, world, locations, &item.source, &site, item.id, item.done)
+    walk_item(
+        run,
+        db,
+        world,
+        locations,
+        &item.source,
+        &site,
+        item.id,
+        item.done,
+    )
 }
 
 /// Gives up the first attribute that waits, of which none does at the first so many places: how many places are before
