@@ -64,20 +64,26 @@ def print_condition(condition):
     return "%s(%s)" % (form, ", ".join(print_condition(part) for part in parts))
 
 
-def collect(attrs, options):
-    """The attributes that are kept, and the first condition that doesn't hold, as a list of it or of nothing."""
+def size(attr):
+    """How many attributes there are in one, itself included."""
+    return 1 + sum(size(inner) for inner in attr.get("attrs", []))
+
+
+def collect(attrs, options, number=0):
+    """The attributes that are kept, each with its number, and the first condition that doesn't hold, as a list of it or of nothing."""
     kept = []
     for attr in attrs:
         if "cfg" not in attr:
-            kept.append(attr)
+            kept.append({**attr, "number": number})
         elif attr["path"] == "cfg":
             if holds(attr["cfg"], options) is False:
                 return kept, [attr["cfg"]]
         elif holds(attr["cfg"], options) is not False:
-            inner, false = collect(attr["attrs"], options)
+            inner, false = collect(attr["attrs"], options, number + 1)
             kept += inner
             if false:
                 return kept, false
+        number += size(attr)
     return kept, []
 
 
