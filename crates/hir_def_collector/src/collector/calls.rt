@@ -341,6 +341,7 @@ fn expand<D: SourceDatabase>(
 }
 
 /// What is to be done about what waits.
+#[derive(Clone, Copy)]
 enum Due {
     Nothing,
     /// It is a call, and deeper than calls may be.
@@ -511,6 +512,7 @@ fn settle(
 }
 
 /// What a turn came to.
+#[derive(Clone, Copy)]
 enum Turn {
     /// Something that waited was handled.
     Round,
