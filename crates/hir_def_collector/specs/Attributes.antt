@@ -1,5 +1,5 @@
 -- Which attributes of an item are looked up, which of them lists derives, and what does a function export?
-use Rattle.std.specs.Prelude.{ℕ, suc, ◌+◌, ◌==◌, Bool, false, true, ◌||◌, ◌&&◌, is_none, List, [], ◌∷◌, drop, codes, Option, None, Some, cond, unwrap_or}
+use Rattle.std.specs.Prelude.{◌≡◌, ℕ, suc, ◌==◌, Contains, Bool, false, true, ◌||◌, ◌&&◌, is_none, List, [], ◌∷◌, drop, codes, Option, None, Some, cond, unwrap_or}
 use Rattle.std.specs.Str.{bytes_eq}
 use Rattle.hir_base.specs.ModPath.{Path}
 use Rattle.hir_base.specs.declared.ast_id.AstId.{AstId}
@@ -66,6 +66,13 @@ abbrev pub is_passed : Map → AstId → Numbered → Bool
 is_passed m node a =
     is_inert a.meta.path.kind a.meta.path.segments
     || is_tool m.crate_data.registered_tools a.meta.path.kind a.meta.path.segments || is_helper m node a.meta.path
+
+-- whether it is so on each node, whatever derives bring: it is builtin and inert, or a tool's
+abbrev pub is_always_passed : List (List ℕ) → Numbered → Bool
+is_always_passed tools a = is_inert a.meta.path.kind a.meta.path.segments || is_tool tools a.meta.path.kind a.meta.path.segments
+
+abbrev pub AreAlwaysPassed : List (List ℕ) → List Numbered → Type 0
+AreAlwaysPassed tools attributes = (a : Numbered) → Contains attributes a → is_always_passed tools a ≡ true
 
 -- the first attribute for which something is looked up, and its place, where the first of all has this place
 abbrev pub first_looked_up : Map → AstId → ℕ → List Numbered → Option (ℕ × Numbered)
