@@ -193,12 +193,10 @@ class Crate:
         progressed = 0
         late = [] if self.copies != "push" else None
         while True:
-            if not self.round(late):
-                if not self.fall_back():
-                    return
-                self.settle()
-                continue
-            progressed += 1
+            if self.round(late):
+                progressed += 1
+            elif not self.fall_back(late):
+                return
             if self.copies == "after" and progressed <= ROUNDS:
                 self.settle()
             for at, ns, name in (late or [])[:: -1 if self.copies == "last" else 1]:
@@ -258,12 +256,15 @@ class Crate:
         self.visit(call.node, call.attrs, call.at, call.source, call.depth + 1, call.place + 1)
         return True
 
-    def fall_back(self):
+    def fall_back(self, late):
         """Gives up the first attribute that waits; whether there was one."""
         for call in self.calls:
             if call.style == "attr" and not call.handled:
                 self.tell("unresolved macro call", call.at, call=call.text(), path=print_path(call.path))
-                return self.go_on(call)
+                self.late = late
+                self.go_on(call)
+                self.late = None
+                return True
         return False
 
     def finish(self):
