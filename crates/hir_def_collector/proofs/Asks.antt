@@ -26,7 +26,7 @@ use Rattle.hir_def_collector.specs.ItemIds.{enum_id}
 use Rattle.hir_def_collector.specs.Items.{own_visibility}
 use Rattle.hir_def_collector.specs.Changes.{changes_imports, gives_variants, goes_on, lists, perform}
 use Rattle.hir_def_collector.specs.Enums.{variants_of}
-use Rattle.hir_def_collector.specs.Steps.{Rule, drops_item, reaches_call, rests, expands_call, drops_call, defines_rules, defines_macro, closes_module, declares_item, declares_enum, lists_constant, lists_impl, opens_module, opens_file, drops_file, misses_file, enters_block, reaches_imports, reaches_crate, resolves_imports, LooksFor, May, Numbered, Sees, after, asking, keys_read, path_of, reads, search_readings, Step, Steps, none, more, enum_declaration}
+use Rattle.hir_def_collector.specs.Steps.{Rule, drops_item, awaits_attribute, lists_derives, faults_derive, exports_macro, reaches_call, rests, expands_call, drops_call, drops_reached, derives_builtin, skips_attribute, falls_back, defines_rules, defines_macro, closes_module, declares_item, declares_enum, lists_constant, lists_impl, opens_module, opens_file, drops_file, misses_file, enters_block, reaches_imports, reaches_crate, resolves_imports, LooksFor, May, Numbered, Sees, after, asking, keys_read, path_of, reads, search_readings, Step, Steps, none, more, enum_declaration}
 use Rattle.hir_def_collector.proofs.Changes.{asked-Step}
 use Rattle.hir_def_collector.proofs.Declared.{Lists, Lists-now}
 use Rattle.hir_def_collector.proofs.Grows.{Grows, Grows-Step, Grows-act}

@@ -40,8 +40,8 @@ use Rattle.hir_def_collector.specs.ModuleFiles.{IsFileMeant, own_file, tried_in}
 use Rattle.hir_def_collector.specs.Calls.{Expanding, IsMeantAt, IsMeantCall, IsNumberedCall, call_site, call_tree, error_of, expansion_readings, text_readings}
 use Rattle.hir_def_collector.specs.State.{State, Task, Visit, visits, closes, import_state, visits_over}
 use Rattle.hir_def_collector.specs.Start.{began, krate_of, read_by, root_key, root_site, tree_key, tree_visits}
-use Rattle.hir_def_collector.specs.Changes.{Change, lists, makes, gives_variants, begins_paths, reaches, awaits, ends, settles, changes_imports, adds_textual, takes_textual, defines, uses_macros, tells, goes_on, act}
-use Rattle.hir_def_collector.specs.Steps.{Rule, drops_item, reaches_call, rests, expands_call, drops_call, defines_rules, defines_macro, closes_module, closing, declares_item, declares_enum, lists_constant, lists_impl, opens_module, opens_file, drops_file, misses_file, enters_block, reaches_imports, reaches_crate, resolves_imports, May, Numbered, acts, asking, inside_block, inside_file, inside_module, keys_read, path_of, reads, visits_inside, Step, Steps, none, more}
+use Rattle.hir_def_collector.specs.Changes.{Change, lists, makes, gives_variants, begins_paths, reaches, awaits, ends, settles, changes_imports, adds_textual, takes_textual, defines, describes, helps, lists_derive, exports, uses_macros, tells, goes_on, act}
+use Rattle.hir_def_collector.specs.Steps.{Rule, drops_item, awaits_attribute, lists_derives, faults_derive, exports_macro, reaches_call, rests, expands_call, drops_call, drops_reached, derives_builtin, skips_attribute, falls_back, defines_rules, defines_macro, closes_module, closing, declares_item, declares_enum, lists_constant, lists_impl, opens_module, opens_file, drops_file, misses_file, enters_block, reaches_imports, reaches_crate, resolves_imports, May, Numbered, acts, asking, inside_block, inside_file, inside_module, keys_read, path_of, reads, visits_inside, Step, Steps, none, more}
 use Rattle.hir_def_collector.specs.Derivation.{finished_run}
 use Rattle.hir_def_collector.specs.Growth.{AnswersStand, AskedKeysHaveMeaning, LooksStand}
 use Rattle.hir_def_collector.proofs.Asked.{mapped_from}

@@ -8,10 +8,10 @@ use Rattle.hir_def_collector.specs.declared.collector.macro_directive.MacroDirec
 use Rattle.hir_def_collector.specs.Calls.{IsWaiting, error_of}
 use Rattle.hir_def_collector.specs.Keys.{Environment}
 use Rattle.hir_def_collector.specs.State.{State, all_wait, import_state}
-use Rattle.hir_def_collector.specs.Changes.{Change, lists, makes, gives_variants, begins_paths, reaches, awaits, ends, settles, changes_imports, adds_textual, takes_textual, defines, uses_macros, tells, goes_on, act, perform}
+use Rattle.hir_def_collector.specs.Changes.{Change, lists, makes, gives_variants, begins_paths, reaches, awaits, ends, settles, changes_imports, adds_textual, takes_textual, defines, describes, helps, lists_derive, exports, uses_macros, tells, goes_on, act, perform}
 use Rattle.hir_def_collector.specs.Rounds as rounds
 use Rattle.hir_def_collector.specs.Rounds.{HasManyRounds, Rounds, WasTried, handled, met}
-use Rattle.hir_def_collector.specs.Steps.{Rule, drops_item, reaches_call, rests, expands_call, drops_call, defines_rules, defines_macro, closes_module, declares_item, declares_enum, lists_constant, lists_impl, opens_module, opens_file, drops_file, misses_file, enters_block, reaches_imports, reaches_crate, resolves_imports, acts, after, asking, Step, Steps, none, more}
+use Rattle.hir_def_collector.specs.Steps.{Rule, drops_item, awaits_attribute, lists_derives, faults_derive, exports_macro, reaches_call, rests, expands_call, drops_call, drops_reached, derives_builtin, skips_attribute, falls_back, defines_rules, defines_macro, closes_module, declares_item, declares_enum, lists_constant, lists_impl, opens_module, opens_file, drops_file, misses_file, enters_block, reaches_imports, reaches_crate, resolves_imports, acts, after, asking, Step, Steps, none, more}
 use Rattle.hir_def_collector.proofs.Bound.{number_same_or_not}
 use Rattle.hir_def_collector.proofs.Changes.{AllFine, all_fine, fine_failing, fine_macro, fine_reporting, perform_keeps}
 use Rattle.hir_def_collector.proofs.Lists.{get_inside, get_left, get_set_other, get_set_same, get_there, length_both, length_mapped, length_set}

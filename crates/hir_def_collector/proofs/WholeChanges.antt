@@ -63,7 +63,7 @@ use Rattle.hir_import_resolution.specs.Changes.{act as act_on_imports, along, ke
 use Rattle.hir_import_resolution.specs.Names.{trait_vis}
 use Rattle.hir_import_resolution.specs.State.{ImportState}
 use Rattle.hir_def_collector.specs.Imports.{extern_by, reached_import}
-use Rattle.hir_def_collector.specs.Changes.{Change, lists, makes, gives_variants, begins_paths, reaches, awaits, ends, settles, changes_imports, adds_textual, takes_textual, defines, uses_macros, tells, goes_on, act, on_map}
+use Rattle.hir_def_collector.specs.Changes.{Change, lists, makes, gives_variants, begins_paths, reaches, awaits, ends, settles, changes_imports, adds_textual, takes_textual, defines, describes, helps, lists_derive, exports, uses_macros, tells, goes_on, act, on_map}
 use Rattle.hir_def_collector.specs.Macros.{textual_at, with_macros_used, with_used}
 use Rattle.hir_def_collector.proofs.Lists.{none_joined}
 use Rattle.hir_def_collector.proofs.ImportEdits.{Edit, edit, edit_of, edited, imports_after, local_after, map_after}

@@ -1,5 +1,5 @@
 -- What a part of a run does with macro calls.
-use Rattle.std.specs.Prelude.{◌≡◌, ◌<◌, ◌≤◌, ℕ, Bool, true, false, ◌++◌, length, Option, None, Some, IsSome, slice_get}
+use Rattle.std.specs.Prelude.{◌≡◌, ◌<◌, ◌≤◌, ℕ, Bool, true, false, ◌++◌, length, Option, None, Some, slice_get}
 use Rattle.hir_base.specs.declared.macro_kind.MacroId.{MacroId}
 use Rattle.hir_item_tree.specs.SourceTree.{SourceTreeValue}
 use Rattle.hir_tables.specs.Tables.{TablesValue}
@@ -13,7 +13,7 @@ use Rattle.hir_def_collector.specs.declared.collector.calls.Due.TheVariants.{Der
 use Rattle.hir_def_collector.specs.declared.collector.macro_directive.Fate.TheVariants.{Handled}
 use Rattle.hir_def_collector.specs.declared.collector.macro_directive.MacroDirective.{MacroDirective}
 use Rattle.hir_def_collector.specs.declared.collector.macro_directive.WaitingItem.{WaitingItem}
-use Rattle.hir_def_collector.specs.Calls.{Expanding, IsMeantAt, IsMeantCall, IsNumberedCall, IsTextOf, IsWaiting, LeadsNowhere, call_site, called_macro, expansion_readings, has_expansion, is_call, is_inert_now, item_kept, text_readings, waiting_item}
+use Rattle.hir_def_collector.specs.Calls.{Expanding, IsMeantAt, IsMeantCall, IsNumberedCall, IsTextOf, IsWaiting, LeadsNowhere, call_site, called_macro, expansion_readings, has_expansion, is_call, is_inert_now, text_readings, waiting_item}
 use Rattle.hir_def_collector.specs.Keys.{Environment}
 use Rattle.hir_def_collector.specs.Moves.{OnceGrown}
 use Rattle.hir_def_collector.specs.Rounds.{HasManyRounds, IsRound}
@@ -29,7 +29,6 @@ pub record IsReady (tables : TablesValue) (finished : Maps) (c : Core) : Type 0 
   pub fated : length c.fates ≡ length c.calls
   pub calls : (i : ℕ) (d : MacroDirective) → slice_get c.calls i ≡ Some d → d.site.home < length c.map.modules
   pub meant : (i : ℕ) (d : MacroDirective) → slice_get c.calls i ≡ Some d → IsMeantCall tables d
-  pub items : (i : ℕ) (d : MacroDirective) (k : WaitingItem) → slice_get c.calls i ≡ Some d → waiting_item d ≡ Some k → IsSome (item_kept k)
 
 -- what there is of a call that reaches a macro was asked for: its number, why it didn't expand well, and what its expansion has
 pub record SeesCall (tables : TablesValue) (w : Workspace) (finished : Maps) (d : MacroDirective) (makro : MacroId) (old new : Core) (x : Expanding) (source : SourceTreeValue) : Type 0 where

@@ -304,3 +304,5 @@ pub record IsMeantAt (tables : TablesValue) (site : Site) : Type 0 where
 pub record IsMeantCall (tables : TablesValue) (d : MacroDirective) : Type 0 where
   pub site : IsMeantAt tables d.site
   pub node : IsSome (source_of tables (node_tree d.ast_id))
+  -- an item that waits is kept with it
+  pub item : (k : WaitingItem) → waiting_item d ≡ Some k → IsSome (item_kept k)
