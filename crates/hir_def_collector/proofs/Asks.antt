@@ -87,6 +87,7 @@ module _ (tables : TablesValue) (w : Workspace) (finished : Maps) (s : State) wh
         head = head;
         name = name;
         rest = rest;
+        done = looks.here.done;
         next = looks.here.next;
         enabled = looks.here.enabled;
         declaring = search.declaring;
@@ -106,11 +107,19 @@ module _ (tables : TablesValue) (w : Workspace) (finished : Maps) (s : State) wh
   caused (defines_rules site head name expander helpers rest) may sees numbered p key h = absurd (no_key key h)
   caused (defines_macro site head name expander helpers rest) may sees numbered p key h = absurd (no_key key h)
   caused (closes_module parent child rest) may sees numbered p key h = absurd (no_key key h)
+  caused (awaits_attribute v a k rest) may sees numbered p key h = absurd (no_key key h)
+  caused (lists_derives v at a adt paths rest) may sees numbered p key h = absurd (no_key key h)
+  caused (faults_derive v at report rest) may sees numbered p key h = absurd (no_key key h)
+  caused (exports_macro site head name d e rest) may sees numbered p key h = absurd (no_key key h)
   caused (reaches_call site head path rest) may sees numbered p key h = absurd (no_key key h)
   caused rests may sees numbered p key h = absurd (no_key key h)
   caused (expands_call i d makro x) may sees numbered p key h =
       call_read (record { place = i; call = d; makro = makro; expands = may; seen = x; numbered = numbered; sees = sees; among = h })
   caused (drops_call i d) may sees numbered p key h = absurd (no_key key h)
+  caused (drops_reached i d makro) may sees numbered p key h = absurd (no_key key h)
+  caused (derives_builtin i d makro imp) may sees numbered p key h = absurd (no_key key h)
+  caused (skips_attribute i d k item) may sees numbered p key h = absurd (no_key key h)
+  caused (falls_back i d k item) may sees numbered p key h = absurd (no_key key h)
   caused (declares_item v d rest) may sees numbered p key h = absurd (no_key key h)
   caused (declares_enum site head name found rest) may sees numbered p key h =
       let m : Map = s.core.map in

@@ -10,13 +10,15 @@ use Rattle.hir_item_tree.specs.ItemTree.{Tree}
 use Rattle.hir_tables.specs.Tables.{KeepsTables, TablesValue}
 use Rattle.hir_def_map.specs.WorldParts.{among}
 use Rattle.hir_def_map.specs.Overlay.{Maps}
+use Rattle.hir_def_collector.specs.declared.collector.macro_directive.MacroDirective.{MacroDirective}
+use Rattle.hir_def_collector.specs.declared.collector.macro_directive.WaitingItem.{WaitingItem}
 use Rattle.hir_def_collector.specs.declared.source_database.Dependency.{Dependency}
 use Rattle.hir_def_collector.specs.declared.source_database.Key.{Key}
 use Rattle.hir_def_collector.specs.declared.source_database.Key.TheVariants as keys
 use Rattle.hir_def_collector.specs.Workspace.{ConfigValue, Workspace, dependencies_of, direct_in, transitive_dependencies_in}
 use Rattle.hir_def_collector.specs.Keys.{AgreeOn, Environment, environment, look, map_key, map_keys}
-use Rattle.hir_def_collector.specs.Calls.{LeadsNowhere}
-use Rattle.hir_def_collector.specs.CallMoves.{ComesToRest, cut_off, rested}
+use Rattle.hir_def_collector.specs.Calls.{IsWaiting, LeadsNowhere, waiting_item}
+use Rattle.hir_def_collector.specs.CallMoves.{ComesToRest, NoneWaits, cut_off, rested}
 use Rattle.hir_def_collector.specs.Rounds as rounds
 use Rattle.hir_def_collector.specs.Rounds.{HasManyRounds, IsRound, Rounds, WasTried, handled, met}
 use Rattle.hir_def_collector.specs.State.{State, Core, at_rest, import_state}
@@ -111,6 +113,7 @@ pub record Rests (env : Environment) (finished : Maps) (from s : State) (limited
   pub settled : limited ≡ false → (i : ℕ) → IsSettled finished (import_state s) i
   pub linked : limited ≡ false → (i : ℕ) → IsLinked finished s i
   pub nowhere : limited ≡ false → (i : ℕ) → LeadsNowhere finished s i
+  pub unwaiting : limited ≡ false → (i : ℕ) (d : MacroDirective) → IsWaiting s i d → waiting_item d ≡ None
   pub many : limited ≡ true → HasManyRounds env finished from s
 
 -- what the path of a glob reaches is among what the glob was taken for, and that is the source of a recorded one
@@ -122,15 +125,24 @@ linked_at finished s i h settled recorded = record {
       recorded.each r t.0 target at t.1 (settled.linked r t.0 by target at t.1 is_glob reaches);
 }
 
+-- what waits is no attribute where none waits
+pub unwaiting_where : (c : Core) → NoneWaits c → (i : ℕ) (d : MacroDirective) → IsWaiting (at_rest c) i d → waiting_item d ≡ None
+unwaiting_where c none i d waits = go (waiting_item d) refl
+  where
+    go : (o : Option WaitingItem) → waiting_item d ≡ o → waiting_item d ≡ None
+    go None e = e
+    go (Some k) e = absurd (none i (record { call = d; waits = waits; item = k; is_item = e }))
+
 -- so it is where a part of a run comes to rest
 pub rests_at : (env : Environment) (finished : Maps) (from : State) (old new : Core) (limited : Bool) → Holds (at_rest new) → Steps env finished from (at_rest old)
     → ComesToRest env finished old new limited → Rests env finished from (at_rest new) limited
-rests_at env finished from old new limited h before (rested rest nowhere) = record {
+rests_at env finished from old new limited h before (rested rest nowhere none) = record {
   closed = rest.closed;
   stands = rest.stands;
   settled = λ whole. rest.settled;
   linked = λ whole i. linked_at finished (at_rest new) i h (rest.settled i) (rest.recorded i);
   nowhere = λ whole. nowhere;
+  unwaiting = λ whole. unwaiting_where new none;
   many = λ cut. absurd (let no : ⊥ = cc in no);
 }
 rests_at env finished from old new limited h before (cut_off closed stands many) = record {
@@ -139,6 +151,7 @@ rests_at env finished from old new limited h before (cut_off closed stands many)
   settled = λ whole. absurd (let no : ⊥ = cc in no);
   linked = λ whole. absurd (let no : ⊥ = cc in no);
   nowhere = λ whole. absurd (let no : ⊥ = cc in no);
+  unwaiting = λ whole. absurd (let no : ⊥ = cc in no);
   many = λ cut. many_after before many;
 }
 
@@ -261,6 +274,7 @@ module _ (tables : TablesValue) (v : Workspace) (before : Maps) (from : Beginnin
           binds = λ whole i. binds_end (read_by w finished from.start) last i holds (settles whole i);
           linked = λ whole i. subst (λ (maps : Maps). IsLinked maps last i) (sym reads_same) (rests.linked (sym limited_is ∙ whole) i);
           nowhere = λ whole i. subst (λ (maps : Maps). LeadsNowhere maps last i) (sym reads_same) (rests.nowhere (sym limited_is ∙ whole) i);
+          unwaiting = λ whole. rests.unwaiting (sym limited_is ∙ whole);
           limited = λ cut. many_over (rests.many (sym limited_is ∙ cut));
           own = ap (λ (a : CollectedValue). a.map.id) is ∙ id-Steps steps;
           map_is = ap (λ (a : CollectedValue). a.map) is;

@@ -65,8 +65,12 @@ module _ (env : Environment) (finished : Maps) (old : Core) where
   -- where all calls were tried, a round was gone through, or nothing was done
   pub tried_all : (new : Core) (n : ℕ) (progress : Bool) → n ≡ length old.calls → Steps env finished (at_rest old) (at_rest new) → AreTried env finished old new n progress → TriesCalls env finished old new progress
   tried_all new n false all so_far (nothing_done same nowhere) = idle same (λ i. record {
-    nowhere = λ d waits. (nowhere i (subst (λ (m : ℕ). i < m) (sym all) (get_inside old.calls i d waits.call))).nowhere d waits;
+    nowhere = λ d waits. (nowhere i (below i d waits.call)).nowhere d waits;
+    active = λ d waits. (nowhere i (below i d waits.call)).active d waits;
   })
+    where
+      below : (i : ℕ) (d : MacroDirective) → slice_get old.calls i ≡ Some d → i < n
+      below i d at = subst (λ (m : ℕ). i < m) (sym all) (get_inside old.calls i d at)
   tried_all new n true all so_far (some_handled rises before) = round (record {
     steps = so_far;
     tried = λ i d waits. before i d (subst (λ (m : ℕ). i < m) (sym all) (get_inside old.calls i d waits.call)) waits;
