@@ -167,6 +167,14 @@ pub data-Steps : {env : Environment} {finished : Maps} {from to : State} → Ste
 data-Steps none = refl
 data-Steps (more old new before step) = data-Step step ∙ data-Steps before
 
+-- steps count on
+pub count-Steps : {env : Environment} {finished : Maps} {from to : State} → Steps env finished from to → from.core.count ≤ to.core.count
+count-Steps none = omega arith
+count-Steps (more old new before step) =
+    let one : new.core.count ≡ old.core.count + 1 = count-Step step in
+    let so_far = count-Steps before in
+    omega (arith, one, so_far)
+
 pub id-Steps : {env : Environment} {finished : Maps} {from to : State} → Steps env finished from to → to.core.map.id ≡ from.core.map.id
 id-Steps none = refl
 id-Steps (more old new before step) = id-Step step ∙ id-Steps before

@@ -20,7 +20,7 @@ use Rattle.hir_def_collector.specs.declared.source_database.Key.{Key}
 use Rattle.hir_def_collector.specs.declared.source_database.Key.TheVariants as keys
 use Rattle.hir_def_collector.specs.Workspace.{TreeLook, Workspace, seen_of}
 use Rattle.hir_def_collector.specs.Keys.{HasMeaning, IsMeant, Look, absent_source, environment, look, macro_tree, of_tree, source_under}
-use Rattle.hir_def_collector.specs.Calls.{Expanding, IsMeantAt, IsNumberedCall, call_loc, expansion_of_call}
+use Rattle.hir_def_collector.specs.Calls.{Expanding, IsMeantAt, IsNumberedCall, call_loc, call_style, expansion_of_call}
 use Rattle.hir_def_collector.specs.ModuleFiles.{AreAbsent, AreNumbered, AreTried, IsNumberOf, IsNumbered, LookedAt, ModuleFile, Search, Tried, file_key, file_reading, file_readings, file_tree, is_there, module_file, named_by, taken_by, tried_in}
 use Rattle.hir_def_collector.specs.Steps.{Numbered, Rule, Sees, drops_item, reaches_call, rests, expands_call, drops_call, defines_rules, defines_macro, closes_module, declares_item, declares_enum, lists_constant, lists_impl, opens_module, opens_file, drops_file, misses_file, enters_block, reaches_imports, reaches_crate, resolves_imports, keys_read}
 use Rattle.hir_def_collector.specs.State.{State}
@@ -59,7 +59,7 @@ module _ (tables grown : TablesValue) (kept : KeepsTables tables grown) where
   pub call_kept : (own : Crate) (d : MacroDirective) (makro : MacroId) (x : Expanding) → IsNumberedCall tables own d makro x → IsNumberedCall grown own d makro x
   call_kept own d makro x h = record {
     meant = macro_kept makro h.meant;
-    entry = kept.entries x.entry.0 (expansion_of_call own makro x.text x.input) h.entry;
+    entry = kept.entries x.entry.0 (expansion_of_call own (call_style d) makro x.text x.input) h.entry;
     call = kept.calls x.id.0 (call_loc d x.entry) h.call;
   }
 

@@ -48,7 +48,11 @@ rests_empty env finished c globs reached calls =
       };
       stands = λ slot by h. absurd (nothing_brought_there (c.globs.brought slot) by (ap (λ (g : RecordedGlobs). g.brought slot) globs) h);
     })
-    (λ i. record { nowhere = λ d waits. absurd (nothing_at c.calls i d calls waits.call); active = λ d waits. absurd (nothing_at c.calls i d calls waits.call) })
+    (λ i. record {
+      shallow = λ d waits. absurd (nothing_at c.calls i d calls waits.call);
+      nowhere = λ d waits. absurd (nothing_at c.calls i d calls waits.call);
+      active = λ d waits. absurd (nothing_at c.calls i d calls waits.call);
+    })
     (λ j w. nothing_at c.calls j w.call calls w.waits.call)
   where
     no_edges : c.globs.edges ≡ []

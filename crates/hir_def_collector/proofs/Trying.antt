@@ -65,6 +65,7 @@ module _ (env : Environment) (finished : Maps) (old : Core) where
   -- where all calls were tried, a round was gone through, or nothing was done
   pub tried_all : (new : Core) (n : ℕ) (progress : Bool) → n ≡ length old.calls → Steps env finished (at_rest old) (at_rest new) → AreTried env finished old new n progress → TriesCalls env finished old new progress
   tried_all new n false all so_far (nothing_done same nowhere) = idle same (λ i. record {
+    shallow = λ d waits. (nowhere i (below i d waits.call)).shallow d waits;
     nowhere = λ d waits. (nowhere i (below i d waits.call)).nowhere d waits;
     active = λ d waits. (nowhere i (below i d waits.call)).active d waits;
   })

@@ -53,7 +53,7 @@ pub record FindsBuiltin (finished : Maps) (c : Core) (d : MacroDirective) (makro
 -- what is to be done about what waits: nothing where it reaches nothing; a call that is too deep is dropped; the item of an attribute goes on where that is
 -- inert or builtin; a builtin derive stands for an impl; what reaches another macro is expanded, or dropped where it is too deep
 abbrev pub IsDueOf : Maps → Core → MacroDirective → Due → Type 0
-IsDueOf finished c d Nothing = (called_macro finished c.local c.map d ≡ None) × (is_inert_now c.map d ≡ false)
+IsDueOf finished c d Nothing = (is_call d ≡ true → d.site.level < c.map.crate_data.recursion_limit) × (called_macro finished c.local c.map d ≡ None) × (is_inert_now c.map d ≡ false)
 IsDueOf finished c d TooDeep = (is_call d ≡ true) × (c.map.crate_data.recursion_limit ≤ d.site.level)
 IsDueOf finished c d Skips = (k : WaitingItem) × (waiting_item d ≡ Some k) × IsPassedOver finished (at_rest c) d
 IsDueOf finished c d (Derives makro) = FindsBuiltin finished c d makro × (waiting_item d ≡ None)

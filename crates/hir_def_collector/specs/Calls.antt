@@ -278,8 +278,9 @@ pub record IsWaiting (s : State) (i : ℕ) (d : MacroDirective) : Type 0 where
   pub call : slice_get s.core.calls i ≡ Some d
   pub waits : slice_get s.core.fates i ≡ Some fates.Waits
 
--- where it waits, it reaches no macro, and isn't inert
+-- where it waits, it is no call that is deeper than calls may be, reaches no macro, and isn't inert
 pub record LeadsNowhere (finished : Maps) (s : State) (i : ℕ) : Type 0 where
+  pub shallow : (d : MacroDirective) → IsWaiting s i d → is_call d ≡ true → d.site.level < s.core.map.crate_data.recursion_limit
   pub nowhere : (d : MacroDirective) → IsWaiting s i d → called_macro finished s.core.local s.core.map d ≡ None
   pub active : (d : MacroDirective) → IsWaiting s i d → is_inert_now s.core.map d ≡ false
 

@@ -19,7 +19,6 @@ ghost use Rattle.hir_def_collector.specs.State.{at_rest, core_in, import_state};
 ghost use Rattle.hir_def_collector.specs.Steps.{CallsMacro, IsDue, Steps, failing, keys_read, with_keys};
 ghost use Rattle.hir_def_collector.specs.Workspace.{entry_look};
 
-use crate::collector::CollectError;
 use crate::collector::def_collector::DefCollector;
 use crate::collector::derives::{
     bring_helpers, builtin_impl, derive_builtin, drop_call, drop_reached,
@@ -29,6 +28,7 @@ use crate::collector::mod_collector::walk_all;
 use crate::collector::resume::{give_up, skip};
 use crate::collector::site::Site;
 use crate::collector::sources::source_at;
+use crate::collector::{CollectError, STEP_LIMIT};
 use crate::source_database::{ExpansionLook, Key, SourceDatabase};
 use either::Either;
 use hir_base::ast_id::{AstId, AstKind, HirFileId, MacroCallId};
@@ -322,6 +322,7 @@ fn expand<D: SourceDatabase>(
     requires ready { IsReady locations.old (part_of world) (core_in run.old) }
     requires called { CallsMacro (part_of world) (at_rest (core_in run.old)) i call.now makro }
     requires shallow { call.now.site.level < (core_in run.old).map.crate_data.recursion_limit }
+    requires below { call.now.site.level < 4294967295 }
     ensures kept { KeepsTables locations.old locations.new }
     ensures same { D.workspace db.new ≡ D.workspace db.old }
     ensures placed { AreCallsPlaced locations.old → AreCallsPlaced locations.new }
@@ -371,6 +372,7 @@ fn due_of_builtin(call: &MacroDirective, makro: MacroId) -> Due
 /// What is to be done about what waits.
 fn due_of(run: &DefCollector, world: WorldPart<'_>, call: &MacroDirective) -> Due
     ensures value { IsDueOf (part_of world.entry) (core_in run.now) call.now result }
+    ensures below { (makro : MacroId) → result ≡ Due.Reaches makro → call.now.site.level < 4294967295 }
 {
     if call.is_call() && run.is_too_deep(call) {
         return Due::TooDeep;
@@ -403,6 +405,7 @@ fn do_due<D: SourceDatabase>(
     requires ready { IsReady locations.old (part_of world) (core_in run.old) }
     requires waits { IsDue (at_rest (core_in run.old)) i call.now }
     requires due { IsDueOf (part_of world) (core_in run.old) call.now due }
+    requires below { (makro : MacroId) → due ≡ Due.Reaches makro → call.now.site.level < 4294967295 }
     ensures kept { KeepsTables locations.old locations.new }
     ensures same { D.workspace db.new ≡ D.workspace db.old }
     ensures placed { AreCallsPlaced locations.old → AreCallsPlaced locations.new }
@@ -504,6 +507,7 @@ fn settle(
     ensures ok { IfOk result (λ run'. (env : Environment) → Steps env (part_of world.entry) (at_rest (core_in run)) (at_rest (core_in run'))) }
     ensures rests { IfOk result (λ run'. IsAtRest (part_of world.entry) (import_state (at_rest (core_in run')))) }
     ensures settled { IfOk result (λ run'. (core_in run').settled ≡ length (core_in run').calls) }
+    ensures counts { IfOk result (λ run'. ((core_in run).count < (core_in run').count) × ((core_in run).count < STEP_LIMIT)) }
     ensures many { result ≡ Err CollectError.TooMany → (env : Environment) → IsSpent env (part_of world.entry) (at_rest (core_in run)) }
 {
     let mut run = run.settle(world, apart)?;
@@ -539,7 +543,7 @@ fn take_turn<D: SourceDatabase>(
     ensures same { D.workspace db.new ≡ D.workspace db.old }
     ensures placed { AreCallsPlaced locations.old → AreCallsPlaced locations.new }
     ensures ok { IfOk result (λ r. OnceGrown locations.new (D.workspace db.old) (λ env. Steps env (part_of world.entry) (at_rest (core_in run)) (at_rest (core_in r.0)))) }
-    ensures counts { IfOk result (λ r. (core_in run).count < (core_in r.0).count) }
+    ensures counts { IfOk result (λ r. ((core_in run).count < (core_in r.0).count) × ((core_in run).count < STEP_LIMIT)) }
     ensures turned { IfOk result (λ r. OnceGrown locations.new (D.workspace db.old) (λ env. TakesTurn env (part_of world.entry) (core_in run) (core_in r.0) first r.1)) }
     ensures many { result ≡ Err CollectError.TooMany → OnceGrown locations.new (D.workspace db.old) (λ env. IsSpent env (part_of world.entry) (at_rest (core_in run))) }
 {

@@ -269,6 +269,7 @@ impl DefCollector {
     /// Counts a step.
     pub fn tick(&mut self) -> Result<(), CollectError>
         ensures ok { OnOk result (core_in self.new ≡ counted (core_in self.old)) }
+        ensures below { OnOk result ((core_in self.old).count < STEP_LIMIT) }
         ensures many { result ≡ Err CollectError.TooMany → STEP_LIMIT ≤ (core_in self.old).count }
     {
         if self.count >= STEP_LIMIT {
@@ -648,6 +649,7 @@ impl DefCollector {
     pub fn is_too_deep(&self, call: &MacroDirective) -> bool
         ensures deep { result ≡ true → (core_in self.now).map.crate_data.recursion_limit ≤ call.now.site.level }
         ensures shallow { result ≡ false → call.now.site.level < (core_in self.now).map.crate_data.recursion_limit }
+        ensures below { result ≡ false → call.now.site.level < 4294967295 }
     {
         call.site.level >= self.map.recursion_limit()
     }
@@ -662,6 +664,7 @@ impl DefCollector {
     /// All calls that there are may be expanded.
     pub fn rest(&mut self) -> Result<(), CollectError>
         ensures ok { OnOk result (core_in self.new ≡ counted (with_settled (core_in self.old))) }
+        ensures below { OnOk result ((core_in self.old).count < STEP_LIMIT) }
         ensures many { result ≡ Err CollectError.TooMany → STEP_LIMIT ≤ (core_in self.old).count }
     {
         self.settled = self.calls.len();

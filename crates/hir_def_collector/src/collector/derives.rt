@@ -82,7 +82,8 @@ pub fn drop_call(run: &mut DefCollector, i: usize) -> Result<(), CollectError>
     ensures many { result ≡ Err CollectError.TooMany → STEP_LIMIT ≤ (core_in run.old).count }
 {
     run.end_call(i, Fate::Handled);
-    run.tick()
+    run.tick()?;
+    Ok(())
 }
 
 /// Drops what waits at the place, a path of a derive or an attribute that reaches a macro and is too deep. The helpers of
@@ -101,7 +102,8 @@ pub fn drop_reached(
 {
     run.end_call(i, Fate::Handled);
     bring_helpers(run, world, call, makro, None)?;
-    run.tick()
+    run.tick()?;
+    Ok(())
 }
 
 /// The impl that a builtin derive macro stands for.
@@ -139,8 +141,16 @@ pub fn derive_builtin(
     ensures handled { OnOk result (slice_get (core_in run.new).fates i ≡ Some Fate.Handled) }
     ensures many { result ≡ Err CollectError.TooMany → (env : Environment) → IsSpent env (part_of world.entry) (at_rest (core_in run.old)) }
 {
+    let names = helper_names(run, world, call, makro)?;
     run.end_call(i, Fate::Handled);
     run.list_derived(call.site.home, imp)?;
-    bring_helpers(run, world, call, makro, Some(Either::Right(imp)))?;
-    run.tick()
+    help_all(
+        run,
+        call.ast_id,
+        makro,
+        Some(Either::Right(imp)),
+        names.as_slice(),
+    )?;
+    run.tick()?;
+    Ok(())
 }

@@ -70,7 +70,8 @@ pub fn skip<D: SourceDatabase>(
         &site,
         item.id,
         item.done,
-    )
+    )?;
+    Ok(())
 }
 
 /// Where the first attribute waits at a place behind the first so many.
@@ -80,7 +81,7 @@ fn first_waiting(run: &DefCollector, first: usize) -> Option<usize>
     ensures none { result ≡ None → NoneWaits (core_in run.now) }
 {
     let mut i = first;
-    while i < run.call_count() {
+    'places: while i < run.call_count() {
         if run.is_attribute_waiting(i) {
             return Some(i);
         }
@@ -127,7 +128,8 @@ fn give_up_at<D: SourceDatabase>(
         &site,
         item.id,
         item.done,
-    )
+    )?;
+    Ok(())
 }
 
 /// Gives up the first attribute that waits, of which none does at the first so many places: how many places are before
