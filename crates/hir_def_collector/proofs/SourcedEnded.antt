@@ -15,13 +15,13 @@ use Rattle.hir_base.specs.declared.macro_kind.MacroId.TheVariants as macros
 use Rattle.hir_scope.specs.PerNs.{Item}
 use Rattle.hir_scope.specs.Scope.{ScopeValue}
 use Rattle.hir_scope.specs.Scope.Updates.{censored, censored_macros, censored_vis, is_definition}
-use Rattle.hir_scope_table.specs.Table.{item_at}
+use Rattle.hir_scope_table.specs.Entries.{item_at}
 use Rattle.hir_scope.specs.declared.imports.ImportOrExternCrate.{ImportOrExternCrate}
 use Rattle.hir_scope.specs.declared.visibility.Visibility.{Visibility}
 use Rattle.hir_scope.specs.declared.visibility.Visibility.TheVariants.{PubCrate}
 use Rattle.hir_def_map.specs.Closed.{ModuleIsThere}
 use Rattle.hir_def_map.specs.Overlay.{Maps, overlay}
-use Rattle.hir_def_map.specs.Sources.{HoldsNowhereIn, SourceTest, on_def, on_import, on_item, on_macro, on_macro_item, on_some, on_type, on_value, on_value_def, on_value_import, on_values, on_visibility}
+use Rattle.hir_def_map.specs.Sources.{HoldsNowhereIn, SourceTest, on_def, on_import, on_item, on_macro, on_macro_item, on_some, on_value, on_value_def, on_value_import, on_values, on_visibility}
 use Rattle.hir_def_map.specs.State.{Map, with_module_scope, with_scope}
 use Rattle.hir_def_map.proofs.Grown.{length-changed}
 use Rattle.hir_def_map.proofs.NoneOf.{neither, not_first, not_second}

@@ -15,15 +15,15 @@ use Rattle.hir_base.specs.declared.macro_kind.MacroId.{MacroId}
 use Rattle.hir_base.specs.declared.macro_kind.MacroId.TheVariants as macros
 use Rattle.hir_scope.specs.PerNs.{Item}
 use Rattle.hir_scope.specs.Scope.{ScopeValue}
-use Rattle.hir_scope.specs.Scope.Updates.{censored, censored_item, censored_macro, censored_macros, censored_scope, censored_vis, is_definition, without_definition}
-use Rattle.hir_scope_table.specs.Table.{item_at}
+use Rattle.hir_scope.specs.Scope.Updates.{censored, censored_item, censored_macro, censored_macros, censored_scope, censored_vis, is_definition}
+use Rattle.hir_scope_table.specs.Entries.{item_at}
 use Rattle.hir_scope.specs.declared.imports.ImportId.{ImportId}
 use Rattle.hir_scope.specs.declared.imports.ImportOrExternCrate.{ImportOrExternCrate}
 use Rattle.hir_scope.specs.declared.imports.ImportOrGlob.{ImportOrGlob}
 use Rattle.hir_scope.specs.declared.visibility.Visibility.{Visibility}
 use Rattle.hir_def_map.specs.References.{any_reference_in_scope, is_missing, reference_to, test_item, test_macro, test_of, test_trait, test_visibility}
 use Rattle.hir_def_map.specs.Overlay.{Maps, overlay}
-use Rattle.hir_def_map.specs.State.{Map, with_scope}
+use Rattle.hir_def_map.specs.State.{with_scope}
 use Rattle.hir_def_map.specs.WellFormed.{Extends, HasNoDanglingReference}
 use Rattle.hir_def_map.specs.declared.world.reference.Reference.{Reference}
 use Rattle.hir_def_map.proofs.NoneOf.{neither, not_first, not_second}

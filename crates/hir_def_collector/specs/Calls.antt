@@ -2,7 +2,6 @@
 use Rattle.std.specs.Prelude.{◌≡◌, ◌<◌, IsSome, ℕ, ◌+◌, Bool, true, false, List, [], ◌∷◌, codes, Option, None, Some, cond, map, not, option_map, unwrap_or, slice_get}
 use Rattle.std.specs.Option.{option_and_then}
 use Rattle.either.specs.declared.Either.{Either}
-use Rattle.either.specs.declared.Either.TheVariants as either
 use Rattle.hir_base.specs.Ids.{macro_module}
 use Rattle.hir_base.specs.MacroKind.{contains_styles, derive_alone, styles_of}
 use Rattle.hir_base.specs.ModPath.{Path}

@@ -9,7 +9,6 @@ use Rattle.hir_item_tree.specs.SourceTree.{SourceTreeValue}
 use Rattle.hir_item_tree.specs.declared.rows.ModItemId.{ModItemId}
 use Rattle.hir_tables.proofs.Growth.{KeepsTables-trans}
 use Rattle.hir_def_map.specs.WorldParts.{part_of}
-use Rattle.hir_def_collector.specs.Keys.{environment}
 use Rattle.hir_def_collector.specs.Moves.{OnceGrown, Walks, WalksTooFar}
 use Rattle.hir_def_collector.specs.State.{core_in}
 use Rattle.hir_def_collector.specs.TreeReads.{visits_at}

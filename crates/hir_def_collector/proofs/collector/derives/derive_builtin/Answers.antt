@@ -1,15 +1,13 @@
 -- A path of a derive that reaches a builtin macro is handled: an impl is listed, and its helpers are brought.
 use Rattle.std.proofs.Common.{rules, ◌≡◌, ◌∙◌, ◌<◌, ◌≤◌, List, Some, ap, length, map, subst, sym}
 use Rattle.either.specs.declared.Either.TheVariants as either
-use Rattle.hir_def_map.specs.State.{Map}
 use Rattle.hir_def_map.specs.WorldParts.{part_of}
 use Rattle.hir_def_map.specs.declared.nameres.derive_helpers.DeriveHelper.{DeriveHelper}
 use Rattle.hir_def_collector.specs.declared.collector.TheConstants.{STEP_LIMIT}
 use Rattle.hir_def_collector.specs.declared.collector.macro_directive.MacroDirective.{MacroDirective}
 use Rattle.hir_def_collector.specs.Calls.{DerivedCall, helper_by, helpers_brought}
-use Rattle.hir_def_collector.specs.Changes.{with_derived}
 use Rattle.hir_def_collector.specs.Moves.{Makes}
-use Rattle.hir_def_collector.specs.State.{Core, core_in, with_map}
+use Rattle.hir_def_collector.specs.State.{Core, core_in}
 use Rattle.hir_def_collector.specs.Steps.{bringing, derives_builtin}
 use Rattle.hir_def_collector.proofs.CallSteps.{derived, fate_helped, past_rule}
 use Rattle.hir_def_collector.proofs.Made.{count_kept}

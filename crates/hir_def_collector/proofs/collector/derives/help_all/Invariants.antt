@@ -1,8 +1,6 @@
-use Rattle.std.proofs.Common.{◌++◌, drop, map}
+use Rattle.std.proofs.Common.{drop, map}
 use Rattle.hir_def_collector.specs.Calls.{helper_by}
-use Rattle.hir_def_collector.specs.Moves.{Makes}
 use Rattle.hir_def_collector.specs.State.{core_in}
-use Rattle.hir_def_collector.specs.Steps.{bringing}
 use Rattle.hir_def_collector.proofs.Helping.{MakesWithLeft}
 use Rattle.hir_def_collector.proofs.collector.derives.help_all.Given as goal
 

@@ -23,6 +23,8 @@ bound_after r map names globs home name items in_map in_names edges brought = λ
   calls = r.calls;
   fates = r.fates;
   settled = r.settled;
+  is_proc_macro = r.is_proc_macro;
+  exported = r.exported;
   asked = r.asked;
   count = r.count;
 }
@@ -41,6 +43,8 @@ returns c =
       calls = c.self.inside.calls.items;
       fates = c.self.inside.fates.items;
       settled = c.self.inside.settled;
+      is_proc_macro = c.self.inside.is_proc_macro;
+      exported = c.self.inside.exported.items;
       asked = c.self.inside.asked.items;
       count = c.self.inside.count;
     } in
