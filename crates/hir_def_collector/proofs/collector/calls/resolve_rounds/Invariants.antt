@@ -1,7 +1,8 @@
-use Rattle.std.proofs.Common.{◌≡◌, ◌+◌, ◌-◌}
+use Rattle.std.proofs.Common.{◌≡◌, ◌-◌}
 use Rattle.hir_tables.specs.Tables.{KeepsTables}
 use Rattle.hir_def_map.specs.WorldParts.{part_of}
-use Rattle.hir_def_collector.specs.CallMoves.{IsReady}
+use Rattle.hir_def_collector.specs.CallMoves.{IsReady, NoneWaitsBefore}
+use Rattle.hir_def_collector.specs.declared.collector.TheConstants.{STEP_LIMIT}
 use Rattle.hir_def_collector.specs.Calls.{AreCallsPlaced}
 use Rattle.hir_def_collector.specs.Moves.{OnceGrown}
 use Rattle.hir_def_collector.specs.Rounds.{Rounds}
@@ -16,7 +17,8 @@ invariant-rounds g l = record {
   ready : IsReady l.locations (part_of l.world) (core_in l.run);
   own : (core_in l.run).map.id ≡ (core_in l.initial.run).map.id;
   rounds : OnceGrown l.locations (g.D.SourceDatabase.workspace l.initial.db) (λ env. Rounds env (part_of l.world) (at_rest (core_in l.initial.run)) (at_rest (core_in l.run)) l.rounds);
+  first : NoneWaitsBefore (core_in l.run) l.first;
 }
 
 abbrev pub decreases-rounds : goal.decreases-rounds
-decreases-rounds g l = 8193 - l.rounds
+decreases-rounds g l = STEP_LIMIT - (core_in l.run).count
