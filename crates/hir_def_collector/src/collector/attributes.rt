@@ -1,5 +1,5 @@
 //! The attributes of items: which of them are looked up, and which list derives.
-ghost use Rattle.std.specs.Prelude.{◌≡◌, ◌≤◌, ◌<◌, true, false, ◌+◌, ◌∷◌, [], IfOk, IfSome, None, OnOk, Some, map as list_map, option_map, suc, length, slice_get, unwrap_or};
+ghost use Rattle.std.specs.Prelude.{◌≡◌, ◌≤◌, ◌<◌, true, false, ◌+◌, ◌∷◌, [], IfOk, IfSome, None, OnOk, Some, map as list_map, option_map, suc, length, slice_get, unwrap_or, slice_index};
 ghost use Rattle.hir_base.specs.declared.ids.AdtId.{AdtId};
 ghost use Rattle.hir_item_tree.specs.Attributes.{input_view};
 ghost use Rattle.hir_item_tree.specs.Collected.{is_enabled, numbered};
@@ -251,9 +251,9 @@ fn handle_attribute(
     at: usize,
 ) -> Result<bool, CollectError>
     requires there { at < length visited.attrs.now }
-    ensures ok { IfOk result (λ goes_on. (env : Environment) (finished : Maps) (item : KeptItem) (from : _) → IsVisited (core_in run.old).map visited item
-        → next_attribute (core_in run.old).map visited.site.now item from ≡ Some (at, numbered (slice_index visited.attrs.now at))
-        → HandlesAttribute env finished (core_in run.old) (core_in run.new) (visit visited.site.now item) from (goes_behind (visit visited.site.now item) at goes_on)) }
+    ensures ok { IfOk result (λ goes_on. (env : Environment) (finished : Maps) (item : KeptItem) (from : _) → IsVisited (core_in run.old).map visited.entry item
+        → next_attribute (core_in run.old).map visited.entry.site.now item from ≡ Some (at, numbered (slice_index visited.entry.attrs.now at))
+        → HandlesAttribute env finished (core_in run.old) (core_in run.new) (visit visited.entry.site.now item) from (goes_behind (visit visited.entry.site.now item) at goes_on)) }
     ensures many { result ≡ Err CollectError.TooMany → STEP_LIMIT ≤ (core_in run.old).count }
 {
     let attr = &visited.attrs[at];
@@ -281,10 +281,10 @@ pub fn pass_attributes(
     visited: Visited<'_>,
     from: usize,
 ) -> Result<Option<usize>, CollectError>
-    ensures ok { IfOk result (λ done. (env : Environment) (finished : Maps) (item : KeptItem) → IsVisited (core_in run.old).map visited item
-        → Passes env finished (core_in run.old) (core_in run.new) (visit visited.site.now item) from done) }
-    ensures many { result ≡ Err CollectError.TooMany → (env : Environment) (finished : Maps) (item : KeptItem) → IsVisited (core_in run.old).map visited item
-        → PassesTooFar env finished (core_in run.old) (visit visited.site.now item) from }
+    ensures ok { IfOk result (λ done. (env : Environment) (finished : Maps) (item : KeptItem) → IsVisited (core_in run.old).map visited.entry item
+        → Passes env finished (core_in run.old) (core_in run.new) (visit visited.entry.site.now item) from done) }
+    ensures many { result ≡ Err CollectError.TooMany → (env : Environment) (finished : Maps) (item : KeptItem) → IsVisited (core_in run.old).map visited.entry item
+        → PassesTooFar env finished (core_in run.old) (visit visited.entry.site.now item) from }
 {
     let mut done = from;
     'next: while let Some(at) = next_attribute(run.map(), visited.node, visited.attrs, done) {

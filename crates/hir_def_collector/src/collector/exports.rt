@@ -147,7 +147,7 @@ pub fn declare_exporting(
     vis: Visibility,
     export: Export,
 ) -> Result<(), CollectError>
-    requires is_function { id ≡ function_id (core_in run.old).map site.now head.entry.id }
+    requires is_function { id ≡ function_id (core_in run.old).map site.now head.id }
     ensures ok { OnOk result (core_in run.new ≡ counted (with_export (core_in run.old) site.now (head_of head.entry) name.now
         (value_declaration name.now (ModuleDefId.FunctionId id) vis) export)) }
     ensures many { result ≡ Err CollectError.TooMany → STEP_LIMIT ≤ (core_in run.old).count }
