@@ -1,5 +1,5 @@
 //! The attributes of items: which of them are looked up, and which list derives.
-ghost use Rattle.std.specs.Prelude.{◌≡◌, ◌≤◌, ◌<◌, true, false, ◌+◌, ◌∷◌, [], IfOk, IfSome, None, OnOk, Some, map as list_map, option_map, suc, length, slice_get, unwrap_or, slice_index};
+ghost use Rattle.std.specs.Prelude.{◌≡◌, ◌≤◌, ◌<◌, true, false, ◌+◌, ◌∷◌, [], IfOk, IfSome, None, OnOk, Some, map as list_map, option_map, suc, length, slice_get, unwrap_or};
 ghost use Rattle.hir_base.specs.declared.ids.AdtId.{AdtId};
 ghost use Rattle.hir_item_tree.specs.Attributes.{input_view};
 ghost use Rattle.hir_item_tree.specs.Collected.{is_enabled, numbered};
@@ -251,8 +251,8 @@ fn handle_attribute(
     at: usize,
 ) -> Result<bool, CollectError>
     requires there { at < length visited.attrs.now }
-    ensures ok { IfOk result (λ goes_on. (env : Environment) (finished : Maps) (item : KeptItem) (from : _) → IsVisited (core_in run.old).map visited.entry item
-        → next_attribute (core_in run.old).map visited.entry.site.now item from ≡ Some (at, numbered (slice_index visited.entry.attrs.now at))
+    ensures ok { IfOk result (λ goes_on. (env : Environment) (finished : Maps) (item : KeptItem) (from : _) (a : Attr) → IsVisited (core_in run.old).map visited.entry item
+        → slice_get visited.entry.attrs.now at ≡ Some a → next_attribute (core_in run.old).map visited.entry.site.now item from ≡ Some (at, numbered a)
         → HandlesAttribute env finished (core_in run.old) (core_in run.new) (visit visited.entry.site.now item) from (goes_behind (visit visited.entry.site.now item) at goes_on)) }
     ensures many { result ≡ Err CollectError.TooMany → STEP_LIMIT ≤ (core_in run.old).count }
 {
