@@ -18,7 +18,7 @@ use Rattle.hir_def_collector.specs.declared.source_database.Key.TheVariants as k
 use Rattle.hir_tables.specs.Tables.{TablesValue}
 use Rattle.hir_mod_dir.specs.ModuleFiles.{candidates_of}
 use Rattle.hir_def_collector.specs.Workspace.{Workspace}
-use Rattle.hir_def_collector.specs.Causes.{IsCandidate}
+use Rattle.hir_def_collector.specs.Causes.{IsCandidate, IsOfCall}
 use Rattle.hir_def_collector.specs.ModuleFiles.{IsNumbered, Search}
 use Rattle.hir_def_collector.specs.Keys.{Environment, environment}
 use Rattle.hir_def_collector.specs.State.{State, Task}
@@ -26,7 +26,7 @@ use Rattle.hir_def_collector.specs.ItemIds.{enum_id}
 use Rattle.hir_def_collector.specs.Items.{own_visibility}
 use Rattle.hir_def_collector.specs.Changes.{changes_imports, gives_variants, goes_on, lists, perform}
 use Rattle.hir_def_collector.specs.Enums.{variants_of}
-use Rattle.hir_def_collector.specs.Steps.{Rule, drops_item, passes_over, defines_rules, defines_macro, closes_module, declares_item, declares_enum, lists_constant, lists_impl, opens_module, opens_file, drops_file, misses_file, enters_block, reaches_imports, reaches_crate, resolves_imports, LooksFor, May, Numbered, Sees, after, asking, keys_read, path_of, reads, search_readings, Step, Steps, none, more, enum_declaration}
+use Rattle.hir_def_collector.specs.Steps.{Rule, drops_item, reaches_call, rests, expands_call, drops_call, defines_rules, defines_macro, closes_module, declares_item, declares_enum, lists_constant, lists_impl, opens_module, opens_file, drops_file, misses_file, enters_block, reaches_imports, reaches_crate, resolves_imports, LooksFor, May, Numbered, Sees, after, asking, keys_read, path_of, reads, search_readings, Step, Steps, none, more, enum_declaration}
 use Rattle.hir_def_collector.proofs.Changes.{asked-Step}
 use Rattle.hir_def_collector.proofs.Declared.{Lists, Lists-now}
 use Rattle.hir_def_collector.proofs.Grows.{Grows, Grows-Step, Grows-act}
@@ -63,18 +63,20 @@ pub only : {A : Type 0} (x y : A) → Contains (x ∷ []) y → x ≡ y
 only x y (zero, below, is) = is
 only x y (suc n, below, is) = absurd (omega arith)
 
--- a run that ends in a state asked for a key: it is of an enum that a module lists, or of a candidate of a `mod` item
+-- a run that ends in a state asked for a key: it is of an enum that a module lists, of a candidate of a `mod` item, or of a call that reaches a macro
 pub data IsAskedFor (tables : TablesValue) (w : Workspace) (finished : Maps) (from to : State) (key : Key) : Type 0 where
   of_enum_listed : IsOfListed to.core.map key → IsAskedFor tables w finished from to key
   of_candidate : (at : State) → Steps (environment tables w) finished from at → Steps (environment tables w) finished at to → IsCandidate tables w at key → IsAskedFor tables w finished from to key
+  of_call : (at : State) → Steps (environment tables w) finished from at → Steps (environment tables w) finished at to → IsOfCall tables w finished at key → IsAskedFor tables w finished from to key
 
--- what a rule reads is of an enum that it lists, or of a candidate
+-- what a rule reads is of an enum that it lists, of a candidate, or of a call
 data IsRead (tables : TablesValue) (w : Workspace) (finished : Maps) (s : State) (r : Rule) (key : Key) : Type 0 where
   enum_read : IsOfListed (after finished s r).core.map key → IsRead tables w finished s r key
   file_read : IsCandidate tables w s key → IsRead tables w finished s r key
+  call_read : IsOfCall tables w finished s key → IsRead tables w finished s r key
 
 module _ (tables : TablesValue) (w : Workspace) (finished : Maps) (s : State) where
-  searched : (site : Site) (head : Head) (name : List ℕ) (search : Search) (rest : List Task) → LooksFor s site head name search rest → IsNumbered tables site.tree search
+  searched : (site : Site) (head : Head) (name : List ℕ) (search : Search) (rest : List Task) → LooksFor s site head name search rest → IsNumbered tables site.file search
       → Sees (environment tables w) finished (search_readings s.core.map search) → (key : Key) → Contains (keys_read (search_readings s.core.map search)) key → IsCandidate tables w s key
   searched site head name search rest looks numbered sees key h =
       let m : Map = s.core.map in
@@ -98,13 +100,17 @@ module _ (tables : TablesValue) (w : Workspace) (finished : Maps) (s : State) wh
         earlier = asked.earlier;
       }
 
-  caused : (r : Rule) → May finished s r → Sees (environment tables w) finished (reads s r) → Numbered tables r → IsInRange s → (key : Key) → Contains (keys_read (reads s r)) key
+  caused : (r : Rule) → May finished s r → Sees (environment tables w) finished (reads s r) → Numbered tables s r → IsInRange s → (key : Key) → Contains (keys_read (reads s r)) key
       → IsRead tables w finished s r key
   caused (drops_item v report rest) may sees numbered p key h = absurd (no_key key h)
   caused (defines_rules site head name expander helpers rest) may sees numbered p key h = absurd (no_key key h)
   caused (defines_macro site head name expander helpers rest) may sees numbered p key h = absurd (no_key key h)
   caused (closes_module parent child rest) may sees numbered p key h = absurd (no_key key h)
-  caused (passes_over site head l rest) may sees numbered p key h = absurd (no_key key h)
+  caused (reaches_call site head path rest) may sees numbered p key h = absurd (no_key key h)
+  caused rests may sees numbered p key h = absurd (no_key key h)
+  caused (expands_call i d makro x) may sees numbered p key h =
+      call_read (record { place = i; call = d; makro = makro; expands = may; seen = x; numbered = numbered; sees = sees; among = h })
+  caused (drops_call i d) may sees numbered p key h = absurd (no_key key h)
   caused (declares_item v d rest) may sees numbered p key h = absurd (no_key key h)
   caused (declares_enum site head name found rest) may sees numbered p key h =
       let m : Map = s.core.map in
@@ -138,13 +144,15 @@ asked_before : {tables : TablesValue} {w : Workspace} {finished : Maps} {from ol
     → IsAskedFor tables w finished from old key → IsAskedFor tables w finished from new key
 asked_before step (of_enum_listed p) = of_enum_listed (IsOfListed-Grows (Grows-Step step) p)
 asked_before {old = old} {new = new} step (of_candidate at before after p) = of_candidate at before (more old new after step) p
+asked_before {old = old} {new = new} step (of_call at before after p) = of_call at before (more old new after step) p
 
 asked_now : {tables : TablesValue} {w : Workspace} {finished : Maps} {from old new : State} {key : Key} → Steps (environment tables w) finished from old
     → (step : Step (environment tables w) finished old new) → IsRead tables w finished old step.rule key → IsAskedFor tables w finished from new key
 asked_now {key = key} before step (enum_read p) = of_enum_listed (subst (λ (s : State). IsOfListed s.core.map key) (sym step.is) p)
 asked_now {old = old} {new = new} before step (file_read p) = of_candidate old before (more old new none step) p
+asked_now {old = old} {new = new} before step (call_read p) = of_call old before (more old new none step) p
 
--- what was asked for in the end was so at first, or is of an enum that a module lists, or of a candidate
+-- what was asked for in the end was so at first, or is of an enum that a module lists, of a candidate or of a call
 pub asked_by : {tables : TablesValue} {w : Workspace} {finished : Maps} {from to : State} → IsInRange from → Steps (environment tables w) finished from to → (key : Key) → Contains to.core.asked key
     → Contains from.core.asked key ⊎ IsAskedFor tables w finished from to key
 asked_by p none key h = inl h

@@ -26,6 +26,10 @@ some_there f None s true e h t = absurd (let no : ⊥ = cc in no)
 some_there f None s false e h t = absurd (let no : ⊥ = cc in no)
 some_there f (Some x) s b e h t = subst (λ (o : Option _). IsSome o) e refl
 
+pub nothing_there : {A : Type 0} (o : Option A) → o ≡ None → IsSome o → ⊥
+nothing_there None e h = let no : ⊥ = cc in no
+nothing_there (Some x) e h = let no : ⊥ = cc in no
+
 module _ (tables : TablesValue) (w : Workspace) (finished : Maps) (transitive : List Crate) (start : Start) (id : TreeId) (run : Core) (source : SourceTreeValue)
     (found : source ≡ source_in tables w (tree_key start id)) (is : run ≡ core_of finished source.tree (w.config (krate_of start)) transitive start id) where
   -- where its number means something, its source is held

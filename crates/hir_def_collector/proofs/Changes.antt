@@ -1,5 +1,5 @@
 -- What no change alters, and what changes keep that each of them keeps.
-use Rattle.std.proofs.Common.{◌≡◌, ◌∙◌, ◌+◌, ◌++◌, ℕ, Bool, true, false, cond, Some, None, List, [], ◌∷◌, map as list_map, refl, sym, ap, append-nil, append_assoc}
+use Rattle.std.proofs.Common.{◌≡◌, ◌∙◌, ◌+◌, ◌++◌, ℕ, Bool, true, false, cond, Option, Some, None, List, [], ◌∷◌, map as list_map, refl, sym, ap, append-nil, append_assoc}
 use Rattle.hir_base.specs.declared.ast_id.AstId.{AstId}
 use Rattle.hir_base.specs.declared.ids.ModuleId.{ModuleId}
 use Rattle.hir_base.specs.declared.macro_kind.MacroExpander.{MacroExpander}
@@ -11,13 +11,15 @@ use Rattle.hir_def_map.specs.Overlay.{Maps}
 use Rattle.hir_def_map.specs.State.{Map}
 use Rattle.hir_import_resolution.specs.Changes.{Change as ImportChange, pushes}
 use Rattle.hir_import_resolution.specs.State.{ImportState}
+use Rattle.hir_def_collector.specs.declared.collector.macro_directive.MacroDirective.{MacroDirective}
 use Rattle.hir_def_collector.specs.declared.source_database.Key.{Key}
 use Rattle.hir_def_collector.specs.Keys.{Environment}
 use Rattle.hir_def_collector.specs.State.{State, import_state}
-use Rattle.hir_def_collector.specs.Changes.{Change, lists, makes, gives_variants, begins_paths, reaches, changes_imports, adds_textual, takes_textual, defines, uses_macros, tells, goes_on, act, perform}
+use Rattle.hir_def_collector.specs.Changes.{Change, lists, makes, gives_variants, begins_paths, reaches, awaits, ends, settles, changes_imports, adds_textual, takes_textual, defines, uses_macros, tells, goes_on, act, perform}
+use Rattle.hir_def_collector.specs.Calls.{path_of_call}
 use Rattle.hir_def_collector.specs.Macros.{is_exported}
-use Rattle.hir_def_collector.specs.Reports.{is_unimplemented, unimplemented_macro}
-use Rattle.hir_def_collector.specs.Steps.{Step, Steps, none, more, acts, asking, exporting, keys_read, reads, reporting, with_keys}
+use Rattle.hir_def_collector.specs.Reports.{failed_call, is_unimplemented, unimplemented_macro}
+use Rattle.hir_def_collector.specs.Steps.{Step, Steps, none, more, acts, asking, exporting, failing, keys_read, reads, reporting, with_keys}
 use Rattle.hir_def_collector.proofs.ImportEdits.{count_after, crate_data_edited, edit_of, id_edited, map_after}
 
 -- ---- what no change alters
@@ -44,6 +46,9 @@ Keeps-act s (makes home name origin visibility) = record { count = refl; id = re
 Keeps-act s (gives_variants id variants) = record { count = refl; id = refl; crate_data = refl; dependencies = refl; asked = refl }
 Keeps-act s (begins_paths r) = record { count = refl; id = refl; crate_data = refl; dependencies = refl; asked = refl }
 Keeps-act s (reaches rs) = record { count = refl; id = refl; crate_data = refl; dependencies = refl; asked = refl }
+Keeps-act s (awaits calls) = record { count = refl; id = refl; crate_data = refl; dependencies = refl; asked = refl }
+Keeps-act s (ends i fate) = record { count = refl; id = refl; crate_data = refl; dependencies = refl; asked = refl }
+Keeps-act s settles = record { count = refl; id = refl; crate_data = refl; dependencies = refl; asked = refl }
 Keeps-act s (changes_imports c) =
     let i : ImportState = import_state s in
     record {
@@ -90,6 +95,12 @@ perform-append (c ∷ cs) ds s = perform-append cs ds (act s c)
 pub fine-append : (Fine : State → Change → Type 0) (cs ds : List Change) (s : State) → AllFine Fine s cs → AllFine Fine (perform s cs) ds → AllFine Fine s (cs ++ ds)
 fine-append Fine [] ds s f g = g
 fine-append Fine (c ∷ cs) ds s f g = (f.0, fine-append Fine cs ds (act s c) f.1 g)
+
+-- what is reported of a call
+pub fine_failing : (Fine : State → Change → Type 0) (at : ModuleId) (d : MacroDirective) (error : Option (List ℕ))
+    → ((s : State) (text : List ℕ) → Fine s (tells (failed_call at d.ast_id (path_of_call d) text))) → (s : State) → AllFine Fine s (failing at d error)
+fine_failing Fine at d None told s = tt
+fine_failing Fine at d (Some error) told s = (told s error, tt)
 
 -- what is reported of a macro, and where it is bound besides
 module _ (Fine : State → Change → Type 0) (at : ModuleId) (node : AstId) (expander : MacroExpander) (told : (s : State) → Fine s (tells (unimplemented_macro at node))) where

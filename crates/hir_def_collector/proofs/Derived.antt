@@ -1,5 +1,5 @@
 -- What a derivation comes to, over each workspace and beside finished maps that agree on what was asked for.
-use Rattle.std.proofs.Common.{◌≡◌, ◌∙◌, ◌==◌, ◌||◌, ℕ, zero, suc, ◌<◌, length, Bool, false, List, [], ◌∷◌, ◌++◌, map as list_map, Option, None, Some, inl, inr, refl, sym, ap, subst, arith, Contains, if◌then◌else◌}
+use Rattle.std.proofs.Common.{◌≡◌, ◌∙◌, ◌==◌, ◌||◌, ℕ, zero, suc, ◌<◌, length, Bool, false, true, List, [], ◌∷◌, ◌++◌, map as list_map, Option, None, Some, inl, inr, refl, sym, ap, subst, arith, Contains, if◌then◌else◌}
 use Rattle.std.specs.List.{list_any}
 use Rattle.std.specs.Prelude.{option_map, unwrap_or}
 use Rattle.hir_crate_graph.specs.CrateSet.{crate_of, crates_from}
@@ -15,25 +15,30 @@ use Rattle.hir_def_collector.specs.declared.source_database.Key.{Key}
 use Rattle.hir_def_collector.specs.declared.source_database.Key.TheVariants as keys
 use Rattle.hir_def_collector.specs.Workspace.{ConfigValue, Workspace, dependencies_of, direct_in, transitive_dependencies_in}
 use Rattle.hir_def_collector.specs.Keys.{AgreeOn, Environment, environment, look, map_key, map_keys}
-use Rattle.hir_def_collector.specs.State.{State, Core, import_state}
+use Rattle.hir_def_collector.specs.Calls.{LeadsNowhere}
+use Rattle.hir_def_collector.specs.CallMoves.{ComesToRest, cut_off, rested}
+use Rattle.hir_def_collector.specs.Rounds as rounds
+use Rattle.hir_def_collector.specs.Rounds.{HasManyRounds, IsRound, Rounds, WasTried, handled, met}
+use Rattle.hir_def_collector.specs.State.{State, Core, at_rest, import_state}
 use Rattle.hir_import_resolution.specs.Directives.{kind_of, reached_by}
-use Rattle.hir_import_resolution.specs.Rest.{BroughtStands, IsAtRest, IsClosed, IsRecorded, IsSettled}
+use Rattle.hir_import_resolution.specs.Rest.{BroughtStands, IsClosed, IsRecorded, IsSettled}
 use Rattle.hir_def_collector.specs.ModuleFiles.{Reading}
-use Rattle.hir_def_collector.specs.Reports.{leftover_diagnostics, with_diagnostics}
 use Rattle.hir_def_collector.specs.Start.{Beginning, began, begin_of, krate_of, read_by, root_key, root_tree, start_by}
 use Rattle.hir_def_collector.specs.Steps.{Sees, Step, Steps, none, more, keys_read, reads}
 use Rattle.hir_def_collector.specs.Causes as causes
-use Rattle.hir_def_collector.specs.Derivation.{BindsWhatItReaches, CollectedValue, Ends, IsLinked, leftover_among}
+use Rattle.hir_def_collector.specs.Derivation.{BindsWhatItReaches, CollectedValue, Ends, IsLinked, finished_run}
 use Rattle.hir_def_collector.proofs.Lists.{get_inside, get_there}
 use Rattle.hir_def_collector.proofs.Bound.{AreAmong-trans}
 use Rattle.hir_def_collector.proofs.Kept.{AreAmong-by_kind}
 use Rattle.hir_def_collector.proofs.Changes.{asked-Step, data-Steps, id-Steps}
 use Rattle.hir_def_collector.proofs.InRange.{IsInRange}
 use Rattle.hir_def_collector.proofs.Holds.{Holds, Holds-start, Holds-Steps, in_range-start}
-use Rattle.hir_def_collector.proofs.Asks.{IsAskedFor, of_candidate, of_enum_listed, asked_by, only, still_asked, still_asked-Step}
+use Rattle.hir_def_collector.proofs.Asks.{IsAskedFor, of_call, of_candidate, of_enum_listed, asked_by, only, still_asked, still_asked-Step}
 use Rattle.hir_def_collector.proofs.Asked.{Alike, mapped, mapped_from, same_read, same_transitive, same_tree}
 use Rattle.hir_def_collector.proofs.ModuleFiles.{Numbered-kept}
+use Rattle.hir_def_collector.proofs.Moves.{Steps-append}
 use Rattle.hir_def_collector.proofs.Numbers.{tables_stay}
+use Rattle.hir_def_collector.proofs.Tried.{many_after}
 
 -- what is read of a workspace is read of each that has the same at those keys
 Sees-transfer : (env other : Environment) (finished : Maps) (readings : List Reading)
@@ -61,7 +66,7 @@ Step-transfer {env = env} {other = other} {finished = finished} {old = old} kept
   rule = step.rule;
   may = step.may;
   sees = Sees-transfer env other finished (reads old step.rule) (λ key h. same key (subst (λ (ks : List Key). Contains ks key) (sym (asked-Step step)) (Contains-append_right old.core.asked (keys_read (reads old step.rule)) key h))) step.sees;
-  numbered = Numbered-kept env.tables other.tables kept step.rule step.numbered;
+  numbered = Numbered-kept env.tables other.tables kept old step.rule step.numbered;
   is = step.is;
 }
 
@@ -72,14 +77,41 @@ Steps-transfer kept same none = none
 Steps-transfer kept same (more old new before step) =
     more old new (Steps-transfer kept (λ key asked. same key (still_asked-Step step key asked)) before) (Step-transfer kept same step)
 
--- ---- where imports rest
+-- so are rounds of calls
+tried-transfer : {env other : Environment} {finished : Maps} {from to : State} → KeepsTables env.tables other.tables
+    → ((key : Key) → Contains to.core.asked key → look other.tables other.workspace finished key ≡ look env.tables env.workspace finished key)
+    → (i : ℕ) → WasTried env finished from to i → WasTried other finished from to i
+tried-transfer kept same i (handled is) = handled is
+tried-transfer kept same i (met at before after nowhere) =
+    met at (Steps-transfer kept (λ key asked. same key (still_asked after key asked)) before) (Steps-transfer kept same after) nowhere
 
--- no step is left of imports
-pub record Rests (finished : Maps) (s : State) : Type 0 where
+round-transfer : {env other : Environment} {finished : Maps} {from to : State} → KeepsTables env.tables other.tables
+    → ((key : Key) → Contains to.core.asked key → look other.tables other.workspace finished key ≡ look env.tables env.workspace finished key)
+    → IsRound env finished from to → IsRound other finished from to
+round-transfer kept same round = record {
+  steps = Steps-transfer kept same round.steps;
+  tried = λ i d waits. tried-transfer kept same i (round.tried i d waits);
+  rises = round.rises;
+}
+
+Rounds-transfer : {env other : Environment} {finished : Maps} {from to : State} {n : ℕ} → KeepsTables env.tables other.tables
+    → ((key : Key) → Contains to.core.asked key → look other.tables other.workspace finished key ≡ look env.tables env.workspace finished key)
+    → Rounds env finished from to n → Rounds other finished from to n
+Rounds-transfer kept same (rounds.none to steps) = rounds.none to (Steps-transfer kept same steps)
+Rounds-transfer kept same (rounds.more a b to n before steps round) =
+    rounds.more a b to n (Rounds-transfer kept (λ key asked. same key (still_asked round.steps key (still_asked steps key asked))) before)
+    (Steps-transfer kept (λ key asked. same key (still_asked round.steps key asked)) steps) (round-transfer kept same round)
+
+-- ---- where a run rests
+
+-- no step is left of imports and of calls, unless rounds of calls were cut off
+pub record Rests (env : Environment) (finished : Maps) (from s : State) (limited : Bool) : Type 0 where
   pub closed : IsClosed finished (import_state s)
   pub stands : BroughtStands finished (import_state s)
-  pub settled : (i : ℕ) → IsSettled finished (import_state s) i
-  pub linked : (i : ℕ) → IsLinked finished s i
+  pub settled : limited ≡ false → (i : ℕ) → IsSettled finished (import_state s) i
+  pub linked : limited ≡ false → (i : ℕ) → IsLinked finished s i
+  pub nowhere : limited ≡ false → (i : ℕ) → LeadsNowhere finished s i
+  pub many : limited ≡ true → HasManyRounds env finished from s
 
 -- what the path of a glob reaches is among what the glob was taken for, and that is the source of a recorded one
 linked_at : (finished : Maps) (s : State) (i : ℕ) → Holds s → IsSettled finished (import_state s) i → IsRecorded (import_state s) i → IsLinked finished s i
@@ -90,12 +122,24 @@ linked_at finished s i h settled recorded = record {
       recorded.each r t.0 target at t.1 (settled.linked r t.0 by target at t.1 is_glob reaches);
 }
 
-pub rests_at : (finished : Maps) (s : State) → Holds s → IsAtRest finished (import_state s) → Rests finished s
-rests_at finished s h rest = record {
+-- so it is where a part of a run comes to rest
+pub rests_at : (env : Environment) (finished : Maps) (from : State) (old new : Core) (limited : Bool) → Holds (at_rest new) → Steps env finished from (at_rest old)
+    → ComesToRest env finished old new limited → Rests env finished from (at_rest new) limited
+rests_at env finished from old new limited h before (rested rest nowhere) = record {
   closed = rest.closed;
   stands = rest.stands;
-  settled = rest.settled;
-  linked = λ i. linked_at finished s i h (rest.settled i) (rest.recorded i);
+  settled = λ whole. rest.settled;
+  linked = λ whole i. linked_at finished (at_rest new) i h (rest.settled i) (rest.recorded i);
+  nowhere = λ whole. nowhere;
+  many = λ cut. absurd (let no : ⊥ = cc in no);
+}
+rests_at env finished from old new limited h before (cut_off closed stands many) = record {
+  closed = closed;
+  stands = stands;
+  settled = λ whole. absurd (let no : ⊥ = cc in no);
+  linked = λ whole. absurd (let no : ⊥ = cc in no);
+  nowhere = λ whole. absurd (let no : ⊥ = cc in no);
+  many = λ cut. many_after before many;
 }
 
 -- where each import is settled, each binds what it reaches
@@ -106,20 +150,11 @@ binds_end finished s i h settled = record {
       ((h.bound i t before).bound r name at own gives);
 }
 
--- what a run that came to rest answers
-abbrev pub rested : Core → List Crate → CollectedValue
-rested c transitive = record {
-  map = with_diagnostics c.map (leftover_diagnostics c.map c.reached c.taken);
-  local = c.local;
-  leftover = leftover_among c.reached c.taken;
-  round_limit_met = false;
-  asked = c.asked ++ map_keys transitive;
-}
-
 -- ---- the end of a run
 
-module _ (tables : TablesValue) (v : Workspace) (before : Maps) (from : Beginning) (last : State) (answer : CollectedValue)
-    (steps : Steps (environment tables v) (read_by v before from.start) (begin_of tables v before from) last) (is : answer ≡ rested last.core (transitive_dependencies_in v (krate_of from.start))) where
+module _ (tables : TablesValue) (v : Workspace) (before : Maps) (from : Beginning) (last : State) (limited : Bool) (answer : CollectedValue)
+    (steps : Steps (environment tables v) (read_by v before from.start) (begin_of tables v before from) last)
+    (is : answer ≡ finished_run last.core limited (transitive_dependencies_in v (krate_of from.start))) where
   abbrev c : Core
   c = last.core
 
@@ -134,6 +169,9 @@ module _ (tables : TablesValue) (v : Workspace) (before : Maps) (from : Beginnin
 
   begun_in_range : (tables' : TablesValue) (w : Workspace) (finished : Maps) → IsInRange (begin_of tables' w finished from)
   begun_in_range tables' w finished = in_range-start tables' w (read_by w finished from.start) from
+
+  limited_is : answer.round_limit_met ≡ limited
+  limited_is = ap (λ (a : CollectedValue). a.round_limit_met) is
 
   -- what the steps asked for is among the keys
   asked_among : (key : Key) → Contains c.asked key → Contains answer.asked key
@@ -162,15 +200,35 @@ module _ (tables : TablesValue) (v : Workspace) (before : Maps) (from : Beginnin
         ∙ ap (λ (o : Option ConfigValue). start_by (read_by v before from.start) (root_tree tables v from) o (transitive_dependencies_in w (krate_of from.start)) from.start from.tree) (alike.config (krate_of from.start))
         ∙ ap (λ (crates : List Crate). start_by (read_by v before from.start) (root_tree tables v from) (v.config (krate_of from.start)) crates from.start from.tree) transitive_same
 
+    -- what the steps asked for the other workspace has too
+    looks_same : (key : Key) → Contains c.asked key → look grown w (read_by v before from.start) key ≡ look tables v (read_by v before from.start) key
+    looks_same key h = same_look (environment tables v) (environment grown w) before finished (read_by v before from.start) key (alike.same key (asked_among key h))
+
+    -- so what holds of the steps from the start holds over it
+    over : (P : Maps → State → Type 0) → P (read_by v before from.start) (begin_of tables v before from) → P (read_by w finished from.start) (begin_of grown w finished from)
+    over P h =
+        subst (λ (maps : Maps). P maps (begin_of grown w finished from)) (sym reads_same)
+        (subst (λ (s : State). P (read_by v before from.start) s) (sym begins_same) h)
+
     derived_over : Steps (environment grown w) (read_by w finished from.start) (begin_of grown w finished from) last
-    derived_over =
-        subst (λ (maps : Maps). Steps (environment grown w) maps (begin_of grown w finished from) last) (sym reads_same)
-        (subst (λ (s : State). Steps (environment grown w) (read_by v before from.start) s last) (sym begins_same)
-        (Steps-transfer alike.kept (λ key h. same_look (environment tables v) (environment grown w) before finished (read_by v before from.start) key (alike.same key (asked_among key h))) steps))
+    derived_over = over (λ maps s. Steps (environment grown w) maps s last) (Steps-transfer alike.kept looks_same steps)
+
+    many_over : HasManyRounds (environment tables v) (read_by v before from.start) (begin_of tables v before from) last
+        → HasManyRounds (environment grown w) (read_by w finished from.start) (begin_of grown w finished from) last
+    many_over m =
+        over (λ maps s. HasManyRounds (environment grown w) maps s last)
+        (record {
+          count = m.count;
+          last = m.last;
+          rounds = Rounds-transfer alike.kept (λ key h. looks_same key (still_asked m.after key h)) m.rounds;
+          many = m.many;
+          after = Steps-transfer alike.kept looks_same m.after;
+        })
 
     caused_by : (key : Key) → IsAskedFor grown w (read_by w finished from.start) (begin_of grown w finished from) last key → causes.HasCause grown w finished from last key
     caused_by key (of_enum_listed p) = causes.declared_enum p.home p.id p.listed p.is
     caused_by key (of_candidate at before after p) = causes.candidate at (record { before = before; after = after }) p
+    caused_by key (of_call at before after p) = causes.of_call at (record { before = before; after = after }) p
 
     caused_asked : (key : Key) → Contains c.asked key → causes.HasCause grown w finished from last key
     caused_asked key h = elim (asked_by (begun_in_range grown w finished) derived_over key h) [
@@ -188,20 +246,22 @@ module _ (tables : TablesValue) (v : Workspace) (before : Maps) (from : Beginnin
         ]
 
     -- where a derivation over one workspace ends, one ends over each that is like it at what was asked for
-    pub ends_alike : last.agenda ≡ [] → Rests (read_by v before from.start) last → Ends grown w finished from answer
+    pub ends_alike : last.agenda ≡ [] → Rests (environment tables v) (read_by v before from.start) (begin_of tables v before from) last limited → Ends grown w finished from answer
     ends_alike visited rests =
-        let all : Rests (read_by w finished from.start) last = subst (λ (maps : Maps). Rests maps last) (sym reads_same) rests in
+        let holds : Holds last = Holds-Steps steps (begun_in_range tables v before) (Holds-start tables v (read_by v before from.start) from) in
+        let settles : answer.round_limit_met ≡ false → (i : ℕ) → IsSettled (read_by w finished from.start) (import_state last) i =
+        λ whole i. subst (λ (maps : Maps). IsSettled maps (import_state last) i) (sym reads_same) (rests.settled (sym limited_is ∙ whole) i) in
         record {
           last = last;
           derived = derived_over;
           visited = visited;
-          closed = all.closed;
-          stands = all.stands;
-          settled = λ unlimited. all.settled;
-          binds = λ unlimited i. binds_end (read_by w finished from.start) last i
-              (Holds-Steps steps (begun_in_range tables v before) (Holds-start tables v (read_by v before from.start) from)) (all.settled i);
-          linked = λ unlimited. all.linked;
-          unlimited = ap (λ (a : CollectedValue). a.round_limit_met) is;
+          closed = subst (λ (maps : Maps). IsClosed maps (import_state last)) (sym reads_same) rests.closed;
+          stands = subst (λ (maps : Maps). BroughtStands maps (import_state last)) (sym reads_same) rests.stands;
+          settled = settles;
+          binds = λ whole i. binds_end (read_by w finished from.start) last i holds (settles whole i);
+          linked = λ whole i. subst (λ (maps : Maps). IsLinked maps last i) (sym reads_same) (rests.linked (sym limited_is ∙ whole) i);
+          nowhere = λ whole i. subst (λ (maps : Maps). LeadsNowhere maps last i) (sym reads_same) (rests.nowhere (sym limited_is ∙ whole) i);
+          limited = λ cut. many_over (rests.many (sym limited_is ∙ cut));
           own = ap (λ (a : CollectedValue). a.map.id) is ∙ id-Steps steps;
           map_is = ap (λ (a : CollectedValue). a.map) is;
           local_is = ap (λ (a : CollectedValue). a.local) is;
@@ -212,11 +272,9 @@ module _ (tables : TablesValue) (v : Workspace) (before : Maps) (from : Beginnin
         }
 
   -- so it does over each that agrees on it
-  pub ends_over : {w : Workspace} {finished : Maps} → AgreeOn tables answer.asked v before w finished → last.agenda ≡ [] → IsAtRest (read_by v before from.start) (import_state last)
-      → Ends tables w finished from answer
-  ends_over agrees visited rest =
-      ends_alike (record { kept = tables_stay tables; config = agrees.config; same = agrees.same }) visited
-      (rests_at (read_by v before from.start) last (Holds-Steps steps (begun_in_range tables v before) (Holds-start tables v (read_by v before from.start) from)) rest)
+  pub ends_over : {w : Workspace} {finished : Maps} → AgreeOn tables answer.asked v before w finished → last.agenda ≡ []
+      → Rests (environment tables v) (read_by v before from.start) (begin_of tables v before from) last limited → Ends tables w finished from answer
+  ends_over agrees visited rests = ends_alike (record { kept = tables_stay tables; config = agrees.config; same = agrees.same }) visited rests
 
 -- a run beside the maps that it may read is one beside all finished maps
 module _ (tables : TablesValue) (w : Workspace) (finished : Maps) (from : Beginning) (part : Maps) (transitive : List Crate)
@@ -228,6 +286,22 @@ module _ (tables : TablesValue) (w : Workspace) (finished : Maps) (from : Beginn
   begun P h =
       subst (λ (maps : Maps). P maps (began tables w maps (transitive_dependencies_in w (krate_of from.start)) from.start from.tree)) read_whole
       (subst (λ (crates : List Crate). P part (began tables w part crates from.start from.tree)) depends h)
+
+  -- where a run that began so comes to rest, its answer is the end of a derivation over each workspace that agrees on what was asked for
+  pub ends_from : (run last : Core) (limited : Bool) (answer : CollectedValue) → Steps (environment tables w) part (began tables w part transitive from.start from.tree) (at_rest run)
+      → Steps (environment tables w) part (at_rest run) (at_rest last) → ComesToRest (environment tables w) part run last limited → answer ≡ finished_run last limited transitive
+      → (v : Workspace) (maps : Maps) → AgreeOn tables answer.asked w finished v maps → Ends tables v maps from answer
+  ends_from run last limited answer before after comes is v maps agrees =
+      let whole : Steps (environment tables w) (read_by w finished from.start) (begin_of tables w finished from) (at_rest run) =
+      begun (λ read s. Steps (environment tables w) read s (at_rest run)) before in
+      let on : Steps (environment tables w) (read_by w finished from.start) (at_rest run) (at_rest last) =
+      subst (λ (read : Maps). Steps (environment tables w) read (at_rest run) (at_rest last)) read_whole after in
+      let steps : Steps (environment tables w) (read_by w finished from.start) (begin_of tables w finished from) (at_rest last) = Steps-append whole on in
+      let holds : Holds (at_rest last) = Holds-Steps steps (in_range-start tables w (read_by w finished from.start) from) (Holds-start tables w (read_by w finished from.start) from) in
+      let rests : ComesToRest (environment tables w) (read_by w finished from.start) run last limited =
+      subst (λ (read : Maps). ComesToRest (environment tables w) read run last limited) read_whole comes in
+      ends_over tables w finished from (at_rest last) limited answer steps (is ∙ ap (finished_run last limited) depends) agrees refl
+      (rests_at (environment tables w) (read_by w finished from.start) (begin_of tables w finished from) run last limited holds whole rests)
 
 -- a crate that isn't there depends on none
 none_reached : (direct : ℕ → List Crate) (k steps j : ℕ) → direct k ≡ [] → is_reached direct steps k j ≡ false

@@ -9,10 +9,11 @@ use Rattle.hir_base.specs.declared.ids.ModuleId.{ModuleId}
 use Rattle.hir_base.specs.declared.macro_kind.MacroId.{MacroId}
 use Rattle.hir_textual_scope.specs.Macros.{with_macro}
 use Rattle.hir_textual_scope.specs.declared.textual_scope.TextualMacro.{TextualMacro}
+use Rattle.hir_scope.specs.Globs.{GlobNames}
 use Rattle.hir_scope.specs.Scope.{ScopeValue, binding_of}
 use Rattle.hir_scope.specs.declared.per_ns.PerNs.{PerNs}
 use Rattle.hir_scope.specs.declared.visibility.Visibility.{Visibility}
-use Rattle.hir_def_map.specs.State.{Map, Variants, changed_at, entry_at, module_at, new_id, new_module, no_globs, numbered, with_child, with_declared, with_enum, with_extern_block, with_module, with_module_scope, with_scope}
+use Rattle.hir_def_map.specs.State.{Map, Variants, changed_at, entry_at, module_at, new_id, new_module, numbered, pushed, with_child, with_declared, with_enum, with_extern_block, with_module, with_module_scope, with_scope}
 use Rattle.hir_def_map.specs.Overlay.{Maps}
 use Rattle.hir_def_map.specs.Declaration.{listed}
 use Rattle.hir_def_map.proofs.Grown.{entry_at-with_module, length-changed}
@@ -29,10 +30,9 @@ use Rattle.hir_def_collector.specs.Keys.{Environment}
 use Rattle.hir_def_collector.specs.State.{Core, State, counted, import_state, with_map}
 use Rattle.hir_def_collector.specs.ItemIds.{module_id}
 use Rattle.hir_import_resolution.specs.Directives.{AreAmong, namespaces_of}
-use Rattle.hir_def_collector.specs.Items.{bound_in}
 use Rattle.hir_def_collector.specs.Macros.{textual_at, with_macros_used}
 use Rattle.hir_def_collector.specs.Moves.{begun}
-use Rattle.hir_def_collector.specs.Changes.{Change, lists, makes, gives_variants, begins_paths, reaches, changes_imports, adds_textual, takes_textual, defines, uses_macros, tells, goes_on, act, perform}
+use Rattle.hir_def_collector.specs.Changes.{Change, lists, makes, gives_variants, begins_paths, reaches, awaits, ends, settles, changes_imports, adds_textual, takes_textual, defines, uses_macros, tells, goes_on, act, perform}
 use Rattle.hir_def_collector.specs.Steps.{Step, Steps, none, more, acts, asking, with_declaration}
 use Rattle.hir_def_collector.proofs.Declared.{Lists, Lists-changed, Lists-longer, Lists-listed}
 use Rattle.hir_def_collector.proofs.Bound.{AreAmong-same, AreAmong-trans, AreAmong-by, KeepsBindings, among-changed, keeps-edit}
@@ -91,8 +91,8 @@ pub Grows-edited : (m : Map) (o : Option (ℕ × Edit)) → Grows m (edited m o)
 Grows-edited m None = Grows-same m
 Grows-edited m (Some e) = Grows-scope m e.0 (edit (numbered m.id e.0) e.1) (keeps-edit (numbered m.id e.0) e.1)
 
-pub Grows-bound_in : (m : Map) (home : ℕ) (name : List ℕ) (items : PerNs) → Grows m (bound_in m home name items)
-Grows-bound_in m home name items = Grows-edited m (Some (home, pushes_to no_globs name items None))
+pub Grows-pushed : (m : Map) (globs : GlobNames) (home : ℕ) (name : List ℕ) (items : PerNs) → Grows m (pushed m globs home name items None)
+Grows-pushed m globs home name items = Grows-edited m (Some (home, pushes_to globs name items None))
 
 pub Grows-with_module : (m : Map) (home : ℕ) (name : List ℕ) (origin : ModuleOrigin) (vis : Visibility) (above : Option ModuleId) → Grows m (with_module m home name (new_module origin vis above))
 Grows-with_module m home name origin vis above = record {
@@ -128,6 +128,9 @@ Grows-act s (makes home name origin visibility) = Grows-with_module s.core.map h
 Grows-act s (gives_variants id variants) = Grows-with_enum s.core.map id variants
 Grows-act s (begins_paths r) = Grows-same s.core.map
 Grows-act s (reaches rs) = Grows-same s.core.map
+Grows-act s (awaits calls) = Grows-same s.core.map
+Grows-act s (ends i fate) = Grows-same s.core.map
+Grows-act s settles = Grows-same s.core.map
 Grows-act s (changes_imports c) =
     subst (λ (m : Map). Grows s.core.map m) (sym (map_after (import_state s) c)) (Grows-edited s.core.map (edit_of (import_state s) c))
 Grows-act s (adds_textual home name makro) = Grows-textual s.core.map home (λ macros. with_macro macros name makro)
@@ -154,15 +157,16 @@ Grows-Steps (more old new before step) = Grows-trans (Grows-Steps before) (Grows
 
 -- a module that is made, listed and bound adds one
 pub longer_by_module : (old new : Core) (home : ℕ) (name : List ℕ) (origin : ModuleOrigin) (vis : Visibility) (above : Option ModuleId) (d : Declaration)
-    → new ≡ counted (with_map old (with_declaration (begun old.map home name (new_module origin vis above)) home d)) → length old.map.modules < length new.map.modules
+    → new ≡ counted (with_declaration (with_map old (begun old.map home name (new_module origin vis above))) home d) → length old.map.modules < length new.map.modules
 longer_by_module old new home name origin vis above d is =
     let made : Map = with_module old.map home name (new_module origin vis above) in
     let started : Map = begun old.map home name (new_module origin vis above) in
     let one_more : length made.modules ≡ length old.map.modules + 1 = length-made old.map home name (new_module origin vis above) in
     let same : length made.modules ≤ length started.modules = (Grows-textual made (length old.map.modules) (λ _. textual_at made home)).longer in
-    let kept : length started.modules ≤ length (with_declaration started home d).modules =
-    (Grows-trans (Grows-listed started home (declaration.Def d.def)) (Grows-bound_in (with_declared started home d.def) home d.name d.items)).longer in
-    let below : length old.map.modules < length (with_declaration started home d).modules = omega arith in
+    let declared : Core = with_declaration (with_map old started) home d in
+    let kept : length started.modules ≤ length declared.map.modules =
+    (Grows-trans (Grows-listed started home (declaration.Def d.def)) (Grows-pushed (with_declared started home d.def) old.globs.names home d.name d.items)).longer in
+    let below : length old.map.modules < length declared.map.modules = omega arith in
     rw is below
 
 -- an extern block that is listed leaves each module there

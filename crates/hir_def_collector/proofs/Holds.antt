@@ -1,9 +1,11 @@
 -- The namespaces that an import keeps of those that its takings reached are bound under its name.
 use Rattle.std.proofs.Common.{◌≡◌, ◌∙◌, ℕ, ◌<◌, Bool, true, false, List, [], ◌∷◌, length, map as list_map, slice_get, slice_set, Option, None, Some, inl, inr, refl, sym, ap, subst, arith}
 use Rattle.std.proofs.lemmas.Bool.{cases_lt}
+use Rattle.hir_base.specs.declared.ids.Crate.{Crate}
 use Rattle.hir_item_tree.specs.Collected.{is_enabled}
 use Rattle.hir_item_tree.specs.ItemTree.{Tree}
 use Rattle.hir_item_tree.specs.KeptForest.{KeptForest, no_items, item}
+use Rattle.hir_item_tree.specs.declared.tree_id.TreeId.{TreeId}
 use Rattle.hir_def_map.proofs.NoneOf.{not_first, not_second}
 use Rattle.hir_def_map.specs.State.{Map, entry_at, place_at}
 use Rattle.hir_def_map.specs.Overlay.{Maps}
@@ -18,18 +20,20 @@ use Rattle.hir_import_resolution.specs.Directives.{AreAmong, TakenValue, answer_
 use Rattle.hir_import_resolution.specs.Changes.{Change as ImportChange, act as act_on_imports, along, keeps_trait, pushes, pushing, records, takes}
 use Rattle.hir_import_resolution.specs.Rules.{CanTake, Rule as ImportRule, May as MayImport, acts as import_acts, goes_along, takes_glob, takes_import}
 use Rattle.hir_import_resolution.specs.State.{ImportState}
+use Rattle.hir_def_collector.specs.declared.collector.Start.{Start}
 use Rattle.hir_def_collector.specs.declared.collector.site.Site.{Site}
 use Rattle.hir_tables.specs.Tables.{TablesValue}
-use Rattle.hir_def_collector.specs.Workspace.{Workspace}
-use Rattle.hir_def_collector.specs.Keys.{Environment}
+use Rattle.hir_def_collector.specs.Workspace.{Workspace, transitive_dependencies_in}
+use Rattle.hir_def_collector.specs.Calls.{error_of}
+use Rattle.hir_def_collector.specs.Keys.{Environment, tree_at}
 use Rattle.hir_def_collector.specs.State.{State, import_state, visits_over}
-use Rattle.hir_def_collector.specs.Start.{Beginning, start_of, root_site, root_tree, tree_visits}
-use Rattle.hir_def_collector.specs.Changes.{Change, lists, makes, gives_variants, begins_paths, reaches, changes_imports, adds_textual, takes_textual, defines, uses_macros, tells, goes_on, act, on_map}
-use Rattle.hir_def_collector.specs.Steps.{Rule, drops_item, passes_over, defines_rules, defines_macro, closes_module, declares_item, declares_enum, lists_constant, lists_impl, opens_module, opens_file, drops_file, misses_file, enters_block, reaches_imports, reaches_crate, resolves_imports, May, acts, asking, Step, Steps, none, more}
+use Rattle.hir_def_collector.specs.Start.{Beginning, began, krate_of, start_of, root_site, tree_key, tree_visits}
+use Rattle.hir_def_collector.specs.Changes.{Change, lists, makes, gives_variants, begins_paths, reaches, awaits, ends, settles, changes_imports, adds_textual, takes_textual, defines, uses_macros, tells, goes_on, act, on_map}
+use Rattle.hir_def_collector.specs.Steps.{Rule, drops_item, reaches_call, rests, expands_call, drops_call, defines_rules, defines_macro, closes_module, declares_item, declares_enum, lists_constant, lists_impl, opens_module, opens_file, drops_file, misses_file, enters_block, reaches_imports, reaches_crate, resolves_imports, May, acts, asking, Step, Steps, none, more}
 use Rattle.hir_def_collector.proofs.Lists.{get_left, get_right, get_inside, get_set_same, get_set_other, length_set, length_both, length_mapped, get_same}
 use Rattle.hir_def_collector.proofs.Bound.{AreAmong-trans, AreAmong-both, AreAmong-nothing, among-pushed, namespaces_of-imported, number_same_or_not}
 use Rattle.hir_def_collector.proofs.Kept.{kept_namespaces, kept_namespaces-both, kept_namespaces-none, kept_of-own, namespaces_of-kept}
-use Rattle.hir_def_collector.proofs.Changes.{AllFine, fine_macro, fine_reporting, perform_keeps}
+use Rattle.hir_def_collector.proofs.Changes.{AllFine, fine_failing, fine_macro, fine_reporting, perform_keeps}
 use Rattle.hir_def_collector.proofs.Grows.{Grows, Grows-act}
 use Rattle.hir_def_collector.proofs.ImportEdits.{imports_after}
 use Rattle.hir_def_collector.proofs.InRange.{IsInRange, VisitsBelow, import_at, in_range-Steps}
@@ -60,6 +64,9 @@ TakesWhatIsBound s (makes home name origin visibility) = Unit {0}
 TakesWhatIsBound s (gives_variants id variants) = Unit {0}
 TakesWhatIsBound s (begins_paths r) = Unit {0}
 TakesWhatIsBound s (reaches rs) = Unit {0}
+TakesWhatIsBound s (awaits calls) = Unit {0}
+TakesWhatIsBound s (ends i fate) = Unit {0}
+TakesWhatIsBound s settles = Unit {0}
 TakesWhatIsBound s (changes_imports c) = TakesBound s c
 TakesWhatIsBound s (adds_textual home name makro) = Unit {0}
 TakesWhatIsBound s (takes_textual home from) = Unit {0}
@@ -126,7 +133,7 @@ Holds-takes s i t h fine =
       ];
     }
 
--- what is to be visited, and what paths may begin with, doesn't matter
+-- what is to be visited, what calls wait, and what paths may begin with, doesn't matter
 same_bound : (s t : State) → t.core.reached ≡ s.core.reached → t.core.map ≡ s.core.map → (i : ℕ) (u : TakenValue) → IsBoundAs s i u → IsBoundAs t i u
 same_bound s t reached map i u p = record {
   bound = λ r name at own gives. subst (λ (m : Map). AreAmong (kept_namespaces (kind_of r.source) u.namespaces) (namespaces_of (entry_at m r.home name))) (sym map)
@@ -148,6 +155,9 @@ Holds-act s (makes home name origin visibility) h fine = Holds-grown s _ (Grows-
 Holds-act s (gives_variants id variants) h fine = Holds-grown s _ (Grows-act s (gives_variants id variants)) h
 Holds-act s (begins_paths r) h fine = record { paired = h.paired; bound = λ i t at. same_bound s (act s (begins_paths r)) refl refl i t (h.bound i t at) }
 Holds-act s (reaches rs) h fine = Holds-reaches s rs h
+Holds-act s (awaits calls) h fine = record { paired = h.paired; bound = λ i t at. same_bound s (act s (awaits calls)) refl refl i t (h.bound i t at) }
+Holds-act s (ends i fate) h fine = record { paired = h.paired; bound = λ j t at. same_bound s (act s (ends i fate)) refl refl j t (h.bound j t at) }
+Holds-act s settles h fine = record { paired = h.paired; bound = λ i t at. same_bound s (act s settles) refl refl i t (h.bound i t at) }
 Holds-act s (changes_imports c) h fine = Holds-imports s c h fine
 Holds-act s (adds_textual home name makro) h fine = Holds-grown s _ (Grows-act s (adds_textual home name makro)) h
 Holds-act s (takes_textual home from) h fine = Holds-grown s _ (Grows-act s (takes_textual home from)) h
@@ -249,7 +259,10 @@ takes_what_is_bound finished s (reaches_crate site head name alias rest) may p h
 takes_what_is_bound finished s (defines_rules site head name expander helpers rest) may p h = (tt, (tt, (tt, fine_macro TakesWhatIsBound _ _ expander (λ t. tt) head name _ (λ t. tt) _)))
 takes_what_is_bound finished s (defines_macro site head name expander helpers rest) may p h = (tt, (tt, (tt, (tt, fine_reporting TakesWhatIsBound _ _ expander (λ t. tt) _))))
 takes_what_is_bound finished s (closes_module parent child rest) may p h = (tt, (tt, tt))
-takes_what_is_bound finished s (passes_over site head l rest) may p h = (tt, tt)
+takes_what_is_bound finished s (reaches_call site head path rest) may p h = (tt, (tt, tt))
+takes_what_is_bound finished s rests may p h = (tt, tt)
+takes_what_is_bound finished s (expands_call i d makro x) may p h = (tt, (tt, fine_failing TakesWhatIsBound _ d (error_of x.there) (λ t text. tt) _))
+takes_what_is_bound finished s (drops_call i d) may p h = (tt, tt)
 takes_what_is_bound finished s (resolves_imports rule) may p h = imports_take finished s rule may p h
 
 -- ---- steps
@@ -278,8 +291,15 @@ in_range-tree n site tree h = go (is_enabled tree.attributes) refl
     go true e = rw e (in_range-visits n site tree.items h)
     go false e = rw e tt
 
+pub in_range-begun : (tables : TablesValue) (w : Workspace) (finished : Maps) (transitive : List Crate) (start : Start) (id : TreeId) → IsInRange (began tables w finished transitive start id)
+in_range-begun tables w finished transitive start id = record {
+  visits = in_range-tree 1 (root_site id) (tree_at tables w (tree_key start id)).tree (omega arith);
+  imports = tt;
+  calls = tt;
+}
+
 pub in_range-start : (tables : TablesValue) (w : Workspace) (finished : Maps) (from : Beginning) → IsInRange (start_of tables w finished from)
-in_range-start tables w finished from = record { visits = in_range-tree 1 (root_site from.tree) (root_tree tables w from) (omega arith); imports = tt }
+in_range-start tables w finished from = in_range-begun tables w finished (transitive_dependencies_in w (krate_of from.start)) from.start from.tree
 
 pub Holds-start : (tables : TablesValue) (w : Workspace) (finished : Maps) (from : Beginning) → Holds (start_of tables w finished from)
 Holds-start tables w finished from = record { paired = refl; bound = λ i t at. absurd (let no : ⊥ = cc in no) }

@@ -26,7 +26,8 @@ module _ {S I C D : Type 0} (act_s : S → D → S) (act_i : I → C → I) (wra
       ∙ performed cs s (act_i i c)
       ∙ ap (put s) (sym (more_i i c cs))
 
-perform-imports : (s : State) (i : ImportState) (cs : List ImportChange) → perform (with_import_state s i) (list_map changes_imports cs) ≡ with_import_state s (perform_on_imports i cs)
+-- changes of imports are those of the run
+pub perform-imports : (s : State) (i : ImportState) (cs : List ImportChange) → perform (with_import_state s i) (list_map changes_imports cs) ≡ with_import_state s (perform_on_imports i cs)
 perform-imports s i cs =
     performed act act_on_imports changes_imports with_import_state perform perform_on_imports (λ s. refl) (λ s d ds. refl) (λ i. refl) (λ i c cs. refl) (λ s i c. refl) cs s i
 

@@ -1,4 +1,4 @@
--- What is to be visited, and each import, is of a module that is there.
+-- What is to be visited, each import and each call is of a module that is there.
 use Rattle.std.proofs.Common.{◌≡◌, ℕ, zero, suc, ◌+◌, ◌<◌, ◌≤◌, Bool, true, false, ◌||◌, List, [], ◌∷◌, ◌++◌, length, map as list_map, slice_get, Option, None, Some, refl, sym, subst, arith, append_assoc}
 use Rattle.hir_base.specs.declared.ids.UseId.{UseId}
 use Rattle.hir_item_tree.specs.KeptForest.{Head, KeptForest, no_items, item}
@@ -13,7 +13,9 @@ use Rattle.hir_def_map.proofs.Grown.{length-changed}
 use Rattle.hir_def_map.proofs.StaysWellFormed.{length-made}
 use Rattle.hir_import_resolution.specs.declared.directive.ImportDirective.{ImportDirective}
 use Rattle.hir_import_resolution.specs.Rules.{acts as import_acts}
+use Rattle.hir_def_collector.specs.declared.collector.macro_directive.MacroDirective.{MacroDirective}
 use Rattle.hir_def_collector.specs.declared.collector.site.Site.{Site}
+use Rattle.hir_def_collector.specs.Calls.{call_site, error_of}
 use Rattle.hir_def_collector.specs.Keys.{Environment}
 use Rattle.hir_def_collector.specs.State.{State, Task, Visit, visits, closes, import_state, visits_over}
 use Rattle.hir_def_collector.specs.ItemIds.{macro_rules_id, module_id, use_id}
@@ -21,9 +23,9 @@ use Rattle.hir_def_collector.specs.Items.{file_origin, inline_origin, own_visibi
 use Rattle.hir_def_collector.specs.Imports.{reached_import}
 use Rattle.hir_def_collector.specs.Macros.{is_macro_use}
 use Rattle.hir_def_collector.specs.Moves.{begun}
-use Rattle.hir_def_collector.specs.Changes.{Change, lists, makes, gives_variants, begins_paths, reaches, changes_imports, adds_textual, takes_textual, defines, uses_macros, tells, goes_on, act, on_map}
-use Rattle.hir_def_collector.specs.Steps.{Rule, drops_item, passes_over, defines_rules, defines_macro, closes_module, closing, declares_item, declares_enum, lists_constant, lists_impl, opens_module, opens_file, drops_file, misses_file, enters_block, reaches_imports, reaches_crate, resolves_imports, May, acts, asking, inside_block, inside_file, inside_module, path_of, visits_in_file, visits_inside, Step, Steps, none, more}
-use Rattle.hir_def_collector.proofs.Changes.{AllFine, all_fine, fine_macro, fine_reporting, perform_keeps}
+use Rattle.hir_def_collector.specs.Changes.{Change, lists, makes, gives_variants, begins_paths, reaches, awaits, ends, settles, changes_imports, adds_textual, takes_textual, defines, uses_macros, tells, goes_on, act, on_map}
+use Rattle.hir_def_collector.specs.Steps.{Rule, drops_item, reaches_call, rests, expands_call, drops_call, defines_rules, defines_macro, closes_module, closing, declares_item, declares_enum, lists_constant, lists_impl, opens_module, opens_file, drops_file, misses_file, enters_block, reaches_imports, reaches_crate, resolves_imports, May, acts, asking, inside_block, inside_file, inside_module, path_of, visits_in_file, visits_inside, Step, Steps, none, more}
+use Rattle.hir_def_collector.proofs.Changes.{AllFine, all_fine, fine_failing, fine_macro, fine_reporting, perform_keeps}
 use Rattle.hir_def_collector.proofs.Grows.{Grows, Grows-act}
 use Rattle.hir_def_collector.proofs.ImportEdits.{imports_after}
 
@@ -38,9 +40,15 @@ abbrev pub ImportsBelow : ℕ → List ImportDirective → Type 0
 ImportsBelow n [] = Unit {0}
 ImportsBelow n (r ∷ rs) = (r.home < n) × ImportsBelow n rs
 
+-- and each call
+abbrev pub CallsBelow : ℕ → List MacroDirective → Type 0
+CallsBelow n [] = Unit {0}
+CallsBelow n (d ∷ ds) = (d.site.home < n) × CallsBelow n ds
+
 pub record IsInRange (s : State) : Type 0 where
   pub visits : VisitsBelow (length s.core.map.modules) s.agenda
   pub imports : ImportsBelow (length s.core.map.modules) s.core.reached
+  pub calls : CallsBelow (length s.core.map.modules) s.core.calls
 
 -- ---- lists
 
@@ -62,10 +70,28 @@ import_at n [] i r f e = absurd cc
 import_at n (x ∷ xs) zero r f e = let same : x ≡ r = cc in subst (λ (y : ImportDirective). y.home < n) same f.0
 import_at n (x ∷ xs) (suc i) r f e = import_at n xs i r f.1 e
 
+calls_more : (n k : ℕ) → n ≤ k → (ds : List MacroDirective) → CallsBelow n ds → CallsBelow k ds
+calls_more n k low [] f = tt
+calls_more n k low (d ∷ ds) f = let first : d.site.home < n = f.0 in (omega arith, calls_more n k low ds f.1)
+
+calls_joined : (n : ℕ) (ds es : List MacroDirective) → CallsBelow n ds → CallsBelow n es → CallsBelow n (ds ++ es)
+calls_joined n [] es f g = g
+calls_joined n (d ∷ ds) es f g = (f.0, calls_joined n ds es f.1 g)
+
+pub call_below : (n : ℕ) (ds : List MacroDirective) (i : ℕ) (d : MacroDirective) → CallsBelow n ds → slice_get ds i ≡ Some d → d.site.home < n
+call_below n [] i d f e = absurd cc
+call_below n (x ∷ xs) zero d f e = let same : x ≡ d = cc in subst (λ (y : MacroDirective). y.site.home < n) same f.0
+call_below n (x ∷ xs) (suc i) d f e = call_below n xs i d f.1 e
+
 -- visits of one site come before others
 pub visits_before : (n : ℕ) (s : Site) → s.home < n → (is : KeptForest) (rest : List Task) → VisitsBelow n rest → VisitsBelow n (visits_over s is ++ rest)
 visits_before n s low no_items rest f = f
 visits_before n s low (item i is) rest f = (low, visits_before n s low is rest f)
+
+-- visits of one site alone
+pub visits_of : (n : ℕ) (s : Site) → s.home < n → (is : KeptForest) → VisitsBelow n (visits_over s is)
+visits_of n s low no_items = tt
+visits_of n s low (item i is) = (low, visits_of n s low is)
 
 pub next_below : (n : ℕ) (ts : List Task) (v : Visit) (rest : List Task) → VisitsBelow n ts → ts ≡ visits v ∷ rest → (v.site.home < n) × VisitsBelow n rest
 next_below n ts v rest f e = subst (VisitsBelow n) e f
@@ -88,13 +114,16 @@ imports_of_use n home low by vis (i ∷ is) = (low, imports_of_use n home low by
 
 -- ---- changes
 
--- where imports are come upon, or what is to be visited changes, these are of modules that are there
+-- where imports or calls are come upon, or what is to be visited changes, these are of modules that are there
 abbrev StaysInRange : State → Change → Type 0
 StaysInRange s (lists home d) = Unit {0}
 StaysInRange s (makes home name origin visibility) = Unit {0}
 StaysInRange s (gives_variants id variants) = Unit {0}
 StaysInRange s (begins_paths r) = Unit {0}
 StaysInRange s (reaches rs) = ImportsBelow (length s.core.map.modules) rs
+StaysInRange s (awaits calls) = CallsBelow (length s.core.map.modules) calls
+StaysInRange s (ends i fate) = Unit {0}
+StaysInRange s settles = Unit {0}
 StaysInRange s (changes_imports c) = Unit {0}
 StaysInRange s (adds_textual home name makro) = Unit {0}
 StaysInRange s (takes_textual home from) = Unit {0}
@@ -107,26 +136,31 @@ in_larger : (s : State) (m : Map) → Grows s.core.map m → IsInRange s → IsI
 in_larger s m grows p = record {
   visits = visits_more (length s.core.map.modules) (length m.modules) grows.longer s.agenda p.visits;
   imports = imports_more (length s.core.map.modules) (length m.modules) grows.longer s.core.reached p.imports;
+  calls = calls_more (length s.core.map.modules) (length m.modules) grows.longer s.core.calls p.calls;
 }
 
 in_range-act : (s : State) (c : Change) → IsInRange s → StaysInRange s c → IsInRange (act s c)
 in_range-act s (lists home d) p fine = in_larger s _ (Grows-act s (lists home d)) p
 in_range-act s (makes home name origin visibility) p fine = in_larger s _ (Grows-act s (makes home name origin visibility)) p
 in_range-act s (gives_variants id variants) p fine = in_larger s _ (Grows-act s (gives_variants id variants)) p
-in_range-act s (begins_paths r) p fine = record { visits = p.visits; imports = p.imports }
-in_range-act s (reaches rs) p fine = record { visits = p.visits; imports = imports_joined (length s.core.map.modules) s.core.reached rs p.imports fine }
+in_range-act s (begins_paths r) p fine = record { visits = p.visits; imports = p.imports; calls = p.calls }
+in_range-act s (reaches rs) p fine = record { visits = p.visits; imports = imports_joined (length s.core.map.modules) s.core.reached rs p.imports fine; calls = p.calls }
+in_range-act s (awaits calls) p fine = record { visits = p.visits; imports = p.imports; calls = calls_joined (length s.core.map.modules) s.core.calls calls p.calls fine }
+in_range-act s (ends i fate) p fine = record { visits = p.visits; imports = p.imports; calls = p.calls }
+in_range-act s settles p fine = record { visits = p.visits; imports = p.imports; calls = p.calls }
 in_range-act s (changes_imports c) p fine =
     let larger : IsInRange (on_map s (act s (changes_imports c)).core.map) = in_larger s _ (Grows-act s (changes_imports c)) p in
     record {
       visits = larger.visits;
       imports = subst (λ (rs : List ImportDirective). ImportsBelow (length (act s (changes_imports c)).core.map.modules) rs) (sym (imports_after (import_state s) c)) larger.imports;
+      calls = larger.calls;
     }
 in_range-act s (adds_textual home name makro) p fine = in_larger s _ (Grows-act s (adds_textual home name makro)) p
 in_range-act s (takes_textual home from) p fine = in_larger s _ (Grows-act s (takes_textual home from)) p
 in_range-act s (defines node makro) p fine = in_larger s _ (Grows-act s (defines node makro)) p
 in_range-act s (uses_macros macros by) p fine = in_larger s _ (Grows-act s (uses_macros macros by)) p
 in_range-act s (tells d) p fine = in_larger s _ (Grows-act s (tells d)) p
-in_range-act s (goes_on vs) p fine = record { visits = fine; imports = p.imports }
+in_range-act s (goes_on vs) p fine = record { visits = fine; imports = p.imports; calls = p.calls }
 
 -- ---- modules that are made
 
@@ -191,13 +225,18 @@ stays_in_range finished s (defines_rules site head name expander helpers rest) m
 stays_in_range finished s (defines_macro site head name expander helpers rest) may p =
     (left s p _ rest may.next, (tt, (tt, (tt, fine_reporting StaysInRange _ _ expander (λ t. tt) _))))
 stays_in_range finished s (closes_module parent child rest) may p = (subst (VisitsBelow (length s.core.map.modules)) may p.visits, (tt, tt))
-stays_in_range finished s (passes_over site head l rest) may p = (left s p _ rest may.here.next, tt)
+stays_in_range finished s (reaches_call site head path rest) may p = (left s p _ rest may.next, ((next_home s p _ rest may.next, tt), tt))
+stays_in_range finished s rests may p = (tt, tt)
+stays_in_range finished s (expands_call i d makro x) may p =
+    let here : d.site.home < length s.core.map.modules = call_below (length s.core.map.modules) s.core.calls i d p.calls may.due.waiting.call in
+    (tt, (visits_of (length s.core.map.modules) (call_site d x.id) here x.tree.tree.items, fine_failing StaysInRange _ d (error_of x.there) (λ t text. tt) _))
+stays_in_range finished s (drops_call i d) may p = (tt, tt)
 stays_in_range finished s (resolves_imports rule) may p = all_fine StaysInRange (λ t c. tt) (import_acts finished (import_state s) rule) s
 
 pub in_range-Step : {env : Environment} {finished : Maps} {old new : State} → Step env finished old new → IsInRange old → IsInRange new
 in_range-Step {finished = finished} {old = old} step p =
-    let done = perform_keeps IsInRange StaysInRange in_range-act (acts finished old step.rule) (asking old step.rule) (record { visits = p.visits; imports = p.imports }) (stays_in_range finished old step.rule step.may p) in
-    subst IsInRange (sym step.is) (record { visits = done.visits; imports = done.imports })
+    let done = perform_keeps IsInRange StaysInRange in_range-act (acts finished old step.rule) (asking old step.rule) (record { visits = p.visits; imports = p.imports; calls = p.calls }) (stays_in_range finished old step.rule step.may p) in
+    subst IsInRange (sym step.is) (record { visits = done.visits; imports = done.imports; calls = done.calls })
 
 pub in_range-Steps : {env : Environment} {finished : Maps} {from to : State} → Steps env finished from to → IsInRange from → IsInRange to
 in_range-Steps none p = p

@@ -1,8 +1,7 @@
 -- A rule that may be applied makes a step, and what a declaration leaves.
-use Rattle.std.proofs.Common.{◌≡◌, ◌∙◌, ℕ, Bool, true, false, List, [], ◌∷◌, ◌++◌, None, Option, Some, is_some, if◌then◌else◌, refl, sym, ap}
+use Rattle.std.proofs.Common.{◌≡◌, ◌∙◌, ℕ, true, List, [], ◌∷◌, ◌++◌, None, Option, Some, refl, sym, ap}
 use Rattle.hir_base.specs.declared.ast_id.AstId.{AstId}
 use Rattle.hir_base.specs.declared.ast_id.AstKind.TheVariants as nodes
-use Rattle.hir_base.specs.declared.ids.EnumId.{EnumId}
 use Rattle.hir_base.specs.declared.ids.ModuleId.{ModuleId}
 use Rattle.hir_base.specs.declared.macro_kind.MacroExpander.{MacroExpander}
 use Rattle.hir_base.specs.declared.macro_kind.MacroId.{MacroId}
@@ -14,31 +13,25 @@ use Rattle.hir_scope.specs.declared.per_ns.PerNs.{PerNs}
 use Rattle.hir_scope.specs.declared.visibility.Visibility.{Visibility}
 use Rattle.hir_def_map.specs.Macros.{with_diagnostic, with_macro_def}
 use Rattle.hir_def_map.specs.Overlay.{Maps}
-use Rattle.hir_def_map.specs.State.{new_module, with_declared, with_enum}
+use Rattle.hir_def_map.specs.State.{with_enum}
 use Rattle.hir_def_map.specs.declared.nameres.diagnostics.DefDiagnostic.{DefDiagnostic}
 use Rattle.hir_def_map.specs.declared.nameres.origin.ModuleOrigin.{ModuleOrigin}
-use Rattle.hir_def_map.proofs.Grown.{globs_after-none}
-use Rattle.hir_glob_imports.specs.Keys.{same_slot, slot_at}
-use Rattle.hir_glob_imports.specs.Rules.{BroughtBy}
-use Rattle.hir_glob_imports.specs.declared.edge.Key.{Key}
-use Rattle.hir_glob_imports.specs.declared.edge.Key.TheVariants.{Types, Values, Macros}
-use Rattle.hir_import_resolution.specs.Changes.{forgotten, forgotten_in, pushes}
-use Rattle.hir_import_resolution.specs.State.{nothing_brought}
+use Rattle.hir_import_resolution.specs.Changes.{pushes}
 use Rattle.hir_def_collector.specs.declared.collector.declaration.Declaration.{Declaration}
 use Rattle.hir_def_collector.specs.declared.collector.site.Site.{Site}
 use Rattle.hir_def_collector.specs.declared.source_database.Key.TheVariants as keys
 use Rattle.hir_def_collector.specs.Changes.{Change, act, changes_imports, perform, tells}
 use Rattle.hir_def_collector.specs.Enums.{variants_of}
 use Rattle.hir_def_collector.specs.ItemIds.{enum_id, macro_def_id, macro_rules_id, module_id, node_of}
-use Rattle.hir_def_collector.specs.Items.{bound_in, declaration_of, own_visibility}
+use Rattle.hir_def_collector.specs.Items.{declaration_of, own_visibility}
 use Rattle.hir_def_collector.specs.Keys.{Environment, look, of_variants}
 use Rattle.hir_def_collector.specs.Macros.{macro_declaration, with_textual_macro}
-use Rattle.hir_def_collector.specs.Moves.{Makes, begun, opened}
+use Rattle.hir_def_collector.specs.Moves.{Makes, opened}
 use Rattle.hir_def_collector.proofs.Changes.{Keeps-perform, perform-append}
-use Rattle.hir_def_collector.specs.State.{Core, State, Task, Visit, visits, counted, joined, ticked, with_asked, with_map}
-use Rattle.hir_def_collector.specs.Steps.{Rule, May, Numbered, declaring, reads, Sees, after, declares_enum, declares_item, defines_macro, defines_rules, enum_declaration, exporting, making, module_declaration, reporting, visit, with_declaration, Step}
+use Rattle.hir_def_collector.specs.State.{Core, State, Task, Visit, visits, counted, joined, ticked, with_asked, with_bound, with_map}
+use Rattle.hir_def_collector.specs.Steps.{Rule, May, Numbered, declaring, reads, Sees, after, declares_enum, declares_item, defines_macro, defines_rules, enum_declaration, exporting, making, reporting, visit, with_declaration, Step}
 
-pub made : {env : Environment} {finished : Maps} {old new : State} (r : Rule) → May finished old r → Sees env finished (reads old r) → Numbered env.tables r → new ≡ after finished old r → Step env finished old new
+pub made : {env : Environment} {finished : Maps} {old new : State} (r : Rule) → May finished old r → Sees env finished (reads old r) → Numbered env.tables old r → new ≡ after finished old r → Step env finished old new
 made r may sees numbered is = record { rule = r; may = may; sees = sees; numbered = numbered; is = is }
 
 -- a step from here
@@ -46,38 +39,19 @@ pub record Goes (env : Environment) (finished : Maps) (s : State) : Type 0 where
   pub next : State
   pub step : Step env finished s next
 
-pub goes : {env : Environment} {finished : Maps} {s : State} (r : Rule) → May finished s r → Sees env finished (reads s r) → Numbered env.tables r → Goes env finished s
+pub goes : {env : Environment} {finished : Maps} {s : State} (r : Rule) → May finished s r → Sees env finished (reads s r) → Numbered env.tables s r → Goes env finished s
 goes {finished = finished} {s = s} r may sees numbered = record { next = after finished s r; step = made r may sees numbered refl }
 
--- ---- a declaration, where no glob was recorded
+-- ---- a declaration
 
--- no glob has brought anything to a slot
-none_in : (home : ℕ) (key : Key) (binds : Bool) → forgotten_in home key binds nothing_brought ≡ nothing_brought
-none_in home key false = refl
-none_in home key true = λ i other. go (same_slot (slot_at home key) other) i
-  where
-    go : (b : Bool) → (if b then None else nothing_brought (slot_at home key)) ≡ None
-    go true = refl
-    go false = refl
-
-pub none_brought : (home : ℕ) (name : List ℕ) (items : PerNs) → forgotten home name items nothing_brought ≡ nothing_brought
-none_brought home name items =
-    ap (λ (b : BroughtBy). forgotten_in home (Macros name) (is_some items.macros) (forgotten_in home (Values name) (is_some items.values) b)) (none_in home (Types name) (is_some items.types))
-    ∙ ap (λ (b : BroughtBy). forgotten_in home (Macros name) (is_some items.macros) b) (none_in home (Values name) (is_some items.values))
-    ∙ none_in home (Macros name) (is_some items.macros)
-
--- what a declaration binds leaves it so
+-- what a declaration binds
 pub act-declared : (c : Core) (agenda : List Task) (home : ℕ) (name : List ℕ) (items : PerNs)
-    → act (joined c agenda) (changes_imports (pushes home (Some name) items None)) ≡ joined (with_map c (bound_in c.map home name items)) agenda
-act-declared c agenda home name items = λ i. record {
-  core = with_map c (bound_in c.map home name items);
-  agenda = agenda;
-  globs = record { names = globs_after-none c.map home name items None refl i; edges = []; brought = none_brought home name items i };
-}
+    → act (joined c agenda) (changes_imports (pushes home (Some name) items None)) ≡ joined (with_bound c home name items) agenda
+act-declared c agenda home name items = refl
 
--- so a definition that is listed and bound
-pub binds : (c : Core) (home : ℕ) (d : Declaration) (agenda : List Task) → joined (with_map c (with_declaration c.map home d)) agenda ≡ perform (joined c agenda) (declaring home d)
-binds c home d agenda = sym (act-declared (with_map c (with_declared c.map home d.def)) agenda home d.name d.items)
+-- a definition that is listed and bound
+pub binds : (c : Core) (home : ℕ) (d : Declaration) (agenda : List Task) → joined (with_declaration c home d) agenda ≡ perform (joined c agenda) (declaring home d)
+binds c home d agenda = refl
 
 -- changes that are made one after another, where a step ends
 pub makes_both : (cs ds : List Change) (c d e : Core) → Makes cs c d → Makes ds d e → (rest : List Task) → joined (counted e) rest ≡ ticked (perform (joined c rest) (cs ++ ds))
@@ -95,7 +69,7 @@ defines_both c site head name expander rest makro node at =
 
 -- one that is noted by its item, bound and reported
 abbrev defines_item : Core → Site → Declaration → MacroExpander → List Task → MacroId → AstId → ModuleId → State
-defines_item c site d expander rest makro node at = ticked (perform (joined (with_map c (with_declaration (with_macro_def c.map node makro) site.home d)) rest) (reporting at node expander))
+defines_item c site d expander rest makro node at = ticked (perform (joined (with_declaration (with_map c (with_macro_def c.map node makro)) site.home d) rest) (reporting at node expander))
 
 module _ {env : Environment} {finished : Maps} where
   -- a `macro_rules`
@@ -115,7 +89,7 @@ module _ {env : Environment} {finished : Maps} where
   -- a `macro`
   pub defined_macro : (c bound reported new : Core) (site : Site) (head : Head) (name : List ℕ) (expander : MacroExpander) (helpers : List (List ℕ)) (rest : List Task) (makro : MacroId) (node : AstId) (at : ModuleId)
       → is_enabled head.attributes ≡ true → makro ≡ macro_def_id c.map site head.id expander → node ≡ node_of site.tree nodes.MacroDef head.id → at ≡ module_id c.map site.home
-      → bound ≡ with_map c (with_declaration (with_macro_def c.map node makro) site.home (macro_declaration name makro (own_visibility finished c.local c.map site head)))
+      → bound ≡ with_declaration (with_map c (with_macro_def c.map node makro)) site.home (macro_declaration name makro (own_visibility finished c.local c.map site head))
       → Makes (reporting at node expander) bound reported → new ≡ counted reported
       → Step env finished (joined c (visits (visit site (leaf head (macro_def name expander helpers))) ∷ rest)) (joined new rest)
   defined_macro c bound reported new site head name expander helpers rest makro node at enabled of_macro of_node of_module is reports ends =
@@ -135,39 +109,26 @@ module _ {env : Environment} {finished : Maps} where
 module _ {env : Environment} {finished : Maps} where
   -- an item that declares something
   pub declared : (c new : Core) (v : Visit) (d : Declaration) (rest : List Task) → is_enabled (item_head v.item).attributes ≡ true → declaration_of finished c.local c.map v ≡ Some d
-      → new ≡ counted (with_map c (with_declaration c.map v.site.home d)) → Step env finished (joined c (visits v ∷ rest)) (joined new rest)
+      → new ≡ counted (with_declaration c v.site.home d) → Step env finished (joined c (visits v ∷ rest)) (joined new rest)
   declared c new v d rest enabled declares is =
       made (declares_item v d rest) (record { here = record { next = refl; enabled = enabled }; declares = declares }) tt tt
-      (ap (λ (x : Core). joined x rest) is ∙ sym (ap ticked (act-declared (with_map c (with_declared c.map v.site.home d.def)) rest v.site.home d.name d.items)))
+      (ap (λ (x : Core). joined x rest) is)
 
   -- an enum
   pub declared_enum : (c new : Core) (site : Site) (head : Head) (name : List ℕ) (found : Option (List VariantItem)) (rest : List Task) → is_enabled head.attributes ≡ true
       → look env.tables env.workspace finished (keys.Variants (enum_id c.map site head.id)) ≡ of_variants found
-      → new ≡ counted (with_map (with_asked c (keys.Variants (enum_id c.map site head.id))) (with_declaration (with_enum c.map (enum_id c.map site head.id) (variants_of (enum_id c.map site head.id) found)) site.home
-      (enum_declaration c.map site head name (own_visibility finished c.local c.map site head))))
+      → new ≡ counted (with_declaration (with_asked (with_map c (with_enum c.map (enum_id c.map site head.id) (variants_of (enum_id c.map site head.id) found))) (keys.Variants (enum_id c.map site head.id))) site.home
+      (enum_declaration c.map site head name (own_visibility finished c.local c.map site head)))
       → Step env finished (joined c (visits (visit site (leaf head (enumeration name))) ∷ rest)) (joined new rest)
   declared_enum c new site head name found rest enabled sees is =
-      let id : EnumId = enum_id c.map site head.id in
-      let d : Declaration = enum_declaration c.map site head name (own_visibility finished c.local c.map site head) in
-      made (declares_enum site head name found rest) (record { next = refl; enabled = enabled }) (sees, tt) tt
-      (ap (λ (x : Core). joined x rest) is
-      ∙ sym (ap ticked (act-declared (with_map (with_asked c (keys.Variants id)) (with_declared (with_enum c.map id (variants_of id found)) site.home d.def)) rest site.home d.name d.items)))
+      made (declares_enum site head name found rest) (record { next = refl; enabled = enabled }) (sees, tt) tt (ap (λ (x : Core). joined x rest) is)
 
 -- a module that is made, listed and bound
 module _ (finished : Maps) (c : Core) (site : Site) (head : Head) (name : List ℕ) (origin : ModuleOrigin) (agenda next : List Task) where
-  abbrev vis : Visibility
-  vis = own_visibility finished c.local c.map site head
-
-  abbrev d : Declaration
-  d = module_declaration c.map name vis
-
-  abbrev listing : Core
-  listing = with_map c (with_declared (begun c.map site.home name (new_module origin vis (Some (module_id c.map site.home)))) site.home d.def)
-
   pub opened_after : joined (opened finished c site head name origin) next ≡ ticked (perform (joined c agenda) (making finished (joined c agenda) site head name origin next))
-  opened_after = sym (ap ticked (act-declared listing next site.home d.name d.items))
+  opened_after = refl
 
   -- and then something is reported
   pub missed_after : (report : DefDiagnostic) → joined (with_map (opened finished c site head name origin) (with_diagnostic (opened finished c site head name origin).map report)) next
       ≡ ticked (perform (joined c agenda) (making finished (joined c agenda) site head name origin next ++ tells report ∷ []))
-  missed_after report = sym (ap (λ (s : State). ticked (act s (tells report))) (act-declared listing next site.home d.name d.items))
+  missed_after report = refl

@@ -5,18 +5,25 @@ use Rattle.std.specs.Option.{option_map_or, option_to_list}
 use Rattle.hir_base.specs.declared.ast_id.FileId.{FileId}
 use Rattle.hir_base.specs.declared.edition.Edition.{Edition}
 use Rattle.hir_base.specs.declared.ids.Crate.{Crate}
+use Rattle.hir_base.specs.declared.macro_kind.MacroId.{MacroId}
+use Rattle.hir_base.specs.declared.macro_kind.MacroId.TheVariants as macros
 use Rattle.hir_item_tree.specs.declared.tree_id.TreeId.{TreeId}
 use Rattle.hir_mod_dir.specs.Directory.{Directory}
 use Rattle.hir_mod_dir.specs.declared.candidate.Candidate.{Candidate}
-use Rattle.hir_tables.specs.SourcePlaces.{file}
+use Rattle.hir_tables.specs.SourcePlaces.{SourcePlaceValue, file}
 use Rattle.hir_tables.specs.Tables.{KeepsTables, TablesValue, file_at, source_of}
+use Rattle.hir_tables.proofs.Growth.{source_of-kept}
 use Rattle.hir_def_map.specs.Overlay.{Maps}
+use Rattle.hir_def_collector.specs.declared.collector.macro_directive.MacroDirective.{MacroDirective}
+use Rattle.hir_def_collector.specs.declared.collector.site.Site.{Site}
 use Rattle.hir_def_collector.specs.declared.source_database.Key.{Key}
 use Rattle.hir_def_collector.specs.declared.source_database.Key.TheVariants as keys
 use Rattle.hir_def_collector.specs.Workspace.{TreeLook, Workspace, seen_of}
-use Rattle.hir_def_collector.specs.Keys.{HasMeaning, Look, absent_source, environment, look, of_tree, source_under}
+use Rattle.hir_def_collector.specs.Keys.{HasMeaning, IsMeant, Look, absent_source, environment, look, macro_tree, of_tree, source_under}
+use Rattle.hir_def_collector.specs.Calls.{Expanding, IsMeantAt, IsNumberedCall, call_loc, expansion_of_call}
 use Rattle.hir_def_collector.specs.ModuleFiles.{AreAbsent, AreNumbered, AreTried, IsNumberOf, IsNumbered, LookedAt, ModuleFile, Search, Tried, file_key, file_reading, file_readings, file_tree, is_there, module_file, named_by, taken_by, tried_in}
-use Rattle.hir_def_collector.specs.Steps.{Numbered, Rule, Sees, drops_item, passes_over, defines_rules, defines_macro, closes_module, declares_item, declares_enum, lists_constant, lists_impl, opens_module, opens_file, drops_file, misses_file, enters_block, reaches_imports, reaches_crate, resolves_imports, keys_read}
+use Rattle.hir_def_collector.specs.Steps.{Numbered, Rule, Sees, drops_item, reaches_call, rests, expands_call, drops_call, defines_rules, defines_macro, closes_module, declares_item, declares_enum, lists_constant, lists_impl, opens_module, opens_file, drops_file, misses_file, enters_block, reaches_imports, reaches_crate, resolves_imports, keys_read}
+use Rattle.hir_def_collector.specs.State.{State}
 use Rattle.hir_def_collector.proofs.Asked.{seen_tree}
 
 -- ---- numbers stay as tables grow
@@ -32,27 +39,62 @@ module _ (tables grown : TablesValue) (kept : KeepsTables tables grown) where
   numbers_kept declaring [] h = tt
   numbers_kept declaring (t ∷ ts) h = (number_kept (option_map (λ (f : LookedAt). f.id) t.file) (named_by declaring t.candidate) h.0, numbers_kept declaring ts h.1)
 
-  pub numbered_kept : (tree : TreeId) (s : Search) → IsNumbered tables tree s → IsNumbered grown tree s
-  numbered_kept tree s h = record { declaring = number_kept _ s.declaring h.declaring; tried = numbers_kept s.declaring (tried_in s) h.tried }
+  pub numbered_kept : (f : Option FileId) (s : Search) → IsNumbered tables f s → IsNumbered grown f s
+  numbered_kept f s h = record { declaring = number_kept f s.declaring h.declaring; tried = numbers_kept s.declaring (tried_in s) h.tried }
 
-  pub Numbered-kept : (r : Rule) → Numbered tables r → Numbered grown r
-  Numbered-kept (opens_file site head name s f rest) h = numbered_kept site.tree s h
-  Numbered-kept (drops_file site head name s report rest) h = numbered_kept site.tree s h
-  Numbered-kept (misses_file site head name s report rest) h = numbered_kept site.tree s h
-  Numbered-kept (drops_item v report rest) h = tt
-  Numbered-kept (defines_rules site head name expander helpers rest) h = tt
-  Numbered-kept (defines_macro site head name expander helpers rest) h = tt
-  Numbered-kept (closes_module parent child rest) h = tt
-  Numbered-kept (passes_over site head l rest) h = tt
-  Numbered-kept (declares_item v d rest) h = tt
-  Numbered-kept (declares_enum site head name found rest) h = tt
-  Numbered-kept (lists_constant site head rest) h = tt
-  Numbered-kept (lists_impl site head of_trait rest) h = tt
-  Numbered-kept (opens_module site head name items rest) h = tt
-  Numbered-kept (enters_block site head items rest) h = tt
-  Numbered-kept (reaches_imports site head tree rest) h = tt
-  Numbered-kept (reaches_crate site head name alias rest) h = tt
-  Numbered-kept (resolves_imports rule) h = tt
+  -- so do those of sources
+  pub source_kept : (id : TreeId) → IsSome (source_of tables id) → IsSome (source_of grown id)
+  source_kept id h = go (source_of tables id) refl h
+    where
+      go : (o : Option SourcePlaceValue) → source_of tables id ≡ o → IsSome o → IsSome (source_of grown id)
+      go None e there = absurd (let no : ⊥ = cc in no)
+      go (Some place) e there = subst (λ (o : Option SourcePlaceValue). IsSome o) (sym (source_of-kept tables grown id place kept e)) refl
+
+  -- of macros, and of expansions and calls
+  pub macro_kept : (makro : MacroId) → IsMeant tables makro → IsMeant grown makro
+  macro_kept (macros.Macro2Id id) h = source_kept (macro_tree id.loc) h
+  macro_kept (macros.MacroRulesId id) h = source_kept (macro_tree id.loc) h
+  macro_kept (macros.ProcMacroId id) h = h
+
+  pub call_kept : (own : Crate) (d : MacroDirective) (makro : MacroId) (x : Expanding) → IsNumberedCall tables own d makro x → IsNumberedCall grown own d makro x
+  call_kept own d makro x h = record {
+    meant = macro_kept makro h.meant;
+    entry = kept.entries x.entry.0 (expansion_of_call own makro x.text x.input) h.entry;
+    call = kept.calls x.id.0 (call_loc d x.entry) h.call;
+  }
+
+  -- and those of a site
+  file_there : (id : FileId) → IsSome (file_at tables id) → IsSome (file_at grown id)
+  file_there id h = go (file_at tables id) refl h
+    where
+      go : (o : Option (List ℕ)) → file_at tables id ≡ o → IsSome o → IsSome (file_at grown id)
+      go None e there = absurd (let no : ⊥ = cc in no)
+      go (Some path) e there = subst (λ (o : Option (List ℕ)). IsSome o) (sym (kept.files id.0 path e)) refl
+
+  pub site_kept : (site : Site) → IsMeantAt tables site → IsMeantAt grown site
+  site_kept site h = record { tree = source_kept site.tree h.tree; file = λ id e. file_there id (h.file id e) }
+
+  pub Numbered-kept : (s : State) (r : Rule) → Numbered tables s r → Numbered grown s r
+  Numbered-kept s (opens_file site head name search f rest) h = numbered_kept site.file search h
+  Numbered-kept s (drops_file site head name search report rest) h = numbered_kept site.file search h
+  Numbered-kept s (misses_file site head name search report rest) h = numbered_kept site.file search h
+  Numbered-kept s (drops_item v report rest) h = tt
+  Numbered-kept s (defines_rules site head name expander helpers rest) h = tt
+  Numbered-kept s (defines_macro site head name expander helpers rest) h = tt
+  Numbered-kept s (closes_module parent child rest) h = tt
+  Numbered-kept s (reaches_call site head path rest) h = tt
+  Numbered-kept s rests h = tt
+  Numbered-kept s (expands_call i d makro x) h = call_kept s.core.map.id.krate d makro x h
+  Numbered-kept s (drops_call i d) h = tt
+  Numbered-kept s (declares_item v d rest) h = tt
+  Numbered-kept s (declares_enum site head name found rest) h = tt
+  Numbered-kept s (lists_constant site head rest) h = tt
+  Numbered-kept s (lists_impl site head of_trait rest) h = tt
+  Numbered-kept s (opens_module site head name items rest) h = tt
+  Numbered-kept s (enters_block site head items rest) h = tt
+  Numbered-kept s (reaches_imports site head tree rest) h = tt
+  Numbered-kept s (reaches_crate site head name alias rest) h = tt
+  Numbered-kept s (resolves_imports rule) h = tt
 
 -- ---- files that have numbers mean something
 

@@ -1,7 +1,7 @@
 -- A module whose items are in a file of its own is handled by a step, whatever the tables grow to.
 use Rattle.std.proofs.lemmas.Bool.{ltb-true}
-use Rattle.std.proofs.Common.{◌≡◌, ◌∙◌, ℕ, ◌+◌, ◌<◌, ◌≤◌, ◌||◌, nat_lt, if◌then◌else◌, codes, Bool, true, false, List, [], ◌∷◌, ◌++◌, map as list_map, length, Option, Some, None, refl, sym, ap, subst, arith}
-use Rattle.std.specs.Prelude.{IsSome}
+use Rattle.std.proofs.Common.{◌≡◌, ◌∙◌, ℕ, ◌+◌, ◌<◌, ◌≤◌, ◌||◌, nat_lt, if◌then◌else◌, codes, Bool, true, false, List, [], ◌∷◌, ◌++◌, map as list_map, length, Option, Some, None, inl, refl, sym, ap, subst, arith}
+use Rattle.std.specs.Prelude.{IsSome, option_map}
 use Rattle.std.specs.Option.{option_to_list}
 use Rattle.hir_base.specs.Locations.{max_locations}
 use Rattle.hir_base.specs.declared.ids.Crate.{Crate}
@@ -14,8 +14,13 @@ use Rattle.hir_mod_dir.specs.Directory.{Directory}
 use Rattle.hir_mod_dir.specs.ModuleFiles.{candidate, candidates_of, child, file_directory, inline_directory, inline_path, is_mod_rs}
 use Rattle.hir_mod_dir.specs.PathText.{joined as joined_path}
 use Rattle.hir_mod_dir.specs.declared.candidate.Candidate.{Candidate}
-use Rattle.hir_tables.specs.SourcePlaces.{SourcePlaceValue}
-use Rattle.hir_tables.specs.Tables.{KeepsTables, TablesValue, source_of}
+use Rattle.hir_base.specs.declared.ast_id.BlockId.{BlockId}
+use Rattle.hir_base.specs.declared.ast_id.FileId.{FileId}
+use Rattle.hir_base.specs.declared.ast_id.HirFileId.{HirFileId}
+use Rattle.hir_base.specs.declared.ast_id.HirFileId.TheVariants as files
+use Rattle.hir_base.specs.declared.edition.Edition.{Edition}
+use Rattle.hir_tables.specs.SourcePlaces.{SourcePlaceValue, file as file_place}
+use Rattle.hir_tables.specs.Tables.{KeepsTables, TablesValue, file_at, source_of, source_under as place_under}
 use Rattle.hir_tables.proofs.Growth.{source_of-kept}
 use Rattle.hir_def_map.specs.State.{Map}
 use Rattle.hir_def_map.specs.Overlay.{Maps}
@@ -27,7 +32,7 @@ use Rattle.hir_def_map.specs.declared.nameres.origin.ModuleOrigin.{ModuleOrigin}
 use Rattle.hir_def_collector.specs.Items.{file_origin, inline_origin, own_visibility}
 use Rattle.hir_def_collector.specs.ItemIds.{module_id, node_of}
 use Rattle.hir_base.specs.declared.ast_id.AstKind.TheVariants as nodes
-use Rattle.hir_def_collector.specs.ModuleFiles.{AreTried, IsNumberOf, IsNumbered, IsSearch, ModuleFile, Search, Tried, file_of_tree, file_tree, module_file}
+use Rattle.hir_def_collector.specs.ModuleFiles.{AreTried, IsFileMeant, IsNumberOf, IsNumbered, IsSearch, ModuleFile, Search, Tried, file_of_tree, file_tree, module_file, own_file}
 use Rattle.hir_def_collector.specs.Macros.{is_macro_use}
 use Rattle.hir_def_collector.specs.Reports.{IsUnresolvedModule}
 use Rattle.hir_def_collector.specs.State.{Core, Task, Visit, visits, joined, visits_over}
@@ -35,7 +40,7 @@ use Rattle.hir_def_collector.specs.Steps.{LooksFor, none, closing, drops_file, i
 use Rattle.hir_def_collector.specs.Derivation.{IsFull, IsSpent, counted_out, numbered_out}
 use Rattle.hir_def_collector.specs.declared.collector.mod_collector.Inside.{Inside}
 use Rattle.hir_def_collector.specs.declared.collector.mod_collector.Inside.TheVariants.{Nothing, Held, File}
-use Rattle.hir_def_collector.specs.Moves.{DropsFile, Finds, GoesInside, Handles, IsHeld, MayTake, OnceGrown, OpensFile, TakesFile, Tells, WalksTooFar, may_drop, may_open, opened, tasks_of}
+use Rattle.hir_def_collector.specs.Moves.{DropsFile, Finds, GoesInside, Handles, IsHeld, IsWritten, MayTake, OnceGrown, OpensFile, TakesFile, Tells, WalksTooFar, may_drop, may_open, opened, tasks_of}
 use Rattle.hir_def_collector.proofs.Made.{Goes, goes, made, missed_after, opened_after}
 use Rattle.hir_def_collector.proofs.Grows.{longer_by_module}
 use Rattle.hir_def_collector.proofs.Lists.{get_inside, get_there}
@@ -53,6 +58,44 @@ held_source tables w krate tree source h = ap (λ (o : Option SourcePlaceValue).
 pub held_meant : (tables : TablesValue) (w : Workspace) (krate : Crate) (tree : TreeId) (source : SourceTreeValue) → IsHeld tables w krate tree source → IsSome (source_of tables tree)
 held_meant tables w krate tree source h = subst (λ (o : Option SourcePlaceValue). IsSome o) (sym h.at) refl
 
+-- the number of a file goes on to mean something
+pub file_grown : (tables grown : TablesValue) (file : Option FileId) → KeepsTables tables grown → IsFileMeant tables file → IsFileMeant grown file
+file_grown tables grown file kept h = λ id e. go id (file_at tables id) refl (h id e)
+  where
+    go : (id : FileId) (o : Option (List ℕ)) → file_at tables id ≡ o → IsSome o → IsSome (file_at grown id)
+    go id None e there = absurd (let no : ⊥ = cc in no)
+    go id (Some path) e there = subst (λ (o : Option (List ℕ)). IsSome o) (sym (kept.files id.0 path e)) refl
+
+same_file : (a b : FileId) → Some a ≡ Some b → a ≡ b
+same_file a b e = cc
+
+file_there : (o : Option (List ℕ)) (place : SourcePlaceValue) → option_map file_place o ≡ Some place → IsSome o
+file_there None place e = absurd (let no : ⊥ = cc in no)
+file_there (Some path) place e = refl
+
+-- so does that of the file that a tree is of, if its source is held
+pub root_meant : (tables : TablesValue) (w : Workspace) (krate : Crate) (tree : TreeId) (source : SourceTreeValue) → IsHeld tables w krate tree source → IsFileMeant tables (file_of_tree tree)
+root_meant tables w krate tree source held = go tree.file tree.block held.at
+  where
+    go : (file : HirFileId) (block : Option BlockId) → place_under tables file block ≡ Some held.place → IsFileMeant tables (own_file file block)
+    go (files.File f) None e = λ id same. subst (λ (n : FileId). IsSome (file_at tables n)) (same_file f.file_id id same) (file_there (file_at tables f.file_id) held.place e)
+    go (files.File f) (Some block) e = λ id same. absurd (let no : ⊥ = cc in no)
+    go (files.Macro call) block e = λ id same. absurd (let no : ⊥ = cc in no)
+
+pub file_meant : (tables : TablesValue) (w : Workspace) (krate : Crate) (edition : Edition) (id : FileId) (source : SourceTreeValue) → IsHeld tables w krate (file_tree edition id) source → IsFileMeant tables (Some id)
+file_meant tables w krate edition id source held = root_meant tables w krate (file_tree edition id) source held
+
+-- what is written at a site is still, and the numbers of the site still mean something
+pub written_grown : (tables grown : TablesValue) (w : Workspace) (krate : Crate) (site : Site) (source : SourceTreeValue) → KeepsTables tables grown → IsWritten tables w krate site source → IsWritten grown w krate site source
+written_grown tables grown w krate site source kept h = record { held = held_grown tables grown w krate site.tree source kept h.held; file = file_grown tables grown site.file kept h.file }
+
+-- so it is at another site in the same source
+pub written_inside : (tables : TablesValue) (w : Workspace) (krate : Crate) (site inner : Site) (source : SourceTreeValue) → inner.tree ≡ site.tree → inner.file ≡ site.file → IsWritten tables w krate site source → IsWritten tables w krate inner source
+written_inside tables w krate site inner source tree file h = record {
+  held = subst (λ (t : TreeId). IsHeld tables w krate t source) (sym tree) h.held;
+  file = subst (λ (f : Option FileId). IsFileMeant tables f) (sym file) h.file;
+}
+
 -- a module that is opened adds one
 pub opened_longer : (finished : Maps) (old new : Core) (site : Site) (head : Head) (name : List ℕ) (origin : ModuleOrigin) → new ≡ opened finished old site head name origin → length old.map.modules < length new.map.modules
 opened_longer finished old new site head name origin is =
@@ -62,7 +105,7 @@ opened_longer finished old new site head name origin is =
 -- ---- the rules of files
 
 module _ (tables : TablesValue) (w : Workspace) (finished : Maps) (site : Site) (head : Head) (name : List ℕ) (declaring : Option (List ℕ)) (candidates : List Candidate) (old mid : Core)
-    (tried : candidates ≡ candidates_of site.dir name (path_of head)) (written : (grown : TablesValue) → KeepsTables tables grown → IsNumberOf grown (file_of_tree site.tree) declaring)
+    (tried : candidates ≡ candidates_of site.dir name (path_of head)) (written : (grown : TablesValue) → KeepsTables tables grown → IsNumberOf grown site.file declaring)
     (enabled : is_enabled head.attributes ≡ true) where
   abbrev next : Visit
   next = visit site (leaf head (outline_module name))
@@ -77,7 +120,7 @@ module _ (tables : TablesValue) (w : Workspace) (finished : Maps) (site : Site) 
   looks : {file : Option ModuleFile} (finds : Finds tables w declaring candidates old mid file) (rest : List Task) → LooksFor (joined old (visits next ∷ rest)) site head name (searched finds) rest
   looks finds rest = record { here = record { next = refl; enabled = enabled }; tries = subst (λ (cs : List Candidate). IsSearch cs (searched finds)) tried finds.search }
 
-  numbered : {file : Option ModuleFile} (finds : Finds tables w declaring candidates old mid file) (grown : TablesValue) → KeepsTables tables grown → IsNumbered grown site.tree (searched finds)
+  numbered : {file : Option ModuleFile} (finds : Finds tables w declaring candidates old mid file) (grown : TablesValue) → KeepsTables tables grown → IsNumbered grown site.file (searched finds)
   numbered finds grown kept = record { declaring = written grown kept; tried = numbers_kept tables grown kept declaring (finds.absent ++ option_to_list finds.found) finds.numbered }
 
   pub file_opened : (file : ModuleFile) (new : Core) → Finds tables w declaring candidates old mid (Some file) → OpensFile finished site head name file mid new
@@ -144,7 +187,7 @@ module _ (tables : TablesValue) (w : Workspace) (finished : Maps) (site : Site) 
 
 -- there are as many files as have numbers
 pub numbers_far : (tables : TablesValue) (w : Workspace) (finished : Maps) (old : Core) (v : Visit) → max_locations ≤ length tables.files → OnceGrown tables w (λ env. WalksTooFar env finished old (visits v ∷ []))
-numbers_far tables w finished old v full = λ grown kept. record { spent = λ rest. record { at = joined old (visits v ∷ rest); steps = none; stuck = numbered_out (more_files grown kept) } }
+numbers_far tables w finished old v full = λ grown kept. record { spent = λ rest. record { at = joined old (visits v ∷ rest); steps = none; stuck = numbered_out (inl (more_files grown kept)) } }
   where
     more_files : (grown : TablesValue) → KeepsTables tables grown → max_locations ≤ length grown.files
     more_files grown kept =
@@ -217,7 +260,7 @@ inline_opened env finished site head name items old new inside enabled is same =
 -- ---- what comes next
 
 module _ (tables : TablesValue) (w : Workspace) (finished : Maps) (site : Site) (head : Head) (name : List ℕ) (declaring : Option (List ℕ)) (candidates : List Candidate) (old mid new : Core)
-    (tried : candidates ≡ candidates_of site.dir name (path_of head)) (written : (grown : TablesValue) → KeepsTables tables grown → IsNumberOf grown (file_of_tree site.tree) declaring)
+    (tried : candidates ≡ candidates_of site.dir name (path_of head)) (written : (grown : TablesValue) → KeepsTables tables grown → IsNumberOf grown site.file declaring)
     (enabled : is_enabled head.attributes ≡ true) (file : ModuleFile) (source : SourceTreeValue) (tree_is : file.tree ≡ source.tree)
     (finds : Finds tables w declaring candidates old mid (Some file)) where
   same_map : mid.map ≡ old.map
@@ -245,11 +288,13 @@ module _ (tables : TablesValue) (w : Workspace) (finished : Maps) (site : Site) 
   taken_within held (File inner kept marked) takes =
       let deep = found_deeper tables w declaring candidates old mid file site.dir name (path_of head) finds tried in
       let inner_is : inner ≡ inside_file old.map file = takes.1 ∙ ap (λ (m : Map). inside_file m file) same_map in
+      let written_there : IsWritten tables w old.map.id.krate (inside_file old.map file) source =
+      record { held = held; file = file_meant tables w old.map.id.krate old.map.crate_data.edition file.id source held } in
       let longer : length mid.map.modules < length new.map.modules = opened_longer finished mid new site head name _ takes.0.is in
       let there : length old.map.modules < length new.map.modules = subst (λ (m : Map). length m.modules < length new.map.modules) same_map longer in
       record {
         there = subst (λ (s : Site). s.home < length new.map.modules) (sym inner_is) there;
-        held = subst (λ (s : Site). IsHeld tables w old.map.id.krate s.tree kept.value) (sym inner_is) (subst (λ (s : SourceTreeValue). IsHeld tables w old.map.id.krate (file_tree old.map.crate_data.edition file.id) s) (sym takes.2) held);
+        held = subst (λ (s : Site). IsWritten tables w old.map.id.krate s kept.value) (sym inner_is) (subst (λ (s : SourceTreeValue). IsWritten tables w old.map.id.krate (inside_file old.map file) s) (sym takes.2) written_there);
         above = deep.0;
         deeper = ap (λ (s : Site). s.dir.depth) inner_is ∙ deep.1;
       }

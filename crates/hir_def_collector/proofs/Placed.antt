@@ -74,10 +74,10 @@ module _ (finished : Maps) (map : Map) where
 
 -- so imports may be resumed after what lets the map grow
 pub are_placed : PathsLeadToWhatIsThere → (finished : Maps) → AreWellFormed finished → (s : State) → IsInRange s → NamesWhatIsThere finished s
-    → ArePlaced (scopes_of finished (import_state s)) s.globs.edges
+    → ArePlaced (scopes_of finished (import_state s)) s.core.globs.edges
 are_placed paths finished whole s inside f =
     let test = is_missing (overlay finished s.core.map) in
-    let edge : (j : ℕ) (e : Edge) → slice_get s.globs.edges j ≡ Some e → on_edge test e ≡ false = λ j e at. none_at (on_edge test) s.globs.edges f.edges j e at in
+    let edge : (j : ℕ) (e : Edge) → slice_get s.core.globs.edges j ≡ Some e → on_edge test e ≡ false = λ j e at. none_at (on_edge test) s.core.globs.edges f.edges j e at in
     record {
       edges = λ j e at. visibility_placed finished s.core.map e.vis (not_second (test_of test (target_reference e.source)) (test_visibility test e.vis) (edge j e at));
       enums = λ j e at. target_placed finished s.core.map e.source (not_first (test_of test (target_reference e.source)) (test_visibility test e.vis) (edge j e at));

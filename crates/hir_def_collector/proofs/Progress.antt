@@ -13,7 +13,7 @@ use Rattle.hir_def_collector.specs.Keys.{Environment, variants_at}
 use Rattle.hir_def_collector.specs.State.{State, Task, visits, closes}
 use Rattle.hir_def_collector.specs.ItemIds.{enum_id, module_id, node_of}
 use Rattle.hir_def_collector.specs.Reports.{IsUnconfigured}
-use Rattle.hir_def_collector.specs.Steps.{IsNext, drops_item, passes_over, defines_rules, defines_macro, closes_module, declares_item, declares_enum, lists_constant, lists_impl, opens_module, enters_block, reaches_imports, reaches_crate, visit}
+use Rattle.hir_def_collector.specs.Steps.{IsNext, drops_item, defines_rules, defines_macro, closes_module, declares_item, declares_enum, lists_constant, lists_impl, opens_module, enters_block, reaches_imports, reaches_crate, reaches_call, visit}
 use Rattle.hir_def_collector.proofs.Made.{Goes, goes}
 
 -- whether an item is a module with a file of its own
@@ -40,7 +40,7 @@ module _ (env : Environment) (finished : Maps) (s : State) (site : Site) (rest :
   by_leaf h (implementation of_trait) next single = goes (lists_impl site h of_trait rest) next tt tt
   by_leaf h (type_alias name) next single = goes (declares_item (visit site (leaf h (type_alias name))) _ rest) (record { here = next; declares = refl }) tt tt
   by_leaf h (outline_module name) next single = absurd (true≢false single)
-  by_leaf h (macro_call path) next single = goes (passes_over site h (macro_call path) rest) (record { here = next; passed = refl }) tt tt
+  by_leaf h (macro_call path) next single = goes (reaches_call site h path rest) next tt tt
   by_leaf h (macro_rules name expander helpers) next single = goes (defines_rules site h name expander helpers rest) next tt tt
   by_leaf h (macro_def name expander helpers) next single = goes (defines_macro site h name expander helpers rest) next tt tt
 

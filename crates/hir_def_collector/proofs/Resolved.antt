@@ -1,7 +1,7 @@
 -- Where the imports of a run are resolved: what has to hold before.
-use Rattle.std.specs.Prelude.{◌≡◌, ◌<◌, ℕ, List, [], Option, None, Some, option_map, slice_get}
+use Rattle.std.specs.Prelude.{◌≡◌, List, [], Option, None, Some, option_map}
 use Rattle.std.specs.BTreeMap.{BTreeMap}
-use Rattle.std.proofs.Common.{Contains, ap, arith, refl, subst, sym}
+use Rattle.std.proofs.Common.{refl, subst, sym}
 use Rattle.hir_base.specs.declared.ids.Crate.{Crate}
 use Rattle.hir_base.specs.declared.ids.MapId.{MapId}
 use Rattle.hir_def_map.specs.Overlay.{Maps, Placed}
@@ -12,17 +12,7 @@ use Rattle.hir_def_map.specs.declared.world.finished.Finished.{Finished}
 use Rattle.hir_def_map_laws.specs.ReadLaw.{KeepApart}
 use Rattle.hir_def_map_laws.proofs.Apart.{some_apart, worlds_apart}
 use Rattle.hir_def_map_laws.proofs.InScopes.{crate_maps_outside}
-use Rattle.hir_glob_imports.specs.View.{View}
-use Rattle.hir_glob_imports.specs.Waves.{GlobsValue, IsKept, brought_of}
-use Rattle.hir_glob_imports.specs.declared.edge.Target.{Target}
-use Rattle.hir_import_resolution.specs.Directives.{TakenValue}
 use Rattle.hir_import_resolution.specs.Inner.State.{IsApart}
-use Rattle.hir_import_resolution.specs.Rest.{IsRecorded}
-use Rattle.hir_import_resolution.specs.State.{ImportState}
-use Rattle.hir_def_collector.specs.Moves.{AreUntaken}
-
-no_target : (target : Target) → Contains [] target → ⊥
-no_target target (n, below, is) = let past : n < 0 = below in omega arith
 
 -- a map that isn't there
 pub no_map : (p : Option Placed) → option_map (λ (placed : Placed). placed.map) p ≡ None → p ≡ None
@@ -37,16 +27,6 @@ apart maps crates part own local checked is absent of_crate = record {
   outside = crate_maps_outside own local of_crate;
 }
 
--- where no glob was recorded, all that is recorded holds
-pub kept_none : (v : View) (g : GlobsValue) → g.edges ≡ [] → g.brought ≡ [] → IsKept v g
-kept_none v g none nothing = record {
-  there = λ j e at. let gone : slice_get g.edges j ≡ None = ap (λ (es : List _). slice_get es j) none in absurd cc;
-  settled = λ j e key at. let gone : slice_get g.edges j ≡ None = ap (λ (es : List _). slice_get es j) none in absurd cc;
-  stands = λ s by at. let gone : brought_of g s ≡ None = ap (λ (bs : List _). brought_of (record { edges = g.edges; brought = bs; pending = g.pending }) s) nothing in absurd cc;
-}
-
--- and where no import was taken
-pub recorded_none : (s : ImportState) → AreUntaken s.taken → (i : ℕ) → IsRecorded s i
-recorded_none s none i = record {
-  each = λ r t target at before taken. absurd (no_target target (subst (λ (x : TakenValue). Contains x.targets target) (none i t before) taken));
-}
+-- so it is whatever paths may begin with
+pub apart_for : (part : Maps) (own : MapId) (local other : Local) → own.block ≡ None → IsApart part own local → IsApart part own other
+apart_for part own local other of_crate p = record { apart = p.apart; outside = crate_maps_outside own other of_crate }

@@ -1,13 +1,13 @@
 -- A run binds only what its root file writes, and what the finished maps bind.
-use Rattle.std.specs.Prelude.{◌≡◌, ◌==◌, ◌&&◌, ◌||◌, ℕ, ◌<◌, ◌≤◌, List, [], ◌∷◌, ◌++◌, length, Bool, true, false, is_some, Option, None, Some, cond, fold, not, is_none, map as list_map, option_and_then, option_map, slice_get, unwrap_or, if◌then◌else◌}
+use Rattle.std.specs.Prelude.{◌≡◌, ◌==◌, ◌&&◌, ◌||◌, ℕ, ◌<◌, List, [], ◌∷◌, ◌++◌, length, Bool, true, false, is_some, Option, None, Some, cond, not, is_none, map as list_map, slice_get, unwrap_or, if◌then◌else◌}
 use Rattle.std.specs.List.{list_any}
-use Rattle.std.specs.Ordering.{nat_cmp}
-use Rattle.std.specs.Cmp.Lexicographic.{pointwise, slice_cmp}
+use Rattle.std.specs.Cmp.Lexicographic.{pointwise}
 use Rattle.std.specs.Prelude.{nat_eq}
-use Rattle.std.proofs.Common.{Contains, refl, subst, sym, ◌∙◌, arith}
+use Rattle.std.proofs.Common.{Contains, refl, subst, sym, arith}
 use Rattle.std.proofs.lemmas.List.Elements.{Contains-append_left, Contains-append_right}
 use mathlib.Core.Bool.{true≢false}
 use Rattle.hir_base.specs.declared.ast_id.AstId.{AstId}
+use Rattle.hir_base.specs.declared.ast_id.HirFileId.TheVariants.{Macro}
 use Rattle.hir_base.specs.declared.ids.AdtId.TheVariants as adts
 use Rattle.hir_base.specs.declared.ids.EnumId.{EnumId}
 use Rattle.hir_base.specs.declared.ids.Crate.{Crate}
@@ -16,45 +16,37 @@ use Rattle.hir_base.specs.declared.ids.ModuleDefId.TheVariants as definitions
 use Rattle.hir_base.specs.declared.ids.ModuleId.{ModuleId}
 use Rattle.hir_base.specs.declared.ids.TraitId.{TraitId}
 use Rattle.hir_base.specs.declared.macro_kind.MacroId.{MacroId}
+use Rattle.hir_base.specs.declared.macro_kind.MacroId.TheVariants as macros
 use Rattle.hir_item_tree.specs.Collected.{is_enabled}
 use Rattle.hir_item_tree.specs.Imports.{imports_of}
-use Rattle.hir_item_tree.specs.KeptForest.{Head, Leaf, KeptItem, KeptForest, leaf, holder, item, no_items, import, extern_crate, function, structure, union_structure, enumeration, constant, static_item, trait_item, implementation, type_alias, outline_module, macro_call, macro_rules, macro_def}
-use Rattle.hir_use_tree.specs.declared.imports.Import.{Import}
+use Rattle.hir_item_tree.specs.KeptForest.{Head, Leaf, KeptItem, KeptForest, leaf, holder, import, extern_crate, function, structure, union_structure, enumeration, constant, static_item, trait_item, implementation, type_alias, outline_module, macro_call, macro_rules, macro_def}
 use Rattle.hir_item_tree.specs.declared.raw_visibility.RawVisibility.{RawVisibility}
 use Rattle.hir_item_tree.specs.declared.raw_visibility.RawVisibility.TheVariants as raws
-use Rattle.hir_item_tree.specs.declared.raw_visibility.VisibilityExplicitness.{VisibilityExplicitness}
-use Rattle.hir_item_tree.specs.declared.shape.FieldsShape.{FieldsShape}
-use Rattle.hir_item_tree.specs.declared.shape.FieldsShape.TheVariants.{Record, Tuple, Unit as UnitShape}
-use Rattle.hir_use_tree.specs.declared.imports.ImportKind.{ImportKind}
 use Rattle.hir_use_tree.specs.declared.imports.ImportKind.TheVariants as import_kinds
-use Rattle.hir_item_tree.specs.declared.side_lists.VariantItem.{VariantItem}
 use Rattle.hir_item_tree.specs.declared.tree_id.TreeKey.{TreeKey}
 use Rattle.hir_mod_dir.specs.Directory.{Directory}
 use Rattle.hir_mod_dir.specs.ModuleFiles.{inline_directory}
 use Rattle.hir_def_map.specs.declared.nameres.diagnostics.DefDiagnostic.{DefDiagnostic}
 use Rattle.hir_def_map.specs.declared.nameres.origin.ModuleOrigin.{ModuleOrigin}
-use Rattle.hir_scope.specs.ModuleTree.{is_at_or_above, same_crate, same_map, same_module}
+use Rattle.hir_scope.specs.ModuleTree.{same_map}
 use Rattle.hir_textual_scope.specs.Macros.{with_macro}
-use Rattle.hir_scope.specs.PerNs.{keep_item, macros_only, Item}
-use Rattle.hir_scope.specs.Visibility.{both_in, either_written, lower_of}
+use Rattle.hir_scope.specs.PerNs.{macros_only, Item}
 use Rattle.hir_scope.specs.declared.imports.GlobId.{GlobId}
 use Rattle.hir_scope.specs.declared.imports.ImportId.{ImportId}
 use Rattle.hir_scope.specs.declared.imports.ImportOrExternCrate.{ImportOrExternCrate}
 use Rattle.hir_scope.specs.declared.imports.ImportOrExternCrate.TheVariants as ways
-use Rattle.hir_scope.specs.declared.imports.ImportOrGlob.{ImportOrGlob}
 use Rattle.hir_scope.specs.declared.per_ns.PerNs.{PerNs}
 use Rattle.hir_scope.specs.declared.visibility.Visibility.{Visibility}
 use Rattle.hir_scope.specs.declared.visibility.Visibility.TheVariants as visibilities
-use Rattle.hir_def_map.specs.Ancestors.{above_in}
 use Rattle.hir_def_map.specs.Macros.{with_macro_def}
 use Rattle.hir_def_map.specs.References.{is_missing, reference_to, test_of, test_visibility, FailsAtItem}
 use Rattle.hir_def_map.specs.Closed.{AreThere, IsClosed, IsThere, PathsLeadToWhatIsThere}
 use Rattle.hir_def_map.specs.WellFormed.{AreWellFormed}
-use Rattle.hir_def_map.proofs.NoneOf.{neither, none_at, none_inserted, none_inserted_last, not_first, not_second}
+use Rattle.hir_def_map.proofs.NoneOf.{neither, none_at, none_inserted_last, not_first, not_second}
 use Rattle.hir_def_map.specs.Reaches.{by_import}
 use Rattle.hir_def_map.specs.Scoping.{Resolution, resolution_of}
-use Rattle.hir_def_map.specs.Sources.{HoldsNowhere, HoldsNowhereIn, HoldsOfNone, HoldsOfNoExtern, PathsAnswerFromSources, SourceTest, on_def, on_extern, on_extern_entry, on_import, on_macro, on_macro_item, on_origin, on_some, on_type, on_value, on_value_def, on_value_import, on_values, on_variant, on_visibility}
-use Rattle.hir_def_map.specs.State.{CrateData, Local, Map, Variants, crate_root, new_id, root_of, with_extern}
+use Rattle.hir_def_map.specs.Sources.{HoldsNowhere, HoldsNowhereIn, HoldsOfNone, HoldsOfNoExtern, PathsAnswerFromSources, SourceTest, on_def, on_extern, on_extern_entry, on_import, on_macro, on_origin, on_some, on_values, on_variant, on_visibility}
+use Rattle.hir_def_map.specs.State.{CrateData, Local, Map, crate_root, new_id, root_of, with_extern}
 use Rattle.hir_def_map.specs.Overlay.{Maps, entry_in, overlay, module_in}
 use Rattle.hir_def_map.proofs.StaysWellFormed.{IsClosed-overlay, LocalIsThere-begins, module_there}
 use Rattle.hir_def_map.proofs.StaysSourced.{HoldsNowhere-overlay, HoldsNowhereIn-enum, HoldsNowhereIn-listed, HoldsNowhereIn-made, HoldsNowhereIn-prelude}
@@ -79,221 +71,52 @@ use Rattle.hir_import_resolution.specs.State.{ImportState, glob_state, scopes_of
 use Rattle.hir_import_resolution.specs.declared.directive.ImportSource.{ImportSource}
 use Rattle.hir_import_resolution.specs.declared.directive.ImportSource.TheVariants as sources
 use Rattle.hir_import_resolution.specs.declared.directive.ImportDirective.{ImportDirective}
+use Rattle.hir_def_collector.specs.declared.collector.macro_directive.MacroDirective.{MacroDirective}
 use Rattle.hir_def_collector.specs.declared.collector.site.Site.{Site}
 use Rattle.hir_def_collector.specs.declared.source_database.Dependency.{Dependency}
-use Rattle.hir_def_collector.specs.Derivation.{CollectedValue, Ends}
-use Rattle.hir_def_collector.specs.Enums.{variant_of, variants_of, with_variant}
-use Rattle.hir_import_resolution.specs.Directives.{answer_by_kind, answer_by_source, answer_in, answer_to, brought, brought_type, edge_to, glob_of, imported, is_of_extern_crate, is_one_name, kept_by_kind, kept_trait, kind_of, leaf_of, name_of, offered_by, open_items, visibility_of, way_of}
-use Rattle.hir_def_collector.specs.Imports.{extern_by, reached_import}
-use Rattle.hir_import_resolution.specs.Visibilities.{is_public, lesser_in, visibility_in}
-use Rattle.hir_def_collector.specs.ItemIds.{enum_id, macro_def_id, macro_rules_id, module_id, use_id}
-use Rattle.hir_def_collector.specs.Items.{constructor_of, declaration_of, declared_by, declared_by_leaf, declared_struct, declared_type, file_origin, inline_origin, meet_of, own_visibility}
+use Rattle.hir_def_collector.specs.Derivation.{CollectedValue, Ends, leftover_reports}
+use Rattle.hir_import_resolution.specs.Directives.{answer_in, answer_to, edge_to, glob_of, is_one_name, kept_by_kind, kept_trait, kind_of, leaf_of, name_of, offered_by, open_items, visibility_of, way_of}
+use Rattle.hir_def_collector.specs.Imports.{extern_by}
+use Rattle.hir_import_resolution.specs.Visibilities.{visibility_in}
+use Rattle.hir_def_collector.specs.ItemIds.{enum_id, macro_def_id, macro_rules_id, module_id}
+use Rattle.hir_def_collector.specs.Items.{constructor_of, declaration_of, declared_by, declared_by_leaf, declared_type, file_origin, inline_origin, own_visibility}
 use Rattle.hir_def_collector.specs.Preludes.{extern_prelude, joins, prelude_of, with_dependency, with_prelude_module}
 use Rattle.hir_def_collector.specs.Macros.{is_macro_use, macros_beside, textual_at}
+use Rattle.hir_def_collector.specs.Calls.{Expanding, call_key, call_site, error_of, expansion_readings, text_readings}
 use Rattle.hir_def_collector.specs.Sources.{IsClearOf}
 use Rattle.hir_def_collector.specs.Start.{Beginning, begin_of, krate_of, origin_of, read_by, root_key, root_map, root_site, root_tree, start_data, start_of, tree_key}
 use Rattle.hir_def_collector.specs.State.{State, Task, Visit, visits, import_state, visits_over}
-use Rattle.hir_def_collector.specs.Changes.{Change, lists, makes, gives_variants, begins_paths, reaches, changes_imports, adds_textual, takes_textual, defines, uses_macros, tells, goes_on, act, on_map}
-use Rattle.hir_def_collector.specs.Steps.{Rule, drops_item, passes_over, defines_rules, defines_macro, closes_module, closing, visits_in_file, declares_item, declares_enum, lists_constant, lists_impl, opens_module, opens_file, drops_file, misses_file, enters_block, reaches_imports, reaches_crate, resolves_imports, May, acts, asking, keys_read, making, path_of, reads, visits_inside, Step, Steps, none, more, inside_block, inside_file, inside_module}
+use Rattle.hir_def_collector.specs.Changes.{Change, lists, makes, gives_variants, begins_paths, reaches, awaits, ends, settles, changes_imports, adds_textual, takes_textual, defines, uses_macros, tells, goes_on, act, on_map}
+use Rattle.hir_def_collector.specs.Steps.{Rule, drops_item, reaches_call, rests, expands_call, drops_call, defines_rules, defines_macro, closes_module, visits_in_file, declares_item, declares_enum, lists_constant, lists_impl, opens_module, opens_file, drops_file, misses_file, enters_block, reaches_imports, reaches_crate, resolves_imports, May, acts, asking, keys_read, making, path_of, reads, visits_inside, Step, Steps, none, more, inside_block, inside_file, inside_module}
 use Rattle.hir_def_collector.specs.Whole.{StandsOnWhole}
 use Rattle.hir_def_collector.specs.Workspace.{Workspace, dependencies_in, transitive_dependencies_in}
 use Rattle.hir_tables.specs.Tables.{TablesValue}
 use Rattle.hir_def_collector.specs.Keys.{Environment, environment, map_keys}
 use Rattle.hir_def_collector.specs.ModuleFiles.{file_key}
-use Rattle.hir_def_collector.specs.Reports.{leftover_diagnostics}
 use Rattle.hir_def_collector.specs.declared.source_database.Key.{Key}
 use Rattle.hir_def_collector.specs.declared.source_database.Key.TheVariants as keys
 use Rattle.hir_def_collector.proofs.Asks.{still_asked, still_asked-Step}
 use Rattle.hir_def_collector.proofs.Grows.{Grows, Grows-Step, Grows-same}
 use Rattle.hir_def_collector.proofs.ModuleFiles.{found_read}
 use Rattle.hir_def_collector.proofs.Lists.{none_joined}
-use Rattle.hir_def_collector.proofs.Changes.{AllFine, asked-Step, fine_macro, fine_reporting, id-Step, perform_keeps}
+use Rattle.hir_def_collector.proofs.Changes.{AllFine, asked-Step, fine_failing, fine_macro, fine_reporting, id-Step, perform_keeps}
 use Rattle.hir_def_collector.proofs.InRange.{IsInRange, import_at, in_range-Steps, next_home}
 use Rattle.hir_def_collector.proofs.Holds.{in_range-start}
 use Rattle.hir_def_collector.proofs.ImportEdits.{copy_at, copy_where, edit_of, follow_at, follow_where, imports_after, local_after, map_after}
+use Rattle.hir_def_collector.proofs.SourcedItems.{site_visits, next_visits, closed_visits, use_imports, bare, type_of, value_of, struct_of, open_of, kept_of_kind, answer_of_source, of_variants, shaped, lesser_or, import_of}
 use Rattle.hir_def_collector.proofs.SourcedEdits.{EditIsClear, EditsAreClear, IsBoundClear, IsSeenClear, entry_clear, greater_clear, items_clear, key_clear, on_edge, own_clear, recorded_clear, shown_stands, sourced-edited, variants_clear}
 use Rattle.hir_def_collector.proofs.SourcedMacros.{beside_clear, brought_macros_clear, textual_changed, textual_clear, textual_more, used_clear}
 use Rattle.hir_def_collector.proofs.Whole.{begins, steps_keep}
 use Rattle.hir_def_collector.proofs.WholeChanges.{NamesWhatIsThere}
 use Rattle.hir_def_collector.proofs.SourcedState.{on_site, on_reached, IsSourced, AreClear, ShowsThere, stays_there}
 
--- ---- lists
+-- a call that reaches a macro asks for what it expands to
+expansion_read : (own : Crate) (d : MacroDirective) (makro : MacroId) (x : Expanding) → Contains (keys_read (text_readings makro x.text ++ expansion_readings own d x)) (keys.Tree (call_key own x.id))
+expansion_read own d (macros.Macro2Id id) x = (3, omega arith, refl)
+expansion_read own d (macros.MacroRulesId id) x = (3, omega arith, refl)
+expansion_read own d (macros.ProcMacroId id) x = (2, omega arith, refl)
 
 module _ (t : SourceTest) where
-  site_visits : (s : Site) → t.holder s.tree.file s.tree.block ≡ false → (is : KeptForest) → list_any (on_site t) (visits_over s is) ≡ false
-  site_visits s f no_items = refl
-  site_visits s f (item i is) = neither (t.holder s.tree.file s.tree.block) (list_any (on_site t) (visits_over s is)) f (site_visits s f is)
-
-  next_visits : (ts : List Task) (v : Visit) (rest : List Task) → list_any (on_site t) ts ≡ false → ts ≡ visits v ∷ rest → (t.holder v.site.tree.file v.site.tree.block ≡ false) × (list_any (on_site t) rest ≡ false)
-  next_visits ts v rest f e =
-      let both : list_any (on_site t) (visits v ∷ rest) ≡ false = subst (λ (xs : List Task). list_any (on_site t) xs ≡ false) e f in
-      (not_first (on_site t (visits v)) (list_any (on_site t) rest) both, not_second (on_site t (visits v)) (list_any (on_site t) rest) both)
-
-  -- a module that is closed is written nowhere
-  closing_none : (marked : Bool) (parent child : ℕ) → list_any (on_site t) (closing marked parent child) ≡ false
-  closing_none true parent child = refl
-  closing_none false parent child = refl
-
-  closed_visits : (s : Site) → t.holder s.tree.file s.tree.block ≡ false → (is : KeptForest) (marked : Bool) (parent child : ℕ) (rest : List Task) → list_any (on_site t) rest ≡ false
-      → list_any (on_site t) ((visits_over s is ++ closing marked parent child) ++ rest) ≡ false
-  closed_visits s f is marked parent child rest clear =
-      none_joined (on_site t) (visits_over s is ++ closing marked parent child) rest
-      (none_joined (on_site t) (visits_over s is) (closing marked parent child) (site_visits s f is) (closing_none marked parent child)) clear
-
-  use_imports : (m : Map) (s : Site) (head : Head) → t.holder s.tree.file s.tree.block ≡ false → (is : List Import) → list_any (on_reached t) (list_map (reached_import s.home (use_id m s head.id) head.visibility) is) ≡ false
-  use_imports m s head f [] = refl
-  use_imports m s head f (i ∷ is) = neither (t.holder s.tree.file s.tree.block) (list_any (on_reached t) (list_map (reached_import s.home (use_id m s head.id) head.visibility) is)) f (use_imports m s head f is)
-
-  -- ---- bindings
-
-  bare : (a v : Bool) → a ≡ false → v ≡ false → (a || (v || false)) ≡ false
-  bare a v f g = neither a (v || false) f (neither v false g refl)
-
-  type_of : (def : ModuleDefId) (vis : Visibility) → on_def t def ≡ false → on_visibility t vis ≡ false → HoldsOfNone t (declared_type def vis)
-  type_of def vis f g = record { types = bare (on_def t def) (on_visibility t vis) f g; values = refl; macros = refl }
-
-  value_of : (def : ModuleDefId) (vis : Visibility) → on_value_def t def ≡ false → on_visibility t vis ≡ false
-      → HoldsOfNone t (record { types = None; values = Some (record { def = def; vis = vis; import = None }); macros = None })
-  value_of def vis f g = record { types = refl; values = bare (on_value_def t def) (on_visibility t vis) f g; macros = refl }
-
-  struct_of : (def : ModuleDefId) (vis : Visibility) (c : Option Visibility) → on_def t def ≡ false → on_value_def t def ≡ false → on_visibility t vis ≡ false → on_some (on_visibility t) c ≡ false → HoldsOfNone t (declared_struct def vis c)
-  struct_of def vis None f v g h = type_of def vis f g
-  struct_of def vis (Some c) f v g h = record { types = bare (on_def t def) (on_visibility t vis) f g; values = bare (on_value_def t def) (on_visibility t c) v h; macros = refl }
-
-  kept_item : {D I : Type 0} (test : Item D I → Bool) (keep : Visibility → Bool) (o : Option (Item D I)) → on_some test o ≡ false → on_some test (keep_item keep o) ≡ false
-  kept_item test keep None f = refl
-  kept_item test keep (Some i) f = go (keep i.vis)
-    where
-      go : (b : Bool) → on_some test (cond b (Some i) None) ≡ false
-      go true = f
-      go false = refl
-
-  open_of : (crossing : Bool) (items : PerNs) → HoldsOfNone t items → HoldsOfNone t (open_items crossing items)
-  open_of true items f = record {
-    types = kept_item (on_type t) is_public items.types f.types;
-    values = kept_item (on_value t) is_public items.values f.values;
-    macros = kept_item (on_macro_item t) is_public items.macros f.macros;
-  }
-  open_of false items f = f
-
-  kept_of_kind : (kind : ImportKind) (items : PerNs) → HoldsOfNone t items → HoldsOfNone t (kept_by_kind kind items)
-  kept_of_kind import_kinds.Plain items f = f
-  kept_of_kind import_kinds.TypeOnly items f = record { types = f.types; values = refl; macros = refl }
-  kept_of_kind import_kinds.Glob items f = f
-
-  answer_of_kind : (kind : ImportKind) (answer : Resolution) → HoldsOfNone t answer.resolved_def → HoldsOfNone t (answer_by_kind kind answer).resolved_def
-  answer_of_kind import_kinds.Plain answer f = f
-  answer_of_kind import_kinds.TypeOnly answer f = f
-  answer_of_kind import_kinds.Glob answer f = record { types = refl; values = refl; macros = refl }
-
-  answer_of_source : (source : ImportSource) (answer : Resolution) → HoldsOfNone t answer.resolved_def → HoldsOfNone t (answer_by_source source answer).resolved_def
-  answer_of_source (sources.Use id kind) answer f = answer_of_kind kind answer f
-  answer_of_source (sources.ExternCrate id None) answer f = record { types = refl; values = refl; macros = refl }
-  answer_of_source (sources.ExternCrate id (Some c)) answer f = record { types = refl; values = refl; macros = refl }
-
-  -- ---- visibilities
-
-  module _ (finished : Maps) (m : Map) where
-    lower : (above : ModuleId → List ModuleId) (x : ModuleId) (d : VisibilityExplicitness) (y : ModuleId) (e : VisibilityExplicitness) → t.shown x ≡ false → t.shown y ≡ false
-        → on_some (on_visibility t) (lower_of above m.id x d y e) ≡ false
-    lower above x d y e f g = go (same_module x y) (both_in m.id x y) (is_at_or_above above y x) (is_at_or_above above x y)
-      where
-        go : (a b c h : Bool) → on_some (on_visibility t) (cond a (Some (visibilities.Module x (either_written d e)))
-            (cond b (cond c (Some (visibilities.Module x d)) (cond h (Some (visibilities.Module y e)) None)) None)) ≡ false
-        go true b c h = f
-        go false false c h = refl
-        go false true true h = f
-        go false true false true = g
-        go false true false false = refl
-
-    lesser : (a b : Visibility) → on_visibility t a ≡ false → on_visibility t b ≡ false → on_some (on_visibility t) (lesser_in finished m a b) ≡ false
-    unfolding lesser_in
-    lesser visibilities.Public b f g = g
-    lesser (visibilities.PubCrate c) visibilities.Public f g = refl
-    lesser (visibilities.PubCrate c) (visibilities.PubCrate d) f g = go (same_crate c d)
-      where
-        go : (b : Bool) → on_some (on_visibility t) (cond b (Some (visibilities.PubCrate c)) None) ≡ false
-        go true = refl
-        go false = refl
-    lesser (visibilities.PubCrate c) (visibilities.Module x e) f g = go (same_crate x.map.krate c)
-      where
-        go : (b : Bool) → on_some (on_visibility t) (cond b (Some (visibilities.Module x e)) None) ≡ false
-        go true = g
-        go false = refl
-    lesser (visibilities.Module x e) visibilities.Public f g = f
-    lesser (visibilities.Module x e) (visibilities.PubCrate c) f g = go (same_crate x.map.krate c)
-      where
-        go : (b : Bool) → on_some (on_visibility t) (cond b (Some (visibilities.Module x e)) None) ≡ false
-        go true = f
-        go false = refl
-    lesser (visibilities.Module x d) (visibilities.Module y e) f g = lower (above_in (overlay finished m)) x d y e f g
-
-    least_or : (o : Option Visibility) (own : Visibility) → on_some (on_visibility t) o ≡ false → on_visibility t own ≡ false → on_visibility t (unwrap_or o own) ≡ false
-    least_or None own f g = g
-    least_or (Some v) own f g = f
-
-    meet : (least : Visibility) (vs : List Visibility) → on_visibility t least ≡ false → list_any (on_visibility t) vs ≡ false → on_some (on_visibility t) (meet_of finished m least vs) ≡ false
-    meet least [] f g = f
-    meet least (v ∷ vs) f g =
-        go (λ next h. meet next vs h (not_second (on_visibility t v) (list_any (on_visibility t) vs) g))
-        (lesser_in finished m least v) (lesser least v f (not_first (on_visibility t v) (list_any (on_visibility t) vs) g))
-      where
-        go : ((next : Visibility) → on_visibility t next ≡ false → on_some (on_visibility t) (meet_of finished m next vs) ≡ false)
-            → (o : Option Visibility) → on_some (on_visibility t) o ≡ false → on_some (on_visibility t) (option_and_then (λ next. meet_of finished m next vs) o) ≡ false
-        go below None h = refl
-        go below (Some next) h = below next h
-
-    shaped : (own : Visibility) (shape : FieldsShape) (vs : List Visibility) → on_visibility t own ≡ false → list_any (on_visibility t) vs ≡ false
-        → on_some (on_visibility t) (constructor_of finished m own shape vs) ≡ false
-    shaped own Record vs f g = refl
-    shaped own Tuple vs f g = least_or (meet_of finished m own vs) own (meet own vs f g) f
-    shaped own UnitShape vs f g = f
-
-    lesser_or : (own vis : Visibility) → on_visibility t own ≡ false → on_visibility t vis ≡ false → on_visibility t (unwrap_or (lesser_in finished m own vis) own) ≡ false
-    lesser_or own vis f g = least_or (lesser_in finished m own vis) own (lesser own vis f g) f
-
-    -- an item under another visibility
-    under : (d v i u : Bool) → (d || (v || i)) ≡ false → u ≡ false → (d || (u || i)) ≡ false
-    under d v i u f g = neither d (u || i) (not_first d (v || i) f) (neither u i g (not_second v i (not_second d (v || i) f)))
-
-    seen : (d v i : Bool) → (d || (v || i)) ≡ false → v ≡ false
-    seen d v i f = not_first v i (not_second d (v || i) f)
-
-    import_of : (own : Visibility) (alone : Bool) (items : PerNs) → on_visibility t own ≡ false → HoldsOfNone t items → HoldsOfNone t (imported finished m own alone items)
-    import_of own alone items f g = record { types = types items.types g.types; values = values items.values g.values; macros = macros items.macros g.macros }
-      where
-        types : (o : Option (Item ModuleDefId ImportOrExternCrate)) → on_some (on_type t) o ≡ false → on_some (on_type t) (option_map (brought_type finished m own alone) o) ≡ false
-        types None h = refl
-        types (Some i) h = go (alone && is_of_extern_crate i.import)
-          where
-            go : (b : Bool) → on_type t (cond b (record i { vis = own }) (brought finished m own i)) ≡ false
-            go true = under (on_def t i.def) (on_visibility t i.vis) (on_some (on_import t) i.import) (on_visibility t own) h f
-            go false =
-                under (on_def t i.def) (on_visibility t i.vis) (on_some (on_import t) i.import) (on_visibility t (unwrap_or (lesser_in finished m own i.vis) own)) h
-                (lesser_or own i.vis f (seen (on_def t i.def) (on_visibility t i.vis) (on_some (on_import t) i.import) h))
-
-        values : (o : Option (Item ModuleDefId ImportOrGlob)) → on_some (on_value t) o ≡ false → on_some (on_value t) (option_map (brought finished m own) o) ≡ false
-        values None h = refl
-        values (Some i) h =
-            under (on_value_def t i.def) (on_visibility t i.vis) (on_some (on_value_import t) i.import) (on_visibility t (unwrap_or (lesser_in finished m own i.vis) own)) h
-            (lesser_or own i.vis f (seen (on_value_def t i.def) (on_visibility t i.vis) (on_some (on_value_import t) i.import) h))
-
-        macros : (o : Option (Item MacroId ImportOrExternCrate)) → on_some (on_macro_item t) o ≡ false → on_some (on_macro_item t) (option_map (brought finished m own) o) ≡ false
-        macros None h = refl
-        macros (Some i) h =
-            under (on_macro t i.def) (on_visibility t i.vis) (on_some (on_import t) i.import) (on_visibility t (unwrap_or (lesser_in finished m own i.vis) own)) h
-            (lesser_or own i.vis f (seen (on_macro t i.def) (on_visibility t i.vis) (on_some (on_import t) i.import) h))
-
-  -- ---- variants
-
-  of_variants : (id : EnumId) → t.holder id.loc.file_id id.loc.block ≡ false → (o : Option (List VariantItem)) → on_values (on_variant t) (variants_of id o) ≡ false
-  of_variants id f None = refl
-  of_variants id f (Some items) = go [] items refl
-    where
-      go : (vs : Variants) (items : List VariantItem) → on_values (on_variant t) vs ≡ false → on_values (on_variant t) (fold (with_variant id) vs items) ≡ false
-      go vs [] g = g
-      go vs (i ∷ is) g = go (with_variant id vs i) is (none_inserted (on_variant t) (slice_cmp nat_cmp) vs i.name (variant_of id i) g f)
-
   -- ---- changes
 
   -- nor of the globs that are recorded
@@ -311,6 +134,9 @@ module _ (t : SourceTest) where
   BringsNone s (gives_variants id variants) = on_values (on_variant t) variants ≡ false
   BringsNone s (begins_paths r) = on_reached t r ≡ false
   BringsNone s (reaches rs) = list_any (on_reached t) rs ≡ false
+  BringsNone s (awaits calls) = Unit {0}
+  BringsNone s (ends i fate) = Unit {0}
+  BringsNone s settles = Unit {0}
   BringsNone s (changes_imports c) = EditsAreClear t (edit_of (import_state s) c) × EdgesAreClear c
   BringsNone s (adds_textual home name makro) = on_macro t makro ≡ false
   BringsNone s (takes_textual home from) = Unit {0}
@@ -370,6 +196,9 @@ module _ (t : SourceTest) where
     edges = f.edges;
   }
   sourced-act s (reaches rs) f fine = record { map = f.map; local = f.local; visits = f.visits; reached = none_joined (on_reached t) s.core.reached rs f.reached fine; edges = f.edges }
+  sourced-act s (awaits calls) f fine = record { map = f.map; local = f.local; visits = f.visits; reached = f.reached; edges = f.edges }
+  sourced-act s (ends i fate) f fine = record { map = f.map; local = f.local; visits = f.visits; reached = f.reached; edges = f.edges }
+  sourced-act s settles f fine = record { map = f.map; local = f.local; visits = f.visits; reached = f.reached; edges = f.edges }
   sourced-act s (changes_imports c) f fine =
       let i : ImportState = import_state s in
       record {
@@ -451,10 +280,10 @@ module _ (t : SourceTest) where
       low v rest e = next_home s inside v rest e
 
       file : (v : Visit) (rest : List Task) → s.agenda ≡ visits v ∷ rest → t.holder v.site.tree.file v.site.tree.block ≡ false
-      file v rest e = (next_visits s.agenda v rest f.visits e).0
+      file v rest e = (next_visits t s.agenda v rest f.visits e).0
 
       left : (v : Visit) (rest : List Task) → s.agenda ≡ visits v ∷ rest → list_any (on_site t) rest ≡ false
-      left v rest e = (next_visits s.agenda v rest f.visits e).1
+      left v rest e = (next_visits t s.agenda v rest f.visits e).1
 
       declares : (v : Visit) (d : Declaration) → v.site.home < length s.core.map.modules → t.holder v.site.tree.file v.site.tree.block ≡ false → declaration_of finished s.core.local s.core.map v ≡ Some d → HoldsOfNone t d.items
       declares v d below own e = go v.item e
@@ -468,20 +297,20 @@ module _ (t : SourceTest) where
           by_leaf : (h : Head) (l : Leaf) → declared_by_leaf finished s.core.local s.core.map v.site h l ≡ Some d → HoldsOfNone t d.items
           by_leaf h (import tree) g = absurd cc
           by_leaf h (extern_crate name alias) g = absurd cc
-          by_leaf h (function name) g = is_d _ (value_of _ (own_visibility finished s.core.local s.core.map v.site h) own (vis h)) g
+          by_leaf h (function name) g = is_d _ (value_of t _ (own_visibility finished s.core.local s.core.map v.site h) own (vis h)) g
           by_leaf h (structure name shape fields) g =
               let seen_by = list_map (visibility_in finished s.core.local s.core.map (module_id s.core.map v.site.home)) fields in
               let own_vis : Visibility = own_visibility finished s.core.local s.core.map v.site h in
-              is_d _ (struct_of _ own_vis (constructor_of finished s.core.map own_vis shape seen_by) own own (vis h)
-              (shaped finished s.core.map own_vis shape seen_by (vis h) (all_written v.site.home below fields))) g
-          by_leaf h (union_structure name fields) g = is_d _ (type_of _ (own_visibility finished s.core.local s.core.map v.site h) own (vis h)) g
+              is_d _ (struct_of t _ own_vis (constructor_of finished s.core.map own_vis shape seen_by) own own (vis h)
+              (shaped t finished s.core.map own_vis shape seen_by (vis h) (all_written v.site.home below fields))) g
+          by_leaf h (union_structure name fields) g = is_d _ (type_of t _ (own_visibility finished s.core.local s.core.map v.site h) own (vis h)) g
           by_leaf h (enumeration name) g = absurd cc
           by_leaf h (constant None) g = absurd cc
-          by_leaf h (constant (Some name)) g = is_d _ (value_of _ (own_visibility finished s.core.local s.core.map v.site h) own (vis h)) g
-          by_leaf h (static_item name) g = is_d _ (value_of _ (own_visibility finished s.core.local s.core.map v.site h) own (vis h)) g
-          by_leaf h (trait_item name) g = is_d _ (type_of _ (own_visibility finished s.core.local s.core.map v.site h) own (vis h)) g
+          by_leaf h (constant (Some name)) g = is_d _ (value_of t _ (own_visibility finished s.core.local s.core.map v.site h) own (vis h)) g
+          by_leaf h (static_item name) g = is_d _ (value_of t _ (own_visibility finished s.core.local s.core.map v.site h) own (vis h)) g
+          by_leaf h (trait_item name) g = is_d _ (type_of t _ (own_visibility finished s.core.local s.core.map v.site h) own (vis h)) g
           by_leaf h (implementation of_trait) g = absurd cc
-          by_leaf h (type_alias name) g = is_d _ (type_of _ (own_visibility finished s.core.local s.core.map v.site h) own (vis h)) g
+          by_leaf h (type_alias name) g = is_d _ (type_of t _ (own_visibility finished s.core.local s.core.map v.site h) own (vis h)) g
           by_leaf h (outline_module name) g = absurd cc
           by_leaf h (macro_call path) g = absurd cc
           by_leaf h (macro_rules name expander helpers) g = absurd cc
@@ -501,10 +330,10 @@ module _ (t : SourceTest) where
           let answer : Resolution = answer_to finished s.core.local s.core.map r in
           let own : Visibility = visibility_in finished s.core.local s.core.map (module_id s.core.map r.home) r.visibility in
           let open_ : PerNs = open_items answer.prefix_info.differing_crate answer.resolved_def in
-          import_of finished s.core.map own (is_one_name r.path) (kept_by_kind (kind_of r.source) open_) (written r.home below r.visibility)
-          (kept_of_kind (kind_of r.source) open_
-          (open_of answer.prefix_info.differing_crate answer.resolved_def
-          (answer_of_source r.source (answer_in finished s.core.local s.core.map (module_id s.core.map r.home) r.path) (answers_none r))))
+          import_of t finished s.core.map own (is_one_name r.path) (kept_by_kind (kind_of r.source) open_) (written r.home below r.visibility)
+          (kept_of_kind t (kind_of r.source) open_
+          (open_of t answer.prefix_info.differing_crate answer.resolved_def
+          (answer_of_source t r.source (answer_in finished s.core.local s.core.map (module_id s.core.map r.home) r.path) (answers_none r))))
 
       -- ---- what globs bring
 
@@ -516,15 +345,15 @@ module _ (t : SourceTest) where
 
       entries_clear : (of : Target) (name : List ℕ) → HoldsOfNone t (entries_of names_here of name)
       entries_clear (targets.Own at) name = own_clear t s.core.map f.map at name
-      entries_clear (targets.Module m) name = open_of (is_foreign s.core.map.id m) (entry_in finished m name) (entry_clear t finished nowhere m name)
+      entries_clear (targets.Module m) name = open_of t (is_foreign s.core.map.id m) (entry_in finished m name) (entry_clear t finished nowhere m name)
       entries_clear (targets.Enum id) name = variants_clear t maps (HoldsNowhere-overlay t finished s.core.map nowhere f.map) id name
 
       bound_clear : (of : Target) (key : GlobKey) (b : Bound) → bound_of names_here of key ≡ Some b → IsBoundClear t key b
       bound_clear of key b e = key_clear t (entries_of names_here of) (traits_of names_here of) (entries_clear of) key b e
 
-      edge_at : (j : ℕ) (e : Edge) → slice_get s.globs.edges j ≡ Some e → (on_import t (ways.Glob e.id) ≡ false) × (on_visibility t e.vis ≡ false)
+      edge_at : (j : ℕ) (e : Edge) → slice_get s.core.globs.edges j ≡ Some e → (on_import t (ways.Glob e.id) ≡ false) × (on_visibility t e.vis ≡ false)
       edge_at j e at =
-          let here : on_edge t e ≡ false = none_at (on_edge t) s.globs.edges f.edges j e at in
+          let here : on_edge t e ≡ false = none_at (on_edge t) s.core.globs.edges f.edges j e at in
           (not_first (on_import t (ways.Glob e.id)) (on_visibility t e.vis) here, not_second (on_import t (ways.Glob e.id)) (on_visibility t e.vis) here)
 
       -- what an edge brings
@@ -535,10 +364,10 @@ module _ (t : SourceTest) where
           go None e k = absurd cc
           go (Some x) e k = let same : x ≡ vis = cc in subst (λ (v : Visibility). on_visibility t v ≡ false) same k
 
-      brought_clear : (j : ℕ) (e : Edge) (key : GlobKey) (b : Bound) → slice_get s.globs.edges j ≡ Some e → IsBoundClear t key b → IsSeenClear t key (brought_vis view_here e b)
-      brought_clear j e (Types name) b at clear = lesser_or finished s.core.map e.vis b.vis (edge_at j e at).1 clear.1
-      brought_clear j e (Values name) b at clear = lesser_or finished s.core.map e.vis b.vis (edge_at j e at).1 clear.1
-      brought_clear j e (Macros name) b at clear = lesser_or finished s.core.map e.vis b.vis (edge_at j e at).1 clear.1
+      brought_clear : (j : ℕ) (e : Edge) (key : GlobKey) (b : Bound) → slice_get s.core.globs.edges j ≡ Some e → IsBoundClear t key b → IsSeenClear t key (brought_vis view_here e b)
+      brought_clear j e (Types name) b at clear = lesser_or t finished s.core.map e.vis b.vis (edge_at j e at).1 clear.1
+      brought_clear j e (Values name) b at clear = lesser_or t finished s.core.map e.vis b.vis (edge_at j e at).1 clear.1
+      brought_clear j e (Macros name) b at clear = lesser_or t finished s.core.map e.vis b.vis (edge_at j e at).1 clear.1
       brought_clear j e (Unnamed id) b at clear = tt
 
       copied_clear : (slot : Slot) (vis : Visibility) (by : GlobId) (o : Option Bound) → ((b : Bound) → o ≡ Some b → IsBoundClear t slot.key b) → IsSeenClear t slot.key vis
@@ -612,12 +441,12 @@ module _ (t : SourceTest) where
           let below : r.home < length s.core.map.modules = import_at (length s.core.map.modules) s.core.reached i r inside.imports may.import in
           let edge : Edge = edge_to finished s.core.local s.core.map r by target in
           let clear : on_edge t edge ≡ false = neither (on_import t (ways.Glob by)) (on_visibility t edge.vis) (glob_clear r.source by may.is_glob own) (written r.home below r.visibility) in
-          ((tt, tt), ((tt, recorded_clear t view_here s.globs.edges edges edge (greater_clear t finished s.core.map) f.edges clear may.recorded), tt))
+          ((tt, tt), ((tt, recorded_clear t view_here s.core.globs.edges edges edge (greater_clear t finished s.core.map) f.edges clear may.recorded), tt))
       imports_bring (goes_along rule) may = globs_bring rule may
 
       -- what is declared alone
       bare_type : (def : ModuleDefId) (vis : Visibility) → on_def t def ≡ false → on_visibility t vis ≡ false → (HoldsOfNone t (declared_type def vis) × (on_some (on_import t) (pushing None) ≡ false)) × Unit {0}
-      bare_type def vis g h = ((type_of def vis g h, refl), tt)
+      bare_type def vis g h = ((type_of t def vis g h, refl), tt)
 
       -- where a module is made, the item that declares it and what comes next are clear of the test
       making_none : (site : Site) (head : Head) (name : List ℕ) (origin : ModuleOrigin) (next : List Task) → site.home < length s.core.map.modules → on_origin t origin ≡ false
@@ -629,12 +458,12 @@ module _ (t : SourceTest) where
           → list_any (on_site t) (visits_inside s.core.map site head dir items ++ rest) ≡ false
       inside_none site head None items rest own clear = clear
       inside_none site head (Some dir) items rest own clear =
-          closed_visits (inside_module s.core.map site dir) own items (is_macro_use head.attributes) site.home (length s.core.map.modules) rest clear
+          closed_visits t (inside_module s.core.map site dir) own items (is_macro_use head.attributes) site.home (length s.core.map.modules) rest clear
 
       -- a macro that is declared alone
       bare_macro : (makro : MacroId) (vis : Visibility) → on_macro t makro ≡ false → on_visibility t vis ≡ false
           → (HoldsOfNone t (macros_only makro vis None) × (on_some (on_import t) (pushing None) ≡ false)) × Unit {0}
-      bare_macro makro vis g h = ((record { types = refl; values = refl; macros = bare (on_macro t makro) (on_visibility t vis) g h }, refl), tt)
+      bare_macro makro vis g h = ((record { types = refl; values = refl; macros = bare t (on_macro t makro) (on_visibility t vis) g h }, refl), tt)
 
       -- the sources that a rule reads are clear of it too
       brings_none : (r : Rule) → May finished s r → ((key : TreeKey) → Contains (keys_read (reads s r)) (keys.Tree key) → t.holder key.id.file key.id.block ≡ false)
@@ -645,7 +474,7 @@ module _ (t : SourceTest) where
       brings_none (declares_enum site head name found rest) may read =
           let id : EnumId = enum_id s.core.map site head.id in
           let bare = bare_type (definitions.AdtId (adts.EnumId id)) (own_visibility finished s.core.local s.core.map site head) (file _ rest may.next) (written site.home (low _ rest may.next) head.visibility) in
-          (left _ rest may.next, (of_variants id (file _ rest may.next) found, (tt, (bare, tt))))
+          (left _ rest may.next, (of_variants t id (file _ rest may.next) found, (tt, (bare, tt))))
       brings_none (lists_constant site head rest) may read = (left _ rest may.next, (tt, tt))
       brings_none (lists_impl site head of_trait rest) may read = (left _ rest may.next, (tt, tt))
       brings_none (opens_module site head name items rest) may read =
@@ -657,7 +486,7 @@ module _ (t : SourceTest) where
           let own : t.holder within.tree.file within.tree.block ≡ false =
           read (file_key m.id.krate m.crate_data.edition f.id) (found_read m.id.krate m.crate_data.edition search.absent search.found f may.found) in
           making_none site head name (file_origin site.tree head.id m.crate_data.edition f) (visits_in_file m site head f ++ rest) (low _ rest may.looks.here.next) (file _ rest may.looks.here.next)
-          (closed_visits within own f.tree.items (is_macro_use head.attributes || is_macro_use f.tree.attributes) site.home (length m.modules) rest (left _ rest may.looks.here.next))
+          (closed_visits t within own f.tree.items (is_macro_use head.attributes || is_macro_use f.tree.attributes) site.home (length m.modules) rest (left _ rest may.looks.here.next))
       brings_none (drops_file site head name search report rest) may read = (left _ rest may.looks.here.next, (tt, tt))
       brings_none (misses_file site head name search report rest) may read = (
         file _ rest may.looks.here.next,
@@ -678,8 +507,8 @@ module _ (t : SourceTest) where
       )
       brings_none (enters_block site head items rest) may read =
           let within : Site = inside_block s.core.map site head in
-          (none_joined (on_site t) (visits_over within items) rest (site_visits within (file _ rest may.next) items) (left _ rest may.next), (tt, tt))
-      brings_none (reaches_imports site head tree rest) may read = (left _ rest may.next, (use_imports s.core.map site head (file _ rest may.next) (imports_of tree), (tt, tt)))
+          (none_joined (on_site t) (visits_over within items) rest (site_visits t within (file _ rest may.next) items) (left _ rest may.next), (tt, tt))
+      brings_none (reaches_imports site head tree rest) may read = (left _ rest may.next, (use_imports t s.core.map site head (file _ rest may.next) (imports_of tree), (tt, tt)))
       brings_none (reaches_crate site head name alias rest) may read =
           let own : t.holder site.tree.file site.tree.block ≡ false = file _ rest may.next in
           (left _ rest may.next, (own, ((brought_macros_clear t finished nowhere s.core.map s.core.dependencies head name, own), (neither (t.holder site.tree.file site.tree.block) false own refl, (tt, tt)))))
@@ -693,7 +522,12 @@ module _ (t : SourceTest) where
           (left _ rest may.next, (tt, (tt, (bare_macro makro (own_visibility finished s.core.local s.core.map site head) own (written site.home (low _ rest may.next) head.visibility), fine_reporting BringsNone _ _ expander (λ at. tt) _))))
       brings_none (closes_module parent child rest) may read =
           (subst (λ (ts : List Task). list_any (on_site t) ts ≡ false) may f.visits, (tt, tt))
-      brings_none (passes_over site head l rest) may read = (left _ rest may.here.next, tt)
+      brings_none (reaches_call site head path rest) may read = (left _ rest may.next, (tt, tt))
+      brings_none rests may read = (tt, tt)
+      brings_none (expands_call i d makro x) may read =
+          let own : t.holder (Macro x.id) None ≡ false = read (call_key s.core.map.id.krate x.id) (expansion_read s.core.map.id.krate d makro x) in
+          (tt, (site_visits t (call_site d x.id) own x.tree.tree.items, fine_failing BringsNone (module_id s.core.map d.site.home) d (error_of x.there) (λ at text. tt) _))
+      brings_none (drops_call i d) may read = (tt, tt)
       brings_none (resolves_imports rule) may read = imports_bring rule may
 
       sourced-Step : (env : Environment) (new : State) → Step env finished s new → AreClear t new → IsSourced t new
@@ -745,7 +579,7 @@ module _ (t : SourceTest) where
       }
     where
       go : (b : Bool) (is : KeptForest) → list_any (on_site t) (if b then visits_over (root_site from.tree) is else []) ≡ false
-      go true is = site_visits (root_site from.tree) written is
+      go true is = site_visits t (root_site from.tree) written is
       go false is = refl
 
   -- it ends with a map in which the test holds nowhere
@@ -764,7 +598,7 @@ module _ (t : SourceTest) where
       asked (tree_key from.start from.tree) (still_asked derived (root_key from.start from.tree) (0, omega arith, refl)) in
       let first : IsSourced t begun = first_sourced (read_by w all from.start) (subst (HoldsNowhere t) (sym same) clear.read) tables w from root in
       let m : Map = e.last.core.map in
-      let reports : List DefDiagnostic = m.diagnostics ++ leftover_diagnostics m e.last.core.reached e.last.core.taken in
+      let reports : List DefDiagnostic = m.diagnostics ++ leftover_reports e.last.core in
       let reported : Map = record m { diagnostics = reports } in
       let above : ShowsThere t finished reported = subst (λ (x : Map). ShowsThere t finished x) e.map_is clear.shown in
       let grows : Grows m reported = let same_map : Grows m m = Grows-same m in record { longer = same_map.longer; kept = same_map.kept; listed = same_map.listed } in

@@ -1,18 +1,16 @@
 -- What binds only from sources?
-use Rattle.std.specs.Prelude.{◌≡◌, ◌==◌, ◌&&◌, ◌||◌, ℕ, zero, suc, ◌<◌, ◌≤◌, List, [], ◌∷◌, ◌++◌, length, Bool, true, false, is_some, Some, cond, option_and_then, slice_get, if◌then◌else◌}
+use Rattle.std.specs.Prelude.{◌≡◌, ℕ, zero, suc, ◌≤◌, List, [], ◌∷◌, length, Bool, true, false, is_some, Some, cond, option_and_then, slice_get}
 use Rattle.std.specs.List.{list_any}
 use Rattle.std.proofs.Common.{Contains, ap, refl, sym, ◌∙◌, arith}
 use mathlib.Core.Bool.{true≢false}
 use Rattle.hir_base.specs.contracts.ids.MapIdPartialEq.TheImpl as map_id
 use Rattle.hir_base.specs.declared.ids.MapId.{MapId}
 use Rattle.hir_base.specs.declared.ids.ModuleId.{ModuleId}
-use Rattle.hir_item_tree.specs.KeptForest.{holder}
 use Rattle.hir_item_tree.specs.declared.tree_id.TreeKey.{TreeKey}
 use Rattle.hir_def_map.specs.Closed.{ModuleIsThere}
 use Rattle.hir_def_map.specs.Sources.{HoldsNowhereIn, HoldsOfNoExtern, SourceTest, on_import}
 use Rattle.hir_def_map.specs.State.{Map, module_at}
 use Rattle.hir_def_map.specs.Overlay.{Maps, Placed, overlay, placed_in}
-use Rattle.hir_glob_imports.specs.Rules.{brings}
 use Rattle.hir_import_resolution.specs.declared.directive.ImportDirective.{ImportDirective}
 use Rattle.hir_import_resolution.specs.Directives.{way_of}
 use Rattle.hir_def_collector.specs.State.{State, Task, visits, closes}
@@ -35,7 +33,7 @@ pub record IsSourced (t : SourceTest) (s : State) : Type 0 where
   pub local : HoldsOfNoExtern t s.core.local
   pub visits : list_any (on_site t) s.agenda ≡ false
   pub reached : list_any (on_reached t) s.core.reached ≡ false
-  pub edges : list_any (on_edge t) s.globs.edges ≡ false
+  pub edges : list_any (on_edge t) s.core.globs.edges ≡ false
 
 -- nor of a source that was asked for
 abbrev pub AreClear : SourceTest → State → Type 0

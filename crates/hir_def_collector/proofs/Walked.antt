@@ -16,16 +16,15 @@ use Rattle.hir_item_tree.specs.declared.kinds.ModKind.{ModKind}
 use Rattle.hir_item_tree.specs.declared.kinds.ModKind.TheVariants.{Inline, Outline}
 use Rattle.hir_item_tree.specs.declared.kinds.ModItemKind.{ModItemKind}
 use Rattle.hir_item_tree.specs.declared.kinds.ModItemKind.TheVariants as kinds
-use Rattle.hir_item_tree.specs.KeptForest.{Head, Leaf, KeptItem, KeptForest, leaf, all_items, no_items}
+use Rattle.hir_item_tree.specs.KeptForest.{Head, KeptItem, KeptForest, all_items, no_items}
 use Rattle.hir_item_tree.specs.Rows.{Content, alone, with_items, numbers_of, items_at, item_of, and_found}
 use Rattle.hir_item_tree.specs.declared.rows.ModItemId.{ModItemId}
 use Rattle.hir_def_map.specs.Overlay.{Maps}
 use Rattle.hir_def_collector.specs.declared.collector.site.Site.{Site}
 use Rattle.hir_def_collector.specs.Keys.{Environment, absent_source}
 use Rattle.hir_def_collector.specs.State.{Task, Visit, visits, closes, Core, at_rest, joined, visits_over, counted, with_map}
-use Rattle.hir_def_collector.specs.Items.{is_passed_over}
 use Rattle.hir_def_collector.specs.Start.{tree_visits}
-use Rattle.hir_def_collector.specs.Steps.{Steps, none, closes_module, closing, drops_item, passes_over, visit}
+use Rattle.hir_def_collector.specs.Steps.{Steps, none, closes_module, closing, drops_item, visit}
 use Rattle.hir_def_collector.specs.Macros.{textual_at, with_textual_scope}
 use Rattle.hir_def_collector.specs.TreeReads.{visits_at, above}
 use Rattle.hir_def_collector.specs.Reports.{IsUnconfigured}
@@ -227,13 +226,6 @@ far_off {env} {finished} site i condition report old off reported full = record 
   spent = λ rest.
       let goes : Goes env finished (joined old (visits (visit site i) ∷ rest)) = goes_off env finished (joined old (visits (visit site i) ∷ rest)) site rest i condition report refl off reported in
       record { at = joined old (visits (visit site i) ∷ rest); steps = none; stuck = counted_out goes.next goes.step full };
-}
-
--- an item of which the rules don't speak yet is passed over
-pub passed : {env : Environment} {finished : Maps} (site : Site) (h : Head) (l : Leaf) (old new : Core) → is_enabled h.attributes ≡ true → is_passed_over l ≡ true → new ≡ counted old
-    → Handles env finished old new (visit site (leaf h l)) []
-passed site h l old new enabled over is = record {
-  step = λ rest. made (passes_over site h l rest) (record { here = record { next = refl; enabled = enabled }; passed = over }) tt tt (rw is refl);
 }
 
 -- a disabled item is dropped

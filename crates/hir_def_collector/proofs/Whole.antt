@@ -1,5 +1,5 @@
 -- A run leaves maps that name only what is there.
-use Rattle.std.specs.Prelude.{◌≡◌, ◌==◌, ◌&&◌, ℕ, zero, suc, ◌<◌, List, [], ◌∷◌, ◌++◌, length, Bool, true, false, not, is_some, Option, None, Some, cond, map as list_map, option_and_then, slice_get}
+use Rattle.std.specs.Prelude.{◌≡◌, ℕ, zero, suc, ◌<◌, List, [], ◌∷◌, ◌++◌, length, Bool, true, false, not, is_some, Option, None, Some, cond, map as list_map, option_and_then, slice_get}
 use Rattle.std.specs.List.{list_any}
 use Rattle.std.proofs.Common.{ap, refl, subst, sym, ◌∙◌, arith}
 use Rattle.std.specs.Prelude.{nat_eq}
@@ -17,7 +17,7 @@ use Rattle.hir_base.specs.declared.ids.ModuleDefId.TheVariants as definitions
 use Rattle.hir_base.specs.declared.ids.TraitId.{TraitId}
 use Rattle.hir_base.specs.declared.macro_kind.MacroId.{MacroId}
 use Rattle.hir_item_tree.specs.Shape.{has_constructor}
-use Rattle.hir_item_tree.specs.KeptForest.{Head, import}
+use Rattle.hir_item_tree.specs.KeptForest.{Head}
 use Rattle.hir_item_tree.specs.Imports.{imports_of}
 use Rattle.hir_item_tree.specs.declared.shape.ExternCrateName.{ExternCrateName}
 use Rattle.hir_item_tree.specs.declared.shape.ExternCrateName.TheVariants.{SelfCrate, Name}
@@ -59,7 +59,7 @@ use Rattle.hir_def_collector.specs.declared.collector.Start.{Start}
 use Rattle.hir_def_collector.specs.declared.collector.declaration.Declaration.{Declaration}
 use Rattle.hir_glob_imports.specs.Moves.{brought_vis, shown as shown_along}
 use Rattle.hir_glob_imports.specs.declared.edge.Edge.{Edge}
-use Rattle.hir_glob_imports.specs.Rules.{Rule as GlobRule, acts as glob_acts, copies_along, follows_along, raises_along, May as MayAlong, brings}
+use Rattle.hir_glob_imports.specs.Rules.{Rule as GlobRule, acts as glob_acts, copies_along, follows_along, raises_along, May as MayAlong}
 use Rattle.hir_glob_imports.specs.declared.edge.Bound.{Bound}
 use Rattle.hir_glob_imports.specs.declared.edge.Key.{Key}
 use Rattle.hir_glob_imports.specs.declared.edge.Key.TheVariants.{Types, Values, Macros, Unnamed}
@@ -84,16 +84,16 @@ use Rattle.hir_import_resolution.specs.Names.{ScopesValue, bound_at, bound_by, b
 use Rattle.hir_import_resolution.specs.Rules.{Rule as ImportRule, May as MayImport, acts as import_acts, goes_along, takes_glob, takes_import}
 use Rattle.hir_import_resolution.specs.State.{ImportState, scopes_of, glob_state}
 use Rattle.hir_def_collector.specs.Imports.{crate_import, crate_named, dependency_named}
-use Rattle.hir_def_collector.specs.Changes.{reaches, changes_imports, act}
+use Rattle.hir_def_collector.specs.Calls.{error_of}
+use Rattle.hir_def_collector.specs.Changes.{changes_imports, act}
 use Rattle.hir_def_collector.specs.Macros.{macros_beside, macros_brought, with_macros_used}
 use Rattle.hir_def_collector.specs.Moves.{begun}
 use Rattle.hir_def_collector.specs.Preludes.{by_prelude, extern_prelude, joins, module_by, module_named, module_of, prelude_of, prelude_path, with_dependency}
-use Rattle.hir_def_collector.specs.Reports.{leftover_diagnostics}
 use Rattle.hir_def_collector.specs.Start.{Beginning, begin_of, krate_of, origin_of, read_by, root_map, root_tree, start_data, start_of}
-use Rattle.hir_def_collector.specs.Steps.{Rule, drops_item, passes_over, defines_rules, defines_macro, closes_module, declares_item, declares_enum, lists_constant, lists_impl, opens_module, opens_file, drops_file, misses_file, enters_block, reaches_imports, reaches_crate, resolves_imports, May, acts, asking, Step, Steps, none, more}
-use Rattle.hir_def_collector.specs.Derivation.{CollectedValue, Ends}
+use Rattle.hir_def_collector.specs.Steps.{Rule, drops_item, reaches_call, rests, expands_call, drops_call, defines_rules, defines_macro, closes_module, declares_item, declares_enum, lists_constant, lists_impl, opens_module, opens_file, drops_file, misses_file, enters_block, reaches_imports, reaches_crate, resolves_imports, May, acts, asking, Step, Steps, none, more}
+use Rattle.hir_def_collector.specs.Derivation.{CollectedValue, Ends, leftover_reports}
 use Rattle.hir_def_collector.specs.Whole.{StandsOnWhole}
-use Rattle.hir_def_collector.proofs.Changes.{AllFine, fine_macro, fine_reporting, perform_keeps}
+use Rattle.hir_def_collector.proofs.Changes.{AllFine, fine_failing, fine_macro, fine_reporting, perform_keeps}
 use Rattle.hir_def_collector.proofs.InRange.{IsInRange, import_at, in_range-Steps, next_home}
 use Rattle.hir_def_collector.proofs.Holds.{in_range-start}
 use Rattle.hir_def_collector.proofs.ImportEdits.{copy_at, copy_where, edit_of, follow_at, follow_where, map_after}
@@ -101,7 +101,7 @@ use Rattle.hir_def_collector.proofs.SourcedEdits.{shown_stands}
 use Rattle.hir_def_collector.proofs.Visible.{greater, imported_fails, lesser_or, on_edge, recorded_fail, some_or, target_reference, visible_there}
 use Rattle.hir_def_collector.proofs.WholeEdits.{DefIsThere, EditIsThere, EditsWhatIsThere}
 use Rattle.hir_def_collector.proofs.WholeEnums.{enum_there, own_variants}
-use Rattle.hir_def_collector.proofs.WholeChanges.{crate_of, root_named, test_import, NamesWhatIsThere, uses_name_none, still_there, seen_still, items_still, root_stands, type_there, value_there, macro_there, declared_item_there, kept_there, open_there, sourced_there, BoundIsThere, BringsWhatIsThere, beside, Extends-beside, Extends-reported, NamesOnly-reported, Extends-used, NamesOnly-used, Extends-edited, trait_seen, names-act}
+use Rattle.hir_def_collector.proofs.WholeChanges.{crate_of, root_named, test_import, NamesWhatIsThere, uses_name_none, still_there, seen_still, items_still, root_stands, type_there, value_there, macro_there, declared_item_there, kept_there, open_there, sourced_there, BoundIsThere, BringsWhatIsThere, Extends-beside, Extends-reported, NamesOnly-reported, Extends-used, NamesOnly-used, Extends-edited, trait_seen, names-act}
 
 -- ---- rules
 
@@ -305,10 +305,10 @@ module _ (paths : PathsLeadToWhatIsThere) (finished : Maps) (whole : AreWellForm
     items_there (in_ns.Macros def) vis g h = macro_there maps_here def vis h
 
     -- what an edge brings is seen by what is there
-    brought_seen : (j : ℕ) (e : Edge) (b : Bound) → slice_get s.globs.edges j ≡ Some e → VisibilityIsThere maps_here b.vis → VisibilityIsThere maps_here (brought_vis (view_of names_here) e b)
+    brought_seen : (j : ℕ) (e : Edge) (b : Bound) → slice_get s.core.globs.edges j ≡ Some e → VisibilityIsThere maps_here b.vis → VisibilityIsThere maps_here (brought_vis (view_of names_here) e b)
     brought_seen j e b at g =
         lesser_or (is_missing maps_here) finished here e.vis b.vis
-        (not_second (test_of (is_missing maps_here) (target_reference e.source)) (test_visibility (is_missing maps_here) e.vis) (none_at (on_edge (is_missing maps_here)) s.globs.edges f.edges j e at)) g
+        (not_second (test_of (is_missing maps_here) (target_reference e.source)) (test_visibility (is_missing maps_here) e.vis) (none_at (on_edge (is_missing maps_here)) s.core.globs.edges f.edges j e at)) g
 
     -- what the source of an edge shows
     shown_there : (e : Edge) (key : Key) (b : Bound) → shown_along (view_of names_here) e key ≡ Some b → DefIsThere maps_here b.def × VisibilityIsThere maps_here b.vis
@@ -426,7 +426,7 @@ module _ (paths : PathsLeadToWhatIsThere) (finished : Maps) (whole : AreWellForm
         let from = target_there (path_answer finished s.core.local here r).resolved_def.types (reached_there r low).types target may.reaches in
         let clear : on_edge (is_missing maps_here) edge ≡ false =
         neither (test_of (is_missing maps_here) (target_reference target)) (test_visibility (is_missing maps_here) edge.vis) from (seen_at r.home low r.visibility) in
-        ((tt, tt), ((tt, recorded_fail (is_missing maps_here) (view_of names_here) s.globs.edges edges edge (greater (is_missing maps_here) finished here) f.edges clear may.recorded), tt))
+        ((tt, tt), ((tt, recorded_fail (is_missing maps_here) (view_of names_here) s.core.globs.edges edges edge (greater (is_missing maps_here) finished here) f.edges clear may.recorded), tt))
     imports_bring (goes_along rule) may = globs_bring rule may
 
     -- the next item is of a module of the map
@@ -479,7 +479,10 @@ module _ (paths : PathsLeadToWhatIsThere) (finished : Maps) (whole : AreWellForm
       ),
     )
     brings_what_is_there (closes_module parent child rest) may = (tt, (tt, tt))
-    brings_what_is_there (passes_over site head l rest) may = (tt, tt)
+    brings_what_is_there (reaches_call site head path rest) may = (tt, (tt, tt))
+    brings_what_is_there rests may = (tt, tt)
+    brings_what_is_there (expands_call i d makro x) may = (tt, (tt, fine_failing (BringsWhatIsThere finished) (module_id here d.site.home) d (error_of x.there) (λ t text. tt) _))
+    brings_what_is_there (drops_call i d) may = (tt, tt)
     brings_what_is_there (resolves_imports rule) may = imports_bring rule may
 
   names-Step : (env : Environment) (old new : State) → IsInRange old → NamesWhatIsThere finished old → Step env finished old new → NamesWhatIsThere finished new
@@ -599,7 +602,7 @@ module _ (paths : PathsLeadToWhatIsThere) (finished : Maps) (whole : AreWellForm
       let derived : Steps env finished (begin_of tables w all from) e.last = subst (λ (x : Maps). Steps env x (begin_of tables w all from) e.last) same e.derived in
       let end : NamesWhatIsThere finished e.last = steps_keep paths finished whole env (begin_of tables w all from) e.last (in_range-start tables w (read_by w all from.start) from) first derived in
       let m : Map = e.last.core.map in
-      let reports : List DefDiagnostic = m.diagnostics ++ leftover_diagnostics m e.last.core.reached e.last.core.taken in
+      let reports : List DefDiagnostic = m.diagnostics ++ leftover_reports e.last.core in
       let reported : Map = record m { diagnostics = reports } in
       let begins_there : HasNoDanglingExtern (overlay finished reported) e.last.core.local =
       HasNoDanglingExtern-more (overlay finished m) (overlay finished reported) (Extends-reported finished m reports) e.last.core.local end.begins in (

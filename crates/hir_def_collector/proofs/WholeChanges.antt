@@ -63,9 +63,8 @@ use Rattle.hir_import_resolution.specs.Changes.{act as act_on_imports, along, ke
 use Rattle.hir_import_resolution.specs.Names.{trait_vis}
 use Rattle.hir_import_resolution.specs.State.{ImportState}
 use Rattle.hir_def_collector.specs.Imports.{extern_by, reached_import}
-use Rattle.hir_def_collector.specs.Changes.{Change, lists, makes, gives_variants, begins_paths, reaches, changes_imports, adds_textual, takes_textual, defines, uses_macros, tells, goes_on, act, on_map}
+use Rattle.hir_def_collector.specs.Changes.{Change, lists, makes, gives_variants, begins_paths, reaches, awaits, ends, settles, changes_imports, adds_textual, takes_textual, defines, uses_macros, tells, goes_on, act, on_map}
 use Rattle.hir_def_collector.specs.Macros.{textual_at, with_macros_used, with_used}
-use Rattle.hir_def_collector.specs.Steps.{more}
 use Rattle.hir_def_collector.proofs.Lists.{none_joined}
 use Rattle.hir_def_collector.proofs.ImportEdits.{Edit, edit, edit_of, edited, imports_after, local_after, map_after}
 use Rattle.hir_def_collector.proofs.Visible.{constructor_fails, on_edge, target_reference}
@@ -96,7 +95,7 @@ pub record NamesWhatIsThere (finished : Maps) (s : State) : Type 0 where
   -- so are the maps of the crates on which the crate depends
   pub dependencies : list_any (λ (d : Dependency). test_crate (is_missing finished) d.krate) s.core.dependencies ≡ false
   -- so is what globs lead out of, and the modules that may see what they bring
-  pub edges : list_any (on_edge (is_missing (overlay finished s.core.map))) s.globs.edges ≡ false
+  pub edges : list_any (on_edge (is_missing (overlay finished s.core.map))) s.core.globs.edges ≡ false
 
 -- ---- crates
 
@@ -238,6 +237,9 @@ BringsWhatIsThere finished s (makes home name origin visibility) = (home < lengt
 BringsWhatIsThere finished s (gives_variants id variants) = are_variants_of id variants ≡ true
 BringsWhatIsThere finished s (begins_paths r) = test_import (is_missing (overlay finished s.core.map)) r ≡ false
 BringsWhatIsThere finished s (reaches rs) = list_any (test_import (is_missing (overlay finished s.core.map))) rs ≡ false
+BringsWhatIsThere finished s (awaits calls) = Unit {0}
+BringsWhatIsThere finished s (ends i fate) = Unit {0}
+BringsWhatIsThere finished s settles = Unit {0}
 BringsWhatIsThere finished s (changes_imports c) = EditsWhatIsThere (overlay finished s.core.map) (edit_of (import_state s) c) × EdgesAreThere (overlay finished s.core.map) c
 BringsWhatIsThere finished s (adds_textual home name makro) = Unit {0}
 BringsWhatIsThere finished s (takes_textual home from) = Unit {0}
@@ -257,7 +259,7 @@ with_larger finished s m same grown names f = record {
       none_of_less (test_import (is_missing (overlay finished s.core.map))) (test_import (is_missing (overlay finished m)))
       (λ r g. still_there (overlay finished s.core.map) (overlay finished m) grown (root_named (crate_of r.source)) g) s.core.reached f.crates;
   dependencies = f.dependencies;
-  edges = edges_more (overlay finished s.core.map) (overlay finished m) grown s.globs.edges f.edges;
+  edges = edges_more (overlay finished s.core.map) (overlay finished m) grown s.core.globs.edges f.edges;
 }
 
 -- diagnostics name nothing, nor do macros
@@ -378,6 +380,9 @@ names-act finished s (reaches rs) f fine = record {
   dependencies = f.dependencies;
   edges = f.edges;
 }
+names-act finished s (awaits calls) f fine = record { apart = f.apart; names = f.names; begins = f.begins; crates = f.crates; dependencies = f.dependencies; edges = f.edges }
+names-act finished s (ends i fate) f fine = record { apart = f.apart; names = f.names; begins = f.begins; crates = f.crates; dependencies = f.dependencies; edges = f.edges }
+names-act finished s settles f fine = record { apart = f.apart; names = f.names; begins = f.begins; crates = f.crates; dependencies = f.dependencies; edges = f.edges }
 names-act finished s (changes_imports c) f fine =
     let i : ImportState = import_state s in
     let m : Map = edited s.core.map (edit_of i c) in

@@ -7,6 +7,7 @@ use Rattle.hir_base.specs.declared.ids.Crate.{Crate}
 use Rattle.hir_base.specs.declared.ids.EnumId.{EnumId}
 use Rattle.hir_base.specs.declared.ids.ModuleDefId.{ModuleDefId}
 use Rattle.hir_base.specs.declared.ids.ModuleDefId.TheVariants as definitions
+use Rattle.hir_base.specs.declared.macro_kind.MacroId.{MacroId}
 use Rattle.hir_item_tree.specs.Collected.{is_enabled}
 use Rattle.hir_item_tree.specs.KeptForest.{Head, leaf, outline_module}
 use Rattle.hir_mod_dir.specs.ModuleFiles.{candidates_of}
@@ -15,15 +16,17 @@ use Rattle.hir_tables.specs.SourcePlaces.{file}
 use Rattle.hir_tables.specs.Tables.{TablesValue}
 use Rattle.hir_def_map.specs.Overlay.{Maps}
 use Rattle.hir_def_map.specs.State.{ModuleValue, module_at}
+use Rattle.hir_def_collector.specs.declared.collector.macro_directive.MacroDirective.{MacroDirective}
 use Rattle.hir_def_collector.specs.declared.collector.site.Site.{Site}
 use Rattle.hir_def_collector.specs.declared.source_database.Key.{Key}
 use Rattle.hir_def_collector.specs.declared.source_database.Key.TheVariants.{Tree, Variants}
 use Rattle.hir_def_collector.specs.Workspace.{Workspace, transitive_dependencies_in}
 use Rattle.hir_def_collector.specs.Keys.{environment, map_key}
-use Rattle.hir_def_collector.specs.ModuleFiles.{IsNumberOf, file_key, file_of_tree, named_by}
+use Rattle.hir_def_collector.specs.ModuleFiles.{IsNumberOf, file_key, named_by}
 use Rattle.hir_def_collector.specs.State.{State, Task, visits}
 use Rattle.hir_def_collector.specs.Start.{Beginning, begin_of, krate_of, read_by, root_key}
-use Rattle.hir_def_collector.specs.Steps.{Steps, path_of, visit}
+use Rattle.hir_def_collector.specs.Calls.{Expanding, IsNumberedCall}
+use Rattle.hir_def_collector.specs.Steps.{Expands, Sees, Steps, expands_call, keys_read, path_of, reads, visit}
 
 -- the definitions that a module lists, if it is there
 abbrev pub declarations_of : Option ModuleValue → List ModuleDefId
@@ -43,9 +46,9 @@ pub record IsCandidate (tables : TablesValue) (w : Workspace) (at : State) (key 
   pub rest : List Task
   pub next : at.agenda ≡ visits (visit site (leaf head (outline_module name))) ∷ rest
   pub enabled : is_enabled head.attributes ≡ true
-  -- the file in which the item is written
+  -- the file in which the item, or the outermost call around it, is written
   pub declaring : Option (List ℕ)
-  pub written : IsNumberOf tables (file_of_tree site.tree) declaring
+  pub written : IsNumberOf tables site.file declaring
   pub place : ℕ
   pub candidate : Candidate
   pub is_candidate : slice_get (candidates_of site.dir name (path_of head)) place ≡ Some candidate
@@ -56,6 +59,17 @@ pub record IsCandidate (tables : TablesValue) (w : Workspace) (at : State) (key 
   pub earlier : (m : ℕ) (c : Candidate) → m < place → slice_get (candidates_of site.dir name (path_of head)) m ≡ Some c
       → option_map_or (λ path. (w.tree at.core.map.id.krate (file path)).present) (named_by declaring c) false ≡ false
 
+-- a call of a state reaches a macro, and this is the key of the macro's text, of the call's input, of its expansion or of the expansion's items
+pub record IsOfCall (tables : TablesValue) (w : Workspace) (finished : Maps) (at : State) (key : Key) : Type 0 where
+  pub place : ℕ
+  pub call : MacroDirective
+  pub makro : MacroId
+  pub expands : Expands finished at place call makro
+  pub seen : Expanding
+  pub numbered : IsNumberedCall tables at.core.map.id.krate call makro seen
+  pub sees : Sees (environment tables w) finished (reads at (expands_call place call makro seen))
+  pub among : Contains (keys_read (reads at (expands_call place call makro seen))) key
+
 -- the reasons for which a run that ends in this state may have asked for a key
 pub data HasCause (tables : TablesValue) (w : Workspace) (finished : Maps) (from : Beginning) (last : State) (key : Key) : Type 0 where
   -- it is the tree with which the run begins
@@ -65,5 +79,7 @@ pub data HasCause (tables : TablesValue) (w : Workspace) (finished : Maps) (from
       → HasCause tables w finished from last key
   -- it is the tree of a candidate of a `mod` item, of which no earlier candidate is there
   candidate : (at : State) → IsPassed tables w finished from last at → IsCandidate tables w at key → HasCause tables w finished from last key
+  -- it is one of the keys of a call that reaches a macro
+  of_call : (at : State) → IsPassed tables w finished from last at → IsOfCall tables w (read_by w finished from.start) at key → HasCause tables w finished from last key
   -- it is the map of a crate on which the run's crate depends
   dependency : (krate : Crate) → Contains (transitive_dependencies_in w (krate_of from.start)) krate → key ≡ map_key krate → HasCause tables w finished from last key

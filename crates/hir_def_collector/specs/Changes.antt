@@ -13,7 +13,9 @@ use Rattle.hir_def_map.specs.declared.nameres.diagnostics.DefDiagnostic.{DefDiag
 use Rattle.hir_def_map.specs.declared.nameres.origin.ModuleOrigin.{ModuleOrigin}
 use Rattle.hir_import_resolution.specs.declared.directive.ImportDirective.{ImportDirective}
 use Rattle.hir_import_resolution.specs.Changes.{Change as ImportChange, act as act_on_imports}
-use Rattle.hir_def_collector.specs.State.{State, Task, import_state, with_import_state, with_imports, with_local, with_map}
+use Rattle.hir_def_collector.specs.declared.collector.macro_directive.Fate.{Fate}
+use Rattle.hir_def_collector.specs.declared.collector.macro_directive.MacroDirective.{MacroDirective}
+use Rattle.hir_def_collector.specs.State.{State, Task, import_state, with_calls, with_fate, with_import_state, with_imports, with_local, with_map, with_settled}
 use Rattle.hir_def_collector.specs.ItemIds.{module_id}
 use Rattle.hir_def_collector.specs.Imports.{extern_after}
 use Rattle.hir_def_collector.specs.Macros.{textual_at, with_macros_used, with_textual_macro, with_textual_scope}
@@ -30,6 +32,12 @@ pub data Change : Type 0 where
   begins_paths : ImportDirective → Change
   -- imports are come upon, none of them taken
   reaches : List ImportDirective → Change
+  -- macro calls are come upon, all of which wait
+  awaits : List MacroDirective → Change
+  -- this is what becomes of the call at a place
+  ends : (i : ℕ) → Fate → Change
+  -- the calls that there are may be expanded
+  settles : Change
   -- a declaration, an import or a glob binds names, or it's noted what an import was taken for
   changes_imports : ImportChange → Change
   -- a macro is defined, which comes last among those of its name in textual scope in a module
@@ -56,6 +64,9 @@ act s (makes home name origin visibility) = on_map s (with_module s.core.map hom
 act s (gives_variants id variants) = on_map s (with_enum s.core.map id variants)
 act s (begins_paths r) = record s { core = with_local s.core (extern_after s.core.map s.core.local r) }
 act s (reaches rs) = record s { core = with_imports s.core rs }
+act s (awaits calls) = record s { core = with_calls s.core calls }
+act s (ends i fate) = record s { core = with_fate s.core i fate }
+act s settles = record s { core = with_settled s.core }
 act s (changes_imports c) = with_import_state s (act_on_imports (import_state s) c)
 act s (adds_textual home name makro) = on_map s (with_textual_macro s.core.map home name makro)
 act s (takes_textual home from) = on_map s (with_textual_scope s.core.map home (textual_at s.core.map from))

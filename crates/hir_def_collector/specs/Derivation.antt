@@ -1,10 +1,12 @@
 -- What a run comes to: the end of a derivation by the import rules.
-use Rattle.std.specs.Prelude.{◌≡◌, ◌≤◌, ◌⊎◌, ℕ, Bool, false, List, [], ◌∷◌, ◌++◌, length, Option, None, Some, slice_get, Contains, cond}
+use Rattle.std.specs.Prelude.{◌≡◌, ◌≤◌, ◌⊎◌, ℕ, Bool, false, true, List, [], ◌∷◌, ◌++◌, length, Option, None, Some, slice_get, Contains, cond}
 use Rattle.hir_scope.specs.declared.imports.GlobId.{GlobId}
 use Rattle.hir_scope.specs.declared.imports.ImportOrExternCrate.{ImportOrExternCrate}
 use Rattle.hir_def_map.specs.State.{Local, Map, entry_at}
 use Rattle.hir_def_map.specs.Overlay.{Maps}
+use Rattle.hir_def_map.specs.declared.nameres.diagnostics.DefDiagnostic.{DefDiagnostic}
 use Rattle.hir_base.specs.Locations.{max_locations}
+use Rattle.hir_base.specs.declared.ids.Crate.{Crate}
 use Rattle.hir_tables.specs.Tables.{TablesValue}
 use Rattle.hir_glob_imports.specs.declared.edge.Target.{Target}
 use Rattle.hir_import_resolution.specs.declared.directive.ImportDirective.{ImportDirective}
@@ -15,10 +17,12 @@ use Rattle.hir_def_collector.specs.declared.collector.TheConstants.{STEP_LIMIT}
 use Rattle.hir_def_collector.specs.declared.source_database.Key.{Key}
 use Rattle.hir_def_collector.specs.Workspace.{Workspace, transitive_dependencies_in}
 use Rattle.hir_def_collector.specs.Keys.{Environment, environment, map_keys}
-use Rattle.hir_def_collector.specs.State.{State, import_state}
+use Rattle.hir_def_collector.specs.Calls.{LeadsNowhere}
+use Rattle.hir_def_collector.specs.Rounds.{HasManyRounds}
+use Rattle.hir_def_collector.specs.State.{Core, State, import_state}
 use Rattle.hir_def_collector.specs.Start.{Beginning, begin_of, id_of, krate_of, read_by}
 use Rattle.hir_def_collector.specs.Steps.{Step, Steps}
-use Rattle.hir_def_collector.specs.Reports.{leftover_diagnostics, with_diagnostics}
+use Rattle.hir_def_collector.specs.Reports.{leftover_diagnostics, unresolved_calls, with_diagnostics}
 use Rattle.hir_def_collector.specs.Causes.{HasCause}
 
 -- under the name that the import at the place gives, its module binds each namespace that its path reaches and that imports of
@@ -43,6 +47,10 @@ abbrev pub is_left_over : Option TakenValue → Bool
 is_left_over None = false
 is_left_over (Some t) = is_untaken t
 
+-- what is reported of calls that wait, and of imports that were never taken
+abbrev pub leftover_reports : Core → List DefDiagnostic
+leftover_reports c = unresolved_calls c.map.id c.calls c.fates ++ leftover_diagnostics c.map c.reached c.taken
+
 -- what a run answers
 pub record CollectedValue : Type 0 where
   -- the modules, and what each binds
@@ -60,6 +68,16 @@ pub record CollectedValue : Type 0 where
 abbrev pub collected_view : Collected → CollectedValue
 collected_view c = record { map = c.map; local = c.local; leftover = c.leftover.items; round_limit_met = c.round_limit_met; asked = c.asked }
 
+-- what a run answers that comes to this, whether or not rounds of calls were cut off, of a crate with these transitive dependencies
+abbrev pub finished_run : Core → Bool → List Crate → CollectedValue
+finished_run c round_limit_met transitive = record {
+  map = with_diagnostics c.map (leftover_reports c);
+  local = c.local;
+  leftover = leftover_among c.reached c.taken;
+  round_limit_met = round_limit_met;
+  asked = c.asked ++ map_keys transitive;
+}
+
 -- a derivation from the start over this workspace, beside these finished maps, ends in the answer
 pub record Ends (tables : TablesValue) (w : Workspace) (finished : Maps) (from : Beginning) (answer : CollectedValue) : Type 0 where
   pub last : State
@@ -69,16 +87,18 @@ pub record Ends (tables : TablesValue) (w : Workspace) (finished : Maps) (from :
   -- unless something else does; and what a glob brought stands there still
   pub closed : IsClosed (read_by w finished from.start) (import_state last)
   pub stands : BroughtStands (read_by w finished from.start) (import_state last)
-  -- unless rounds were cut off, no step is left: what each import reaches it was taken for
+  -- unless rounds of calls were cut off, what each import reaches it was taken for
   pub settled : answer.round_limit_met ≡ false → (i : ℕ) → IsSettled (read_by w finished from.start) (import_state last) i
   pub binds : answer.round_limit_met ≡ false → (i : ℕ) → BindsWhatItReaches (read_by w finished from.start) last i
   pub linked : answer.round_limit_met ≡ false → (i : ℕ) → IsLinked (read_by w finished from.start) last i
-  -- nothing is called yet, so there are no rounds
-  pub unlimited : answer.round_limit_met ≡ false
+  -- and no call that waits is too deep, or reaches a macro
+  pub nowhere : answer.round_limit_met ≡ false → (i : ℕ) → LeadsNowhere (read_by w finished from.start) last i
+  -- they are cut off only where there were more than may be
+  pub limited : answer.round_limit_met ≡ true → HasManyRounds (environment tables w) (read_by w finished from.start) (begin_of tables w finished from) last
   -- it is the map of the start
   pub own : answer.map.id ≡ id_of from.start
-  -- with a diagnostic behind the others for each import that is left over
-  pub map_is : answer.map ≡ with_diagnostics last.core.map (leftover_diagnostics last.core.map last.core.reached last.core.taken)
+  -- with a diagnostic behind the others for each call and each import that is left over
+  pub map_is : answer.map ≡ with_diagnostics last.core.map (leftover_reports last.core)
   pub local_is : answer.local ≡ last.core.local
   pub leftover_is : answer.leftover ≡ leftover_among last.core.reached last.core.taken
   -- what the steps asked for, and the map of each crate on which the run's crate depends
@@ -86,14 +106,18 @@ pub record Ends (tables : TablesValue) (w : Workspace) (finished : Maps) (from :
   pub dependencies_are : answer.map.crate_data.dependencies ≡ transitive_dependencies_in w (krate_of from.start)
   pub caused : (key : Key) → Contains answer.asked key → HasCause tables w finished from last key
 
+-- there are as many files, expansions or calls as have numbers
+abbrev pub IsNumberedOut : TablesValue → Type 0
+IsNumberedOut tables = (max_locations ≤ length tables.files) ⊎ ((max_locations ≤ length tables.entries) ⊎ (max_locations ≤ length tables.calls))
+
 -- as many steps or modules as are counted
 abbrev pub IsFull : ℕ → Map → Type 0
 IsFull count m = (STEP_LIMIT ≤ count) ⊎ (STEP_LIMIT ≤ length m.modules)
 
--- there are as many steps or modules as are counted, and one more step may be taken; or there are as many files as have numbers
+-- there are as many steps or modules as are counted, and one more step may be taken; or numbers ran out
 pub data IsStuck (env : Environment) (finished : Maps) (at : State) : Type 0 where
   counted_out : (next : State) → Step env finished at next → IsFull at.core.count at.core.map → IsStuck env finished at
-  numbered_out : max_locations ≤ length env.tables.files → IsStuck env finished at
+  numbered_out : IsNumberedOut env.tables → IsStuck env finished at
 
 -- steps lead on from here to where that is so
 pub record IsSpent (env : Environment) (finished : Maps) (from : State) : Type 0 where

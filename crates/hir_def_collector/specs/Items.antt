@@ -1,5 +1,5 @@
 -- What does an item declare?
-use Rattle.std.specs.Prelude.{ℕ, Bool, true, false, List, [], ◌∷◌, Option, None, Some, map, unwrap_or}
+use Rattle.std.specs.Prelude.{ℕ, List, [], ◌∷◌, Option, None, Some, map, unwrap_or}
 use Rattle.std.specs.Option.{option_and_then}
 use Rattle.hir_base.specs.declared.ast_id.AstKind.TheVariants as kinds
 use Rattle.hir_base.specs.declared.ast_id.SyntaxId.{SyntaxId}
@@ -13,7 +13,7 @@ use Rattle.hir_item_tree.specs.declared.tree_id.TreeId.{TreeId}
 use Rattle.hir_item_tree.specs.declared.shape.FieldsShape.TheVariants.{Record, Tuple, Unit as UnitShape}
 use Rattle.hir_scope.specs.declared.per_ns.PerNs.{PerNs}
 use Rattle.hir_scope.specs.declared.visibility.Visibility.{Visibility}
-use Rattle.hir_def_map.specs.State.{Local, Map, new_id, no_globs, pushed}
+use Rattle.hir_def_map.specs.State.{Local, Map, new_id}
 use Rattle.hir_def_map.specs.Overlay.{Maps}
 use Rattle.hir_def_map.specs.declared.nameres.origin.ModuleOrigin.{ModuleOrigin}
 use Rattle.hir_def_map.specs.declared.nameres.origin.ModuleOrigin.TheVariants as origins
@@ -66,10 +66,6 @@ constructor_of finished m own Tuple vs = Some (unwrap_or (meet_of finished m own
 constructor_of finished m own UnitShape vs = Some own
 
 -- ---- what an item binds
-
--- the map once a declaration bound items to a name of a module, where no glob has brought anything
-abbrev pub bound_in : Map → ℕ → List ℕ → PerNs → Map
-bound_in m home name items = pushed m no_globs home name items None
 
 -- a definition that a name stands for as a type
 abbrev pub type_declaration : List ℕ → ModuleDefId → Visibility → Declaration
@@ -128,23 +124,3 @@ inline_origin tree id = origins.Inline tree (node_of tree kinds.Module id)
 -- the origin of a module whose items are in a file of its own, which is read in an edition
 abbrev pub file_origin : TreeId → SyntaxId → Edition → ModuleFile → ModuleOrigin
 file_origin tree id edition file = origins.File file.is_mod_rs (node_of tree kinds.Module id) tree (record { file_id = file.id; edition = edition })
-
--- ---- what the rules don't speak of yet
-
--- whether items of this kind are passed over
-abbrev pub is_passed_over : Leaf → Bool
-is_passed_over (import tree) = false
-is_passed_over (extern_crate name alias) = false
-is_passed_over (function name) = false
-is_passed_over (structure name shape fields) = false
-is_passed_over (union_structure name fields) = false
-is_passed_over (enumeration name) = false
-is_passed_over (constant name) = false
-is_passed_over (static_item name) = false
-is_passed_over (trait_item name) = false
-is_passed_over (implementation of_trait) = false
-is_passed_over (type_alias name) = false
-is_passed_over (outline_module name) = false
-is_passed_over (macro_call path) = true
-is_passed_over (macro_rules name expander helpers) = false
-is_passed_over (macro_def name expander helpers) = false

@@ -13,6 +13,7 @@ pub mod Items
 pub mod Enums
 pub mod Imports
 pub mod Macros
+pub mod Calls
 -- ---- which files are those of modules, and what is reported
 pub mod ModuleFiles
 pub mod Reports
@@ -21,6 +22,7 @@ pub mod BuiltinAttributes
 pub mod Changes
 pub mod Steps
 -- ---- what a run comes to
+pub mod Rounds
 pub mod Derivation
 pub mod Causes
 pub mod Growth
@@ -28,6 +30,7 @@ pub mod Whole
 pub mod Sources
 -- ---- words of private code
 pub mod Moves
+pub mod CallMoves
 pub mod TreeReads
 pub mod Codes
 pub mod CollectedCodes

@@ -1,5 +1,5 @@
 -- Which file is that of an outline module, and which files does a run look at to find it?
-use Rattle.std.specs.Prelude.{◌≡◌, Bool, true, false, ℕ, List, [], ◌∷◌, ◌++◌, Option, None, Some, map, option_map, if◌then◌else◌, codes}
+use Rattle.std.specs.Prelude.{◌≡◌, IsSome, Bool, true, false, ℕ, List, [], ◌∷◌, ◌++◌, Option, None, Some, map, option_map, if◌then◌else◌, codes}
 use Rattle.std.specs.Option.{option_and_then, option_map_or, option_to_list}
 use Rattle.hir_base.specs.declared.ast_id.BlockId.{BlockId}
 use Rattle.hir_base.specs.declared.ast_id.FileId.{FileId}
@@ -67,6 +67,10 @@ IsNumberOf tables None (Some path) = ⊥
 IsNumberOf tables (Some id) None = ⊥
 IsNumberOf tables (Some id) (Some path) = file_at tables id ≡ Some path
 
+-- the number of a file means something, if there is one
+abbrev pub IsFileMeant : TablesValue → Option FileId → Type 0
+IsFileMeant tables file = (id : FileId) → file ≡ Some id → IsSome (file_at tables id)
+
 -- ---- a search
 
 -- the file of a candidate: its number, and what is there
@@ -74,7 +78,7 @@ pub record LookedAt : Type 0 where
   pub id : FileId
   pub there : TreeLook
 
--- a candidate, and the file that it names; none where it leads past the root, or is of a tree that is no file's
+-- a candidate, and the file that it names; none where it leads past the root, or is declared in a block
 pub record Tried : Type 0 where
   pub candidate : Candidate
   pub file : Option LookedAt
@@ -123,9 +127,9 @@ AreNumbered tables declaring [] = Unit {0}
 AreNumbered tables declaring (t ∷ ts) =
     IsNumberOf tables (option_map (λ (f : LookedAt). f.id) t.file) (named_by declaring t.candidate) × AreNumbered tables declaring ts
 
--- the numbers of a search for a module that this tree declares mean what they are taken for
-pub record IsNumbered (tables : TablesValue) (tree : TreeId) (s : Search) : Type 0 where
-  pub declaring : IsNumberOf tables (file_of_tree tree) s.declaring
+-- the numbers of a search for a module that this file declares mean what they are taken for
+pub record IsNumbered (tables : TablesValue) (file : Option FileId) (s : Search) : Type 0 where
+  pub declaring : IsNumberOf tables file s.declaring
   pub tried : AreNumbered tables s.declaring (tried_in s)
 
 -- ---- what is read

@@ -1,5 +1,5 @@
 -- What a part of a run does.
-use Rattle.std.specs.Prelude.{◌≡◌, ◌<◌, ◌≤◌, ◌+◌, ℕ, Bool, true, false, ◌||◌, List, [], ◌∷◌, ◌++◌, length, Option, Some, option_map, slice_get}
+use Rattle.std.specs.Prelude.{◌≡◌, ◌<◌, ◌≤◌, ◌+◌, ℕ, Bool, true, false, ◌||◌, List, [], ◌∷◌, ◌++◌, length, Option, Some, option_map}
 use Rattle.std.specs.Option.{option_to_list}
 use Rattle.hir_base.specs.Cfg.{Cfg}
 use Rattle.hir_base.specs.declared.ast_id.AstKind.TheVariants as nodes
@@ -22,7 +22,6 @@ use Rattle.hir_def_map.specs.declared.nameres.origin.ModuleOrigin.{ModuleOrigin}
 use Rattle.hir_def_collector.specs.declared.collector.site.Site.{Site}
 use Rattle.hir_def_map.specs.declared.nameres.AddModuleError.{AddModuleError}
 use Rattle.hir_def_map.specs.declared.nameres.AddModuleError.TheVariants as refusals
-use Rattle.hir_import_resolution.specs.Directives.{TakenValue, nothing_taken}
 use Rattle.hir_import_resolution.specs.declared.resolve.ImportError.{ImportError}
 use Rattle.hir_import_resolution.specs.declared.resolve.ImportError.TheVariants as imports
 use Rattle.hir_def_collector.specs.declared.collector.CollectError.{CollectError}
@@ -36,7 +35,7 @@ use Rattle.hir_tables.specs.SourcePlaces.{SourcePlaceValue}
 use Rattle.hir_tables.specs.Tables.{KeepsTables, TablesValue, source_of}
 use Rattle.hir_def_collector.specs.Keys.{Environment, environment}
 use Rattle.hir_def_collector.specs.Workspace.{Workspace, seen_of}
-use Rattle.hir_def_collector.specs.ModuleFiles.{AreNumbered, IsNumberOf, IsSearch, LookedAt, ModuleFile, Tried, file_reading, file_readings, module_file, named_by}
+use Rattle.hir_def_collector.specs.ModuleFiles.{AreNumbered, IsFileMeant, IsNumberOf, IsSearch, LookedAt, ModuleFile, Tried, file_reading, file_readings, module_file, named_by}
 use Rattle.hir_def_collector.specs.ItemIds.{module_id, node_of}
 use Rattle.hir_def_collector.specs.Items.{file_origin, own_visibility}
 use Rattle.hir_def_collector.specs.Macros.{is_macro_use, textual_at, with_textual_scope}
@@ -50,15 +49,16 @@ use Rattle.hir_def_collector.specs.Derivation.{IsSpent}
 abbrev pub OnceGrown : TablesValue → Workspace → (Environment → Type 0) → Type 0
 OnceGrown tables w P = (grown : TablesValue) → KeepsTables tables grown → P (environment grown w)
 
--- no import is taken
-abbrev pub AreUntaken : List TakenValue → Type 0
-AreUntaken taken = (i : ℕ) (t : TakenValue) → slice_get taken i ≡ Some t → t ≡ nothing_taken
-
 -- this is what a tree's source has under a crate, and its number means something
 pub record IsHeld (tables : TablesValue) (w : Workspace) (krate : Crate) (tree : TreeId) (source : SourceTreeValue) : Type 0 where
   pub place : SourcePlaceValue
   pub at : source_of tables tree ≡ Some place
   pub is : w.tree krate place ≡ source
+
+-- this is what the source of a site has under a crate, and the numbers of the site mean something
+pub record IsWritten (tables : TablesValue) (w : Workspace) (krate : Crate) (site : Site) (source : SourceTreeValue) : Type 0 where
+  pub held : IsHeld tables w krate site.tree source
+  pub file : IsFileMeant tables site.file
 
 -- one step over the workspace handles the visit, and these tasks come next
 pub record Handles (env : Environment) (finished : Maps) (old new : Core) (v : Visit) (inside : List Task) : Type 0 where
@@ -130,12 +130,13 @@ tasks_of home items (File site source marked) = visits_over site source.value.tr
 pub record IsWithin (count : ℕ) (site inner : Site) : Type 0 where
   pub there : inner.home < count
   pub tree : inner.tree ≡ site.tree
+  pub file : inner.file ≡ site.file
   pub deep : site.dir.depth ≤ inner.dir.depth
 
 -- those of a file are written in a module that is there, one deeper
 pub record IsOfFile (tables : TablesValue) (w : Workspace) (krate : Crate) (count : ℕ) (site inner : Site) (source : SourceTreeValue) : Type 0 where
   pub there : inner.home < count
-  pub held : IsHeld tables w krate inner.tree source
+  pub held : IsWritten tables w krate inner source
   pub above : site.dir.depth < 32
   pub deeper : inner.dir.depth ≡ site.dir.depth + 1
 
@@ -153,7 +154,7 @@ begun m home name new = let made : Map = with_module m home name new in with_tex
 abbrev pub opened : Maps → Core → Site → Head → List ℕ → ModuleOrigin → Core
 opened finished c site head name origin =
     let vis : Visibility = own_visibility finished c.local c.map site head in
-    counted (with_map c (with_declaration (begun c.map site.home name (new_module origin vis (Some (module_id c.map site.home)))) site.home (module_declaration c.map name vis)))
+    counted (with_declaration (with_map c (begun c.map site.home name (new_module origin vis (Some (module_id c.map site.home))))) site.home (module_declaration c.map name vis))
 
 -- a diagnostic like this is added, and a step is counted
 pub record Drops (P : DefDiagnostic → Type 0) (old new : Core) : Type 0 where

@@ -25,6 +25,10 @@ use Rattle.hir_import_resolution.specs.declared.directive.ImportSource.{ImportSo
 use Rattle.hir_import_resolution.specs.declared.directive.ImportSource.TheVariants as sources
 use Rattle.hir_import_resolution.specs.declared.directive.ImportDirective.{ImportDirective}
 use Rattle.hir_import_resolution.specs.Directives.{TakenValue, is_untaken}
+use Rattle.hir_def_collector.specs.declared.collector.macro_directive.Fate.{Fate}
+use Rattle.hir_def_collector.specs.declared.collector.macro_directive.Fate.TheVariants as fates
+use Rattle.hir_def_collector.specs.declared.collector.macro_directive.MacroDirective.{MacroDirective}
+use Rattle.hir_def_collector.specs.Calls.{call_kind, path_of_call}
 use Rattle.hir_def_collector.specs.CrateTop.{with_names}
 
 -- ---- items
@@ -53,6 +57,22 @@ is_unimplemented expanders.Unimplemented = true
 -- nothing can expand the macro that a node in a module defines
 abbrev pub unimplemented_macro : ModuleId → AstId → DefDiagnostic
 unimplemented_macro at node = record { in_module = at; kind = kinds.UnimplementedBuiltinMacro node }
+
+-- the macro of a call on a node is known, and it didn't expand, or not well
+abbrev pub failed_call : ModuleId → AstId → Path → List ℕ → DefDiagnostic
+failed_call at node path error = record { in_module = at; kind = kinds.MacroError node path error }
+
+-- ---- calls that are left over
+
+abbrev pub call_report : MapId → MacroDirective → DefDiagnostic
+call_report id d = record { in_module = numbered id d.site.home; kind = kinds.UnresolvedMacroCall (call_kind d) (path_of_call d) }
+
+-- one for each call that waits, in the order in which they were come upon
+abbrev pub unresolved_calls : MapId → List MacroDirective → List Fate → List DefDiagnostic
+unresolved_calls id [] fs = []
+unresolved_calls id (d ∷ ds) [] = []
+unresolved_calls id (d ∷ ds) (fates.Waits ∷ fs) = call_report id d ∷ unresolved_calls id ds fs
+unresolved_calls id (d ∷ ds) (fates.Handled ∷ fs) = unresolved_calls id ds fs
 
 -- ---- imports that are left over
 

@@ -27,7 +27,8 @@ use Rattle.hir_def_collector.specs.Workspace.{ConfigValue, Workspace, dependenci
 use Rattle.hir_def_collector.specs.Keys.{tree_at}
 use Rattle.hir_def_collector.specs.CrateTop.{crate_data_of}
 use Rattle.hir_def_collector.specs.Preludes.{extern_prelude, with_preludes}
-use Rattle.hir_def_collector.specs.State.{Core, State, Task, joined, visits_over}
+use Rattle.hir_def_collector.specs.ModuleFiles.{file_of_tree}
+use Rattle.hir_def_collector.specs.State.{Core, State, Task, joined, no_recorded_globs, visits_over}
 
 -- what a run begins with: where, the tree that it walks, and of a block the crates that paths of its crate may begin with
 pub record Beginning : Type 0 where
@@ -60,7 +61,7 @@ id_of start = crate_map (krate_of start)
 
 -- where the items of the tree are written
 abbrev pub root_site : TreeId → Site
-root_site tree = record { home = 0; tree = tree; extern_block = None; dir = root_directory; level = 0 }
+root_site tree = record { home = 0; tree = tree; file = file_of_tree tree; extern_block = None; dir = root_directory; level = 0 }
 
 -- its key
 abbrev pub tree_key : Start → TreeId → TreeKey
@@ -90,8 +91,12 @@ core_by finished crate_data local dependencies options start id = record {
   local = local;
   dependencies = dependencies;
   options = options;
+  globs = no_recorded_globs;
   reached = [];
   taken = [];
+  calls = [];
+  fates = [];
+  settled = 0;
   asked = root_key start id ∷ [];
   count = 0;
 }

@@ -1,6 +1,7 @@
 -- The steps that the import rules allow: each is a rule, which reads of the workspace and makes changes.
-use Rattle.std.specs.Prelude.{◌≡◌, ℕ, Bool, ◌||◌, true, List, [], ◌∷◌, ◌++◌, length, map as list_map, Option, Some, None, cond}
+use Rattle.std.specs.Prelude.{◌≡◌, ◌<◌, ◌≤◌, ℕ, Bool, ◌||◌, true, List, [], ◌∷◌, ◌++◌, length, map as list_map, Option, Some, None, cond}
 use Rattle.hir_base.specs.Cfg.{Cfg}
+use Rattle.hir_base.specs.ModPath.{Path}
 use Rattle.hir_base.specs.declared.ast_id.AstId.{AstId}
 use Rattle.hir_base.specs.declared.ast_id.AstKind.TheVariants as nodes
 use Rattle.hir_base.specs.declared.ids.AdtId.TheVariants as adts
@@ -12,7 +13,7 @@ use Rattle.hir_base.specs.declared.macro_kind.MacroExpander.{MacroExpander}
 use Rattle.hir_base.specs.declared.macro_kind.MacroId.{MacroId}
 use Rattle.hir_item_tree.specs.Collected.{is_enabled}
 use Rattle.hir_item_tree.specs.Kinds.{item_head, item_kind}
-use Rattle.hir_item_tree.specs.KeptForest.{Head, Leaf, KeptItem, KeptForest, leaf, import, extern_crate, enumeration, constant, implementation, outline_module, macro_rules, macro_def, holder, extern_block, inline_module}
+use Rattle.hir_item_tree.specs.KeptForest.{Head, KeptItem, KeptForest, leaf, import, extern_crate, enumeration, constant, implementation, outline_module, macro_call, macro_rules, macro_def, holder, extern_block, inline_module}
 use Rattle.hir_item_tree.specs.UseTree.{UseTree}
 use Rattle.hir_item_tree.specs.declared.shape.ExternCrateName.{ExternCrateName}
 use Rattle.hir_use_tree.specs.declared.imports.ImportAlias.{ImportAlias}
@@ -32,26 +33,31 @@ use Rattle.hir_tables.specs.Tables.{TablesValue}
 use Rattle.hir_def_collector.specs.declared.collector.declaration.Declaration.{Declaration}
 use Rattle.hir_import_resolution.specs.declared.directive.ImportDirective.{ImportDirective}
 use Rattle.hir_import_resolution.specs.Changes.{pushes}
+use Rattle.hir_import_resolution.specs.Rest.{IsClosed, IsSettled}
 use Rattle.hir_import_resolution.specs.Rules.{Rule as ImportRule, May as MayImport, acts as import_acts}
+use Rattle.hir_def_collector.specs.declared.collector.macro_directive.Fate.TheVariants.{Handled}
+use Rattle.hir_def_collector.specs.declared.collector.macro_directive.MacroDirective.{MacroDirective}
+use Rattle.hir_def_collector.specs.declared.collector.macro_directive.MacroDirectiveKind.TheVariants.{FnLike}
 use Rattle.hir_def_collector.specs.declared.collector.site.Site.{Site}
 use Rattle.hir_def_collector.specs.declared.source_database.Key.{Key}
 use Rattle.hir_def_collector.specs.declared.source_database.Key.TheVariants as keys
 use Rattle.hir_def_collector.specs.Keys.{Environment, of_variants, look}
 use Rattle.hir_def_collector.specs.ModuleFiles.{IsNumbered, IsSearch, ModuleFile, Reading, Search, file_readings, file_tree, module_file, path_attribute, tried_in}
-use Rattle.hir_def_collector.specs.Reports.{IsUnconfigured, IsUnresolvedModule, is_unimplemented, unimplemented_macro}
-use Rattle.hir_def_collector.specs.State.{Visit, Task, visits, closes, State, import_state, visits_over, ticked}
+use Rattle.hir_def_collector.specs.Calls.{Expanding, IsNumberedCall, IsWaiting, call_site, called_macro, error_of, expansion_readings, path_of_call, text_readings}
+use Rattle.hir_def_collector.specs.Reports.{IsUnconfigured, IsUnresolvedModule, failed_call, is_unimplemented, unimplemented_macro}
+use Rattle.hir_def_collector.specs.State.{Core, Visit, Task, visits, closes, State, import_state, visits_over, ticked, with_bound, with_map}
 use Rattle.hir_def_collector.specs.ItemIds.{const_id, enum_id, impl_id, extern_block_id, extern_crate_id, macro_def_id, macro_rules_id, module_id, node_of, use_id}
-use Rattle.hir_def_collector.specs.Items.{declaration_of, declared_module, file_origin, inline_origin, is_passed_over, own_visibility, type_declaration, bound_in}
+use Rattle.hir_def_collector.specs.Items.{declaration_of, declared_module, file_origin, inline_origin, own_visibility, type_declaration}
 use Rattle.hir_def_collector.specs.Enums.{variants_of}
 use Rattle.hir_def_collector.specs.Imports.{crate_import, imports_by}
 use Rattle.hir_def_collector.specs.Macros.{is_exported, is_macro_use, macro_declaration, macros_brought}
-use Rattle.hir_def_collector.specs.Changes.{Change, lists, makes, gives_variants, begins_paths, reaches, changes_imports, adds_textual, takes_textual, defines, uses_macros, tells, goes_on, perform}
+use Rattle.hir_def_collector.specs.Changes.{Change, lists, makes, gives_variants, begins_paths, reaches, awaits, ends, settles, changes_imports, adds_textual, takes_textual, defines, uses_macros, tells, goes_on, perform}
 
 -- ---- what the rules are about
 
--- the map with one more definition, which its module lists and binds
-abbrev pub with_declaration : Map → ℕ → Declaration → Map
-with_declaration m home d = bound_in (with_declared m home d.def) home d.name d.items
+-- the core with one more definition, which its module lists and binds
+abbrev pub with_declaration : Core → ℕ → Declaration → Core
+with_declaration c home d = with_bound (with_map c (with_declared c.map home d.def)) home d.name d.items
 
 -- the changes that list a definition and bind it
 abbrev pub declaring : ℕ → Declaration → List Change
@@ -67,15 +73,15 @@ module_declaration m name vis = record { name = name; def = definitions.ModuleId
 
 -- where the items of the next module of a map are written, if that is where it is declared
 abbrev pub inside_module : Map → Site → Directory → Site
-inside_module m s dir = record { home = length m.modules; tree = s.tree; extern_block = None; dir = dir; level = s.level }
+inside_module m s dir = record { home = length m.modules; tree = s.tree; file = s.file; extern_block = None; dir = dir; level = s.level }
 
 -- and if it is a file of its own
 abbrev pub inside_file : Map → ModuleFile → Site
-inside_file m f = record { home = length m.modules; tree = file_tree m.crate_data.edition f.id; extern_block = None; dir = f.dir; level = 0 }
+inside_file m f = record { home = length m.modules; tree = file_tree m.crate_data.edition f.id; file = Some f.id; extern_block = None; dir = f.dir; level = 0 }
 
 -- where the items of an extern block are written
 abbrev pub inside_block : Map → Site → Head → Site
-inside_block m s head = record { home = s.home; tree = s.tree; extern_block = Some (extern_block_id m s head.id); dir = s.dir; level = s.level }
+inside_block m s head = record { home = s.home; tree = s.tree; file = s.file; extern_block = Some (extern_block_id m s head.id); dir = s.dir; level = s.level }
 
 -- the `path` attribute of an item
 abbrev pub path_of : Head → Option (List ℕ)
@@ -132,8 +138,14 @@ pub data Rule : Type 0 where
   defines_macro : (site : Site) (head : Head) (name : List ℕ) (expander : MacroExpander) (helpers : List (List ℕ)) (rest : List Task) → Rule
   -- the items of a module marked `macro_use` were visited
   closes_module : (parent child : ℕ) (rest : List Task) → Rule
-  -- the next item is of a kind of which the rules don't speak yet
-  passes_over : (site : Site) (head : Head) (l : Leaf) (rest : List Task) → Rule
+  -- the next item is a macro call, which waits
+  reaches_call : (site : Site) (head : Head) (path : Path) (rest : List Task) → Rule
+  -- nothing is left to do but to expand calls, and those that there are may be expanded now
+  rests : Rule
+  -- the call at the place reaches a macro: the items to which it expands are visited next
+  expands_call : (i : ℕ) (d : MacroDirective) (makro : MacroId) (x : Expanding) → Rule
+  -- the call at the place is deeper than calls may be, and is dropped
+  drops_call : (i : ℕ) (d : MacroDirective) → Rule
   -- an import is taken, or a name goes along a glob
   resolves_imports : (rule : ImportRule) → Rule
 
@@ -150,11 +162,6 @@ pub record IsOff (s : State) (v : Visit) (report : DefDiagnostic) (rest : List T
 pub record IsNext (s : State) (v : Visit) (rest : List Task) : Type 0 where
   pub next : s.agenda ≡ visits v ∷ rest
   pub enabled : is_enabled (item_head v.item).attributes ≡ true
-
--- and it is passed over
-pub record IsPassed (s : State) (site : Site) (head : Head) (l : Leaf) (rest : List Task) : Type 0 where
-  pub here : IsNext s (visit site (leaf head l)) rest
-  pub passed : is_passed_over l ≡ true
 
 -- or this is what it declares
 pub record Declares (finished : Maps) (s : State) (v : Visit) (d : Declaration) (rest : List Task) : Type 0 where
@@ -185,6 +192,29 @@ pub record Misses (s : State) (site : Site) (head : Head) (name : List ℕ) (sea
   pub reported : IsUnresolvedModule (module_id s.core.map site.home) (node_of site.tree nodes.Module head.id)
       (list_map (λ (c : Candidate). c.text) (candidates_of site.dir name (path_of head))) report
 
+-- nothing is to be done but to expand calls: nothing is to be visited, what each import reaches it was taken for, and no name is left to go along a glob
+pub record IsQuiet (finished : Maps) (s : State) : Type 0 where
+  pub visited : s.agenda ≡ []
+  pub settled : (i : ℕ) → IsSettled finished (import_state s) i
+  pub closed : IsClosed finished (import_state s)
+
+-- the call at the place waits, and was there when imports rested last
+pub record IsDue (s : State) (i : ℕ) (d : MacroDirective) : Type 0 where
+  pub visited : s.agenda ≡ []
+  pub waiting : IsWaiting s i d
+  pub settled : i < s.core.settled
+
+-- and isn't deeper than calls may be
+pub record Expands (finished : Maps) (s : State) (i : ℕ) (d : MacroDirective) (makro : MacroId) : Type 0 where
+  pub due : IsDue s i d
+  pub shallow : d.site.level < s.core.map.crate_data.recursion_limit
+  pub reaches : called_macro finished s.core.local s.core.map d ≡ Some makro
+
+-- and is deeper than calls may be
+pub record IsDeep (s : State) (i : ℕ) (d : MacroDirective) : Type 0 where
+  pub due : IsDue s i d
+  pub deep : s.core.map.crate_data.recursion_limit ≤ d.site.level
+
 abbrev pub May : Maps → State → Rule → Type 0
 May finished s (drops_item v report rest) = IsOff s v report rest
 May finished s (declares_item v d rest) = Declares finished s v d rest
@@ -201,7 +231,10 @@ May finished s (reaches_crate site head name alias rest) = IsNext s (visit site 
 May finished s (defines_rules site head name expander helpers rest) = IsNext s (visit site (leaf head (macro_rules name expander helpers))) rest
 May finished s (defines_macro site head name expander helpers rest) = IsNext s (visit site (leaf head (macro_def name expander helpers))) rest
 May finished s (closes_module parent child rest) = s.agenda ≡ closes parent child ∷ rest
-May finished s (passes_over site head l rest) = IsPassed s site head l rest
+May finished s (reaches_call site head path rest) = IsNext s (visit site (leaf head (macro_call path))) rest
+May finished s rests = IsQuiet finished s
+May finished s (expands_call i d makro x) = Expands finished s i d makro
+May finished s (drops_call i d) = IsDeep s i d
 May finished s (resolves_imports rule) = MayImport finished (import_state s) rule
 
 -- ---- what it reads
@@ -226,28 +259,34 @@ reads s (reaches_crate site head name alias rest) = []
 reads s (defines_rules site head name expander helpers rest) = []
 reads s (defines_macro site head name expander helpers rest) = []
 reads s (closes_module parent child rest) = []
-reads s (passes_over site head l rest) = []
+reads s (reaches_call site head path rest) = []
+reads s rests = []
+reads s (expands_call i d makro x) = text_readings makro x.text ++ expansion_readings s.core.map.id.krate d x
+reads s (drops_call i d) = []
 reads s (resolves_imports rule) = []
 
--- the numbers of files that a rule speaks of mean what they are taken for
-abbrev pub Numbered : TablesValue → Rule → Type 0
-Numbered tables (opens_file site head name search file rest) = IsNumbered tables site.tree search
-Numbered tables (drops_file site head name search report rest) = IsNumbered tables site.tree search
-Numbered tables (misses_file site head name search report rest) = IsNumbered tables site.tree search
-Numbered tables (drops_item v report rest) = Unit {0}
-Numbered tables (declares_item v d rest) = Unit {0}
-Numbered tables (declares_enum site head name found rest) = Unit {0}
-Numbered tables (lists_constant site head rest) = Unit {0}
-Numbered tables (lists_impl site head of_trait rest) = Unit {0}
-Numbered tables (opens_module site head name items rest) = Unit {0}
-Numbered tables (enters_block site head items rest) = Unit {0}
-Numbered tables (reaches_imports site head tree rest) = Unit {0}
-Numbered tables (reaches_crate site head name alias rest) = Unit {0}
-Numbered tables (defines_rules site head name expander helpers rest) = Unit {0}
-Numbered tables (defines_macro site head name expander helpers rest) = Unit {0}
-Numbered tables (closes_module parent child rest) = Unit {0}
-Numbered tables (passes_over site head l rest) = Unit {0}
-Numbered tables (resolves_imports rule) = Unit {0}
+-- the numbers of files, expansions and calls that a rule speaks of mean what they are taken for
+abbrev pub Numbered : TablesValue → State → Rule → Type 0
+Numbered tables s (opens_file site head name search file rest) = IsNumbered tables site.file search
+Numbered tables s (drops_file site head name search report rest) = IsNumbered tables site.file search
+Numbered tables s (misses_file site head name search report rest) = IsNumbered tables site.file search
+Numbered tables s (drops_item v report rest) = Unit {0}
+Numbered tables s (declares_item v d rest) = Unit {0}
+Numbered tables s (declares_enum site head name found rest) = Unit {0}
+Numbered tables s (lists_constant site head rest) = Unit {0}
+Numbered tables s (lists_impl site head of_trait rest) = Unit {0}
+Numbered tables s (opens_module site head name items rest) = Unit {0}
+Numbered tables s (enters_block site head items rest) = Unit {0}
+Numbered tables s (reaches_imports site head tree rest) = Unit {0}
+Numbered tables s (reaches_crate site head name alias rest) = Unit {0}
+Numbered tables s (defines_rules site head name expander helpers rest) = Unit {0}
+Numbered tables s (defines_macro site head name expander helpers rest) = Unit {0}
+Numbered tables s (closes_module parent child rest) = Unit {0}
+Numbered tables s (reaches_call site head path rest) = Unit {0}
+Numbered tables s rests = Unit {0}
+Numbered tables s (expands_call i d makro x) = IsNumberedCall tables s.core.map.id.krate d makro x
+Numbered tables s (drops_call i d) = Unit {0}
+Numbered tables s (resolves_imports rule) = Unit {0}
 
 -- ---- what it changes
 
@@ -264,6 +303,15 @@ exporting head name makro = cond (is_exported head.attributes) (changes_imports 
 -- the changes that report a macro that a node in a module defines and nothing can expand
 abbrev pub reporting : ModuleId → AstId → MacroExpander → List Change
 reporting at node expander = cond (is_unimplemented expander) (tells (unimplemented_macro at node) ∷ []) []
+
+-- a call that is written at a site
+abbrev pub call_at : Site → Head → Path → MacroDirective
+call_at site head path = record { site = site; ast_id = node_of site.tree nodes.MacroCall head.id; kind = FnLike path }
+
+-- the changes that report a call that didn't expand, or not well
+abbrev pub failing : ModuleId → MacroDirective → Option (List ℕ) → List Change
+failing at d None = []
+failing at d (Some error) = tells (failed_call at d.ast_id (path_of_call d) error) ∷ []
 
 abbrev pub acts : Maps → State → Rule → List Change
 acts finished s (drops_item v report rest) = goes_on rest ∷ tells report ∷ []
@@ -301,7 +349,11 @@ acts finished s (defines_macro site head name expander helpers rest) =
     goes_on rest ∷ defines node makro
     ∷ declaring site.home (macro_declaration name makro (own_visibility finished s.core.local s.core.map site head)) ++ reporting (module_id s.core.map site.home) node expander
 acts finished s (closes_module parent child rest) = goes_on rest ∷ takes_textual parent child ∷ []
-acts finished s (passes_over site head l rest) = goes_on rest ∷ []
+acts finished s (reaches_call site head path rest) = goes_on rest ∷ awaits (call_at site head path ∷ []) ∷ []
+acts finished s rests = settles ∷ []
+acts finished s (expands_call i d makro x) =
+    ends i Handled ∷ goes_on (visits_over (call_site d x.id) x.tree.tree.items) ∷ failing (module_id s.core.map d.site.home) d (error_of x.there)
+acts finished s (drops_call i d) = ends i Handled ∷ []
 acts finished s (resolves_imports rule) = list_map changes_imports (import_acts finished (import_state s) rule)
 
 -- ---- the same for all rules
@@ -333,7 +385,7 @@ pub record Step (env : Environment) (finished : Maps) (old new : State) : Type 0
   pub rule : Rule
   pub may : May finished old rule
   pub sees : Sees env finished (reads old rule)
-  pub numbered : Numbered env.tables rule
+  pub numbered : Numbered env.tables old rule
   pub is : new ≡ after finished old rule
 
 -- steps one after another

@@ -11,23 +11,31 @@
 //! a module goes along all edges out of it at once. And an import is tried again when something is bound that its path has
 //! read. So a path can come to reach more, or something else: the import is then bound again, and a glob gets another edge.
 //!
-//! When no import waits, none would bind anything, and no name is left to go along an edge. That isn't told by this loop but
-//! by the rules in `specs/Steps`: each function below makes one step by a rule, and the whole is a derivation to which no
-//! step can be added.
-ghost use Rattle.std.specs.Prelude.{◌≡◌, ◌<◌, IfOk, OnOk, length, option_map, unwrap_or, []};
+//! A macro call waits, in the order in which calls were found, until its path reaches a macro. Once imports rest each call
+//! that waits is tried, one after another: the call that reaches a macro asks for the macro's text and its own input,
+//! and with them for its expansion, whose items are handled as those of a file are, in the module of the call. Then
+//! imports are taken up again, and so on, round by round, until a round handles no call, or more than `ROUND_LIMIT` have.
+//!
+//! When no import waits, none would bind anything, no name is left to go along an edge, and no call that waits reaches a
+//! macro, a run ends. That isn't told by these loops but by the rules in `specs/Steps`: each function below makes one step
+//! by a rule, and the whole is a derivation at whose end this holds (`specs/Derivation`), unless rounds were cut off.
+ghost use Rattle.std.specs.Prelude.{◌≡◌, ◌<◌, IfOk, IsSome, None, OnOk, false, length, option_map, unwrap_or, []};
 ghost use Rattle.hir_item_tree.specs.Collected.{is_enabled};
-ghost use Rattle.hir_tables.specs.Tables.{KeepsTables};
+ghost use Rattle.hir_tables.specs.Tables.{KeepsTables, source_of};
 ghost use Rattle.hir_def_map.specs.WorldParts.{part_of};
 ghost use Rattle.hir_def_map.specs.Overlay.{Maps};
 ghost use Rattle.hir_def_map.specs.World.{finished_in};
 ghost use Rattle.hir_def_collector.specs.Workspace.{Workspace, config_view, dependencies_of, options_of};
-ghost use Rattle.hir_def_collector.specs.Keys.{AgreeOn, environment};
+ghost use Rattle.hir_def_collector.specs.Keys.{AgreeOn, Environment, environment};
 ghost use Rattle.hir_def_collector.specs.Start.{began, beginning, core_of, edition_of, krate_of, origin_of, root_site, tree_visits};
-ghost use Rattle.hir_def_collector.specs.State.{at_rest, joined};
+ghost use Rattle.hir_def_collector.specs.CallMoves.{ComesToRest, IsReady};
+ghost use Rattle.hir_def_collector.specs.Calls.{AreCallsPlaced};
+ghost use Rattle.hir_def_collector.specs.State.{at_rest, core_in, joined};
 ghost use Rattle.hir_def_collector.specs.Steps.{Steps};
 ghost use Rattle.hir_def_collector.specs.Derivation.{Ends, IsOverlong, IsSpent, collected_view};
-ghost use Rattle.hir_def_collector.specs.Moves.{IsHeld};
+ghost use Rattle.hir_def_collector.specs.Moves.{IsHeld, OnceGrown};
 
+pub mod calls;
 pub mod collected;
 mod crate_attrs;
 pub mod declaration;
@@ -38,6 +46,7 @@ mod enums;
 mod imports;
 mod known_name;
 mod leftovers;
+pub mod macro_directive;
 mod macro_use;
 mod macros;
 pub mod mod_collector;
@@ -48,6 +57,7 @@ mod sources;
 mod textual;
 
 use crate::source_database::{Config, Dependency, SourceDatabase};
+use calls::resolve_rounds;
 use collected::Collected;
 use crate_attrs::top_data;
 use def_collector::DefCollector;
@@ -63,14 +73,14 @@ use hir_def_map::nameres::origin::ModuleOrigin;
 use hir_def_map::world::World;
 use hir_def_map::world::part::WorldPart;
 use hir_glob_imports::MAX_STEPS;
-use hir_import_resolution::{ImportError, resolve_imports};
+use hir_import_resolution::ImportError;
 use hir_item_tree::item_tree::ItemTree;
 use hir_item_tree::source_tree::SourceTree;
 use hir_item_tree::tree_id::{TreeId, TreeKey};
 use hir_mod_dir::ModDir;
 use hir_tables::Tables;
-use leftovers::finish;
 use mod_collector::walk_all;
+use mod_resolution::file_of_tree;
 use preludes::extern_prelude;
 use site::Site;
 use sources::source_at;
@@ -120,6 +130,8 @@ pub const STEP_LIMIT: u32 = MAX_STEPS;
 pub enum CollectError {
     /// As many steps or modules as are counted, and another was wanted.
     TooMany,
+    /// A macro of a finished map is written in a source that has no number: the map was made over other tables.
+    UnknownSource,
     Memory,
 }
 
@@ -179,7 +191,8 @@ impl From<ImportError> for CollectError {
 /// Finds what the names of a crate's modules stand for, beside the finished maps of the crates on which it depends.
 ///
 /// `tree` is the tree of the crate's root file, and `local` is of no use to a crate. A file that is looked for, found or
-/// not, gets a number in `locations`. Of the trees' items macro calls are passed over. After rust-analyzer's `collect_defs`.
+/// not, gets a number in `locations`, and so does a macro call that reaches a macro, with its expansion. After
+/// rust-analyzer's `collect_defs`.
 pub fn collect_defs<D: SourceDatabase>(
     alloc: Global,
     db: &mut D,
@@ -191,6 +204,8 @@ pub fn collect_defs<D: SourceDatabase>(
 ) -> Result<Collected, CollectError>
     ensures kept { KeepsTables locations.old locations.new }
     ensures same { D.workspace db.new ≡ D.workspace db.old }
+    // Each call that gets a number is written where a number leads.
+    ensures placed { AreCallsPlaced locations.old → AreCallsPlaced locations.new }
 
     // The answer is the end of a derivation over each workspace, beside finished maps, that agrees on what was asked for.
     ensures ends { IfOk result (λ c. (w : Workspace) (finished : Maps) → AgreeOn locations.new (collected_view c).asked (D.workspace db.old) (finished_in world.now.maps) w finished
@@ -201,11 +216,14 @@ pub fn collect_defs<D: SourceDatabase>(
 {
     let transitive = transitive_of(alloc, db.transitive_dependencies(start.krate()))?;
     let part = WorldPart::among(world, &transitive, &[]);
+    let is_unknown = locations.source_of(tree).is_none();
     let run = begin(alloc, db, part, locations, &transitive, start, tree)?;
-    let (imports, asked) = run.into_imports();
+    if is_unknown {
+        return Ok(run.finish(false, transitive)?);
+    }
     let apart = world.map(MapId::of_crate(start.krate())).is_none();
-    let imports = resolve_imports(alloc, part, apart, imports)?;
-    Ok(finish(alloc, imports, asked, transitive)?)
+    let (run, round_limit_met) = resolve_rounds(run, db, part, locations, apart)?;
+    Ok(run.finish(round_limit_met, transitive)?)
 }
 
 /// What a crate depends on; nothing where it isn't there.
@@ -262,7 +280,7 @@ fn fresh(
     start: Start,
     id: TreeId,
 ) -> Result<DefCollector, AllocError>
-    ensures value { IfOk result (λ run. run
+    ensures value { IfOk result (λ run. core_in run
         ≡ core_of (part_of world.entry) tree.now (option_map (λ c. config_view c.now) config.entry) transitive.now.value start id) }
 {
     let data = top_data(
@@ -278,7 +296,7 @@ fn fresh(
     DefCollector::start(alloc, world, data, local, copies, options, start, id)
 }
 
-/// The root module with what all modules find, and with all items handled to which its tree leads.
+/// The root module with what all modules find, and with all items handled to which its tree leads; calls wait.
 fn begin<D: SourceDatabase>(
     alloc: Global,
     db: &mut D,
@@ -290,8 +308,13 @@ fn begin<D: SourceDatabase>(
 ) -> Result<DefCollector, CollectError>
     ensures kept { KeepsTables locations.old locations.new }
     ensures same { D.workspace db.new ≡ D.workspace db.old }
+    ensures placed { AreCallsPlaced locations.old → AreCallsPlaced locations.new }
+    ensures ready { IfOk result (λ run. IsReady locations.new (part_of world.entry) (core_in run)) }
     ensures ok { IfOk result (λ run. Steps (environment locations.new (D.workspace db.old)) (part_of world.entry)
-        (began locations.new (D.workspace db.old) (part_of world.entry) transitive.now.value start id) (at_rest run)) }
+        (began locations.new (D.workspace db.old) (part_of world.entry) transitive.now.value start id) (at_rest (core_in run))) }
+    ensures grown { IfOk result (λ run. IsSome (source_of locations.old id) → OnceGrown locations.new (D.workspace db.old) (λ env. Steps env (part_of world.entry)
+        (began env.tables (D.workspace db.old) (part_of world.entry) transitive.now.value start id) (at_rest (core_in run)))) }
+    ensures idle { IfOk result (λ run. source_of locations.old id ≡ None → (env : Environment) → ComesToRest env (part_of world.entry) (core_in run) (core_in run) false) }
     ensures many { result ≡ Err CollectError.TooMany → IsSpent (environment locations.new (D.workspace db.old)) (part_of world.entry)
         (began locations.new (D.workspace db.old) (part_of world.entry) transitive.now.value start id) }
 {
@@ -322,14 +345,15 @@ fn walk_root<D: SourceDatabase>(
     source: &SourceTree,
     id: TreeId,
 ) -> Result<(), CollectError>
-    requires in_range { 0 < length run.old.map.modules }
-    requires held { IsHeld locations.old (D.workspace db.old) run.old.map.id.krate id source.now }
+    requires in_range { 0 < length (core_in run.old).map.modules }
+    requires held { IsHeld locations.old (D.workspace db.old) (core_in run.old).map.id.krate id source.now }
     ensures kept { KeepsTables locations.old locations.new }
+    ensures placed { AreCallsPlaced locations.old → AreCallsPlaced locations.new }
     ensures same { D.workspace db.new ≡ D.workspace db.old }
-    ensures ok { OnOk result (Steps (environment locations.new (D.workspace db.old)) (part_of world.entry)
-        (joined run.old (tree_visits (root_site id) source.now.tree)) (at_rest run.new)) }
+    ensures ok { OnOk result (OnceGrown locations.new (D.workspace db.old) (λ env. Steps env (part_of world.entry)
+        (joined (core_in run.old) (tree_visits (root_site id) source.now.tree)) (at_rest (core_in run.new)))) }
     ensures many { result ≡ Err CollectError.TooMany → IsSpent (environment locations.new (D.workspace db.old)) (part_of world.entry)
-        (joined run.old (tree_visits (root_site id) source.now.tree)) }
+        (joined (core_in run.old) (tree_visits (root_site id) source.now.tree)) }
 {
     if !is_enabled_at_top(source.tree()) {
         return Ok(());
@@ -337,6 +361,7 @@ fn walk_root<D: SourceDatabase>(
     let site = Site {
         home: 0,
         tree: id,
+        file: file_of_tree(id),
         extern_block: None,
         dir: ModDir::root(),
         level: 0,

@@ -1,5 +1,6 @@
--- Back over one step: what the next item declares is what it lists, and what the items that come next in it declare.
-use Rattle.std.proofs.Common.{◌≡◌, ◌∙◌, ◌<◌, ◌+◌, ℕ, List, [], ◌∷◌, ◌++◌, length, ◌||◌, Bool, true, false, Option, None, Some, map as list_map, refl, sym, ap, subst, Contains, append-nil}
+-- Back over one step: what the next item declares is what it lists, and what the items that come next in it declare; and what an
+-- expansion declares is what its items do, which come next.
+use Rattle.std.proofs.Common.{◌≡◌, ◌∙◌, ◌<◌, ◌+◌, ℕ, zero, suc, List, [], ◌∷◌, ◌++◌, length, ◌||◌, Bool, true, false, Option, None, Some, map as list_map, refl, sym, ap, subst, arith, Contains, append-nil}
 use Rattle.hir_base.specs.Cfg.{Cfg}
 use Rattle.hir_base.specs.declared.edition.Edition.{Edition}
 use Rattle.hir_base.specs.declared.ast_id.AstId.{AstId}
@@ -9,6 +10,7 @@ use Rattle.hir_base.specs.declared.ids.Crate.{Crate}
 use Rattle.hir_base.specs.declared.ids.MapId.{MapId}
 use Rattle.hir_base.specs.declared.ids.ModuleDefId.{ModuleDefId}
 use Rattle.hir_base.specs.declared.ids.ModuleDefId.TheVariants as definitions
+use Rattle.hir_base.specs.declared.ids.ModuleId.{ModuleId}
 use Rattle.hir_base.specs.declared.macro_kind.MacroId.{MacroId}
 use Rattle.hir_item_tree.specs.Collected.{Collected, is_enabled, is_enabled_by}
 use Rattle.hir_item_tree.specs.ItemTree.{Tree}
@@ -20,36 +22,42 @@ use Rattle.hir_mod_dir.specs.ModuleFiles.{inline_directory}
 use Rattle.hir_tables.specs.Tables.{TablesValue}
 use Rattle.hir_scope.specs.declared.visibility.Visibility.{Visibility}
 use Rattle.hir_def_map.specs.Overlay.{Maps}
-use Rattle.hir_def_map.specs.State.{Map, module_at, new_id}
+use Rattle.hir_def_map.specs.State.{CrateData, Map, module_at, new_id}
 use Rattle.hir_def_map.specs.declared.nameres.diagnostics.DefDiagnostic.{DefDiagnostic}
 use Rattle.hir_def_map.specs.declared.nameres.origin.ModuleOrigin.{ModuleOrigin}
 use Rattle.hir_import_resolution.specs.Changes.{Change as ImportChange}
 use Rattle.hir_import_resolution.specs.Rules.{acts as import_acts}
 use Rattle.hir_def_collector.specs.declared.collector.declaration.Declaration.{Declaration}
+use Rattle.hir_def_collector.specs.declared.collector.macro_directive.Fate.TheVariants.{Handled}
+use Rattle.hir_def_collector.specs.declared.collector.macro_directive.MacroDirective.{MacroDirective}
 use Rattle.hir_def_collector.specs.declared.collector.site.Site.{Site}
 use Rattle.hir_def_collector.specs.declared.source_database.Key.TheVariants as keys
+use Rattle.hir_def_collector.specs.Calls.{Expanding, IsNumberedCall, call_key, call_site, error_of, expansion_readings, text_readings}
 use Rattle.hir_def_collector.specs.Causes.{declarations_of}
-use Rattle.hir_def_collector.specs.Changes.{Change, act, adds_textual, changes_imports, defines, goes_on, makes, perform, takes_textual, tells}
+use Rattle.hir_def_collector.specs.Changes.{Change, act, adds_textual, changes_imports, defines, ends, goes_on, makes, perform, takes_textual, tells}
 use Rattle.hir_def_collector.specs.Derivation.{CollectedValue}
-use Rattle.hir_def_collector.specs.Items.{declaration_of, declared_by, declared_by_leaf, file_origin, inline_origin, is_passed_over, own_visibility}
+use Rattle.hir_def_collector.specs.Items.{declaration_of, declared_by, declared_by_leaf, file_origin, inline_origin, own_visibility}
 use Rattle.hir_def_collector.specs.ItemIds.{enum_id, macro_def_id, macro_rules_id, module_id, node_of}
 use Rattle.hir_def_collector.specs.Keys.{environment, tree_at}
 use Rattle.hir_def_collector.specs.Macros.{is_macro_use, macro_declaration}
 use Rattle.hir_def_collector.specs.ModuleFiles.{IsNumbered, ModuleFile, Search, file_key, file_readings, file_tree, module_file, tried_in}
 use Rattle.hir_def_collector.specs.Start.{Beginning}
 use Rattle.hir_def_collector.specs.State.{State, Task, Visit, visits, import_state, visits_over}
-use Rattle.hir_def_collector.specs.Steps.{Rule, drops_item, passes_over, defines_rules, defines_macro, closes_module, declares_item, declares_enum, lists_constant, lists_impl, opens_module, opens_file, drops_file, misses_file, enters_block, reaches_imports, reaches_crate, resolves_imports, Drops, LooksFor, May, Numbered, Opens, Sees, acts, after, asking, declaring, inside_block, inside_file, inside_module, keys_read, module_declaration, path_of, reads, search_readings, visit, visits_in_file, visits_inside}
-use Rattle.hir_def_collector.specs.Workspace.{Workspace}
-use Rattle.hir_def_collector.proofs.InRange.{IsInRange, VisitsBelow, next_below}
+use Rattle.hir_def_collector.specs.Steps.{Rule, drops_item, reaches_call, rests, expands_call, drops_call, defines_rules, defines_macro, closes_module, declares_item, declares_enum, lists_constant, lists_impl, opens_module, opens_file, drops_file, misses_file, enters_block, reaches_imports, reaches_crate, resolves_imports, Drops, Expands, LooksFor, May, Numbered, Opens, Sees, acts, after, asking, declaring, inside_block, inside_file, inside_module, keys_read, module_declaration, path_of, reads, search_readings, visit, visits_in_file, visits_inside}
+use Rattle.hir_def_collector.specs.Workspace.{TreeLook, Workspace}
+use Rattle.hir_def_collector.proofs.InRange.{IsInRange, VisitsBelow, call_below, next_below}
 use Rattle.hir_def_collector.proofs.ModuleFiles.{found_read}
-use Rattle.hir_def_collector_laws.specs.Declares.{Declares, DeclaresOne, IsLookedFor, IfEnabled, IsModuleOf, LeafDeclares, definitions_of, disabled_file, module_alone, of_file, site_inside, without_file}
-use Rattle.hir_def_collector_laws.specs.Modules.{HasItems, inside_item, items_of, key_of, of_file as has_file, too_deep, without_file as has_none}
-use Rattle.hir_def_collector_laws.specs.Written.{IsWritten}
-use Rattle.hir_def_collector_laws.proofs.Ahead.{AllDeclare, IsAhead, ahead_unclosed, altogether, back_made, back_one, back_same, declare_altogether, earlier, gathered, gathered_at, gathered_below, gathered_both, is_module, items_apart, items_listed, module_lists, others}
-use Rattle.hir_def_collector_laws.proofs.Found.{found_seen}
-use Rattle.hir_def_collector_laws.proofs.Lists.{at_home, at_home-nothing}
-use Rattle.hir_def_collector_laws.proofs.Listings.{all_added, all_made, macro_agenda, macro_makes_none, macro_unlisted, nothing_added, nothing_made, reporting_agenda, reporting_makes_none, reporting_unlisted}
-use Rattle.hir_def_collector_laws.proofs.Written.{IsAllWritten, placed_next}
+use Rattle.hir_def_collector_laws.specs.Declares.{Declares, DeclaresOne, HaveNoCall, IsLookedFor, IfEnabled, IsModuleOf, LeafDeclares, ListsFirst, definitions_of, disabled_file, module_alone, of_file, site_inside, without_file}
+use Rattle.hir_def_collector_laws.specs.Expansions.{Expansion, IsExpansion, at_home, expanded_in}
+use Rattle.hir_def_collector_laws.specs.Modules.{HasItems, inside_item, items_of, of_file as has_file, too_deep, without_file as has_none}
+use Rattle.hir_def_collector_laws.specs.Written.{IsWritten, key_of}
+use Rattle.hir_def_collector_laws.proofs.Ahead.{ForEach, Holds, IsAhead, ahead_unclosed, altogether, back_made, back_one, back_same, back_to, declare_altogether, earlier, earlier_declare, gathered, gathered_at, gathered_below, gathered_both, is_module, items_apart, items_listed, module_lists, others, others_declare}
+use Rattle.hir_def_collector_laws.proofs.Done.{from_rule}
+use Rattle.hir_def_collector_laws.proofs.Found.{expansion_read, expansion_seen, found_seen}
+use Rattle.hir_def_collector_laws.proofs.Lists.{at_home-below, at_home-nothing, standing}
+use Rattle.hir_def_collector_laws.proofs.Listings.{all_added, all_made, failing_agenda, failing_makes_none, failing_unlisted, length-perform, macro_agenda, macro_makes_none, macro_unlisted, nothing_added, nothing_made, reporting_agenda, reporting_makes_none, reporting_unlisted}
+use Rattle.hir_def_collector_laws.proofs.Quiet.{IsQuiet, NoCallIn, NoCallNext, calls_below, quiet_below, quiet_closed}
+use Rattle.hir_def_collector_laws.proofs.Written.{IsAllWritten, call_among, placed_next}
 
 -- ids don't hang on more than the map's id
 same_definitions : (m n : Map) → m.id ≡ n.id → (s : Site) (h : Head) (l : Leaf) → definitions_of m s h l ≡ definitions_of n s h l
@@ -87,33 +95,19 @@ items_enabled tree e = rw e refl
 module _ (tables : TablesValue) (w : Workspace) (finished : Maps) (from : Beginning) (answer : CollectedValue) where
   -- ---- what one item declares
 
-  leaf_one : (site : Site) (head : Head) (l : Leaf) (defs : List ModuleDefId) → is_enabled head.attributes ≡ true → LeafDeclares tables w finished answer site head l defs
-      → DeclaresOne tables w finished answer (leaf head l) site defs
-  leaf_one site head l defs on p = if_enabled defs (is_enabled head.attributes) on p
+  -- whatever expansions declare in each module
+  abbrev One : KeptItem → Site → List ModuleDefId → Type 0
+  One i site defs = (more : ℕ → List ModuleDefId) → DeclaresOne tables w finished answer more i site defs
 
-  off_one : (site : Site) (i : KeptItem) → is_enabled (item_head i).attributes ≡ false → DeclaresOne tables w finished answer i site []
-  off_one site (leaf head l) off = if_disabled _ (is_enabled head.attributes) off
-  off_one site (holder head k items) off = if_disabled _ (is_enabled head.attributes) off
+  leaf_one : (site : Site) (head : Head) (l : Leaf) (defs : List ModuleDefId) → is_enabled head.attributes ≡ true → LeafDeclares tables w finished answer site head l defs → One (leaf head l) site defs
+  leaf_one site head l defs on p = λ more. if_enabled defs (is_enabled head.attributes) on p
 
-  passed_one : (site : Site) (head : Head) (l : Leaf) → is_passed_over l ≡ true → LeafDeclares tables w finished answer site head l []
-  passed_one site head (import tree) e = refl
-  passed_one site head (extern_crate name alias) e = refl
-  passed_one site head (function name) e = absurd (let no : ⊥ = cc in no)
-  passed_one site head (structure name shape fields) e = absurd (let no : ⊥ = cc in no)
-  passed_one site head (union_structure name fields) e = absurd (let no : ⊥ = cc in no)
-  passed_one site head (enumeration name) e = absurd (let no : ⊥ = cc in no)
-  passed_one site head (constant name) e = absurd (let no : ⊥ = cc in no)
-  passed_one site head (static_item name) e = absurd (let no : ⊥ = cc in no)
-  passed_one site head (trait_item name) e = absurd (let no : ⊥ = cc in no)
-  passed_one site head (implementation of_trait) e = refl
-  passed_one site head (type_alias name) e = absurd (let no : ⊥ = cc in no)
-  passed_one site head (outline_module name) e = absurd (let no : ⊥ = cc in no)
-  passed_one site head (macro_call path) e = refl
-  passed_one site head (macro_rules name expander helpers) e = refl
-  passed_one site head (macro_def name expander helpers) e = absurd (let no : ⊥ = cc in no)
+  off_one : (site : Site) (i : KeptItem) → is_enabled (item_head i).attributes ≡ false → One i site []
+  off_one site (leaf head l) off = λ more. if_disabled _ (is_enabled head.attributes) off
+  off_one site (holder head k items) off = λ more. if_disabled _ (is_enabled head.attributes) off
 
   declared_one : (s : State) (v : Visit) (d : Declaration) → s.core.map.id ≡ answer.map.id → is_enabled (item_head v.item).attributes ≡ true
-      → declaration_of finished s.core.local s.core.map v ≡ Some d → DeclaresOne tables w finished answer v.item v.site (d.def ∷ [])
+      → declaration_of finished s.core.local s.core.map v ≡ Some d → One v.item v.site (d.def ∷ [])
   declared_one s v d own on e = go v.item on e
     where
       is_d : (a : Declaration) (def : ModuleDefId) → a.def ≡ def → Some a ≡ Some d → d.def ∷ [] ≡ def ∷ []
@@ -137,13 +131,13 @@ module _ (tables : TablesValue) (w : Workspace) (finished : Maps) (from : Beginn
       by_leaf h (macro_rules name expander helpers) g = absurd cc
       by_leaf h (macro_def name expander helpers) g = absurd cc
 
-      go : (i : KeptItem) → is_enabled (item_head i).attributes ≡ true → declared_by finished s.core.local s.core.map v.site i ≡ Some d → DeclaresOne tables w finished answer i v.site (d.def ∷ [])
+      go : (i : KeptItem) → is_enabled (item_head i).attributes ≡ true → declared_by finished s.core.local s.core.map v.site i ≡ Some d → One i v.site (d.def ∷ [])
       go (leaf h l) f g = leaf_one v.site h l (d.def ∷ []) f (by_leaf h l g)
       go (holder h k items) f g = absurd cc
 
   -- ---- rules
 
-  module _ (s : State) (inside : IsInRange s) (f : IsAllWritten tables w from answer s) where
+  module _ (es : List Expansion) (s : State) (inside : IsInRange s) (f : IsAllWritten tables w from answer s) where
     abbrev m : Map
     m = s.core.map
 
@@ -159,16 +153,16 @@ module _ (tables : TablesValue) (w : Workspace) (finished : Maps) (from : Beginn
     placed v rest e = (placed_next tables w from answer s.agenda v rest f.visits e).0
 
     abbrev Ahead : Map → List Task → Type 0
-    Ahead new vs = IsAhead tables w finished from answer new vs
+    Ahead new vs = IsAhead tables w finished from answer es new vs
 
     abbrev MapAfter : Rule → Map
     MapAfter r = (perform (asking s r) (acts finished s r)).core.map
 
     -- a leaf that lists nothing among definitions
-    unlisted_one : (r : Rule) (site : Site) (head : Head) (l : Leaf) (rest : List Task) → DeclaresOne tables w finished answer (leaf head l) site [] → all_made (acts finished s r) ≡ 0
+    unlisted_one : (r : Rule) (site : Site) (head : Head) (l : Leaf) (rest : List Task) → One (leaf head l) site [] → all_made (acts finished s r) ≡ 0
         → ((k : ℕ) → all_added (acts finished s r) k ≡ []) → Ahead (MapAfter r) rest → Ahead m (visits (visit site (leaf head l)) ∷ rest)
     unlisted_one r site head l rest declares none_made nothing q =
-        back_one tables w finished from answer (asking s r) (acts finished s r) site (leaf head l) rest [] declares none_made (λ k. nothing k ∙ sym (at_home-nothing site.home k)) q
+        back_one tables w finished from answer es (asking s r) (acts finished s r) site (leaf head l) rest [] declares none_made (λ k. nothing k ∙ sym (at_home-nothing site.home k)) q
 
     -- an extern block
     block_back : (site : Site) (head : Head) (items : KeptForest) (rest : List Task) → is_enabled head.attributes ≡ true
@@ -176,14 +170,17 @@ module _ (tables : TablesValue) (w : Workspace) (finished : Maps) (from : Beginn
     block_back site head items rest on q =
         let r : Rule = enters_block site head items rest in
         let inner : Site = inside_block m site head in
-        let first : AllDeclare tables w finished from answer (visits_over inner items) = earlier tables w finished from answer (visits_over inner items) rest q.pending in
-        let last : AllDeclare tables w finished from answer rest = others tables w finished from answer (visits_over inner items) rest q.pending in
-        let defs : List ModuleDefId = altogether tables w finished from answer inner items first in
-        let declares : Declares tables w finished answer items inner defs = declare_altogether tables w finished from answer inner items first in
-        let in_answer : Declares tables w finished answer items (inside_block answer.map site head) defs =
-        subst (λ (id : MapId). Declares tables w finished answer items (inside_block (record m { id = id }) site head) defs) f.id declares in
-        back_same tables w finished from answer (asking s r) (acts finished s r) q ((defs, if_enabled defs (is_enabled head.attributes) on in_answer), last) refl
-        (λ k. gathered_both tables w finished from answer k (visits_over inner items) rest q.pending ∙ ap (λ (xs : List ModuleDefId). xs ++ gathered tables w finished from answer k rest last) (gathered_at tables w finished from answer k inner items first))
+        let first : ForEach (visits_over inner items) = earlier (visits_over inner items) rest q.listed in
+        let last : ForEach rest = others (visits_over inner items) rest q.listed in
+        let defs : List ModuleDefId = altogether inner items first in
+        back_same tables w finished from answer es (asking s r) (acts finished s r) q (defs, last) refl
+        (λ k. gathered_both k (visits_over inner items) rest q.listed ∙ ap (λ (xs : List ModuleDefId). xs ++ gathered k rest last) (gathered_at k inner items first))
+        (λ more g.
+        let declares : Declares tables w finished answer more items inner defs =
+        declare_altogether tables w finished from answer more inner items first (earlier_declare tables w finished from answer more (visits_over inner items) rest q.listed g) in
+        let in_answer : Declares tables w finished answer more items (inside_block answer.map site head) defs =
+        subst (λ (id : MapId). Declares tables w finished answer more items (inside_block (record m { id = id }) site head) defs) f.id declares in
+        (if_enabled defs (is_enabled head.attributes) on in_answer, others_declare tables w finished from answer more (visits_over inner items) rest q.listed g))
 
     -- ---- modules
 
@@ -193,16 +190,20 @@ module _ (tables : TablesValue) (w : Workspace) (finished : Maps) (from : Beginn
       Made = (perform (asking s r) (makes site.home name origin vis ∷ cs)).core.map
 
       -- a module without items
-      empty_back : (i : KeptItem) (rest : List Task) → VisitsBelow count rest
-          → (IsModuleOf answer.map site origin count → declarations_of (module_at answer.map count) ≡ [] → DeclaresOne tables w finished answer i site (module_alone answer.map count))
+      empty_back : (i : KeptItem) (rest : List Task) → VisitsBelow count rest → expanded_in es count ≡ []
+          → (IsModuleOf answer.map site origin count → declarations_of (module_at answer.map count) ≡ [] → One i site (module_alone answer.map count))
           → ((im : IsModuleOf answer.map site origin count) → HasItems tables w finished from answer im.value.origin (site_inside site count site.dir) no_items)
           → Ahead Made rest → Ahead m (visits (visit site i) ∷ rest)
-      empty_back i rest apart declares has q =
-          let im : IsModuleOf answer.map site origin count = is_module tables w finished from answer (asking s r) site.home name origin vis cs low none_made adds q site refl in
+      empty_back i rest apart quiet declares has q =
+          let im : IsModuleOf answer.map site origin count = is_module tables w finished from answer es (asking s r) site.home name origin vis cs low none_made adds q site refl in
           let nothing : declarations_of (module_at answer.map count) ≡ [] =
-          module_lists tables w finished from answer (asking s r) site.home name origin vis cs low none_made adds q ∙ gathered_below tables w finished from answer count rest q.pending apart in
-          back_made tables w finished from answer (asking s r) site.home name origin vis cs low none_made adds q site i rest refl (declares im nothing)
-          (record {
+          module_lists tables w finished from answer es (asking s r) site.home name origin vis cs low none_made adds q
+          ∙ ap (λ (xs : List ModuleDefId). xs ++ expanded_in es count) (gathered_below count rest q.listed apart) ∙ quiet in
+          back_made tables w finished from answer es (asking s r) site.home name origin vis cs low none_made adds q site i rest refl
+          (λ more agrees g. declares im nothing more)
+          (λ more agrees g.
+          let no_more : more count ≡ [] = agrees count (omega arith) ∙ quiet in
+          record {
             value = im.value;
             there = im.there;
             site = site_inside site count site.dir;
@@ -210,21 +211,22 @@ module _ (tables : TablesValue) (w : Workspace) (finished : Maps) (from : Beginn
             alone = refl;
             items = no_items;
             has = has im;
-            lists = sym (ap declarations_of im.there) ∙ nothing;
+            lists = record { own = []; declared = refl; listed = nothing ∙ sym no_more; alone = λ none. no_more };
           })
-          q.pending (λ k b. refl)
+          q.listed (λ k b. refl) (λ more g. g)
 
       -- a module with items
       filled_back : (i : KeptItem) (rest : List Task) (inner : Site) (items : KeptForest) → inner.home ≡ count → inner.extern_block ≡ None → VisitsBelow count rest
-          → (IsModuleOf answer.map site origin count → Declares tables w finished answer items inner (declarations_of (module_at answer.map count)) → DeclaresOne tables w finished answer i site (module_alone answer.map count))
+          → (HaveNoCall items → expanded_in es count ≡ [])
+          → (IsModuleOf answer.map site origin count → (more : ℕ → List ModuleDefId) → ListsFirst answer.map more count items (λ own. Declares tables w finished answer more items inner own)
+          → DeclaresOne tables w finished answer more i site (module_alone answer.map count))
           → ((im : IsModuleOf answer.map site origin count) → HasItems tables w finished from answer im.value.origin inner items)
           → Ahead Made (visits_over inner items ++ rest) → Ahead m (visits (visit site i) ∷ rest)
-      filled_back i rest inner items here alone apart declares has q =
-          let im : IsModuleOf answer.map site origin count = is_module tables w finished from answer (asking s r) site.home name origin vis cs low none_made adds q site refl in
-          let listed : Declares tables w finished answer items inner (declarations_of (module_at answer.map count)) =
-          items_listed tables w finished from answer (asking s r) site.home name origin vis cs low none_made adds inner items rest here apart q in
-          back_made tables w finished from answer (asking s r) site.home name origin vis cs low none_made adds q site i rest refl (declares im listed)
-          (record {
+      filled_back i rest inner items here alone apart quiet declares has q =
+          let im : IsModuleOf answer.map site origin count = is_module tables w finished from answer es (asking s r) site.home name origin vis cs low none_made adds q site refl in
+          back_made tables w finished from answer es (asking s r) site.home name origin vis cs low none_made adds q site i rest refl
+          (λ more agrees g. declares im more (items_listed tables w finished from answer es (asking s r) site.home name origin vis cs low none_made adds inner items rest here apart q quiet more agrees g))
+          (λ more agrees g. record {
             value = im.value;
             there = im.there;
             site = inner;
@@ -232,10 +234,11 @@ module _ (tables : TablesValue) (w : Workspace) (finished : Maps) (from : Beginn
             alone = alone;
             items = items;
             has = has im;
-            lists = subst (λ (defs : List ModuleDefId). Declares tables w finished answer items inner defs) (ap declarations_of im.there) listed;
+            lists = items_listed tables w finished from answer es (asking s r) site.home name origin vis cs low none_made adds inner items rest here apart q quiet more agrees g;
           })
-          (others tables w finished from answer (visits_over inner items) rest q.pending)
-          (items_apart tables w finished from answer (asking s r) site.home name origin vis cs low none_made adds inner items rest here apart q)
+          (others (visits_over inner items) rest q.listed)
+          (items_apart tables w finished from answer es (asking s r) site.home name origin vis cs low none_made adds inner items rest here apart q)
+          (λ more g. others_declare tables w finished from answer more (visits_over inner items) rest q.listed g)
 
     -- what is listed where a module is made
     making_adds : (site : Site) (name : List ℕ) (vis : Visibility) (next : List Task) (k : ℕ)
@@ -245,15 +248,15 @@ module _ (tables : TablesValue) (w : Workspace) (finished : Maps) (from : Beginn
     -- a module that is written where it is declared
     inline_back : (site : Site) (head : Head) (name : List ℕ) (items : KeptForest) (rest : List Task) → is_enabled head.attributes ≡ true → site.home < count → VisitsBelow count rest
         → IsWritten tables w answer.asked (key_of answer site.tree) (holder head (inline_module name) items)
-        → (o : Option Directory) → inline_directory site.dir name (path_of head) ≡ o
+        → (o : Option Directory) → inline_directory site.dir name (path_of head) ≡ o → (NoCallNext count (visits_inside m site head o items ++ rest) → expanded_in es count ≡ [])
         → Ahead (MapAfter (opens_module site head name items rest)) (visits_inside m site head o items ++ rest) → Ahead m (visits (visit site (holder head (inline_module name) items)) ∷ rest)
-    inline_back site head name items rest on low apart p None e q =
+    inline_back site head name items rest on low apart p None e quiet q =
         let r : Rule = opens_module site head name items rest in
         let vis : Visibility = own_visibility finished s.core.local m site head in
         let next : List Task = visits_inside m site head (inline_directory site.dir name (path_of head)) items ++ rest in
         empty_back r site head name (inline_origin site.tree head.id) vis (takes_textual count site.home ∷ goes_on next ∷ declaring site.home (module_declaration m name vis)) low refl (making_adds site name vis next)
-        (holder head (inline_module name) items) rest apart
-        (λ im nothing. if_enabled (module_alone answer.map count) (is_enabled head.attributes) on (record {
+        (holder head (inline_module name) items) rest apart (quiet (quiet_below count rest apart))
+        (λ im nothing more. if_enabled (module_alone answer.map count) (is_enabled head.attributes) on (record {
           number = count;
           made = im;
           is = refl;
@@ -261,23 +264,25 @@ module _ (tables : TablesValue) (w : Workspace) (finished : Maps) (from : Beginn
           deep = λ f. nothing;
         }))
         (λ im. too_deep head name items e im.origin_is on p) q
-    inline_back site head name items rest on low apart p (Some dir) e q =
+    inline_back site head name items rest on low apart p (Some dir) e quiet q =
         let r : Rule = opens_module site head name items rest in
         let vis : Visibility = own_visibility finished s.core.local m site head in
         let next : List Task = visits_inside m site head (inline_directory site.dir name (path_of head)) items ++ rest in
+        let marked : Bool = is_macro_use head.attributes in
         filled_back r site head name (inline_origin site.tree head.id) vis (takes_textual count site.home ∷ goes_on next ∷ declaring site.home (module_declaration m name vis)) low refl (making_adds site name vis next)
         (holder head (inline_module name) items) rest (inside_module m site dir) items refl refl apart
-        (λ im listed. if_enabled (module_alone answer.map count) (is_enabled head.attributes) on (record {
+        (λ none. quiet (quiet_closed count (inside_module m site dir) items marked site.home count rest (λ here. none) (quiet_below count rest apart)))
+        (λ im more listed. if_enabled (module_alone answer.map count) (is_enabled head.attributes) on (record {
           number = count;
           made = im;
           is = refl;
           lists = λ other f.
               let same : dir ≡ other = cc in
-              subst (λ (d : Directory). Declares tables w finished answer items (site_inside site count d) (declarations_of (module_at answer.map count))) same listed;
+              subst (λ (d : Directory). ListsFirst answer.map more count items (λ own. Declares tables w finished answer more items (site_inside site count d) own)) same listed;
           deep = λ f. absurd (let no : ⊥ = cc in no);
         }))
         (λ im. inside_item head name items im.origin_is on p)
-        (ahead_unclosed tables w finished from answer (MapAfter r) (visits_over (inside_module m site dir) items) rest (is_macro_use head.attributes) site.home count q)
+        (ahead_unclosed tables w finished from answer es (MapAfter r) (visits_over (inside_module m site dir) items) rest marked site.home count q)
 
     -- ---- files
 
@@ -288,7 +293,7 @@ module _ (tables : TablesValue) (w : Workspace) (finished : Maps) (from : Beginn
         ap (λ (id : MapId). file_key id.krate m.crate_data.edition file.id) f.id ∙ ap (λ (e : Edition). file_key answer.map.id.krate e file.id) edition
 
     module _ (edition : m.crate_data.edition ≡ answer.map.crate_data.edition) (site : Site) (head : Head) (name : List ℕ) (search : Search) (rest : List Task) (looks : LooksFor s site head name search rest)
-        (numbers : IsNumbered tables site.tree search) (sees : Sees (environment tables w) finished (search_readings m search))
+        (numbers : IsNumbered tables site.file search) (sees : Sees (environment tables w) finished (search_readings m search))
         (read : (key : TreeKey) → Contains (keys_read (search_readings m search)) (keys.Tree key) → Contains answer.asked (keys.Tree key)) where
       abbrev readings_of : Crate → Edition → Type 0
       readings_of krate e = Sees (environment tables w) finished (file_readings krate e (tried_in search))
@@ -312,20 +317,23 @@ module _ (tables : TablesValue) (w : Workspace) (finished : Maps) (from : Beginn
           ∙ found_seen tables w finished m.id.krate m.crate_data.edition search.absent search.found file found sees
 
       file_back : (file : ModuleFile) → Opens s site head name search file rest → site.home < count → VisitsBelow count rest
+          → (NoCallNext count (visits_in_file m site head file ++ rest) → expanded_in es count ≡ [])
           → Ahead (MapAfter (opens_file site head name search file rest)) (visits_in_file m site head file ++ rest) → Ahead m (visits (visit site (leaf head (outline_module name))) ∷ rest)
-      file_back file may low apart q =
+      file_back file may low apart quiet q =
           let r : Rule = opens_file site head name search file rest in
           let vis : Visibility = own_visibility finished s.core.local m site head in
           let next : List Task = visits_in_file m site head file ++ rest in
+          let marked : Bool = is_macro_use head.attributes || is_macro_use file.tree.attributes in
           let items : items_of (tree_at tables w (file_key answer.map.id.krate answer.map.crate_data.edition file.id)).tree ≡ file.tree.items =
           ap items_of (file_seen file may.found) ∙ items_enabled file.tree may.enabled in
           filled_back r site head name (file_origin site.tree head.id m.crate_data.edition file) vis (takes_textual count site.home ∷ goes_on next ∷ declaring site.home (module_declaration m name vis)) low refl (making_adds site name vis next)
           (leaf head (outline_module name)) rest (inside_file m file) file.tree.items refl refl apart
-          (λ im listed. leaf_one site head (outline_module name) (module_alone answer.map count) may.looks.here.enabled
-          (of_file search looked_for file may.found may.enabled count (subst (λ (e : Edition). IsModuleOf answer.map site (file_origin site.tree head.id e file) count) edition im) refl))
+          (λ none. quiet (quiet_closed count (inside_file m file) file.tree.items marked site.home count rest (λ here. none) (quiet_below count rest apart)))
+          (λ im more listed. leaf_one site head (outline_module name) (module_alone answer.map count) may.looks.here.enabled
+          (of_file search looked_for file may.found may.enabled count (subst (λ (e : Edition). IsModuleOf answer.map site (file_origin site.tree head.id e file) count) edition im) refl) more)
           (λ im. subst (λ (is : KeptForest). HasItems tables w finished from answer im.value.origin (inside_file m file) is) items
           (has_file file.is_mod_rs _ site.tree file.id (im.origin_is ∙ ap (λ (e : Edition). file_origin site.tree head.id e file) edition) (ap (λ (e : Edition). file_tree e file.id) edition) (file_asked file may.found)))
-          (ahead_unclosed tables w finished from answer (MapAfter r) (visits_over (inside_file m file) file.tree.items) rest (is_macro_use head.attributes || is_macro_use file.tree.attributes) site.home count q)
+          (ahead_unclosed tables w finished from answer es (MapAfter r) (visits_over (inside_file m file) file.tree.items) rest marked site.home count q)
 
       drop_back : (report : DefDiagnostic) → Drops s site head name search report rest → Ahead (MapAfter (drops_file site head name search report rest)) rest
           → Ahead m (visits (visit site (leaf head (outline_module name))) ∷ rest)
@@ -336,16 +344,70 @@ module _ (tables : TablesValue) (w : Workspace) (finished : Maps) (from : Beginn
           refl (λ k. refl) q
 
       miss_back : (report : DefDiagnostic) → module_file search.found ≡ None → site.home < count → VisitsBelow count rest
-          → IsWritten tables w answer.asked (key_of answer site.tree) (leaf head (outline_module name))
+          → IsWritten tables w answer.asked (key_of answer site.tree) (leaf head (outline_module name)) → (NoCallNext count rest → expanded_in es count ≡ [])
           → Ahead (MapAfter (misses_file site head name search report rest)) rest → Ahead m (visits (visit site (leaf head (outline_module name))) ∷ rest)
-      miss_back report missing low apart p q =
+      miss_back report missing low apart p quiet q =
           let r : Rule = misses_file site head name search report rest in
           let vis : Visibility = own_visibility finished s.core.local m site head in
           empty_back r site head name (inline_origin site.tree head.id) vis (takes_textual count site.home ∷ goes_on rest ∷ declaring site.home (module_declaration m name vis) ++ tells report ∷ []) low refl
           (λ k. append-nil (at_home site.home k (definitions.ModuleId (new_id m) ∷ [])))
-          (leaf head (outline_module name)) rest apart
+          (leaf head (outline_module name)) rest apart (quiet (quiet_below count rest apart))
           (λ im nothing. leaf_one site head (outline_module name) (module_alone answer.map count) looks.here.enabled (without_file search looked_for missing count im refl nothing))
           (λ im. has_none head name search (record { tries = looked_for.tries; numbers = looked_for.numbers; sees = looked_for.sees }) missing im.origin_is looks.here.enabled p) q
+
+    -- ---- expansions
+
+    -- the items to which a call expands come next
+    expansion_back : (i : ℕ) (d : MacroDirective) (makro : MacroId) (x : Expanding) → Expands finished s i d makro
+        → Sees (environment tables w) finished (text_readings makro x.text ++ expansion_readings m.id.krate d x) → IsNumberedCall tables m.id.krate d makro x
+        → ((key : TreeKey) → Contains (keys_read (text_readings makro x.text ++ expansion_readings m.id.krate d x)) (keys.Tree key) → Contains answer.asked (keys.Tree key))
+        → m.crate_data ≡ answer.map.crate_data → (q : Ahead (MapAfter (expands_call i d makro x)) (visits_over (call_site d x.id) x.tree.tree.items))
+        → IsAhead tables w finished from answer (from_rule (expands_call i d makro x) (altogether (call_site d x.id) x.tree.tree.items q.listed) es) m []
+    expansion_back i d makro x may sees numbered read same q =
+        let r : Rule = expands_call i d makro x in
+        let at : ModuleId = module_id m d.site.home in
+        let site : Site = call_site d x.id in
+        let items : KeptForest = x.tree.tree.items in
+        let defs : List ModuleDefId = altogether site items q.listed in
+        let e : Expansion = record { call = d; makro = makro; seen = x; defs = defs } in
+        let home : d.site.home < count = call_below count s.core.calls i d inside.calls may.due.waiting.call in
+        let as_long : length (MapAfter r).modules ≡ count + all_made (acts finished s r) = length-perform (acts finished s r) (asking s r) in
+        let none_made : all_made (acts finished s r) ≡ 0 = ap (λ (n : ℕ). 0 + (0 + n)) (failing_makes_none at d (error_of x.there)) in
+        back_to tables w finished from answer es (asking s r) (acts finished s r) (e ∷ es) q tt
+        (λ k low. ap (λ (xs : List ModuleDefId). xs ++ (gathered k (visits_over site items) q.listed ++ expanded_in es k)) (failing_unlisted at d (error_of x.there) k)
+        ∙ ap (λ (xs : List ModuleDefId). xs ++ expanded_in es k) (gathered_at k site items q.listed))
+        (λ more agrees.
+        let h : Holds tables w finished from answer more es (length (MapAfter r).modules) (visits_over site items) q.listed =
+        q.holds more (λ k past.
+        let apart : at_home d.site.home k defs ≡ [] = at_home-below d.site.home k defs (omega (arith, home, past, as_long, none_made)) in
+        agrees k (omega (arith, past, as_long, none_made)) ∙ ap (λ (xs : List ModuleDefId). xs ++ expanded_in es k) apart) in
+        record {
+          pending = tt;
+          modules = λ k past under. h.modules k (omega (arith, past, as_long, none_made)) under;
+          expanded = now_or_later more e (is_expansion more defs (declare_altogether tables w finished from answer more site items q.listed h.pending)) h.expanded;
+        })
+      where
+        krate : Crate
+        krate = answer.map.id.krate
+
+        seen : tree_at tables w (call_key krate x.id) ≡ x.tree
+        seen = subst (λ (id : MapId). tree_at tables w (call_key id.krate x.id) ≡ x.tree) f.id (expansion_seen tables w finished m.id.krate d makro x sees)
+
+        is_expansion : (more : ℕ → List ModuleDefId) (defs : List ModuleDefId) → Declares tables w finished answer more x.tree.tree.items (call_site d x.id) defs
+            → IsExpansion tables w finished answer more (record { call = d; makro = makro; seen = x; defs = defs })
+        is_expansion more defs declares = record {
+          written = call_among tables w from answer s.core.calls d f.calls (standing s.core.calls i d may.due.waiting.call);
+          shallow = subst (λ (c : CrateData). d.site.level < c.recursion_limit) same may.shallow;
+          numbers = subst (λ (id : MapId). IsNumberedCall tables id.krate d makro x) f.id numbered;
+          sees = subst (λ (id : MapId). Sees (environment tables w) finished (text_readings makro x.text ++ expansion_readings id.krate d x)) f.id sees;
+          key_asked = subst (λ (id : MapId). Contains answer.asked (keys.Tree (call_key id.krate x.id))) f.id (read (call_key m.id.krate x.id) (expansion_read m.id.krate d makro x));
+          declares = subst (λ (t : TreeLook). Declares tables w finished answer more t.tree.items (call_site d x.id) defs) (sym seen) declares;
+        }
+
+        now_or_later : (more : ℕ → List ModuleDefId) (e : Expansion) → IsExpansion tables w finished answer more e → ((x : Expansion) → Contains es x → IsExpansion tables w finished answer more x)
+            → (x : Expansion) → Contains (e ∷ es) x → IsExpansion tables w finished answer more x
+        now_or_later more e now others x (zero, below, is) = subst (λ (y : Expansion). IsExpansion tables w finished answer more y) is now
+        now_or_later more e now others x (suc n, below, is) = others x (n, omega (arith, below), is)
 
     -- ---- each rule
 
@@ -356,72 +418,132 @@ module _ (tables : TablesValue) (w : Workspace) (finished : Maps) (from : Beginn
     at_next : {vs ws : List Task} → vs ≡ ws → Ahead m ws → Ahead m vs
     at_next e q = subst (λ (xs : List Task). Ahead m xs) (sym e) q
 
-    pub back_rule : (r : Rule) → May finished s r → Sees (environment tables w) finished (reads s r) → Numbered tables r
+    -- what is ahead before a rule: an expansion more, if it expands a call
+    pub record IsSooner (r : Rule) : Type 0 where
+      pub defs : List ModuleDefId
+      pub ahead : IsAhead tables w finished from answer (from_rule r defs es) m s.agenda
+
+    -- no expansion declares anything in a module where no call is next or waits
+    abbrev pub QuietAfter : State → Type 0
+    QuietAfter t = (k : ℕ) → k < length t.core.map.modules → IsQuiet k t → expanded_in es k ≡ []
+
+    -- so it is in the next module
+    quiet_made : (t : State) → length t.core.map.modules ≡ count + 1 → t.core.calls ≡ s.core.calls → QuietAfter t → NoCallNext count t.agenda → expanded_in es count ≡ []
+    quiet_made t longer same quiet next =
+        quiet count (omega (arith, longer)) (record { visits = next; calls = subst (λ (ds : List MacroDirective). NoCallIn count ds) (sym same) (calls_below count s.core.calls inside.calls) })
+
+    same_edition : m.crate_data ≡ answer.map.crate_data → m.crate_data.edition ≡ answer.map.crate_data.edition
+    same_edition same = ap (λ (c : CrateData). c.edition) same
+
+    pub back_rule : (r : Rule) → May finished s r → Sees (environment tables w) finished (reads s r) → Numbered tables s r
         → ((key : TreeKey) → Contains (keys_read (reads s r)) (keys.Tree key) → Contains answer.asked (keys.Tree key))
-        → m.crate_data.edition ≡ answer.map.crate_data.edition → Ahead (MapAfter r) (after finished s r).agenda → Ahead m s.agenda
-    back_rule (drops_item v report rest) may sees numbers read edition q =
-        at_next may.next
-        (back_one tables w finished from answer (asking s (drops_item v report rest)) (acts finished s (drops_item v report rest)) v.site v.item rest [] (off_one v.site v.item (no_map (item_head v.item).attributes may.condition may.disabled)) refl
-        (λ k. sym (at_home-nothing v.site.home k)) q)
-    back_rule (declares_item v d rest) may sees numbers read edition q =
-        at_next may.here.next
-        (back_one tables w finished from answer (asking s (declares_item v d rest)) (acts finished s (declares_item v d rest)) v.site v.item rest (d.def ∷ []) (declared_one s v d f.id may.here.enabled may.declares) refl
-        (λ k. append-nil (at_home v.site.home k (d.def ∷ []))) q)
-    back_rule (declares_enum site head name found rest) may sees numbers read edition q =
+        → m.crate_data ≡ answer.map.crate_data → QuietAfter (after finished s r) → Ahead (MapAfter r) (after finished s r).agenda → IsSooner r
+    back_rule (drops_item v report rest) may sees numbers read same quiet q =
+        record {
+          defs = [];
+          ahead = at_next may.next
+              (back_one tables w finished from answer es (asking s (drops_item v report rest)) (acts finished s (drops_item v report rest)) v.site v.item rest [] (off_one v.site v.item (no_map (item_head v.item).attributes may.condition may.disabled)) refl
+              (λ k. sym (at_home-nothing v.site.home k)) q);
+        }
+    back_rule (declares_item v d rest) may sees numbers read same quiet q =
+        record {
+          defs = [];
+          ahead = at_next may.here.next
+              (back_one tables w finished from answer es (asking s (declares_item v d rest)) (acts finished s (declares_item v d rest)) v.site v.item rest (d.def ∷ []) (declared_one s v d f.id may.here.enabled may.declares) refl
+              (λ k. append-nil (at_home v.site.home k (d.def ∷ []))) q);
+        }
+    back_rule (declares_enum site head name found rest) may sees numbers read same quiet q =
         let r : Rule = declares_enum site head name found rest in
         let def : ModuleDefId = definitions.AdtId (adts.EnumId (enum_id m site head.id)) in
-        at_next may.next
-        (back_one tables w finished from answer (asking s r) (acts finished s r) site (leaf head (enumeration name)) rest (def ∷ [])
-        (leaf_one site head (enumeration name) (def ∷ []) may.enabled (same_definitions m answer.map f.id site head (enumeration name))) refl (λ k. append-nil (at_home site.home k (def ∷ []))) q)
-    back_rule (lists_constant site head rest) may sees numbers read edition q =
-        at_next may.next (unlisted_one (lists_constant site head rest) site head (constant None) rest (leaf_one site head (constant None) [] may.enabled refl) refl (λ k. refl) q)
-    back_rule (lists_impl site head of_trait rest) may sees numbers read edition q =
-        at_next may.next (unlisted_one (lists_impl site head of_trait rest) site head (implementation of_trait) rest (leaf_one site head (implementation of_trait) [] may.enabled refl) refl (λ k. refl) q)
-    back_rule (opens_module site head name items rest) may sees numbers read edition q =
+        record {
+          defs = [];
+          ahead = at_next may.next
+              (back_one tables w finished from answer es (asking s r) (acts finished s r) site (leaf head (enumeration name)) rest (def ∷ [])
+              (leaf_one site head (enumeration name) (def ∷ []) may.enabled (same_definitions m answer.map f.id site head (enumeration name))) refl (λ k. append-nil (at_home site.home k (def ∷ []))) q);
+        }
+    back_rule (lists_constant site head rest) may sees numbers read same quiet q =
+        record { defs = []; ahead = at_next may.next (unlisted_one (lists_constant site head rest) site head (constant None) rest (leaf_one site head (constant None) [] may.enabled refl) refl (λ k. refl) q) }
+    back_rule (lists_impl site head of_trait rest) may sees numbers read same quiet q =
+        record { defs = []; ahead = at_next may.next (unlisted_one (lists_impl site head of_trait rest) site head (implementation of_trait) rest (leaf_one site head (implementation of_trait) [] may.enabled refl) refl (λ k. refl) q) }
+    back_rule (opens_module site head name items rest) may sees numbers read same quiet q =
         let apart = below _ rest may.next in
-        at_next may.next (inline_back site head name items rest may.enabled apart.0 apart.1 (placed _ rest may.next) (inline_directory site.dir name (path_of head)) refl q)
-    back_rule (opens_file site head name search file rest) may sees numbers read edition q =
+        record {
+          defs = [];
+          ahead = at_next may.next (inline_back site head name items rest may.enabled apart.0 apart.1 (placed _ rest may.next) (inline_directory site.dir name (path_of head)) refl
+              (quiet_made (after finished s (opens_module site head name items rest)) (length-perform (acts finished s (opens_module site head name items rest)) (asking s (opens_module site head name items rest))) refl quiet) q);
+        }
+    back_rule (opens_file site head name search file rest) may sees numbers read same quiet q =
         let apart = below _ rest may.looks.here.next in
-        at_next may.looks.here.next (file_back edition site head name search rest may.looks numbers sees read file may apart.0 apart.1 q)
-    back_rule (drops_file site head name search report rest) may sees numbers read edition q =
-        at_next may.looks.here.next (drop_back edition site head name search rest may.looks numbers sees read report may q)
-    back_rule (misses_file site head name search report rest) may sees numbers read edition q =
+        record {
+          defs = [];
+          ahead = at_next may.looks.here.next (file_back (same_edition same) site head name search rest may.looks numbers sees read file may apart.0 apart.1
+              (quiet_made (after finished s (opens_file site head name search file rest)) (length-perform (acts finished s (opens_file site head name search file rest)) (asking s (opens_file site head name search file rest))) refl quiet) q);
+        }
+    back_rule (drops_file site head name search report rest) may sees numbers read same quiet q =
+        record { defs = []; ahead = at_next may.looks.here.next (drop_back (same_edition same) site head name search rest may.looks numbers sees read report may q) }
+    back_rule (misses_file site head name search report rest) may sees numbers read same quiet q =
         let apart = below _ rest may.looks.here.next in
-        at_next may.looks.here.next (miss_back edition site head name search rest may.looks numbers sees read report may.missing apart.0 apart.1 (placed _ rest may.looks.here.next) q)
-    back_rule (enters_block site head items rest) may sees numbers read edition q = at_next may.next (block_back site head items rest may.enabled q)
-    back_rule (reaches_imports site head tree rest) may sees numbers read edition q =
-        at_next may.next (unlisted_one (reaches_imports site head tree rest) site head (import tree) rest (leaf_one site head (import tree) [] may.enabled refl) refl (λ k. refl) q)
-    back_rule (reaches_crate site head name alias rest) may sees numbers read edition q =
-        at_next may.next (unlisted_one (reaches_crate site head name alias rest) site head (extern_crate name alias) rest (leaf_one site head (extern_crate name alias) [] may.enabled refl) refl (λ k. refl) q)
-    back_rule (defines_rules site head name expander helpers rest) may sees numbers read edition q =
+        record {
+          defs = [];
+          ahead = at_next may.looks.here.next (miss_back (same_edition same) site head name search rest may.looks numbers sees read report may.missing apart.0 apart.1 (placed _ rest may.looks.here.next)
+              (quiet_made (after finished s (misses_file site head name search report rest)) (length-perform (acts finished s (misses_file site head name search report rest)) (asking s (misses_file site head name search report rest))) refl quiet) q);
+        }
+    back_rule (enters_block site head items rest) may sees numbers read same quiet q =
+        record { defs = []; ahead = at_next may.next (block_back site head items rest may.enabled q) }
+    back_rule (reaches_imports site head tree rest) may sees numbers read same quiet q =
+        record { defs = []; ahead = at_next may.next (unlisted_one (reaches_imports site head tree rest) site head (import tree) rest (leaf_one site head (import tree) [] may.enabled refl) refl (λ k. refl) q) }
+    back_rule (reaches_crate site head name alias rest) may sees numbers read same quiet q =
+        record { defs = []; ahead = at_next may.next (unlisted_one (reaches_crate site head name alias rest) site head (extern_crate name alias) rest (leaf_one site head (extern_crate name alias) [] may.enabled refl) refl (λ k. refl) q) }
+    back_rule (defines_rules site head name expander helpers rest) may sees numbers read same quiet q =
         let r : Rule = defines_rules site head name expander helpers rest in
         let makro : MacroId = macro_rules_id m site head.id expander in
         let node : AstId = node_of site.tree nodes.MacroRules head.id in
         let defined : State = perform (asking s r) (goes_on rest ∷ defines node makro ∷ adds_textual site.home name makro ∷ []) in
         let now : Ahead (MapAfter r) rest = subst (λ (vs : List Task). Ahead (MapAfter r) vs) (macro_agenda defined head name makro (module_id m site.home) node expander) q in
-        at_next may.next
-        (unlisted_one r site head (macro_rules name expander helpers) rest (leaf_one site head (macro_rules name expander helpers) [] may.enabled refl)
-        (ap (λ (n : ℕ). 0 + (0 + (0 + n))) (macro_makes_none head name makro (module_id m site.home) node expander))
-        (macro_unlisted head name makro (module_id m site.home) node expander) now)
-    back_rule (defines_macro site head name expander helpers rest) may sees numbers read edition q =
+        record {
+          defs = [];
+          ahead = at_next may.next
+              (unlisted_one r site head (macro_rules name expander helpers) rest (leaf_one site head (macro_rules name expander helpers) [] may.enabled refl)
+              (ap (λ (n : ℕ). 0 + (0 + (0 + n))) (macro_makes_none head name makro (module_id m site.home) node expander))
+              (macro_unlisted head name makro (module_id m site.home) node expander) now);
+        }
+    back_rule (defines_macro site head name expander helpers rest) may sees numbers read same quiet q =
         let r : Rule = defines_macro site head name expander helpers rest in
         let makro : MacroId = macro_def_id m site head.id expander in
         let def : ModuleDefId = definitions.MacroId makro in
         let node : AstId = node_of site.tree nodes.MacroDef head.id in
         let bound : State = perform (asking s r) (goes_on rest ∷ defines node makro ∷ declaring site.home (macro_declaration name makro (own_visibility finished s.core.local m site head))) in
         let now : Ahead (MapAfter r) rest = subst (λ (vs : List Task). Ahead (MapAfter r) vs) (reporting_agenda bound (module_id m site.home) node expander) q in
-        at_next may.next
-        (back_one tables w finished from answer (asking s r) (acts finished s r) site (leaf head (macro_def name expander helpers)) rest (def ∷ [])
-        (leaf_one site head (macro_def name expander helpers) (def ∷ []) may.enabled (same_definitions m answer.map f.id site head (macro_def name expander helpers)))
-        (ap (λ (n : ℕ). 0 + (0 + (0 + (0 + n)))) (reporting_makes_none (module_id m site.home) node expander))
-        (λ k. ap (λ (xs : List ModuleDefId). at_home site.home k (def ∷ []) ++ xs) (reporting_unlisted (module_id m site.home) node expander k) ∙ append-nil (at_home site.home k (def ∷ []))) now)
-    back_rule (closes_module parent child rest) may sees numbers read edition q =
+        record {
+          defs = [];
+          ahead = at_next may.next
+              (back_one tables w finished from answer es (asking s r) (acts finished s r) site (leaf head (macro_def name expander helpers)) rest (def ∷ [])
+              (leaf_one site head (macro_def name expander helpers) (def ∷ []) may.enabled (same_definitions m answer.map f.id site head (macro_def name expander helpers)))
+              (ap (λ (n : ℕ). 0 + (0 + (0 + (0 + n)))) (reporting_makes_none (module_id m site.home) node expander))
+              (λ k. ap (λ (xs : List ModuleDefId). at_home site.home k (def ∷ []) ++ xs) (reporting_unlisted (module_id m site.home) node expander k) ∙ append-nil (at_home site.home k (def ∷ []))) now);
+        }
+    back_rule (closes_module parent child rest) may sees numbers read same quiet q =
         let r : Rule = closes_module parent child rest in
-        at_next may (back_same tables w finished from answer (asking s r) (acts finished s r) q q.pending refl (λ k. refl))
-    back_rule (passes_over site head l rest) may sees numbers read edition q =
-        at_next may.here.next (unlisted_one (passes_over site head l rest) site head l rest (leaf_one site head l [] may.here.enabled (passed_one site head l may.passed)) refl (λ k. refl) q)
-    back_rule (resolves_imports rule) may sees numbers read edition q =
+        record { defs = []; ahead = at_next may (back_same tables w finished from answer es (asking s r) (acts finished s r) q q.listed refl (λ k. refl) (λ more g. g)) }
+    back_rule (reaches_call site head path rest) may sees numbers read same quiet q =
+        record { defs = []; ahead = at_next may.next (unlisted_one (reaches_call site head path rest) site head (macro_call path) rest (leaf_one site head (macro_call path) [] may.enabled refl) refl (λ k. refl) q) }
+    back_rule rests may sees numbers read same quiet q =
+        record { defs = []; ahead = back_same tables w finished from answer es (asking s rests) (acts finished s rests) q q.listed refl (λ k. refl) (λ more g. g) }
+    back_rule (drops_call i d) may sees numbers read same quiet q =
+        let r : Rule = drops_call i d in
+        record { defs = []; ahead = back_same tables w finished from answer es (asking s r) (acts finished s r) q q.listed refl (λ k. refl) (λ more g. g) }
+    back_rule (resolves_imports rule) may sees numbers read same quiet q =
         let r : Rule = resolves_imports rule in
         let cs : List ImportChange = import_acts finished (import_state s) rule in
         let now : Ahead (MapAfter r) s.agenda = subst (λ (vs : List Task). Ahead (MapAfter r) vs) (same_agenda cs (asking s r)) q in
-        back_same tables w finished from answer (asking s r) (acts finished s r) now now.pending (nothing_made cs) (λ k. ap (λ (xs : List ModuleDefId). xs ++ gathered tables w finished from answer k s.agenda now.pending) (nothing_added cs k))
+        record { defs = []; ahead = back_same tables w finished from answer es (asking s r) (acts finished s r) now now.listed (nothing_made cs) (λ k. ap (λ (xs : List ModuleDefId). xs ++ gathered k s.agenda now.listed) (nothing_added cs k)) (λ more g. g) }
+    back_rule (expands_call i d makro x) may sees numbers read same quiet q =
+        let r : Rule = expands_call i d makro x in
+        let next : List Task = visits_over (call_site d x.id) x.tree.tree.items in
+        let begun : State = perform (asking s r) (ends i Handled ∷ goes_on next ∷ []) in
+        let now : Ahead (MapAfter r) next = subst (λ (vs : List Task). Ahead (MapAfter r) vs) (failing_agenda begun (module_id m d.site.home) d (error_of x.there)) q in
+        let defs : List ModuleDefId = altogether (call_site d x.id) x.tree.tree.items now.listed in
+        record {
+          defs = defs;
+          ahead = subst (λ (vs : List Task). IsAhead tables w finished from answer (from_rule r defs es) m vs) (sym may.due.visited) (expansion_back i d makro x may sees numbers read same now);
+        }

@@ -58,17 +58,18 @@ use Rattle.hir_import_resolution.specs.State.{ImportState, glob_state, scopes_of
 use Rattle.hir_import_resolution.specs.declared.directive.ImportDirective.{ImportDirective}
 use Rattle.hir_import_resolution.specs.declared.directive.ImportSource.{ImportSource}
 use Rattle.hir_import_resolution.specs.declared.directive.ImportSource.TheVariants as sources
-use Rattle.hir_def_collector.specs.Changes.{Change, lists, makes, gives_variants, begins_paths, reaches, changes_imports, adds_textual, takes_textual, defines, uses_macros, tells, goes_on, act, perform}
+use Rattle.hir_def_collector.specs.Calls.{error_of}
+use Rattle.hir_def_collector.specs.Changes.{Change, lists, makes, gives_variants, begins_paths, reaches, awaits, ends, settles, changes_imports, adds_textual, takes_textual, defines, uses_macros, tells, goes_on, act, perform}
 use Rattle.hir_def_collector.specs.Derivation.{CollectedValue, Ends}
 use Rattle.hir_def_collector.specs.ItemIds.{module_id}
 use Rattle.hir_def_collector.specs.Keys.{Environment, environment}
 use Rattle.hir_def_collector.specs.Macros.{textual_at}
 use Rattle.hir_def_collector.specs.Start.{Beginning, krate_of}
 use Rattle.hir_def_collector.specs.State.{State, import_state}
-use Rattle.hir_def_collector.specs.Steps.{Rule, drops_item, passes_over, defines_rules, defines_macro, closes_module, declares_item, declares_enum, lists_constant, lists_impl, opens_module, opens_file, drops_file, misses_file, enters_block, reaches_imports, reaches_crate, resolves_imports, May, Step, Steps, acts, asking, more, none}
+use Rattle.hir_def_collector.specs.Steps.{Rule, drops_item, reaches_call, rests, expands_call, drops_call, defines_rules, defines_macro, closes_module, declares_item, declares_enum, lists_constant, lists_impl, opens_module, opens_file, drops_file, misses_file, enters_block, reaches_imports, reaches_crate, resolves_imports, May, Step, Steps, acts, asking, more, none}
 use Rattle.hir_def_collector.specs.Workspace.{Workspace}
 use Rattle.hir_def_collector.proofs.Asks.{still_asked-Step}
-use Rattle.hir_def_collector.proofs.Changes.{AllFine, fine_macro, fine_reporting, perform_keeps}
+use Rattle.hir_def_collector.proofs.Changes.{AllFine, fine_failing, fine_macro, fine_reporting, perform_keeps}
 use Rattle.hir_def_collector.proofs.ImportEdits.{Edit, copy_at, copy_where, edit, edit_of, edited, follow_at, follow_where, imports_after, keeps_unnamed, map_after, pushes_to, redefines, revises}
 use Rattle.hir_def_collector_laws.specs.Imports.{AreBrought, BindingsAreWritten, Brings, BringsValue, HasImport, IsTraitBrought, IsUnderscoreImport, UnnamedTraitsAreWritten}
 use Rattle.hir_def_collector_laws.proofs.Entries.{AllValues, all_among, all_found, all_last, all_set, all_with_entry}
@@ -85,6 +86,9 @@ grown-act s (makes home name origin visibility) r h = h
 grown-act s (gives_variants id variants) r h = h
 grown-act s (begins_paths i) r h = h
 grown-act s (reaches rs) r h = Contains-append_left s.core.reached rs r h
+grown-act s (awaits calls) r h = h
+grown-act s (ends i fate) r h = h
+grown-act s settles r h = h
 grown-act s (changes_imports c) r h = subst (λ (rs : List ImportDirective). Contains rs r) (sym (imports_after (import_state s) c)) h
 grown-act s (adds_textual home name makro) r h = h
 grown-act s (takes_textual home from_) r h = h
@@ -359,6 +363,9 @@ module _ (rs : List ImportDirective) where
   IsFineChange s (gives_variants id variants) = Unit {0}
   IsFineChange s (begins_paths r) = Unit {0}
   IsFineChange s (reaches found) = Unit {0}
+  IsFineChange s (awaits calls) = Unit {0}
+  IsFineChange s (ends i fate) = Unit {0}
+  IsFineChange s settles = Unit {0}
   IsFineChange s (changes_imports c) = IsFineImport c
   IsFineChange s (adds_textual home name makro) = Unit {0}
   IsFineChange s (takes_textual home from_) = Unit {0}
@@ -419,6 +426,9 @@ module _ (rs : List ImportDirective) where
   fine-act s (gives_variants id variants) f fine = record { modules = f.modules }
   fine-act s (begins_paths r) f fine = record { modules = f.modules }
   fine-act s (reaches found) f fine = record { modules = f.modules }
+  fine-act s (awaits calls) f fine = record { modules = f.modules }
+  fine-act s (ends i fate) f fine = record { modules = f.modules }
+  fine-act s settles f fine = record { modules = f.modules }
   fine-act s (changes_imports c) f fine = record {
     modules = subst (λ (m : Map). AreFine m.modules) (sym (map_after (import_state s) c)) (edited_fine s.core.map (edit_of (import_state s) c) (fine_edits (import_state s) c fine) f.modules);
   }
@@ -463,9 +473,9 @@ module _ (rs : List ImportDirective) where
           absurd (let no : None ≡ Some tr = sym nothing_kept ∙ kept.1 in cc)
 
   module _ (finished : Maps) (s : State) (found : (r : ImportDirective) → Contains s.core.reached r → Contains rs r)
-      (globs : (j : ℕ) (e : Edge) → slice_get s.globs.edges j ≡ Some e → IsFineWay e.importer (Some (ways.Glob e.id)) × OneIsGlob e.importer) where
+      (globs : (j : ℕ) (e : Edge) → slice_get s.core.globs.edges j ≡ Some e → IsFineWay e.importer (Some (ways.Glob e.id)) × OneIsGlob e.importer) where
     -- an edge leads from a glob of its module
-    here_glob : (j : ℕ) (e : Edge) (at : ℕ) → slice_get s.globs.edges j ≡ Some e → e.importer ≡ at → IsFineWay at (Some (ways.Glob e.id)) × OneIsGlob at
+    here_glob : (j : ℕ) (e : Edge) (at : ℕ) → slice_get s.core.globs.edges j ≡ Some e → e.importer ≡ at → IsFineWay at (Some (ways.Glob e.id)) × OneIsGlob at
     here_glob j e at recorded into = subst (λ (k : ℕ). IsFineWay k (Some (ways.Glob e.id)) × OneIsGlob k) into (globs j e recorded)
 
     glob_all : (rule : GlobRule) → MayAlong scope_table (glob_state finished (import_state s)) rule → AllImports (list_map (along finished) (glob_acts (view_of (scopes_of finished (import_state s))) rule))
@@ -496,7 +506,10 @@ module _ (rs : List ImportDirective) where
     fine_rule (defines_rules site head name expander helpers rest) may = (tt, (tt, (tt, fine_macro IsFineChange _ _ expander (λ t. tt) head name _ (λ t. none_fine 0) _)))
     fine_rule (defines_macro site head name expander helpers rest) may = (tt, (tt, (tt, (none_fine site.home, fine_reporting IsFineChange _ _ expander (λ t. tt) _))))
     fine_rule (closes_module parent child rest) may = (tt, (tt, tt))
-    fine_rule (passes_over site head l rest) may = (tt, tt)
+    fine_rule (reaches_call site head path rest) may = (tt, (tt, tt))
+    fine_rule rests may = (tt, tt)
+    fine_rule (expands_call i d makro x) may = (tt, (tt, fine_failing IsFineChange _ d (error_of x.there) (λ t text. tt) _))
+    fine_rule (drops_call i d) may = (tt, tt)
     fine_rule (resolves_imports rule) may = imports_all (import_acts finished (import_state s) rule) (asking s (resolves_imports rule)) (rule_all rule may)
 
 module _ (tables : TablesValue) (w : Workspace) (from : Beginning) (answer : CollectedValue) (rs : List ImportDirective) where
@@ -508,9 +521,9 @@ module _ (tables : TablesValue) (w : Workspace) (from : Beginning) (answer : Col
       let found_earlier : (r : ImportDirective) → Contains old.core.reached r → Contains rs r = λ r h. found r (grown-Step step r h) in
       let written : IsAllWritten tables w from answer old = written-Steps tables w from answer here before earlier first in
       let fine : IsFineState rs old = fine-Steps here first earlier found_earlier f before in
-      let globs : (j : ℕ) (e : Edge) → slice_get old.globs.edges j ≡ Some e → IsFineWay rs e.importer (Some (ways.Glob e.id)) × OneIsGlob rs e.importer =
+      let globs : (j : ℕ) (e : Edge) → slice_get old.core.globs.edges j ≡ Some e → IsFineWay rs e.importer (Some (ways.Glob e.id)) × OneIsGlob rs e.importer =
       λ j e at.
-      let one : IsOfGlob tables w from answer old.core.reached e = written.globs e (standing old.globs.edges j e at) in
+      let one : IsOfGlob tables w from answer old.core.reached e = written.globs e (standing old.core.globs.edges j e at) in
       let among : Contains rs one.directive = found_earlier one.directive one.among in
       (glob_brings rs e.importer e.id one.directive among one.is_glob one.into, glob_is rs e.importer e.id one.directive among one.is_glob one.into) in
       let begun : IsFineState rs (asking old step.rule) = record { modules = fine.modules } in

@@ -1,12 +1,12 @@
--- Each diagnostic of a run speaks of an item that was visited, or of an import that was found.
-use Rattle.std.proofs.Common.{◌≡◌, ◌∙◌, ◌<◌, ◌≤◌, ℕ, zero, suc, List, [], ◌∷◌, ◌++◌, length, Bool, true, false, cond, Option, None, Some, inl, inr, refl, sym, ap, subst, arith, Contains}
+-- Each diagnostic of a run speaks of an item that was visited, or of a call or an import that was come upon.
+use Rattle.std.proofs.Common.{◌≡◌, ◌∙◌, ◌<◌, ◌≤◌, ℕ, zero, suc, List, [], ◌∷◌, ◌++◌, length, slice_get, Bool, true, false, cond, Option, None, Some, inl, inr, refl, sym, ap, subst, arith, Contains}
 use Rattle.std.proofs.lemmas.List.Elements.{Contains-append_cases}
 use Rattle.hir_base.specs.declared.ast_id.AstId.{AstId}
 use Rattle.hir_base.specs.declared.ast_id.AstKind.TheVariants as nodes
 use Rattle.hir_base.specs.declared.ids.Crate.{Crate}
 use Rattle.hir_base.specs.declared.ids.MapId.{MapId}
 use Rattle.hir_base.specs.declared.ids.ModuleId.{ModuleId}
-use Rattle.hir_item_tree.specs.KeptForest.{extern_crate, import, leaf, macro_def, macro_rules, outline_module}
+use Rattle.hir_item_tree.specs.KeptForest.{extern_crate, import, leaf, macro_call, macro_def, macro_rules, outline_module}
 use Rattle.hir_item_tree.specs.Kinds.{item_head, item_kind}
 use Rattle.hir_tables.specs.Tables.{TablesValue}
 use Rattle.hir_def_map.specs.Diagnostics.{diagnostic_view, node_of as node_told}
@@ -19,27 +19,32 @@ use Rattle.hir_import_resolution.specs.Rules.{acts as import_acts}
 use Rattle.hir_import_resolution.specs.declared.directive.ImportDirective.{ImportDirective}
 use Rattle.hir_import_resolution.specs.declared.directive.ImportSource.{ImportSource}
 use Rattle.hir_import_resolution.specs.declared.directive.ImportSource.TheVariants as sources
-use Rattle.hir_def_collector.specs.Changes.{Change, lists, makes, gives_variants, begins_paths, reaches, changes_imports, adds_textual, takes_textual, defines, uses_macros, tells, goes_on, act}
+use Rattle.hir_def_collector.specs.declared.collector.macro_directive.Fate.{Fate}
+use Rattle.hir_def_collector.specs.declared.collector.macro_directive.Fate.TheVariants as fates
+use Rattle.hir_def_collector.specs.declared.collector.macro_directive.MacroDirective.{MacroDirective}
+use Rattle.hir_def_collector.specs.Calls.{error_of, path_of_call}
+use Rattle.hir_def_collector.specs.Changes.{Change, lists, makes, gives_variants, begins_paths, reaches, awaits, ends, settles, changes_imports, adds_textual, takes_textual, defines, uses_macros, tells, goes_on, act}
 use Rattle.hir_def_collector.specs.Derivation.{CollectedValue, Ends}
 use Rattle.hir_def_collector.specs.ItemIds.{module_id, node_of}
 use Rattle.hir_def_collector.specs.Keys.{environment}
-use Rattle.hir_def_collector.specs.Reports.{begins_with, crates_among, leftover_diagnostics, report_by, reports_of, unimplemented_macro, unresolved_among}
+use Rattle.hir_def_collector.specs.Reports.{begins_with, call_report, crates_among, failed_call, leftover_diagnostics, report_by, reports_of, unimplemented_macro, unresolved_among, unresolved_calls}
 use Rattle.hir_def_collector.specs.Start.{Beginning, begin_of, krate_of, read_by}
 use Rattle.hir_def_collector.specs.State.{State, Task, Visit, visits, import_state}
-use Rattle.hir_def_collector.specs.Steps.{Rule, drops_item, passes_over, defines_rules, defines_macro, closes_module, declares_item, declares_enum, lists_constant, lists_impl, opens_module, opens_file, drops_file, misses_file, enters_block, reaches_imports, reaches_crate, resolves_imports, May, Steps, acts, asking, more, none, visit}
+use Rattle.hir_def_collector.specs.Steps.{Rule, drops_item, reaches_call, rests, expands_call, drops_call, defines_rules, defines_macro, closes_module, declares_item, declares_enum, lists_constant, lists_impl, opens_module, opens_file, drops_file, misses_file, enters_block, reaches_imports, reaches_crate, resolves_imports, May, Steps, acts, asking, call_at, more, none, visit}
 use Rattle.hir_def_collector.specs.Workspace.{Workspace}
 use Rattle.hir_def_collector.proofs.Asks.{only, still_asked-Step}
-use Rattle.hir_def_collector.proofs.Changes.{AllFine, all_fine, fine_macro, fine_reporting, perform_keeps}
+use Rattle.hir_def_collector.proofs.Changes.{AllFine, all_fine, fine_failing, fine_macro, fine_reporting, perform_keeps}
 use Rattle.hir_def_collector.proofs.Grows.{Grows-Step}
 use Rattle.hir_def_collector.proofs.Holds.{in_range-start}
 use Rattle.hir_def_collector.proofs.ImportEdits.{Edit, edit_of, edited, map_after}
-use Rattle.hir_def_collector.proofs.InRange.{ImportsBelow, IsInRange, in_range-Steps, next_home}
+use Rattle.hir_def_collector.proofs.InRange.{ImportsBelow, IsInRange, call_below, in_range-Steps, next_home}
+use Rattle.hir_def_collector_laws.specs.Calls.{IsCall}
 use Rattle.hir_def_collector_laws.specs.Diagnostics.{DiagnosticsAreOfItems, IsOfItem, IsToldOfItem}
 use Rattle.hir_def_collector_laws.specs.Imports.{IsImport, IsOfSource}
 use Rattle.hir_def_collector_laws.specs.Written.{IsWritten}
-use Rattle.hir_def_collector_laws.proofs.Imports.{answer_asked, answer_here, first_written, import_written}
-use Rattle.hir_def_collector_laws.proofs.Lists.{later}
-use Rattle.hir_def_collector_laws.proofs.Written.{AreAsked, IsAllWritten, placed_next, written-Steps}
+use Rattle.hir_def_collector_laws.proofs.Imports.{answer_asked, answer_here, call_there, first_written, import_written}
+use Rattle.hir_def_collector_laws.proofs.Lists.{at_first, later, standing}
+use Rattle.hir_def_collector_laws.proofs.Written.{AreAsked, IsAllWritten, call_among, placed_next, written-Steps}
 
 module _ (tables : TablesValue) (w : Workspace) (from : Beginning) (answer : CollectedValue) where
   abbrev IsTold : DefDiagnostic → Type 0
@@ -63,6 +68,12 @@ module _ (tables : TablesValue) (w : Workspace) (from : Beginning) (answer : Col
   pub record AreTold (s : State) : Type 0 where
     pub each : AllTold s.core.map.diagnostics
 
+  -- a call stands on the node of an item
+  call_item : (d : MacroDirective) → IsCall tables w answer d → IsOfItem tables w answer d.ast_id
+  call_item d c =
+      let item : IsOfItem tables w answer (call_at d.site c.head c.path).ast_id = record { item = leaf c.head (macro_call c.path); written = c.written; kind = refl; id = refl } in
+      subst (λ (x : MacroDirective). IsOfItem tables w answer x.ast_id) (sym c.is) item
+
   -- ---- changes
 
   -- what is told speaks of an item
@@ -72,6 +83,9 @@ module _ (tables : TablesValue) (w : Workspace) (from : Beginning) (answer : Col
   IsFine s (gives_variants id variants) = Unit {0}
   IsFine s (begins_paths r) = Unit {0}
   IsFine s (reaches found) = Unit {0}
+  IsFine s (awaits calls) = Unit {0}
+  IsFine s (ends i fate) = Unit {0}
+  IsFine s settles = Unit {0}
   IsFine s (changes_imports c) = Unit {0}
   IsFine s (adds_textual home name makro) = Unit {0}
   IsFine s (takes_textual home from_) = Unit {0}
@@ -90,6 +104,9 @@ module _ (tables : TablesValue) (w : Workspace) (from : Beginning) (answer : Col
   told-act s (gives_variants id variants) f fine = record { each = f.each }
   told-act s (begins_paths r) f fine = record { each = f.each }
   told-act s (reaches found) f fine = record { each = f.each }
+  told-act s (awaits calls) f fine = record { each = f.each }
+  told-act s (ends i fate) f fine = record { each = f.each }
+  told-act s settles f fine = record { each = f.each }
   told-act s (changes_imports c) f fine = record {
     each = subst AllTold (sym (ap (λ (m : Map). m.diagnostics) (map_after (import_state s) c) ∙ same_edited s.core.map (edit_of (import_state s) c))) f.each;
   }
@@ -115,6 +132,17 @@ module _ (tables : TablesValue) (w : Workspace) (from : Beginning) (answer : Col
           there = omega arith;
           module_is = at ∙ ap (λ (id : MapId). numbered id v.site.home) written.id;
           of_item = subst (λ (node : AstId). IsOfItem tables w answer node) (sym about) item;
+        }
+
+    -- so is a call
+    call_told : (d : MacroDirective) (i : ℕ) → slice_get s.core.calls i ≡ Some d → (error : List ℕ) → IsTold (failed_call (module_id s.core.map d.site.home) d.ast_id (path_of_call d) error)
+    call_told d i at error =
+        let home : d.site.home < length s.core.map.modules = call_below (length s.core.map.modules) s.core.calls i d in_range.calls at in
+        record {
+          number = d.site.home;
+          there = omega arith;
+          module_is = ap (λ (id : MapId). numbered id d.site.home) written.id;
+          of_item = call_item d (call_among tables w from answer s.core.calls d written.calls (standing s.core.calls i d at));
         }
 
     fine_rule : (r : Rule) → May finished s r → AllFine IsFine (asking s r) (acts finished s r)
@@ -148,7 +176,10 @@ module _ (tables : TablesValue) (w : Workspace) (from : Beginning) (answer : Col
         next_told (visit site (leaf head (macro_def name expander helpers))) rest may.next (unimplemented_macro (module_id s.core.map site.home) (node_of site.tree nodes.MacroDef head.id)) refl refl in
         (tt, (tt, (tt, (tt, fine_reporting IsFine _ _ expander (λ t. speaks) _))))
     fine_rule (closes_module parent child rest) may = (tt, (tt, tt))
-    fine_rule (passes_over site head l rest) may = (tt, tt)
+    fine_rule (reaches_call site head path rest) may = (tt, (tt, tt))
+    fine_rule rests may = (tt, tt)
+    fine_rule (expands_call i d makro x) may = (tt, (tt, fine_failing IsFine (module_id s.core.map d.site.home) d (error_of x.there) (λ t text. call_told d i may.due.waiting.call text) _))
+    fine_rule (drops_call i d) may = (tt, tt)
     fine_rule (resolves_imports rule) may = all_fine IsFine (λ t c. tt) (import_acts finished (import_state s) rule) (asking s (resolves_imports rule))
 
   -- ---- steps
@@ -197,6 +228,21 @@ module _ (tables : TablesValue) (w : Workspace) (from : Beginning) (answer : Col
         kind = refl;
         id = is.node;
       }
+
+  abbrev AreCallsThere : List MacroDirective → Type 0
+  AreCallsThere ds = (d : MacroDirective) → Contains ds d → IsCall tables w answer d × (d.site.home < length answer.map.modules)
+
+  -- a call that waits
+  told_call : (d : MacroDirective) → IsCall tables w answer d → d.site.home < length answer.map.modules → IsTold (call_report answer.map.id d)
+  told_call d c there = record { number = d.site.home; there = there; module_is = refl; of_item = call_item d c }
+
+  told_calls : (ds : List MacroDirective) (fs : List Fate) → AreCallsThere ds → AllTold (unresolved_calls answer.map.id ds fs)
+  told_calls [] fs f = none_told
+  told_calls (d ∷ ds) [] f = none_told
+  told_calls (d ∷ ds) (fates.Waits ∷ fs) f =
+      let first = f d (at_first d ds) in
+      told_more (call_report answer.map.id d ∷ []) (unresolved_calls answer.map.id ds fs) (one_told (call_report answer.map.id d) (told_call d first.0 first.1)) (told_calls ds fs (λ e h. f e (later d ds e h)))
+  told_calls (d ∷ ds) (fates.Handled ∷ fs) f = told_calls ds fs (λ e h. f e (later d ds e h))
 
   abbrev AreImportsThere : List ImportDirective → Type 0
   AreImportsThere rs = (r : ImportDirective) → Contains rs r → IsImport tables w from answer r × (r.home < length answer.map.modules)
@@ -252,10 +298,17 @@ module _ (tables : TablesValue) (w : Workspace) (finished : Maps) (from : Beginn
       subst (λ (id : MapId). AllTold tables w from answer (reports_of id (crates_among [] unresolved) unresolved)) (sym last_id)
       (told_reports tables w from answer (crates_among [] unresolved) unresolved imports_there)
 
+  calls_told : AllTold tables w from answer (unresolved_calls e.last.core.map.id e.last.core.calls e.last.core.fates)
+  calls_told =
+      subst (λ (id : MapId). AllTold tables w from answer (unresolved_calls id e.last.core.calls e.last.core.fates)) (sym last_id)
+      (told_calls tables w from answer e.last.core.calls e.last.core.fates (λ d h. call_there tables w finished from answer e d h))
+
   all_told : AllTold tables w from answer answer.map.diagnostics
   all_told =
+      let calls : List DefDiagnostic = unresolved_calls e.last.core.map.id e.last.core.calls e.last.core.fates in
+      let imports : List DefDiagnostic = leftover_diagnostics e.last.core.map e.last.core.reached e.last.core.taken in
       subst (λ (ds : List DefDiagnostic). AllTold tables w from answer ds) (sym (ap (λ (m : Map). m.diagnostics) e.map_is))
-      (told_more tables w from answer e.last.core.map.diagnostics (leftover_diagnostics e.last.core.map e.last.core.reached e.last.core.taken) last_told.each leftover_told)
+      (told_more tables w from answer e.last.core.map.diagnostics (calls ++ imports) last_told.each (told_more tables w from answer calls imports calls_told leftover_told))
 
 pub diagnostics_are_of_items : DiagnosticsAreOfItems
 diagnostics_are_of_items tables w finished from answer e d h = all_told tables w finished from answer e d h

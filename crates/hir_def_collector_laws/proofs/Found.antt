@@ -1,15 +1,20 @@
--- The file that is found for a module is what is seen at its key.
-use Rattle.std.proofs.Common.{◌≡◌, ◌∙◌, List, [], ◌∷◌, ◌++◌, Option, Some, None, sym, ap, subst}
+-- The file that is found for a module is what is seen at its key, and so is what a call expands to.
+use Rattle.std.proofs.Common.{◌≡◌, ◌∙◌, List, [], ◌∷◌, ◌++◌, Option, Some, None, refl, sym, ap, subst, arith, Contains}
 use Rattle.std.specs.Option.{option_to_list}
 use Rattle.hir_base.specs.declared.ast_id.FileId.{FileId}
 use Rattle.hir_base.specs.declared.edition.Edition.{Edition}
 use Rattle.hir_base.specs.declared.ids.Crate.{Crate}
+use Rattle.hir_base.specs.declared.macro_kind.MacroId.{MacroId}
+use Rattle.hir_base.specs.declared.macro_kind.MacroId.TheVariants as macros
 use Rattle.hir_tables.specs.Tables.{TablesValue}
 use Rattle.hir_def_map.specs.Overlay.{Maps}
+use Rattle.hir_def_collector.specs.declared.collector.macro_directive.MacroDirective.{MacroDirective}
+use Rattle.hir_def_collector.specs.declared.source_database.Key.TheVariants as keys
+use Rattle.hir_def_collector.specs.Calls.{Expanding, call_key, expansion_readings, text_readings}
 use Rattle.hir_def_collector.specs.Workspace.{Workspace, seen_of}
 use Rattle.hir_def_collector.specs.Keys.{Look, absent_source, environment, tree_at}
 use Rattle.hir_def_collector.specs.ModuleFiles.{LookedAt, ModuleFile, Tried, file_key, file_reading, file_readings, module_file}
-use Rattle.hir_def_collector.specs.Steps.{Sees}
+use Rattle.hir_def_collector.specs.Steps.{Sees, keys_read}
 use Rattle.hir_def_collector.proofs.Asked.{seen_tree}
 use Rattle.hir_def_collector.proofs.ModuleFiles.{found_at}
 
@@ -29,3 +34,17 @@ module _ (tables : TablesValue) (w : Workspace) (finished : Maps) (krate : Crate
           → Sees (environment tables w) finished (file_readings krate edition (xs ++ t ∷ []))
       left None s = s
       left (Some g) s = s.1
+
+-- so is the tree of what a call expands to
+module _ (tables : TablesValue) (w : Workspace) (finished : Maps) (krate : Crate) (d : MacroDirective) where
+  pub expansion_seen : (makro : MacroId) (x : Expanding) → Sees (environment tables w) finished (text_readings makro x.text ++ expansion_readings krate d x) → tree_at tables w (call_key krate x.id) ≡ x.tree
+  expansion_seen (macros.Macro2Id id) x sees = ap (λ (l : Look). seen_tree l (seen_of absent_source)) sees.1.1.1.0
+  expansion_seen (macros.MacroRulesId id) x sees = ap (λ (l : Look). seen_tree l (seen_of absent_source)) sees.1.1.1.0
+  expansion_seen (macros.ProcMacroId id) x sees = ap (λ (l : Look). seen_tree l (seen_of absent_source)) sees.1.1.0
+
+-- and its key is among those that are read
+pub expansion_read : (krate : Crate) (d : MacroDirective) (makro : MacroId) (x : Expanding)
+    → Contains (keys_read (text_readings makro x.text ++ expansion_readings krate d x)) (keys.Tree (call_key krate x.id))
+expansion_read krate d (macros.Macro2Id id) x = (3, omega arith, refl)
+expansion_read krate d (macros.MacroRulesId id) x = (3, omega arith, refl)
+expansion_read krate d (macros.ProcMacroId id) x = (2, omega arith, refl)

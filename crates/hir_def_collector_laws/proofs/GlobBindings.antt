@@ -44,15 +44,16 @@ use Rattle.hir_import_resolution.specs.State.{glob_state, scopes_of}
 use Rattle.hir_import_resolution.specs.Visibilities.{greater_in, lesser_in}
 use Rattle.hir_import_resolution.specs.declared.directive.ImportSource.{ImportSource}
 use Rattle.hir_import_resolution.specs.declared.directive.ImportSource.TheVariants as sources
-use Rattle.hir_def_collector.specs.Changes.{Change, lists, makes, gives_variants, begins_paths, reaches, changes_imports, adds_textual, takes_textual, defines, uses_macros, tells, goes_on, act, perform}
+use Rattle.hir_def_collector.specs.Calls.{error_of}
+use Rattle.hir_def_collector.specs.Changes.{Change, lists, makes, gives_variants, begins_paths, reaches, awaits, ends, settles, changes_imports, adds_textual, takes_textual, defines, uses_macros, tells, goes_on, act, perform}
 use Rattle.hir_def_collector.specs.Derivation.{CollectedValue, Ends}
 use Rattle.hir_def_collector.specs.ItemIds.{module_id}
 use Rattle.hir_def_collector.specs.Keys.{Environment}
 use Rattle.hir_def_collector.specs.Start.{Beginning, read_by}
 use Rattle.hir_def_collector.specs.State.{State, import_state}
-use Rattle.hir_def_collector.specs.Steps.{Rule, drops_item, passes_over, defines_rules, defines_macro, closes_module, declares_item, declares_enum, lists_constant, lists_impl, opens_module, opens_file, drops_file, misses_file, enters_block, reaches_imports, reaches_crate, resolves_imports, May, Steps, acts, asking, more, none}
+use Rattle.hir_def_collector.specs.Steps.{Rule, drops_item, reaches_call, rests, expands_call, drops_call, defines_rules, defines_macro, closes_module, declares_item, declares_enum, lists_constant, lists_impl, opens_module, opens_file, drops_file, misses_file, enters_block, reaches_imports, reaches_crate, resolves_imports, May, Steps, acts, asking, more, none}
 use Rattle.hir_def_collector.specs.Workspace.{Workspace}
-use Rattle.hir_def_collector.proofs.Changes.{AllFine, fine_macro, fine_reporting, perform_keeps}
+use Rattle.hir_def_collector.proofs.Changes.{AllFine, fine_failing, fine_macro, fine_reporting, perform_keeps}
 use Rattle.hir_def_collector_laws.specs.Globs.{AlsoShows, GlobsBringWhatIsShown, IsAsShown, IsBrought, WasSeen, glob_at, glob_by, glob_of_value, is_open_in, view_in}
 use Rattle.hir_def_collector_laws.proofs.Exact.{exact_bound, exact_visibility}
 use Rattle.hir_def_collector_laws.proofs.Noted.{GivesAll, HasNote, IsAsOpen, KeepsEdges, keeps_recorded}
@@ -60,7 +61,7 @@ use Rattle.hir_def_collector_laws.proofs.NotedScopes.{AreNoted, IsNotedScope, no
 
 -- each name that a glob brought has its note where a run stands
 pub record IsNotedState (s : State) : Type 0 where
-  pub modules : AreNoted s.core.map.id s.globs.names s.globs.brought s.globs.edges s.core.map.modules
+  pub modules : AreNoted s.core.map.id s.core.globs.names s.core.globs.brought s.core.globs.edges s.core.map.modules
 
 -- ---- changes
 
@@ -69,7 +70,7 @@ abbrev IsFineImport : State → ImportChange → Type 0
 IsFineImport s (pushes home name items source) = is_glob (pushing source) ≡ false
 IsFineImport s (keeps_trait finished home id vis by) = Unit {0}
 IsFineImport s (takes i t) = Unit {0}
-IsFineImport s (records edges) = KeepsEdges s.globs.edges edges
+IsFineImport s (records edges) = KeepsEdges s.core.globs.edges edges
 IsFineImport s (along finished a) = ⊥
 
 abbrev IsFine : State → Change → Type 0
@@ -78,6 +79,9 @@ IsFine s (makes home name origin visibility) = Unit {0}
 IsFine s (gives_variants id variants) = Unit {0}
 IsFine s (begins_paths r) = Unit {0}
 IsFine s (reaches found) = Unit {0}
+IsFine s (awaits calls) = Unit {0}
+IsFine s (ends i fate) = Unit {0}
+IsFine s settles = Unit {0}
 IsFine s (changes_imports c) = IsFineImport s c
 IsFine s (adds_textual home name makro) = Unit {0}
 IsFine s (takes_textual home from_) = Unit {0}
@@ -89,17 +93,17 @@ IsFine s (goes_on vs) = Unit {0}
 noted-imports : (s : State) (c : ImportChange) → IsNotedState s → IsFineImport s c → IsNotedState (act s (changes_imports c))
 noted-imports s (pushes home None items source) f fine = record { modules = f.modules }
 noted-imports s (pushes home (Some name) items source) f fine = record {
-  modules = noted_explicit s.core.map.id s.globs.names s.globs.brought s.globs.edges home name items (pushing source) fine s.core.map.modules f.modules;
+  modules = noted_explicit s.core.map.id s.core.globs.names s.core.globs.brought s.core.globs.edges home name items (pushing source) fine s.core.map.modules f.modules;
 }
 noted-imports s (keeps_trait finished home None vis by) f fine = record { modules = f.modules }
 noted-imports s (keeps_trait finished home (Some id) vis by) f fine =
     let change : ScopeValue → ScopeValue = with_trait id (kept_vis finished s.core.map vis (trait_vis (module_at s.core.map home) id)) by in
     record {
-      modules = noted_traits s.core.map.id s.globs.names s.globs.brought s.globs.edges (changed_at s.core.map.modules home (with_module_scope change)) home id None
+      modules = noted_traits s.core.map.id s.core.globs.names s.core.globs.brought s.core.globs.edges (changed_at s.core.map.modules home (with_module_scope change)) home id None
           (noted_rescoped s.core.map.modules home (with_module_scope change) (λ m. record { types = refl; values = refl; macros = refl }) f.modules);
     }
 noted-imports s (takes i t) f fine = record { modules = f.modules }
-noted-imports s (records edges) f fine = record { modules = noted_recorded s.core.map.id s.globs.names s.globs.brought s.globs.edges edges s.core.map.modules fine f.modules }
+noted-imports s (records edges) f fine = record { modules = noted_recorded s.core.map.id s.core.globs.names s.core.globs.brought s.core.globs.edges edges s.core.map.modules fine f.modules }
 noted-imports s (along finished a) f fine = absurd fine
 
 noted-act : (s : State) (c : Change) → IsNotedState s → IsFine s c → IsNotedState (act s c)
@@ -111,6 +115,9 @@ noted-act s (makes home name origin visibility) f fine = record {
 noted-act s (gives_variants id variants) f fine = record { modules = f.modules }
 noted-act s (begins_paths r) f fine = record { modules = f.modules }
 noted-act s (reaches found) f fine = record { modules = f.modules }
+noted-act s (awaits calls) f fine = record { modules = f.modules }
+noted-act s (ends i fate) f fine = record { modules = f.modules }
+noted-act s settles f fine = record { modules = f.modules }
 noted-act s (changes_imports c) f fine = noted-imports s c f fine
 noted-act s (adds_textual home name makro) f fine = record { modules = noted_rescoped s.core.map.modules home (with_module_scope _) (λ m. record { types = refl; values = refl; macros = refl }) f.modules }
 noted-act s (takes_textual home from_) f fine = record { modules = noted_rescoped s.core.map.modules home (with_module_scope _) (λ m. record { types = refl; values = refl; macros = refl }) f.modules }
@@ -267,13 +274,13 @@ module _ (finished : Maps) (m : Map) (globs : GlobNames) (brought : BroughtBy) (
 along_noted : (finished : Maps) (s : State) (rule : GlobRule) → MayAlong scope_table (glob_state finished (import_state s)) rule → IsNotedState s
     → IsNotedState (perform s (list_map changes_imports (list_map (along finished) (glob_acts (view_of (scopes_of finished (import_state s))) rule))))
 along_noted finished s (copies_along j e slot b) may f = record {
-  modules = copied_noted finished s.core.map s.globs.names s.globs.brought s.globs.edges f.modules slot.at j e b slot.key may;
+  modules = copied_noted finished s.core.map s.core.globs.names s.core.globs.brought s.core.globs.edges f.modules slot.at j e b slot.key may;
 }
 along_noted finished s (follows_along j e slot b) may f = record {
-  modules = followed_noted finished s.core.map s.globs.names s.globs.brought s.globs.edges f.modules slot.at j e b slot.key may;
+  modules = followed_noted finished s.core.map s.core.globs.names s.core.globs.brought s.core.globs.edges f.modules slot.at j e b slot.key may;
 }
 along_noted finished s (raises_along j e slot vis) may f = record {
-  modules = raised_noted finished s.core.map s.globs.names s.globs.brought s.globs.edges f.modules slot.at j e vis slot.key may;
+  modules = raised_noted finished s.core.map s.core.globs.names s.core.globs.brought s.core.globs.edges f.modules slot.at j e vis slot.key may;
 }
 
 -- ---- rules
@@ -288,7 +295,7 @@ module _ (finished : Maps) (s : State) (f : IsNotedState s) where
 
   import_noted : (rule : ImportRule) → MayImport finished (import_state s) rule → IsNotedState (perform (asking s (resolves_imports rule)) (acts finished s (resolves_imports rule)))
   import_noted (takes_import i r t) may = by_changes (resolves_imports (takes_import i r t)) (explicit_source r.source, (tt, (tt, tt)))
-  import_noted (takes_glob i r t by target edges) may = by_changes (resolves_imports (takes_glob i r t by target edges)) (tt, (keeps_recorded s.globs.edges edges _ may.recorded, tt))
+  import_noted (takes_glob i r t by target edges) may = by_changes (resolves_imports (takes_glob i r t by target edges)) (tt, (keeps_recorded s.core.globs.edges edges _ may.recorded, tt))
   import_noted (goes_along rule) may = along_noted finished (asking s (resolves_imports (goes_along rule))) rule may (record { modules = f.modules })
 
   rule_noted : (r : Rule) → May finished s r → IsNotedState (perform (asking s r) (acts finished s r))
@@ -309,7 +316,10 @@ module _ (finished : Maps) (s : State) (f : IsNotedState s) where
   rule_noted (defines_macro site head name expander helpers rest) may =
       by_changes (defines_macro site head name expander helpers rest) (tt, (tt, (tt, (refl, fine_reporting IsFine _ _ expander (λ t. tt) _))))
   rule_noted (closes_module parent child rest) may = by_changes (closes_module parent child rest) (tt, (tt, tt))
-  rule_noted (passes_over site head l rest) may = by_changes (passes_over site head l rest) (tt, tt)
+  rule_noted (reaches_call site head path rest) may = by_changes (reaches_call site head path rest) (tt, (tt, tt))
+  rule_noted rests may = by_changes rests (tt, tt)
+  rule_noted (expands_call i d makro x) may = by_changes (expands_call i d makro x) (tt, (tt, fine_failing IsFine _ d (error_of x.there) (λ t text. tt) _))
+  rule_noted (drops_call i d) may = by_changes (drops_call i d) (tt, tt)
   rule_noted (resolves_imports rule) may = import_noted rule may
 
 noted-Steps : {env : Environment} {finished : Maps} {begun last : State} → IsNotedState begun → Steps env finished begun last → IsNotedState last
@@ -326,7 +336,7 @@ pub record CameAlong (s : State) (number : ℕ) (key : Key) (id : GlobId) (stand
   pub given : (bound : Bound) → stands ≡ Some bound → GivesAll by.last bound.vis
 
 came_by_note : (s : State) (own : MapId) (places : List Place) (number : ℕ) (key : Key) (name : List ℕ) (id : GlobId) (vis : Visibility) (def : ItemInNs)
-    → HasNote own places s.globs.brought s.globs.edges number key name id vis → CameAlong s number key id (Some (record { def = def; vis = vis }))
+    → HasNote own places s.core.globs.brought s.core.globs.edges number key name id vis → CameAlong s number key id (Some (record { def = def; vis = vis }))
 came_by_note s own places number key name id vis def note = record {
   by = record {
     place = note.last.edge;
@@ -344,7 +354,7 @@ came_by_note s own places number key name id vis def note = record {
 }
 
 -- in each namespace
-module _ (s : State) (own : MapId) (globs : GlobNames) (number : ℕ) (id : GlobId) (v : ScopeValue) (f : IsNotedScope own globs s.globs.brought s.globs.edges number v) where
+module _ (s : State) (own : MapId) (globs : GlobNames) (number : ℕ) (id : GlobId) (v : ScopeValue) (f : IsNotedScope own globs s.core.globs.brought s.core.globs.edges number v) where
   came_type : (name : List ℕ) (o : Option (Item ModuleDefId ImportOrExternCrate)) → item_at v.types name ≡ o → glob_by glob_of o ≡ Some id → CameAlong s number (Types name) id (bound_by in_ns.Types o)
   came_type name None at e = absurd (let no : ⊥ = cc in no)
   came_type name (Some i) at e = came_by_note s own globs.types number (Types name) name id i.vis (in_ns.Types i.def) (f.types name i id at e)
@@ -357,7 +367,7 @@ module _ (s : State) (own : MapId) (globs : GlobNames) (number : ℕ) (id : Glob
   came_macro name None at e = absurd (let no : ⊥ = cc in no)
   came_macro name (Some i) at e = came_by_note s own globs.macros number (Macros name) name id i.vis (in_ns.Macros i.def) (f.macros name i id at e)
 
-brought_in : (s : State) (own : MapId) (globs : GlobNames) (number : ℕ) (o : Option ModuleValue) → ((v : ModuleValue) → o ≡ Some v → IsNotedScope own globs s.globs.brought s.globs.edges number v.scope)
+brought_in : (s : State) (own : MapId) (globs : GlobNames) (number : ℕ) (o : Option ModuleValue) → ((v : ModuleValue) → o ≡ Some v → IsNotedScope own globs s.core.globs.brought s.core.globs.edges number v.scope)
     → (key : Key) (id : GlobId) → glob_at (entry_of o) key ≡ Some id → CameAlong s number key id (bound_at (entry_of o) (trait_vis o) key)
 brought_in s own globs number None f (Types name) id e = absurd (let no : ⊥ = cc in no)
 brought_in s own globs number None f (Values name) id e = absurd (let no : ⊥ = cc in no)
@@ -401,7 +411,7 @@ module _ (tables : TablesValue) (w : Workspace) (finished : Maps) (from : Beginn
     in_last = subst (λ (m : Map). glob_at (entry_at m number) key ≡ Some id) e.map_is is
 
     along_edge : CameAlong e.last number key id (bound_at (entry_of (module_at e.last.core.map number)) (trait_vis (module_at e.last.core.map number)) key)
-    along_edge = brought_in e.last e.last.core.map.id e.last.globs.names number (module_at e.last.core.map number) (λ m at. noted_last.modules.each number m at) key id in_last
+    along_edge = brought_in e.last e.last.core.map.id e.last.core.globs.names number (module_at e.last.core.map number) (λ m at. noted_last.modules.each number m at) key id in_last
 
     abbrev came : IsBrought e.last number key id
     came = along_edge.by
@@ -414,7 +424,7 @@ module _ (tables : TablesValue) (w : Workspace) (finished : Maps) (from : Beginn
 
     as_now : (b : Bound) → shown v came.edge key ≡ Some b → WasSeen came.last came.edge b
     as_now b shows =
-        let here : e.last.globs.brought (slot_at came.edge.importer key) ≡ Some came.last = ap (λ (k : ℕ). e.last.globs.brought (slot_at k key)) came.into ∙ came.brought in
+        let here : e.last.core.globs.brought (slot_at came.edge.importer key) ≡ Some came.last = ap (λ (k : ℕ). e.last.core.globs.brought (slot_at k key)) came.into ∙ came.brought in
         let seen : is_as_seen came.edge b came.last ≡ true =
         (e.closed.followed came.place came.edge key came.recorded).followed has_name b came.last shows here ((unsigned_Decides came.last.edge came.place).1 came.along) in
         let same_seen : Bool = same_bound came.last.seen b in
@@ -433,8 +443,8 @@ module _ (tables : TablesValue) (w : Workspace) (finished : Maps) (from : Beginn
         → v.greater stood.bound.vis (brought_vis v other b) ≡ Some wide → wide ≡ stood.bound.vis
     as_wide other b also wide greater =
         let here : bound_in v (slot_at other.importer key) ≡ Some stood.bound = ap (λ (k : ℕ). bound_in v (slot_at k key)) also.into ∙ stood.there in
-        let brought : e.last.globs.brought (slot_at other.importer key) ≡ Some came.last = ap (λ (k : ℕ). e.last.globs.brought (slot_at k key)) also.into ∙ came.brought in
-        let may : may_raise also.place key (e.last.globs.brought (slot_at other.importer key)) ≡ true =
+        let brought : e.last.core.globs.brought (slot_at other.importer key) ≡ Some came.last = ap (λ (k : ℕ). e.last.core.globs.brought (slot_at k key)) also.into ∙ came.brought in
+        let may : may_raise also.place key (e.last.core.globs.brought (slot_at other.importer key)) ≡ true =
         ap (may_raise also.place key) brought ∙ other_may came.last also.place key has_name (λ f. also.apart (sym came.along ∙ f)) in
         let same : same_def stood.bound.def b.def ≡ true = subst (λ (d : ItemInNs). same_def stood.bound.def d ≡ true) also.same (item_laws.refl stood.bound.def) in
         exact_visibility wide stood.bound.vis ((e.closed.raised also.place other key also.recorded).raised b stood.bound also.shows here may same wide greater)

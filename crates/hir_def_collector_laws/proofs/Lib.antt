@@ -14,6 +14,8 @@ pub mod NotedScopes
 pub mod GlobBindings
 -- ---- definitions
 pub mod Listings
+pub mod Quiet
+pub mod Done
 pub mod Ahead
 pub mod Backwards
 pub mod Modules

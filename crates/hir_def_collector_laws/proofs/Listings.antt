@@ -16,19 +16,20 @@ use Rattle.hir_def_map.specs.declared.nameres.declaration.Declaration.TheVariant
 use Rattle.hir_def_map.proofs.Grown.{length-changed}
 use Rattle.hir_def_map.proofs.StaysWellFormed.{length-made}
 use Rattle.hir_import_resolution.specs.Changes.{Change as ImportChange, pushes}
+use Rattle.hir_def_collector.specs.declared.collector.macro_directive.MacroDirective.{MacroDirective}
 use Rattle.hir_def_collector.specs.Causes.{declarations_of}
-use Rattle.hir_def_collector.specs.Changes.{Change, lists, makes, gives_variants, begins_paths, reaches, changes_imports, adds_textual, takes_textual, defines, uses_macros, tells, goes_on, act, perform}
+use Rattle.hir_def_collector.specs.Changes.{Change, lists, makes, gives_variants, begins_paths, reaches, awaits, ends, settles, changes_imports, adds_textual, takes_textual, defines, uses_macros, tells, goes_on, act, perform}
 use Rattle.hir_def_collector.specs.ItemIds.{module_id}
 use Rattle.hir_def_collector.specs.Macros.{is_exported}
 use Rattle.hir_def_collector.specs.Reports.{is_unimplemented, unimplemented_macro}
 use Rattle.hir_def_collector.specs.State.{State, import_state}
-use Rattle.hir_def_collector.specs.Steps.{exporting, reporting}
+use Rattle.hir_def_collector.specs.Steps.{exporting, failing, reporting}
 use Rattle.hir_def_collector.proofs.Bound.{keeps-edit}
 use Rattle.hir_def_collector.proofs.Changes.{Keeps-act}
 use Rattle.hir_def_collector.proofs.Grows.{Grows-act}
 use Rattle.hir_def_collector.proofs.ImportEdits.{Edit, edit, edit_of, edited, map_after}
 use Rattle.hir_def_collector.proofs.Lists.{get_left}
-use Rattle.hir_def_collector_laws.proofs.Lists.{at_home}
+use Rattle.hir_def_collector_laws.specs.Expansions.{at_home}
 
 -- ---- what is listed
 
@@ -65,6 +66,9 @@ added (makes home name origin visibility) k = []
 added (gives_variants id variants) k = []
 added (begins_paths r) k = []
 added (reaches rs) k = []
+added (awaits calls) k = []
+added (ends i fate) k = []
+added settles k = []
 added (changes_imports c) k = []
 added (adds_textual home name makro) k = []
 added (takes_textual home from_) k = []
@@ -108,6 +112,9 @@ added-act s (makes home name origin visibility) k low =
 added-act s (gives_variants id variants) k low = same_list (declarations_of (module_at s.core.map k)) refl
 added-act s (begins_paths r) k low = same_list (declarations_of (module_at s.core.map k)) refl
 added-act s (reaches rs) k low = same_list (declarations_of (module_at s.core.map k)) refl
+added-act s (awaits calls) k low = same_list (declarations_of (module_at s.core.map k)) refl
+added-act s (ends i fate) k low = same_list (declarations_of (module_at s.core.map k)) refl
+added-act s settles k low = same_list (declarations_of (module_at s.core.map k)) refl
 added-act s (changes_imports c) k low =
     ap (λ (m : Map). declarations_of (module_at m k)) (map_after (import_state s) c) ∙ added-edited s.core.map (edit_of (import_state s) c) k
 added-act s (adds_textual home name makro) k low = added-scope s.core.map home _ (λ x. refl) k
@@ -148,6 +155,10 @@ reporting_unlisted at node expander k = go (is_unimplemented expander)
     go true = refl
     go false = refl
 
+pub failing_unlisted : (at : ModuleId) (d : MacroDirective) (error : Option (List ℕ)) (k : ℕ) → all_added (failing at d error) k ≡ []
+failing_unlisted at d None k = refl
+failing_unlisted at d (Some text) k = refl
+
 -- ---- how many modules there are
 
 abbrev pub made_by : Change → ℕ
@@ -156,6 +167,9 @@ made_by (makes home name origin visibility) = 1
 made_by (gives_variants id variants) = 0
 made_by (begins_paths r) = 0
 made_by (reaches rs) = 0
+made_by (awaits calls) = 0
+made_by (ends i fate) = 0
+made_by settles = 0
 made_by (changes_imports c) = 0
 made_by (adds_textual home name makro) = 0
 made_by (takes_textual home from_) = 0
@@ -181,6 +195,9 @@ length-act s (makes home name origin visibility) = length-made s.core.map home n
 length-act s (gives_variants id variants) = omega arith
 length-act s (begins_paths r) = omega arith
 length-act s (reaches rs) = omega arith
+length-act s (awaits calls) = omega arith
+length-act s (ends i fate) = omega arith
+length-act s settles = omega arith
 length-act s (changes_imports c) = ap (λ (m : Map). length m.modules) (map_after (import_state s) c) ∙ length-edited s.core.map (edit_of (import_state s) c)
 length-act s (adds_textual home name makro) = length-scope s.core.map home _
 length-act s (takes_textual home from_) = length-scope s.core.map home _
@@ -214,6 +231,10 @@ reporting_makes_none at node expander = go (is_unimplemented expander)
     go true = refl
     go false = refl
 
+pub failing_makes_none : (at : ModuleId) (d : MacroDirective) (error : Option (List ℕ)) → all_made (failing at d error) ≡ 0
+failing_makes_none at d None = refl
+failing_makes_none at d (Some text) = refl
+
 -- nor do they change what comes next
 pub macro_agenda : (t : State) (head : Head) (name : List ℕ) (makro : MacroId) (at : ModuleId) (node : AstId) (expander : MacroExpander)
     → (perform t (exporting head name makro ++ reporting at node expander)).agenda ≡ t.agenda
@@ -232,6 +253,10 @@ reporting_agenda t at node expander = go (is_unimplemented expander)
     go : (unimplemented : Bool) → (perform t (cond unimplemented (tells (unimplemented_macro at node) ∷ []) [])).agenda ≡ t.agenda
     go true = refl
     go false = refl
+
+pub failing_agenda : (t : State) (at : ModuleId) (d : MacroDirective) (error : Option (List ℕ)) → (perform t (failing at d error)).agenda ≡ t.agenda
+failing_agenda t at d None = refl
+failing_agenda t at d (Some text) = refl
 
 -- ---- what stays of modules, and of the map
 
@@ -278,6 +303,9 @@ Stays-act s (makes home name origin visibility) = λ k v e.
 Stays-act s (gives_variants id variants) = λ k v e. record { value = v; there = e; origin = refl; parent = refl }
 Stays-act s (begins_paths r) = Stays-same s.core.map
 Stays-act s (reaches rs) = Stays-same s.core.map
+Stays-act s (awaits calls) = Stays-same s.core.map
+Stays-act s (ends i fate) = Stays-same s.core.map
+Stays-act s settles = Stays-same s.core.map
 Stays-act s (changes_imports c) = subst (λ (m : Map). Stays s.core.map m) (sym (map_after (import_state s) c)) (Stays-edited s.core.map (edit_of (import_state s) c))
 Stays-act s (adds_textual home name makro) = Stays-scope s.core.map home _
 Stays-act s (takes_textual home from_) = Stays-scope s.core.map home _

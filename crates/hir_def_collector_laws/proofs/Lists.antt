@@ -1,5 +1,6 @@
 -- What lists contain.
-use Rattle.std.proofs.Common.{◌≡◌, ℕ, zero, suc, ◌<◌, List, [], ◌∷◌, ◌++◌, slice_get, slice_set, Some, ◌⊎◌, inl, inr, refl, arith, Contains}
+use Rattle.std.proofs.Common.{◌≡◌, ◌≢◌, ℕ, zero, suc, ◌<◌, List, [], ◌∷◌, ◌++◌, slice_get, slice_set, Some, ◌⊎◌, inl, inr, refl, ap, arith, Contains}
+use Rattle.hir_def_collector_laws.specs.Expansions.{at_home}
 
 module _ {A : Type 0} where
   pub later : (y : A) (ys : List A) (x : A) → Contains ys x → Contains (y ∷ ys) x
@@ -28,13 +29,6 @@ module _ {A : Type 0} where
 -- ---- what belongs to one module
 
 module _ {A : Type 0} where
-  -- a list at its own number, and nothing at another
-  abbrev pub at_home : ℕ → ℕ → List A → List A
-  at_home zero zero xs = xs
-  at_home zero (suc k) xs = []
-  at_home (suc h) zero xs = []
-  at_home (suc h) (suc k) xs = at_home h k xs
-
   pub at_home-same : (k : ℕ) (xs : List A) → at_home k k xs ≡ xs
   at_home-same zero xs = refl
   at_home-same (suc k) xs = at_home-same k xs
@@ -50,7 +44,13 @@ module _ {A : Type 0} where
   at_home-above (suc h) zero xs low = refl
   at_home-above (suc h) (suc k) xs low = at_home-above h k xs (omega arith)
 
-  pub at_home-nothing : (h k : ℕ) → at_home h k [] ≡ []
+  pub at_home-other : (h k : ℕ) (xs : List A) → h ≢ k → at_home h k xs ≡ []
+  at_home-other zero zero xs apart = absurd (apart refl)
+  at_home-other zero (suc k) xs apart = refl
+  at_home-other (suc h) zero xs apart = refl
+  at_home-other (suc h) (suc k) xs apart = at_home-other h k xs (λ e. apart (ap suc e))
+
+  pub at_home-nothing : (h k : ℕ) → at_home {A = A} h k [] ≡ []
   at_home-nothing zero zero = refl
   at_home-nothing zero (suc k) = refl
   at_home-nothing (suc h) zero = refl

@@ -1,5 +1,5 @@
--- Each module of a run's map lists what its items declare.
-use Rattle.std.proofs.Common.{◌≡◌, ◌∙◌, ◌<◌, ℕ, zero, suc, List, [], length, Bool, true, false, None, refl, sym, ap, subst, arith, Contains, append-nil}
+-- Each module of a run's map lists what its items declare, and what expansions in it do.
+use Rattle.std.proofs.Common.{◌≡◌, ◌∙◌, ◌<◌, inl, inr, ℕ, zero, suc, List, [], ◌∷◌, ◌++◌, length, slice_get, Bool, true, false, None, Some, refl, sym, ap, subst, arith, Contains, append-nil}
 use Rattle.std.proofs.lemmas.List.Elements.{Contains-append_right}
 use Rattle.std.specs.Prelude.{if◌then◌else◌}
 use Rattle.hir_base.specs.declared.ids.ModuleDefId.{ModuleDefId}
@@ -12,42 +12,90 @@ use Rattle.hir_tables.specs.Tables.{TablesValue}
 use Rattle.hir_def_map.specs.Overlay.{Maps}
 use Rattle.hir_def_map.specs.State.{CrateData, Map, module_at, new_module}
 use Rattle.hir_def_map.specs.declared.nameres.diagnostics.DefDiagnostic.{DefDiagnostic}
+use Rattle.hir_def_collector.specs.declared.collector.macro_directive.Fate.TheVariants.{Handled}
+use Rattle.hir_def_collector.specs.declared.collector.macro_directive.MacroDirective.{MacroDirective}
 use Rattle.hir_def_collector.specs.declared.collector.site.Site.{Site}
 use Rattle.hir_def_collector.specs.declared.source_database.Key.{Key}
 use Rattle.hir_def_collector.specs.declared.source_database.Key.TheVariants as keys
 use Rattle.hir_def_collector.specs.Causes.{declarations_of}
-use Rattle.hir_def_collector.specs.Derivation.{CollectedValue, Ends}
+use Rattle.hir_def_collector.specs.Derivation.{CollectedValue, leftover_reports}
 use Rattle.hir_def_collector.specs.Keys.{environment}
-use Rattle.hir_def_collector.specs.Reports.{leftover_diagnostics, with_diagnostics}
-use Rattle.hir_def_collector.specs.Start.{Beginning, begin_of, krate_of, origin_of, read_by, root_site, root_tree, start_of, tree_visits}
-use Rattle.hir_def_collector.specs.State.{State, Task, visits_over}
-use Rattle.hir_def_collector.specs.Steps.{Step, Steps, acts, after, asking, keys_read, more, none, reads}
+use Rattle.hir_def_collector.specs.Reports.{with_diagnostics}
+use Rattle.hir_def_collector.specs.Start.{Beginning, krate_of, origin_of, read_by, root_site, root_tree, start_of, tree_visits}
+use Rattle.hir_def_collector.specs.State.{Core, State, Task, visits_over}
+use Rattle.hir_def_collector.specs.Steps.{Rule, drops_item, reaches_call, rests, expands_call, drops_call, defines_rules, defines_macro, closes_module, declares_item, declares_enum, lists_constant, lists_impl, opens_module, opens_file, drops_file, misses_file, enters_block, reaches_imports, reaches_crate, resolves_imports, May, Step, Steps, acts, after, asking, keys_read, more, none, reads}
 use Rattle.hir_def_collector.specs.Workspace.{Workspace}
 use Rattle.hir_def_collector.proofs.Asks.{still_asked-Step}
 use Rattle.hir_def_collector.proofs.Changes.{asked-Step}
+use Rattle.hir_def_collector.proofs.Grows.{Grows-Step}
 use Rattle.hir_def_collector.proofs.Holds.{in_range-start}
 use Rattle.hir_def_collector.proofs.InRange.{IsInRange, in_range-Steps}
-use Rattle.hir_def_collector_laws.specs.Declares.{Declares}
-use Rattle.hir_def_collector_laws.specs.Modules.{ListsItsItems, ModulesListTheirItems, items_of, of_root}
-use Rattle.hir_def_collector_laws.proofs.Ahead.{IsAhead, altogether, declare_altogether, gathered_at}
-use Rattle.hir_def_collector_laws.proofs.Backwards.{back_rule}
+use Rattle.hir_def_collector_laws.specs.Calls.{IsCall, NoCallIsWritten}
+use Rattle.hir_def_collector_laws.specs.Declares.{HaveNoCall}
+use Rattle.hir_def_collector_laws.specs.Expansions.{Expansion, IsDone, IsExpansion, expanded_in}
+use Rattle.hir_def_collector_laws.specs.Modules.{ListsAll, ListsItsItems, ModulesListTheirItems, ModulesListTheirItemsAlone, items_of, of_root}
+use Rattle.hir_def_collector_laws.specs.Written.{key_of}
+use Rattle.hir_def_collector_laws.proofs.Ahead.{Holds, IsAhead, altogether, declare_altogether, gathered_at}
+use Rattle.hir_def_collector_laws.proofs.Backwards.{IsSooner, QuietAfter, back_rule}
+use Rattle.hir_def_collector_laws.proofs.Done.{AreDone, done-Step, from_rule}
 use Rattle.hir_def_collector_laws.proofs.Imports.{answer_asked, answer_here, first_written}
+use Rattle.hir_def_collector_laws.proofs.Lists.{at_first, at_home-other}
 use Rattle.hir_def_collector_laws.proofs.Listings.{Stays, StaysAt, data-perform}
+use Rattle.hir_def_collector_laws.proofs.Quiet.{IsQuiet, NoCallNext, call_apart, quiet-Step, quiet_of}
 use Rattle.hir_def_collector_laws.proofs.Written.{AreAsked, IsAllWritten, written-Steps}
 
-module _ (tables : TablesValue) (w : Workspace) (finished : Maps) (from : Beginning) (answer : CollectedValue) where
-  back_Step : {old new : State} → IsInRange old → IsAllWritten tables w from answer old → AreAsked tables w from answer new → Step (environment tables w) finished old new
-      → IsAhead tables w finished from answer new.core.map new.agenda → IsAhead tables w finished from answer old.core.map old.agenda
+-- a rule expands nothing in a module where no call waits
+quiet_from : (finished : Maps) (s : State) (k : ℕ) → IsQuiet k s → (r : Rule) → May finished s r → (defs : List ModuleDefId) (es : List Expansion) → expanded_in (from_rule r defs es) k ≡ expanded_in es k
+quiet_from finished s k p (expands_call i d makro x) may defs es =
+    ap (λ (xs : List ModuleDefId). xs ++ expanded_in es k) (at_home-other d.site.home k defs (call_apart k s.core.calls i d p.calls may.due.waiting.call))
+quiet_from finished s k p (drops_item v report rest) may defs es = refl
+quiet_from finished s k p (declares_item v d rest) may defs es = refl
+quiet_from finished s k p (declares_enum site head name found rest) may defs es = refl
+quiet_from finished s k p (lists_constant site head rest) may defs es = refl
+quiet_from finished s k p (lists_impl site head of_trait rest) may defs es = refl
+quiet_from finished s k p (opens_module site head name items rest) may defs es = refl
+quiet_from finished s k p (opens_file site head name search file rest) may defs es = refl
+quiet_from finished s k p (drops_file site head name search report rest) may defs es = refl
+quiet_from finished s k p (misses_file site head name search report rest) may defs es = refl
+quiet_from finished s k p (enters_block site head items rest) may defs es = refl
+quiet_from finished s k p (reaches_imports site head tree rest) may defs es = refl
+quiet_from finished s k p (reaches_crate site head name alias rest) may defs es = refl
+quiet_from finished s k p (defines_rules site head name expander helpers rest) may defs es = refl
+quiet_from finished s k p (defines_macro site head name expander helpers rest) may defs es = refl
+quiet_from finished s k p (closes_module parent child rest) may defs es = refl
+quiet_from finished s k p (reaches_call site head path rest) may defs es = refl
+quiet_from finished s k p rests may defs es = refl
+quiet_from finished s k p (drops_call i d) may defs es = refl
+quiet_from finished s k p (resolves_imports rule) may defs es = refl
+
+module _ (tables : TablesValue) (w : Workspace) (finished : Maps) (from : Beginning) (answer : CollectedValue) (end : Core) where
+  -- what comes of a state, in the end
+  record Comes (s : State) : Type 0 where
+    -- the expansions yet to come
+    es : List Expansion
+    ahead : IsAhead tables w finished from answer es s.core.map s.agenda
+    quiet : (k : ℕ) → k < length s.core.map.modules → IsQuiet k s → expanded_in es k ≡ []
+    done : AreDone end answer.map.crate_data.recursion_limit es s
+
+  back_Step : {old new : State} → IsInRange old → IsAllWritten tables w from answer old → AreAsked tables w from answer new → Step (environment tables w) finished old new → Comes new → Comes old
   back_Step {old = old} inside f asked step q =
       let read : (key : TreeKey) → Contains (keys_read (reads old step.rule)) (keys.Tree key) → Contains answer.asked (keys.Tree key) =
       λ key h. asked (keys.Tree key) (subst (λ (ks : List Key). Contains ks (keys.Tree key)) (sym (asked-Step step)) (Contains-append_right old.core.asked (keys_read (reads old step.rule)) (keys.Tree key) h)) in
-      let now : IsAhead tables w finished from answer (after finished old step.rule).core.map (after finished old step.rule).agenda =
-      subst (λ (t : State). IsAhead tables w finished from answer t.core.map t.agenda) step.is q in
-      back_rule tables w finished from answer old inside f step.rule step.may step.sees step.numbered read
-      (sym (ap (λ (d : CrateData). d.edition) (data-perform (acts finished old step.rule) (asking old step.rule))) ∙ now.edition) now
+      let now : IsAhead tables w finished from answer q.es (after finished old step.rule).core.map (after finished old step.rule).agenda =
+      subst (λ (t : State). IsAhead tables w finished from answer q.es t.core.map t.agenda) step.is q.ahead in
+      let same : old.core.map.crate_data ≡ answer.map.crate_data = sym (data-perform (acts finished old step.rule) (asking old step.rule)) ∙ now.crate_data in
+      let quiet : QuietAfter tables w finished from answer q.es old inside f (after finished old step.rule) =
+      subst (λ (t : State). QuietAfter tables w finished from answer q.es old inside f t) step.is q.quiet in
+      let sooner : IsSooner tables w finished from answer q.es old inside f step.rule = back_rule tables w finished from answer q.es old inside f step.rule step.may step.sees step.numbered read same quiet now in
+      record {
+        es = from_rule step.rule sooner.defs q.es;
+        ahead = sooner.ahead;
+        quiet = λ k low p. quiet_from finished old k p step.rule step.may sooner.defs q.es ∙ q.quiet k (omega (arith, low, (Grows-Step step).longer)) (quiet-Step k low step p);
+        done = done-Step end answer.map.crate_data.recursion_limit sooner.defs q.es (ap (λ (c : CrateData). c.recursion_limit) same) step q.done;
+      }
 
   back_Steps : {begun last : State} → answer.map.id.krate ≡ krate_of from.start → IsInRange begun → IsAllWritten tables w from answer begun → AreAsked tables w from answer last
-      → Steps (environment tables w) finished begun last → IsAhead tables w finished from answer last.core.map last.agenda → IsAhead tables w finished from answer begun.core.map begun.agenda
+      → Steps (environment tables w) finished begun last → Comes last → Comes begun
   back_Steps here inside f asked none q = q
   back_Steps here inside f asked (more old new before step) q =
       let earlier : AreAsked tables w from answer old = λ key h. asked key (still_asked-Step step key h) in
@@ -55,19 +103,34 @@ module _ (tables : TablesValue) (w : Workspace) (finished : Maps) (from : Beginn
 
   -- ---- the end
 
-  at_end : (m : Map) (ds : List DefDiagnostic) (vs : List Task) → answer.map ≡ with_diagnostics m ds → vs ≡ [] → IsAhead tables w finished from answer m vs
-  at_end m ds vs e over = subst (λ (xs : List Task). IsAhead tables w finished from answer m xs) (sym over) (record {
+  at_end : (m : Map) (ds : List DefDiagnostic) (vs : List Task) → answer.map ≡ with_diagnostics m ds → vs ≡ [] → IsAhead tables w finished from answer [] m vs
+  at_end m ds vs e over = subst (λ (xs : List Task). IsAhead tables w finished from answer [] m xs) (sym over) (record {
     id = sym (ap (λ (x : Map). x.id) e);
-    edition = sym (ap (λ (x : Map). x.crate_data.edition) e);
+    crate_data = sym (ap (λ (x : Map). x.crate_data) e);
     fewer = omega (arith, as_long);
     stays = subst (λ (x : Map). Stays m x) (sym e) (λ k v there. record { value = v; there = there; origin = refl; parent = refl });
-    pending = tt;
+    listed = tt;
     lists = λ k low. ap (λ (x : Map). declarations_of (module_at x k)) e ∙ sym (append-nil (declarations_of (module_at m k)));
-    modules = λ k past below. absurd (let no : ⊥ = omega (arith, as_long, past, below) in no);
+    holds = λ more agrees. record {
+      pending = tt;
+      modules = λ k past below. absurd (let no : ⊥ = omega (arith, as_long, past, below) in no);
+      expanded = λ x h. absurd (no_expansion x h);
+    };
   })
     where
       as_long : length answer.map.modules ≡ length m.modules
       as_long = ap (λ (x : Map). length x.modules) e
+
+      no_expansion : (x : Expansion) → Contains [] x → ⊥
+      no_expansion x (n, below, is) = let past : n < 0 = below in omega arith
+
+  comes_end : (last : State) (ds : List DefDiagnostic) → answer.map ≡ with_diagnostics last.core.map ds → last.agenda ≡ [] → end ≡ last.core → Comes last
+  comes_end last ds e over same = record {
+    es = [];
+    ahead = at_end last.core.map ds last.agenda e over;
+    quiet = λ k low p. refl;
+    done = subst (λ (c : Core). AreDone c answer.map.crate_data.recursion_limit [] last) (sym same) (record { stays = λ i d h. h; each = λ i h. inl h });
+  }
 
   -- ---- the start
 
@@ -78,39 +141,76 @@ module _ (tables : TablesValue) (w : Workspace) (finished : Maps) (from : Beginn
       go true = refl
       go false = refl
 
-  root_lists : IsAhead tables w finished from answer (start_of tables w finished from).core.map (start_of tables w finished from).agenda → ListsItsItems tables w finished from answer 0
-  root_lists q =
-      let site : Site = root_site from.tree in
-      let items : KeptForest = items_of (root_tree tables w from) in
-      let at : IsAhead tables w finished from answer (start_of tables w finished from).core.map (visits_over site items) =
-      subst (λ (vs : List Task). IsAhead tables w finished from answer (start_of tables w finished from).core.map vs) (same_visits site (root_tree tables w from)) q in
-      let low : 0 < 1 = omega arith in
-      let root : StaysAt (module_at answer.map 0) (new_module (origin_of from.start) visibilities.Public None) = at.stays 0 _ refl in
-      let listed : declarations_of (module_at answer.map 0) ≡ altogether tables w finished from answer site items at.pending = at.lists 0 low ∙ gathered_at tables w finished from answer 0 site items at.pending in
-      record {
-        value = root.value;
-        there = root.there;
-        site = site;
-        home = refl;
-        alone = refl;
-        items = items;
-        has = of_root root.origin refl;
-        lists = subst (λ (defs : List ModuleDefId). Declares tables w finished answer items site defs) (sym listed ∙ ap declarations_of root.there) (declare_altogether tables w finished from answer site items at.pending);
-      }
+  module _ (q : Comes (start_of tables w finished from)) where
+    abbrev site : Site
+    site = root_site from.tree
 
-module _ (tables : TablesValue) (w : Workspace) (finished : Maps) (from : Beginning) (answer : CollectedValue) (e : Ends tables w finished from answer) where
-  abbrev seen : Maps
-  seen = read_by w finished from.start
+    abbrev items : KeptForest
+    items = items_of (root_tree tables w from)
 
-  ahead : IsAhead tables w seen from answer (begin_of tables w finished from).core.map (begin_of tables w finished from).agenda
-  ahead =
-      back_Steps tables w seen from answer (answer_here tables w finished from answer e) (in_range-start tables w seen from)
-      (first_written tables w finished from answer e) (answer_asked tables w finished from answer e) e.derived
-      (at_end tables w seen from answer e.last.core.map (leftover_diagnostics e.last.core.map e.last.core.reached e.last.core.taken) e.last.agenda e.map_is e.visited)
+    at : IsAhead tables w finished from answer q.es (start_of tables w finished from).core.map (visits_over site items)
+    at = subst (λ (vs : List Task). IsAhead tables w finished from answer q.es (start_of tables w finished from).core.map vs) (same_visits site (root_tree tables w from)) q.ahead
 
-  lists_at : (n : ℕ) → n < length answer.map.modules → ListsItsItems tables w seen from answer n
-  lists_at zero h = root_lists tables w seen from answer ahead
-  lists_at (suc n) h = ahead.modules (suc n) (omega arith) h
+    holds : Holds tables w finished from answer (expanded_in q.es) q.es (length (start_of tables w finished from).core.map.modules) (visits_over site items) at.listed
+    holds = at.holds (expanded_in q.es) (λ k past. refl)
+
+    root_quiet : HaveNoCall items → expanded_in q.es 0 ≡ []
+    root_quiet none_called =
+        q.quiet 0 (omega arith) (record { visits = subst (λ (vs : List Task). NoCallNext 0 vs) (sym (same_visits site (root_tree tables w from))) (quiet_of 0 site items (λ here. none_called)); calls = tt })
+
+    root_lists : ListsItsItems tables w finished from answer (expanded_in q.es) 0
+    root_lists =
+        let low : 0 < 1 = omega arith in
+        let root : StaysAt (module_at answer.map 0) (new_module (origin_of from.start) visibilities.Public None) = at.stays 0 _ refl in
+        record {
+          value = root.value;
+          there = root.there;
+          site = site;
+          home = refl;
+          alone = refl;
+          items = items;
+          has = of_root root.origin refl;
+          lists = record {
+            own = altogether site items at.listed;
+            declared = declare_altogether tables w finished from answer (expanded_in q.es) site items at.listed holds.pending;
+            listed = at.lists 0 low ∙ ap (λ (xs : List ModuleDefId). xs ++ expanded_in q.es 0) (gathered_at 0 site items at.listed);
+            alone = root_quiet;
+          };
+        }
+
+    lists_at : (n : ℕ) → n < length answer.map.modules → ListsItsItems tables w finished from answer (expanded_in q.es) n
+    lists_at zero h = root_lists
+    lists_at (suc n) h = holds.modules (suc n) (omega arith) h
+
+    all_done : (i : ℕ) (d : MacroDirective) → slice_get end.calls i ≡ Some d → slice_get end.fates i ≡ Some Handled → IsDone answer.map.crate_data.recursion_limit q.es d
+    all_done i d there handled = elim (q.done.each i handled) as (λ _. IsDone answer.map.crate_data.recursion_limit q.es d) [
+      | inl early ↦ let gone : None ≡ Some Handled = early in absurd (let no : ⊥ = cc in no)
+      | inr later ↦ later d there
+    ]
+
+    lists_all : ListsAll tables w finished from answer end
+    lists_all = record { expansions = q.es; each = holds.expanded; done = all_done; modules = lists_at }
+
+-- where no call is written, none was expanded
+none_expanded : (tables : TablesValue) (w : Workspace) (finished : Maps) (answer : CollectedValue) (besides : ℕ → List ModuleDefId) → NoCallIsWritten tables w answer
+    → (es : List Expansion) → ((e : Expansion) → Contains es e → IsExpansion tables w finished answer besides e) → es ≡ []
+none_expanded tables w finished answer besides no_call [] each = refl
+none_expanded tables w finished answer besides no_call (e ∷ es) each =
+    let c : IsCall tables w answer e.call = (each e (at_first e es)).written in
+    let on : is_enabled c.head.attributes ≡ true = c.enabled in
+    let off : is_enabled c.head.attributes ≡ false = no_call (key_of answer e.call.site.tree) c.head c.path c.written in
+    absurd (let no : ⊥ = cc in no)
 
 pub modules_list_their_items : ModulesListTheirItems
-modules_list_their_items tables w finished from answer e number low = lists_at tables w finished from answer e number low
+modules_list_their_items tables w finished from answer e =
+    let seen : Maps = read_by w finished from.start in
+    lists_all tables w seen from answer e.last.core
+    (back_Steps tables w seen from answer e.last.core (answer_here tables w finished from answer e) (in_range-start tables w seen from)
+    (first_written tables w finished from answer e) (answer_asked tables w finished from answer e) e.derived
+    (comes_end tables w seen from answer e.last.core e.last (leftover_reports e.last.core) e.map_is e.visited refl))
+
+pub modules_list_their_items_alone : ModulesListTheirItemsAlone
+modules_list_their_items_alone tables w finished from answer e no_call number low =
+    let seen : Maps = read_by w finished from.start in
+    let all : ListsAll tables w seen from answer e.last.core = modules_list_their_items tables w finished from answer e in
+    subst (λ (es : List Expansion). ListsItsItems tables w seen from answer (expanded_in es) number) (none_expanded tables w seen answer (expanded_in all.expansions) no_call all.expansions all.each) (all.modules number low)

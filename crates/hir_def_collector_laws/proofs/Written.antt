@@ -1,9 +1,10 @@
--- Each import of a run is written in a tree that was asked for.
+-- Each import and each call of a run is written in a tree that was asked for.
 use Rattle.std.proofs.Common.{◌≡◌, ◌∙◌, ◌<◌, ◌||◌, ℕ, zero, suc, List, [], ◌∷◌, ◌++◌, length, Bool, true, false, Option, None, Some, map as list_map, inl, inr, refl, sym, ap, subst, arith, append_assoc, Contains}
 use Rattle.std.proofs.lemmas.List.Elements.{Contains-append_cases, Contains-append_left, Contains-append_right}
 use Rattle.hir_base.specs.declared.ids.Crate.{Crate}
 use Rattle.hir_base.specs.declared.ids.MapId.{MapId}
 use Rattle.hir_base.specs.declared.ids.UseId.{UseId}
+use Rattle.hir_base.specs.declared.macro_kind.MacroId.{MacroId}
 use Rattle.hir_item_tree.specs.Collected.{is_enabled}
 use Rattle.hir_item_tree.specs.Imports.{imports_of}
 use Rattle.hir_item_tree.specs.ItemTree.{Tree}
@@ -27,11 +28,13 @@ use Rattle.hir_import_resolution.specs.Changes.{Change as ImportChange, along, k
 use Rattle.hir_import_resolution.specs.Directives.{glob_of}
 use Rattle.hir_import_resolution.specs.Rules.{Rule as ImportRule, May as MayImport, acts as import_acts, goes_along, takes_glob, takes_import}
 use Rattle.hir_import_resolution.specs.declared.directive.ImportDirective.{ImportDirective}
+use Rattle.hir_def_collector.specs.declared.collector.macro_directive.MacroDirective.{MacroDirective}
 use Rattle.hir_def_collector.specs.declared.collector.site.Site.{Site}
 use Rattle.hir_def_collector.specs.declared.source_database.Dependency.{Dependency}
 use Rattle.hir_def_collector.specs.declared.source_database.Key.{Key}
 use Rattle.hir_def_collector.specs.declared.source_database.Key.TheVariants as keys
-use Rattle.hir_def_collector.specs.Changes.{Change, lists, makes, gives_variants, begins_paths, reaches, changes_imports, adds_textual, takes_textual, defines, uses_macros, tells, goes_on, act}
+use Rattle.hir_def_collector.specs.Calls.{Expanding, call_key, call_site, call_tree, error_of, expansion_readings, text_readings}
+use Rattle.hir_def_collector.specs.Changes.{Change, lists, makes, gives_variants, begins_paths, reaches, awaits, ends, settles, changes_imports, adds_textual, takes_textual, defines, uses_macros, tells, goes_on, act}
 use Rattle.hir_def_collector.specs.Derivation.{CollectedValue}
 use Rattle.hir_def_collector.specs.Imports.{crate_import, crate_named, reached_import}
 use Rattle.hir_def_collector.specs.Keys.{environment, tree_at}
@@ -39,15 +42,16 @@ use Rattle.hir_def_collector.specs.Macros.{is_macro_use}
 use Rattle.hir_def_collector.specs.ModuleFiles.{ModuleFile, Search, file_key, file_tree}
 use Rattle.hir_def_collector.specs.Start.{Beginning, krate_of, root_key, root_site, root_tree, start_of, tree_visits}
 use Rattle.hir_def_collector.specs.State.{State, Task, Visit, visits, closes, import_state, visits_over}
-use Rattle.hir_def_collector.specs.Steps.{Rule, drops_item, passes_over, defines_rules, defines_macro, closes_module, closing, declares_item, declares_enum, lists_constant, lists_impl, opens_module, opens_file, drops_file, misses_file, enters_block, reaches_imports, reaches_crate, resolves_imports, May, Opens, Sees, Step, Steps, acts, asking, inside_block, inside_file, inside_module, keys_read, more, none, path_of, reads, search_readings, visits_in_file, visits_inside}
-use Rattle.hir_def_collector.specs.Workspace.{Workspace, dependencies_in}
+use Rattle.hir_def_collector.specs.Steps.{Rule, drops_item, reaches_call, rests, expands_call, drops_call, defines_rules, defines_macro, closes_module, closing, declares_item, declares_enum, lists_constant, lists_impl, opens_module, opens_file, drops_file, misses_file, enters_block, reaches_imports, reaches_crate, resolves_imports, May, Opens, Sees, Step, Steps, acts, asking, inside_block, inside_file, inside_module, keys_read, more, none, path_of, reads, search_readings, visits_in_file, visits_inside}
+use Rattle.hir_def_collector.specs.Workspace.{TreeLook, Workspace, dependencies_in}
 use Rattle.hir_def_collector.proofs.Asks.{only, still_asked-Step}
-use Rattle.hir_def_collector.proofs.Changes.{AllFine, Keeps, Keeps-act, asked-Step, fine_macro, fine_reporting, perform_keeps}
+use Rattle.hir_def_collector.proofs.Changes.{AllFine, Keeps, Keeps-act, asked-Step, fine_failing, fine_macro, fine_reporting, perform_keeps}
 use Rattle.hir_def_collector.proofs.ImportEdits.{imports_after}
 use Rattle.hir_def_collector.proofs.ModuleFiles.{found_read}
+use Rattle.hir_def_collector_laws.specs.Calls.{IsCall}
 use Rattle.hir_def_collector_laws.specs.Imports.{IsImport}
 use Rattle.hir_def_collector_laws.specs.Written.{IsIn, IsWritten, behind, first, inside}
-use Rattle.hir_def_collector_laws.proofs.Found.{found_seen}
+use Rattle.hir_def_collector_laws.proofs.Found.{expansion_read, expansion_seen, found_seen}
 use Rattle.hir_def_collector_laws.proofs.Lists.{at_first, later, replaced, standing}
 
 -- ---- items in items
@@ -88,12 +92,18 @@ module _ (tables : TablesValue) (w : Workspace) (from : Beginning) (answer : Col
   abbrev pub AreOfGlobs : List ImportDirective → List Edge → Type 0
   AreOfGlobs imports edges = (edge : Edge) → Contains edges edge → IsOfGlob imports edge
 
+  -- each call is written
+  abbrev pub AreCalls : List MacroDirective → Type 0
+  AreCalls [] = Unit {0}
+  AreCalls (d ∷ ds) = IsCall tables w answer d × AreCalls ds
+
   pub record IsAllWritten (s : State) : Type 0 where
     pub id : s.core.map.id ≡ own
     pub dependencies : s.core.dependencies ≡ dependencies_in w (krate_of from.start)
     pub visits : ArePlaced s.agenda
     pub imports : AreImports s.core.reached
-    pub globs : AreOfGlobs s.core.reached s.globs.edges
+    pub calls : AreCalls s.core.calls
+    pub globs : AreOfGlobs s.core.reached s.core.globs.edges
 
   -- ---- lists
 
@@ -130,6 +140,15 @@ module _ (tables : TablesValue) (w : Workspace) (from : Beginning) (answer : Col
   import_among [] r f (n, below, is) = absurd (omega arith)
   import_among (x ∷ xs) r f (zero, below, is) = subst (λ (y : ImportDirective). IsImport tables w from answer y) is f.0
   import_among (x ∷ xs) r f (suc n, below, is) = import_among xs r f.1 (n, omega (arith, below), is)
+
+  calls_joined : (ds es : List MacroDirective) → AreCalls ds → AreCalls es → AreCalls (ds ++ es)
+  calls_joined [] es f g = g
+  calls_joined (d ∷ ds) es f g = (f.0, calls_joined ds es f.1 g)
+
+  pub call_among : (ds : List MacroDirective) (d : MacroDirective) → AreCalls ds → Contains ds d → IsCall tables w answer d
+  call_among [] d f (n, below, is) = absurd (omega arith)
+  call_among (x ∷ xs) d f (zero, below, is) = subst (λ (y : MacroDirective). IsCall tables w answer y) is f.0
+  call_among (x ∷ xs) d f (suc n, below, is) = call_among xs d f.1 (n, omega (arith, below), is)
 
   -- ---- imports of one item
 
@@ -198,6 +217,9 @@ module _ (tables : TablesValue) (w : Workspace) (from : Beginning) (answer : Col
   IsFine s (gives_variants id variants) = Unit {0}
   IsFine s (begins_paths r) = Unit {0}
   IsFine s (reaches rs) = AreImports rs
+  IsFine s (awaits calls) = AreCalls calls
+  IsFine s (ends i fate) = Unit {0}
+  IsFine s settles = Unit {0}
   IsFine s (changes_imports c) = IsFineImport s c
   IsFine s (adds_textual home name makro) = Unit {0}
   IsFine s (takes_textual home from_) = Unit {0}
@@ -212,52 +234,64 @@ module _ (tables : TablesValue) (w : Workspace) (from : Beginning) (answer : Col
       record { directive = g.directive; among = Contains-append_left rs ts g.directive g.among; is_glob = g.is_glob; into = g.into }
 
   -- a change of what isn't spoken of here
-  same_but : (s t : State) → Keeps s t → t.agenda ≡ s.agenda → t.core.reached ≡ s.core.reached → t.globs.edges ≡ s.globs.edges → IsAllWritten s → IsAllWritten t
-  same_but s t keeps agenda reached edges f = record {
+  same_but : (s t : State) → Keeps s t → t.agenda ≡ s.agenda → t.core.reached ≡ s.core.reached → t.core.globs.edges ≡ s.core.globs.edges → t.core.calls ≡ s.core.calls → IsAllWritten s → IsAllWritten t
+  same_but s t keeps agenda reached edges calls f = record {
     id = keeps.id ∙ f.id;
     dependencies = keeps.dependencies ∙ f.dependencies;
     visits = subst ArePlaced (sym agenda) f.visits;
     imports = subst AreImports (sym reached) f.imports;
-    globs = subst (λ (rs : List ImportDirective). AreOfGlobs rs t.globs.edges) (sym reached) (subst (AreOfGlobs s.core.reached) (sym edges) f.globs);
+    calls = subst AreCalls (sym calls) f.calls;
+    globs = subst (λ (rs : List ImportDirective). AreOfGlobs rs t.core.globs.edges) (sym reached) (subst (AreOfGlobs s.core.reached) (sym edges) f.globs);
   }
 
   written-imports : (s : State) (c : ImportChange) → IsAllWritten s → IsFineImport s c → IsAllWritten (act s (changes_imports c))
-  written-imports s (pushes home None items source) f fine = same_but s _ (Keeps-act s (changes_imports (pushes home None items source))) refl refl refl f
-  written-imports s (pushes home (Some name) items source) f fine = same_but s _ (Keeps-act s (changes_imports (pushes home (Some name) items source))) refl refl refl f
-  written-imports s (keeps_trait finished home None vis by) f fine = same_but s _ (Keeps-act s (changes_imports (keeps_trait finished home None vis by))) refl refl refl f
-  written-imports s (keeps_trait finished home (Some id) vis by) f fine = same_but s _ (Keeps-act s (changes_imports (keeps_trait finished home (Some id) vis by))) refl refl refl f
-  written-imports s (takes i t) f fine = same_but s _ (Keeps-act s (changes_imports (takes i t))) refl refl refl f
+  written-imports s (pushes home None items source) f fine = same_but s _ (Keeps-act s (changes_imports (pushes home None items source))) refl refl refl refl f
+  written-imports s (pushes home (Some name) items source) f fine = same_but s _ (Keeps-act s (changes_imports (pushes home (Some name) items source))) refl refl refl refl f
+  written-imports s (keeps_trait finished home None vis by) f fine = same_but s _ (Keeps-act s (changes_imports (keeps_trait finished home None vis by))) refl refl refl refl f
+  written-imports s (keeps_trait finished home (Some id) vis by) f fine = same_but s _ (Keeps-act s (changes_imports (keeps_trait finished home (Some id) vis by))) refl refl refl refl f
+  written-imports s (takes i t) f fine = same_but s _ (Keeps-act s (changes_imports (takes i t))) refl refl refl refl f
   written-imports s (records edges) f fine =
       let keeps : Keeps s (act s (changes_imports (records edges))) = Keeps-act s (changes_imports (records edges)) in
-      record { id = keeps.id ∙ f.id; dependencies = keeps.dependencies ∙ f.dependencies; visits = f.visits; imports = f.imports; globs = fine }
+      record { id = keeps.id ∙ f.id; dependencies = keeps.dependencies ∙ f.dependencies; visits = f.visits; imports = f.imports; calls = f.calls; globs = fine }
   written-imports s (along finished a) f fine =
-      same_but s _ (Keeps-act s (changes_imports (along finished a))) refl (imports_after (import_state s) (along finished a)) (edges_along finished a) f
+      same_but s _ (Keeps-act s (changes_imports (along finished a))) refl (imports_after (import_state s) (along finished a)) (edges_along finished a) refl f
     where
-      edges_along : (finished : Maps) (a : Act) → (act s (changes_imports (along finished a))).globs.edges ≡ s.globs.edges
+      edges_along : (finished : Maps) (a : Act) → (act s (changes_imports (along finished a))).core.globs.edges ≡ s.core.globs.edges
       edges_along finished (copies slot of vis by) = refl
       edges_along finished (brings slot by) = refl
       edges_along finished (follows slot of vis) = refl
       edges_along finished (raises slot vis) = refl
 
   written-act : (s : State) (c : Change) → IsAllWritten s → IsFine s c → IsAllWritten (act s c)
-  written-act s (lists home d) f fine = same_but s _ (Keeps-act s (lists home d)) refl refl refl f
-  written-act s (makes home name origin visibility) f fine = same_but s _ (Keeps-act s (makes home name origin visibility)) refl refl refl f
-  written-act s (gives_variants id variants) f fine = same_but s _ (Keeps-act s (gives_variants id variants)) refl refl refl f
-  written-act s (begins_paths r) f fine = same_but s _ (Keeps-act s (begins_paths r)) refl refl refl f
+  written-act s (lists home d) f fine = same_but s _ (Keeps-act s (lists home d)) refl refl refl refl f
+  written-act s (makes home name origin visibility) f fine = same_but s _ (Keeps-act s (makes home name origin visibility)) refl refl refl refl f
+  written-act s (gives_variants id variants) f fine = same_but s _ (Keeps-act s (gives_variants id variants)) refl refl refl refl f
+  written-act s (begins_paths r) f fine = same_but s _ (Keeps-act s (begins_paths r)) refl refl refl refl f
   written-act s (reaches rs) f fine = record {
     id = f.id;
     dependencies = f.dependencies;
     visits = f.visits;
     imports = imports_joined s.core.reached rs f.imports fine;
-    globs = more_imports s.core.reached rs s.globs.edges f.globs;
+    calls = f.calls;
+    globs = more_imports s.core.reached rs s.core.globs.edges f.globs;
   }
+  written-act s (awaits calls) f fine = record {
+    id = f.id;
+    dependencies = f.dependencies;
+    visits = f.visits;
+    imports = f.imports;
+    calls = calls_joined s.core.calls calls f.calls fine;
+    globs = f.globs;
+  }
+  written-act s (ends i fate) f fine = same_but s _ (Keeps-act s (ends i fate)) refl refl refl refl f
+  written-act s settles f fine = same_but s _ (Keeps-act s settles) refl refl refl refl f
   written-act s (changes_imports c) f fine = written-imports s c f fine
-  written-act s (adds_textual home name makro) f fine = same_but s _ (Keeps-act s (adds_textual home name makro)) refl refl refl f
-  written-act s (takes_textual home from_) f fine = same_but s _ (Keeps-act s (takes_textual home from_)) refl refl refl f
-  written-act s (defines node makro) f fine = same_but s _ (Keeps-act s (defines node makro)) refl refl refl f
-  written-act s (uses_macros macros by) f fine = same_but s _ (Keeps-act s (uses_macros macros by)) refl refl refl f
-  written-act s (tells d) f fine = same_but s _ (Keeps-act s (tells d)) refl refl refl f
-  written-act s (goes_on vs) f fine = record { id = f.id; dependencies = f.dependencies; visits = fine; imports = f.imports; globs = f.globs }
+  written-act s (adds_textual home name makro) f fine = same_but s _ (Keeps-act s (adds_textual home name makro)) refl refl refl refl f
+  written-act s (takes_textual home from_) f fine = same_but s _ (Keeps-act s (takes_textual home from_)) refl refl refl refl f
+  written-act s (defines node makro) f fine = same_but s _ (Keeps-act s (defines node makro)) refl refl refl refl f
+  written-act s (uses_macros macros by) f fine = same_but s _ (Keeps-act s (uses_macros macros by)) refl refl refl refl f
+  written-act s (tells d) f fine = same_but s _ (Keeps-act s (tells d)) refl refl refl refl f
+  written-act s (goes_on vs) f fine = record { id = f.id; dependencies = f.dependencies; visits = fine; imports = f.imports; calls = f.calls; globs = f.globs }
 
   -- ---- rules
 
@@ -287,8 +321,22 @@ module _ (tables : TablesValue) (w : Workspace) (from : Beginning) (answer : Col
         subst (λ (id : MapId). Placed id (file_tree m.crate_data.edition file.id) i) f.id
         (record {
           key_asked = read key (found_read m.id.krate m.crate_data.edition search.absent search.found file may.found);
-          top = subst (λ (t : Tree). is_enabled t.attributes ≡ true) (sym is) may.enabled;
+          top = λ apart. subst (λ (t : Tree). is_enabled t.attributes ≡ true) (sym is) may.enabled;
           within = subst (λ (t : Tree). IsIn i t.items) (sym is) h;
+        })
+
+    -- those to which a call expands
+    call_inside : (d : MacroDirective) (makro : MacroId) (x : Expanding) → Sees (environment tables w) finished (text_readings makro x.text ++ expansion_readings s.core.map.id.krate d x)
+        → ((key : TreeKey) → Contains (keys_read (text_readings makro x.text ++ expansion_readings s.core.map.id.krate d x)) (keys.Tree key) → Contains answer.asked (keys.Tree key))
+        → (i : KeptItem) → IsIn i x.tree.tree.items → Placed own (call_tree x.id) i
+    call_inside d makro x sees read i h =
+        let krate : Crate = s.core.map.id.krate in
+        let is : tree_at tables w (call_key krate x.id) ≡ x.tree = expansion_seen tables w finished krate d makro x sees in
+        subst (λ (id : MapId). Placed id (call_tree x.id) i) f.id
+        (record {
+          key_asked = read (call_key krate x.id) (expansion_read krate d makro x);
+          top = λ apart. absurd (apart x.id refl);
+          within = subst (λ (t : TreeLook). IsIn i t.tree.items) (sym is) h;
         })
 
     along_fine : (acts : List Act) (t : State) → AllFine IsFine t (list_map changes_imports (list_map (along finished) acts))
@@ -296,17 +344,17 @@ module _ (tables : TablesValue) (w : Workspace) (from : Beginning) (answer : Col
     along_fine (a ∷ acts) t = (tt, along_fine acts (act t (changes_imports (along finished a))))
 
     -- the globs that are recorded once one is
-    recorded : {v : View} (new : List Edge) (e : Edge) → IsOfGlob s.core.reached e → Records v s.globs.edges new e → AreOfGlobs s.core.reached new
-    recorded new e g (widens j d wide at ends by is) edge h =
-        elim (replaced s.globs.edges j _ edge (subst (λ (xs : List Edge). Contains xs edge) is h)) as (λ _. IsOfGlob s.core.reached edge) [
+    recorded : {v : View} (new : List Edge) (e : Edge) → IsOfGlob s.core.reached e → Records v s.core.globs.edges new e → AreOfGlobs s.core.reached new
+    recorded new e g (widens j d wide at apart by is) edge h =
+        elim (replaced s.core.globs.edges j _ edge (subst (λ (xs : List Edge). Contains xs edge) is h)) as (λ _. IsOfGlob s.core.reached edge) [
           | inl old ↦ f.globs edge old
           | inr now ↦
-              let before : IsOfGlob s.core.reached d = f.globs d (standing s.globs.edges j d at) in
+              let before : IsOfGlob s.core.reached d = f.globs d (standing s.core.globs.edges j d at) in
               subst (λ (x : Edge). IsOfGlob s.core.reached x) now (record { directive = before.directive; among = before.among; is_glob = before.is_glob; into = before.into })
         ]
-    recorded new e g (stays j d at ends by is) edge h = f.globs edge (subst (λ (xs : List Edge). Contains xs edge) is h)
+    recorded new e g (stays j d at apart by is) edge h = f.globs edge (subst (λ (xs : List Edge). Contains xs edge) is h)
     recorded new e g (adds apart is) edge h =
-        elim (Contains-append_cases s.globs.edges (e ∷ []) edge (subst (λ (xs : List Edge). Contains xs edge) is h)) as (λ _. IsOfGlob s.core.reached edge) [
+        elim (Contains-append_cases s.core.globs.edges (e ∷ []) edge (subst (λ (xs : List Edge). Contains xs edge) is h)) as (λ _. IsOfGlob s.core.reached edge) [
           | inl old ↦ f.globs edge old
           | inr now ↦ subst (λ (x : Edge). IsOfGlob s.core.reached x) (only e edge now) g
         ]
@@ -347,7 +395,12 @@ module _ (tables : TablesValue) (w : Workspace) (from : Beginning) (answer : Col
     all_fine (defines_rules site head name expander helpers rest) may sees read = (left _ rest may.next, (tt, (tt, fine_macro IsFine _ _ expander (λ t. tt) head name _ (λ t. tt) _)))
     all_fine (defines_macro site head name expander helpers rest) may sees read = (left _ rest may.next, (tt, (tt, (tt, fine_reporting IsFine _ _ expander (λ t. tt) _))))
     all_fine (closes_module parent child rest) may sees read = (subst ArePlaced may f.visits, (tt, tt))
-    all_fine (passes_over site head l rest) may sees read = (left _ rest may.here.next, tt)
+    all_fine (reaches_call site head path rest) may sees read =
+        (left _ rest may.next, ((record { head = head; path = path; written = next _ rest may.next; enabled = may.enabled; is = refl }, tt), tt))
+    all_fine rests may sees read = (tt, tt)
+    all_fine (expands_call i d makro x) may sees read =
+        (tt, (placed_visits (call_site d x.id) x.tree.tree.items (call_inside d makro x sees read), fine_failing IsFine _ d (error_of x.there) (λ t text. tt) _))
+    all_fine (drops_call i d) may sees read = (tt, tt)
     all_fine (resolves_imports rule) may sees read = imports_fine rule may
 
   -- ---- steps
@@ -360,9 +413,9 @@ module _ (tables : TablesValue) (w : Workspace) (from : Beginning) (answer : Col
   written-Step {finished = finished} {old = old} here step asked f =
       let read : (key : TreeKey) → Contains (keys_read (reads old step.rule)) (keys.Tree key) → Contains answer.asked (keys.Tree key) =
       λ key h. asked (keys.Tree key) (subst (λ (ks : List Key). Contains ks (keys.Tree key)) (sym (asked-Step step)) (Contains-append_right old.core.asked (keys_read (reads old step.rule)) (keys.Tree key) h)) in
-      let begun : IsAllWritten (asking old step.rule) = record { id = f.id; dependencies = f.dependencies; visits = f.visits; imports = f.imports; globs = f.globs } in
+      let begun : IsAllWritten (asking old step.rule) = record { id = f.id; dependencies = f.dependencies; visits = f.visits; imports = f.imports; calls = f.calls; globs = f.globs } in
       let done = perform_keeps IsAllWritten IsFine written-act (acts finished old step.rule) (asking old step.rule) begun (all_fine here finished old f step.rule step.may step.sees read) in
-      subst IsAllWritten (sym step.is) (record { id = done.id; dependencies = done.dependencies; visits = done.visits; imports = done.imports; globs = done.globs })
+      subst IsAllWritten (sym step.is) (record { id = done.id; dependencies = done.dependencies; visits = done.visits; imports = done.imports; calls = done.calls; globs = done.globs })
 
   pub written-Steps : {finished : Maps} {first_state last : State} → own.krate ≡ krate_of from.start → Steps (environment tables w) finished first_state last → AreAsked last → IsAllWritten first_state → IsAllWritten last
   written-Steps here none asked f = f
@@ -377,6 +430,7 @@ module _ (tables : TablesValue) (w : Workspace) (from : Beginning) (answer : Col
     dependencies = refl;
     visits = go (is_enabled (root_tree tables w from).attributes) refl;
     imports = tt;
+    calls = tt;
     globs = λ edge h. absurd (no_edge edge h);
   }
     where
@@ -386,7 +440,7 @@ module _ (tables : TablesValue) (w : Workspace) (from : Beginning) (answer : Col
       placed : is_enabled (root_tree tables w from).attributes ≡ true → (i : KeptItem) → IsIn i (root_tree tables w from).items → Placed own from.tree i
       placed on i h =
           subst (λ (k : Crate). IsWritten tables w answer.asked (record { krate = k; id = from.tree }) i) (sym here)
-          (record { key_asked = asked (root_key from.start from.tree) (0, omega arith, refl); top = on; within = h })
+          (record { key_asked = asked (root_key from.start from.tree) (0, omega arith, refl); top = λ apart. on; within = h })
 
       go : (b : Bool) → is_enabled (root_tree tables w from).attributes ≡ b → ArePlaced (tree_visits (root_site from.tree) (root_tree tables w from))
       go true e = rw e (placed_visits (root_site from.tree) (root_tree tables w from).items (placed e))

@@ -53,21 +53,43 @@ module_alone m number = definitions.ModuleId (numbered m.id number) ∷ []
 
 -- where the items of `mod name { .. }` are written
 abbrev pub site_inside : Site → ℕ → Directory → Site
-site_inside s number dir = record { home = number; tree = s.tree; extern_block = None; dir = dir; level = s.level }
+site_inside s number dir = record { home = number; tree = s.tree; file = s.file; extern_block = None; dir = dir; level = s.level }
+
+abbrev mutual
+  -- an item isn't a macro call, nor an extern block that holds one; what it holds in a module of its own doesn't matter, nor
+  -- what is disabled
+  pub HasNoCall : KeptItem → Type 0
+  HasNoCall (leaf head (macro_call path)) = is_enabled head.attributes ≡ false
+  HasNoCall (leaf head l) = Unit {0}
+  HasNoCall (holder head extern_block items) = is_enabled head.attributes ≡ true → HaveNoCall items
+  HasNoCall (holder head (inline_module name) items) = Unit {0}
+
+  -- so it is for each of these
+  pub HaveNoCall : KeptForest → Type 0
+  HaveNoCall no_items = Unit {0}
+  HaveNoCall (item i is) = HasNoCall i × HaveNoCall is
+
+-- a module with these items lists what they declare, in order, and behind that what the expansions of calls in it declare
+pub record ListsFirst (m : Map) (more : ℕ → List ModuleDefId) (number : ℕ) (items : KeptForest) (declares : List ModuleDefId → Type 0) : Type 0 where
+  pub own : List ModuleDefId
+  pub declared : declares own
+  pub listed : declarations_of (module_at m number) ≡ own ++ more number
+  -- that is nothing, if none of the items is a call
+  pub alone : HaveNoCall items → more number ≡ []
 
 -- `mod name { .. }` declares a module
-pub record DeclaresInline (m : Map) (s : Site) (head : Head) (name : List ℕ) (inside : Site → List ModuleDefId → Type 0) (defs : List ModuleDefId) : Type 0 where
+pub record DeclaresInline (m : Map) (more : ℕ → List ModuleDefId) (s : Site) (head : Head) (name : List ℕ) (items : KeptForest) (inside : Site → List ModuleDefId → Type 0) (defs : List ModuleDefId) : Type 0 where
   pub number : ℕ
   pub made : IsModuleOf m s (inline_origin s.tree head.id) number
   pub is : defs ≡ module_alone m number
-  -- it lists what the items inside declare, and nothing where it is too deep
-  pub lists : (dir : Directory) → inline_directory s.dir name (path_of head) ≡ Some dir → inside (site_inside s number dir) (declarations_of (module_at m number))
+  -- it lists what the items inside declare first, and nothing where it is too deep
+  pub lists : (dir : Directory) → inline_directory s.dir name (path_of head) ≡ Some dir → ListsFirst m more number items (inside (site_inside s number dir))
   pub deep : inline_directory s.dir name (path_of head) ≡ None → declarations_of (module_at m number) ≡ []
 
 -- the file of `mod name;` was looked for so, in what the workspace has
 pub record IsLookedFor (tables : TablesValue) (w : Workspace) (finished : Maps) (answer : CollectedValue) (s : Site) (head : Head) (name : List ℕ) (search : Search) : Type 0 where
   pub tries : IsSearch (candidates_of s.dir name (path_of head)) search
-  pub numbers : IsNumbered tables s.tree search
+  pub numbers : IsNumbered tables s.file search
   pub sees : Sees (environment tables w) finished (search_readings answer.map search)
 
 -- `mod name;` declares a module too
@@ -91,9 +113,9 @@ LeafDeclares tables w finished answer s head l defs = defs ≡ definitions_of an
 
 -- an item that holds others, where this is what those declare at a site: the items of an extern block are of the module
 -- that holds the block
-abbrev pub HolderDeclares : CollectedValue → Site → Head → Holder → (Site → List ModuleDefId → Type 0) → List ModuleDefId → Type 0
-HolderDeclares answer s head extern_block inside defs = inside (inside_block answer.map s head) defs
-HolderDeclares answer s head (inline_module name) inside defs = DeclaresInline answer.map s head name inside defs
+abbrev pub HolderDeclares : CollectedValue → (ℕ → List ModuleDefId) → Site → Head → Holder → KeptForest → (Site → List ModuleDefId → Type 0) → List ModuleDefId → Type 0
+HolderDeclares answer more s head extern_block items inside defs = inside (inside_block answer.map s head) defs
+HolderDeclares answer more s head (inline_module name) items inside defs = DeclaresInline answer.map more s head name items inside defs
 
 -- a disabled item declares nothing
 abbrev pub IfEnabled : Bool → Type 0 → List ModuleDefId → Type 0
@@ -101,14 +123,15 @@ IfEnabled true P defs = P
 IfEnabled false P defs = defs ≡ []
 
 abbrev mutual
-  -- an item of a site declares these definitions in the site's module
-  pub DeclaresOne : TablesValue → Workspace → Maps → CollectedValue → KeptItem → Site → List ModuleDefId → Type 0
-  DeclaresOne tables w finished answer (leaf head l) s defs = IfEnabled (is_enabled head.attributes) (LeafDeclares tables w finished answer s head l defs) defs
-  DeclaresOne tables w finished answer (holder head k items) s defs =
-      IfEnabled (is_enabled head.attributes) (HolderDeclares answer s head k (λ inner inside. Declares tables w finished answer items inner inside) defs) defs
+  -- an item of a site declares these definitions in the site's module, where this is what expansions of calls declare in each
+  -- module
+  pub DeclaresOne : TablesValue → Workspace → Maps → CollectedValue → (ℕ → List ModuleDefId) → KeptItem → Site → List ModuleDefId → Type 0
+  DeclaresOne tables w finished answer more (leaf head l) s defs = IfEnabled (is_enabled head.attributes) (LeafDeclares tables w finished answer s head l defs) defs
+  DeclaresOne tables w finished answer more (holder head k items) s defs =
+      IfEnabled (is_enabled head.attributes) (HolderDeclares answer more s head k items (λ inner inside. Declares tables w finished answer more items inner inside) defs) defs
 
   -- so do items one after another
-  pub Declares : TablesValue → Workspace → Maps → CollectedValue → KeptForest → Site → List ModuleDefId → Type 0
-  Declares tables w finished answer no_items s defs = defs ≡ []
-  Declares tables w finished answer (item i is) s defs =
-      (own : List ModuleDefId) × (others : List ModuleDefId) × DeclaresOne tables w finished answer i s own × Declares tables w finished answer is s others × (defs ≡ own ++ others)
+  pub Declares : TablesValue → Workspace → Maps → CollectedValue → (ℕ → List ModuleDefId) → KeptForest → Site → List ModuleDefId → Type 0
+  Declares tables w finished answer more no_items s defs = defs ≡ []
+  Declares tables w finished answer more (item i is) s defs =
+      (own : List ModuleDefId) × (others : List ModuleDefId) × DeclaresOne tables w finished answer more i s own × Declares tables w finished answer more is s others × (defs ≡ own ++ others)

@@ -11,8 +11,7 @@ use Rattle.hir_def_map.specs.declared.nameres.diagnostics.DefDiagnostic.{DefDiag
 use Rattle.hir_def_collector.specs.Derivation.{CollectedValue, Ends}
 use Rattle.hir_def_collector.specs.Start.{Beginning}
 use Rattle.hir_def_collector.specs.Workspace.{Workspace}
-use Rattle.hir_def_collector_laws.specs.Modules.{key_of}
-use Rattle.hir_def_collector_laws.specs.Written.{IsWritten}
+use Rattle.hir_def_collector_laws.specs.Written.{IsWritten, key_of}
 
 -- a node is that of an item, which is written in the node's tree
 pub record IsOfItem (tables : TablesValue) (w : Workspace) (answer : CollectedValue) (node : AstId) : Type 0 where

@@ -48,12 +48,12 @@ pub record IsBrought (s : State) (number : ℕ) (key : Key) (id : GlobId) : Type
   -- it was recorded as an edge into the module
   pub place : ℕ
   pub edge : Edge
-  pub recorded : slice_get s.globs.edges place ≡ Some edge
+  pub recorded : slice_get s.core.globs.edges place ≡ Some edge
   pub is_glob : edge.id ≡ id
   pub into : edge.importer ≡ number
   -- and that edge brought it, as it saw it last
   pub last : Brought
-  pub brought : s.globs.brought (slot_at number key) ≡ Some last
+  pub brought : s.core.globs.brought (slot_at number key) ≡ Some last
   pub along : last.edge ≡ place
 
 -- ---- what its source shows now
@@ -77,7 +77,7 @@ pub record WasSeen (last : Brought) (edge : Edge) (b : Bound) : Type 0 where
 -- another edge into the module shows the same definition
 pub record AlsoShows (v : View) (s : State) (number : ℕ) (key : Key) (along : ℕ) (bound : Bound) (other : Edge) (b : Bound) : Type 0 where
   pub place : ℕ
-  pub recorded : slice_get s.globs.edges place ≡ Some other
+  pub recorded : slice_get s.core.globs.edges place ≡ Some other
   pub apart : along ≢ place
   pub into : other.importer ≡ number
   pub shows : shown v other key ≡ Some b

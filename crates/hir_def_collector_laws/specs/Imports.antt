@@ -103,7 +103,7 @@ LeftoversAreWritten = (tables : TablesValue) (w : Workspace) (finished : Maps) (
 -- and each glob that was recorded
 abbrev pub GlobsAreWritten : Type 0
 GlobsAreWritten = (tables : TablesValue) (w : Workspace) (finished : Maps) (from : Beginning) (answer : CollectedValue) → (ends : Ends tables w finished from answer)
-    → (edge : Edge) → Contains ends.last.globs.edges edge → HasImport tables w from answer (λ r. (glob_of r.source ≡ Some edge.id) × (r.home ≡ edge.importer))
+    → (edge : Edge) → Contains ends.last.core.globs.edges edge → HasImport tables w from answer (λ r. (glob_of r.source ≡ Some edge.id) × (r.home ≡ edge.importer))
 
 -- ---- bindings
 

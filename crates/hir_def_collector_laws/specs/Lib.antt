@@ -2,8 +2,10 @@
 pub mod Written
 pub mod Imports
 pub mod Globs
--- ---- where definitions are written
+-- ---- where calls and definitions are written
+pub mod Calls
 pub mod Declares
+pub mod Expansions
 pub mod Modules
 -- ---- of what is told
 pub mod Diagnostics

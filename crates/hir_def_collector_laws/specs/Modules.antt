@@ -1,18 +1,20 @@
 -- What does each module of a run's map list?
-use Rattle.std.specs.Prelude.{◌≡◌, ◌<◌, ℕ, Bool, true, List, length, None, Some, Contains, if◌then◌else◌}
+use Rattle.std.specs.Prelude.{◌≡◌, ◌<◌, ℕ, Bool, true, List, [], length, None, Some, Contains, if◌then◌else◌, slice_get}
 use Rattle.hir_base.specs.declared.ast_id.AstId.{AstId}
 use Rattle.hir_base.specs.declared.ast_id.FileId.{FileId}
+use Rattle.hir_base.specs.declared.ids.ModuleDefId.{ModuleDefId}
 use Rattle.hir_item_tree.specs.Collected.{is_enabled}
 use Rattle.hir_item_tree.specs.ItemTree.{Tree as ItemTree}
 use Rattle.hir_item_tree.specs.KeptForest.{Head, KeptForest, holder, inline_module, leaf, no_items, outline_module}
 use Rattle.hir_item_tree.specs.declared.tree_id.TreeId.{TreeId}
-use Rattle.hir_item_tree.specs.declared.tree_id.TreeKey.{TreeKey}
 use Rattle.hir_mod_dir.specs.ModuleFiles.{inline_directory}
 use Rattle.hir_tables.specs.Tables.{TablesValue}
 use Rattle.hir_def_map.specs.Overlay.{Maps}
 use Rattle.hir_def_map.specs.State.{ModuleValue, module_at}
 use Rattle.hir_def_map.specs.declared.nameres.origin.ModuleOrigin.{ModuleOrigin}
 use Rattle.hir_def_map.specs.declared.nameres.origin.ModuleOrigin.TheVariants as origins
+use Rattle.hir_def_collector.specs.declared.collector.macro_directive.Fate.TheVariants.{Handled}
+use Rattle.hir_def_collector.specs.declared.collector.macro_directive.MacroDirective.{MacroDirective}
 use Rattle.hir_def_collector.specs.declared.collector.site.Site.{Site}
 use Rattle.hir_def_collector.specs.declared.source_database.Key.TheVariants.{Tree}
 use Rattle.hir_def_collector.specs.Derivation.{CollectedValue, Ends}
@@ -20,18 +22,17 @@ use Rattle.hir_def_collector.specs.Items.{inline_origin}
 use Rattle.hir_def_collector.specs.Keys.{tree_at}
 use Rattle.hir_def_collector.specs.ModuleFiles.{Search, file_key, file_tree, module_file}
 use Rattle.hir_def_collector.specs.Start.{Beginning, origin_of, read_by, root_site, root_tree}
+use Rattle.hir_def_collector.specs.State.{Core}
 use Rattle.hir_def_collector.specs.Steps.{path_of}
 use Rattle.hir_def_collector.specs.Workspace.{Workspace}
-use Rattle.hir_def_collector_laws.specs.Declares.{Declares, IsLookedFor}
-use Rattle.hir_def_collector_laws.specs.Written.{IsWritten}
+use Rattle.hir_def_collector_laws.specs.Calls.{NoCallIsWritten}
+use Rattle.hir_def_collector_laws.specs.Declares.{Declares, IsLookedFor, ListsFirst}
+use Rattle.hir_def_collector_laws.specs.Expansions.{Expansion, IsDone, IsExpansion, expanded_in}
+use Rattle.hir_def_collector_laws.specs.Written.{IsWritten, key_of}
 
 -- the items of a tree; none where it is disabled at its top
 abbrev pub items_of : ItemTree → KeptForest
 items_of tree = if is_enabled tree.attributes then tree.items else no_items
-
--- a tree under a crate
-abbrev pub key_of : CollectedValue → TreeId → TreeKey
-key_of answer tree = record { krate = answer.map.id.krate; id = tree }
 
 -- these are the items of a module
 pub data HasItems (tables : TablesValue) (w : Workspace) (finished : Maps) (from : Beginning) (answer : CollectedValue) (origin : ModuleOrigin) (s : Site) : KeptForest → Type 0 where
@@ -53,8 +54,9 @@ pub data HasItems (tables : TablesValue) (w : Workspace) (finished : Maps) (from
       → origin ≡ inline_origin s.tree head.id → is_enabled head.attributes ≡ true
       → IsWritten tables w answer.asked (key_of answer s.tree) (leaf head (outline_module name)) → HasItems tables w finished from answer origin s no_items
 
--- a module lists the definitions that its items declare, in the order of the items
-pub record ListsItsItems (tables : TablesValue) (w : Workspace) (finished : Maps) (from : Beginning) (answer : CollectedValue) (number : ℕ) : Type 0 where
+-- a module lists the definitions that its items declare, in the order of the items, and behind them what expansions of calls
+-- in it declare
+pub record ListsItsItems (tables : TablesValue) (w : Workspace) (finished : Maps) (from : Beginning) (answer : CollectedValue) (more : ℕ → List ModuleDefId) (number : ℕ) : Type 0 where
   pub value : ModuleValue
   pub there : module_at answer.map number ≡ Some value
   -- where its items are written, and what they are
@@ -63,9 +65,22 @@ pub record ListsItsItems (tables : TablesValue) (w : Workspace) (finished : Maps
   pub alone : site.extern_block ≡ None
   pub items : KeptForest
   pub has : HasItems tables w finished from answer value.origin site items
-  pub lists : Declares tables w finished answer items site value.scope.declarations
+  pub lists : ListsFirst answer.map more number items (λ own. Declares tables w finished answer more items site own)
+
+-- the calls that a run expanded, one after another, and what modules list
+pub record ListsAll (tables : TablesValue) (w : Workspace) (finished : Maps) (from : Beginning) (answer : CollectedValue) (last : Core) : Type 0 where
+  pub expansions : List Expansion
+  pub each : (e : Expansion) → Contains expansions e → IsExpansion tables w finished answer (expanded_in expansions) e
+  -- each call that doesn't wait any more was expanded, unless it was too deep
+  pub done : (i : ℕ) (d : MacroDirective) → slice_get last.calls i ≡ Some d → slice_get last.fates i ≡ Some Handled → IsDone answer.map.crate_data.recursion_limit expansions d
+  pub modules : (number : ℕ) → number < length answer.map.modules → ListsItsItems tables w finished from answer (expanded_in expansions) number
 
 -- so a definition is listed exactly where an enabled item of a tree that was asked for writes it
 abbrev pub ModulesListTheirItems : Type 0
-ModulesListTheirItems = (tables : TablesValue) (w : Workspace) (finished : Maps) (from : Beginning) (answer : CollectedValue) → Ends tables w finished from answer
-    → (number : ℕ) → number < length answer.map.modules → ListsItsItems tables w (read_by w finished from.start) from answer number
+ModulesListTheirItems = (tables : TablesValue) (w : Workspace) (finished : Maps) (from : Beginning) (answer : CollectedValue) → (ends : Ends tables w finished from answer)
+    → ListsAll tables w (read_by w finished from.start) from answer ends.last.core
+
+-- where no call is written, nothing comes behind that
+abbrev pub ModulesListTheirItemsAlone : Type 0
+ModulesListTheirItemsAlone = (tables : TablesValue) (w : Workspace) (finished : Maps) (from : Beginning) (answer : CollectedValue) → Ends tables w finished from answer → NoCallIsWritten tables w answer
+    → (number : ℕ) → number < length answer.map.modules → ListsItsItems tables w (read_by w finished from.start) from answer (expanded_in []) number

@@ -1,10 +1,11 @@
 //! What holds of every run of the collector. The functions do nothing: their contracts are the laws.
 #![tactic(auto)]
 
+ghost use Rattle.hir_def_collector_laws.specs.Calls.{CallsAreWritten};
 ghost use Rattle.hir_def_collector_laws.specs.Diagnostics.{DiagnosticsAreOfItems};
 ghost use Rattle.hir_def_collector_laws.specs.Globs.{GlobsBringWhatIsShown};
 ghost use Rattle.hir_def_collector_laws.specs.Imports.{BindingsAreWritten, GlobsAreWritten, ImportsAreWritten, LeftoversAreWritten, UnnamedTraitsAreWritten};
-ghost use Rattle.hir_def_collector_laws.specs.Modules.{ModulesListTheirItems};
+ghost use Rattle.hir_def_collector_laws.specs.Modules.{ModulesListTheirItems, ModulesListTheirItemsAlone};
 
 /// Each import that a run came upon is a leaf of an enabled `use` item, at its own place in preorder, or an enabled `extern
 /// crate` item, in a tree that the run asked for; so is each import that is left over, and each glob that was recorded.
@@ -27,10 +28,19 @@ pub fn globs_bring_what_is_shown()
     ensures shown { GlobsBringWhatIsShown }
 {}
 
+/// Each macro call that a run came upon is an enabled item, in a tree that the run asked for, and stands in a module of the
+/// run's map.
+pub fn calls_are_written()
+    ensures calls { CallsAreWritten }
+{}
+
 /// A module lists, in their order, the definitions that its enabled items declare: those of its file, or inside the `mod`
-/// item that declares it.
+/// item that declares it. Behind them come, in the order in which calls in the module were expanded, the definitions that the
+/// items declare to which they expand; each call that a run came upon waits in the end, was expanded, or was too deep. Where
+/// no call is written, a module lists what its items declare alone.
 pub fn modules_list_their_items()
     ensures modules { ModulesListTheirItems }
+    ensures alone { ModulesListTheirItemsAlone }
 {}
 
 /// Each diagnostic names a module of the run's map, and an item that is written in a tree which the run asked for.

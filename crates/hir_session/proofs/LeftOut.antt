@@ -1,5 +1,5 @@
--- Nothing is left out of an answer: what a path names in a current crate is written in files of the table.
-use Rattle.std.specs.Prelude.{◌≡◌, ℕ, zero, suc, ◌<◌, Bool, true, false, not, ◌||◌, is_some, IsSome, slice_get, Contains, List, [], ◌∷◌, length, Option, None, Some, option_map, option_and_then}
+-- Nothing is left out of an answer: what a path names in a current crate is written in files, or in what calls expand to.
+use Rattle.std.specs.Prelude.{◌≡◌, ℕ, zero, suc, ◌<◌, ◌≤◌, Bool, true, false, not, ◌||◌, is_some, IsSome, slice_get, Contains, List, [], ◌∷◌, length, Option, None, Some, option_map, option_and_then}
 use Rattle.std.specs.BTreeMap.{is_at}
 use Rattle.std.specs.Cmp.Lexicographic.{slice_cmp}
 use Rattle.std.specs.List.{list_any}
@@ -7,10 +7,12 @@ use Rattle.std.specs.Ordering.{nat_cmp}
 use Rattle.std.proofs.Common.{ap, arith, refl, subst, sym, ◌∙◌}
 use mathlib.Core.Bool.{true≢false}
 use Rattle.hir_base.specs.ModPath.{Path}
+use Rattle.hir_base.specs.declared.ast_id.AstId.{AstId}
 use Rattle.hir_base.specs.declared.ast_id.BlockId.{BlockId}
 use Rattle.hir_base.specs.declared.ast_id.EditionedFileId.{EditionedFileId}
 use Rattle.hir_base.specs.declared.ast_id.HirFileId.{HirFileId}
-use Rattle.hir_base.specs.declared.ast_id.HirFileId.TheVariants.{File}
+use Rattle.hir_base.specs.declared.ast_id.HirFileId.TheVariants.{File, Macro}
+use Rattle.hir_base.specs.declared.ast_id.MacroCallId.{MacroCallId}
 use Rattle.hir_base.specs.declared.ast_id.SyntaxId.{SyntaxId}
 use Rattle.hir_base.specs.declared.ids.AdtId.{AdtId}
 use Rattle.hir_base.specs.declared.ids.AdtId.TheVariants as adt
@@ -18,8 +20,10 @@ use Rattle.hir_base.specs.declared.ids.Crate.{Crate}
 use Rattle.hir_base.specs.declared.ids.ModuleDefId.{ModuleDefId}
 use Rattle.hir_base.specs.declared.ids.ModuleDefId.TheVariants as def
 use Rattle.hir_base.specs.declared.ids.ModuleId.{ModuleId}
+use Rattle.hir_base.specs.declared.macro_kind.MacroCallLoc.{MacroCallLoc}
 use Rattle.hir_base.specs.declared.macro_kind.MacroId.{MacroId}
 use Rattle.hir_base.specs.declared.macro_kind.MacroId.TheVariants as macro
+use Rattle.hir_base.specs.declared.place.BlockPlace.{BlockPlace}
 use Rattle.hir_base.specs.declared.place.PlaceElement.{PlaceElement}
 use Rattle.hir_base.specs.declared.place.PlaceElement.TheVariants as element
 use Rattle.hir_scope.specs.declared.imports.ImportOrExternCrate.{ImportOrExternCrate}
@@ -47,31 +51,29 @@ use Rattle.hir_def_map.specs.declared.nameres.origin.ModuleOrigin.TheVariants as
 use Rattle.hir_def_map.specs.declared.world.reference.Reference.TheVariants as named
 use Rattle.hir_item_tree.specs.declared.tree_id.TreeId.{TreeId}
 use Rattle.hir_item_tree.specs.declared.tree_id.TreeKey.{TreeKey}
-use Rattle.hir_tables.specs.SourcePlaces.{file}
-use Rattle.hir_tables.specs.Tables.{TablesValue, source_of as source_of_tree}
-use Rattle.hir_def_collector.specs.Causes.{HasCause}
-use Rattle.hir_def_collector.specs.Causes.HasCause.{root_tree, declared_enum, candidate, dependency}
+use Rattle.hir_tables.specs.SourcePlaces.{file, block as block_place, expansion}
+use Rattle.hir_tables.specs.Tables.{TablesValue, call_at, entry_at, source_of as source_of_tree}
+use Rattle.hir_def_map.specs.Diagnostics.{call_node}
+use Rattle.hir_def_collector.specs.Calls.{AreCallsPlaced, IsPlacedBelow}
 use Rattle.hir_def_collector.specs.Derivation.{Ends}
 use Rattle.hir_def_collector.specs.Keys.{HasMeaning}
-use Rattle.hir_def_collector.specs.ModuleFiles.{file_key}
 use Rattle.hir_def_collector.specs.Sources.{IsClearOf, RunsBindFromSources}
-use Rattle.hir_def_collector.specs.Start.{Beginning, root_key, tree_key}
-use Rattle.hir_def_collector.specs.State.{State}
-use Rattle.hir_def_collector.specs.Workspace.{Workspace}
+use Rattle.hir_def_collector.specs.Start.{root_key}
 use Rattle.hir_def_collector.specs.declared.source_database.Key.TheVariants as keys
 use Rattle.hir_def_collector.specs.Whole.{StandsOnWhole}
 use Rattle.hir_wire.specs.declared.answer.AnswerVisibility.{AnswerVisibility}
 use Rattle.hir_wire.specs.declared.answer.Definition.{Definition}
 use Rattle.hir_wire.specs.declared.answer.ImportSource.{ImportSource}
+use Rattle.hir_wire.specs.declared.answer.ItemSource.{ItemSource}
 use Rattle.hir_wire.specs.declared.answer.SourceKind.{SourceKind}
 use Rattle.hir_wire.specs.declared.command.MacroStyle.{MacroStyle}
 use Rattle.hir_wire.specs.declared.command.Shadow.{Shadow}
 use Rattle.hir_session.specs.Answers.{answer_in, asking_of}
 use Rattle.hir_crate_graph.specs.CrateSet.{has_crate}
-use Rattle.hir_session.specs.Crates.{transitive_in, crate_in, id_of, root_of as root_of_crate, tree_of_root}
+use Rattle.hir_session.specs.Crates.{transitive_in, id_of}
 use Rattle.hir_session.specs.LeavesOut.{LeavesNothingOut}
 use Rattle.hir_session.specs.SessionState.{SessionState, Resolution, finished_of, is_marked, read_of, beginning_of, workspace_of, IsSound}
-use Rattle.hir_session.specs.SourceCalls.{file_source, source_of}
+use Rattle.hir_session.specs.SourceCalls.{and_call, file_source, most_calls, source_call, source_of, source_within}
 use Rattle.hir_session.specs.SourceItems.{adt_definition, answered_macro, answered_type, answered_value, definition_of, import_source, item_of, macro_definition, maybe_source, module_by, module_definition, together, value_import_source, visibility_source}
 use Rattle.hir_session.specs.Status.{module_below}
 use Rattle.hir_session.proofs.Names.{among_at, among_there}
@@ -294,24 +296,60 @@ file_there tables f means = go (slice_get tables.files f.file_id.0) means
     go None h = absurd (let wrong : ⊥ = cc in wrong)
     go (Some path) h = refl
 
-of_file : (tables : TablesValue) (id : TreeId) (f : EditionedFileId) → id ≡ record { file = File f; block = None } → IsSome (source_of_tree tables id)
-    → is_some (source_of tables id.file id.block) ≡ true
-of_file tables id f is means = subst (λ (x : TreeId). is_some (source_of tables x.file x.block) ≡ true) (sym is)
-    (file_there tables f (subst (λ (x : TreeId). IsSome (source_of_tree tables x)) is means))
+module _ (tables : TablesValue) (placed : AreCallsPlaced tables) where
+  -- the number of a block means nothing
+  no_block : (b : BlockId) → IsSome (option_map block_place (slice_get tables.blocks b.0)) → ⊥
+  no_block b means = go (slice_get tables.blocks b.0) (ap (λ (bs : List BlockPlace). slice_get bs b.0) placed.blocks) means
+    where
+      go : (o : Option BlockPlace) → o ≡ None → IsSome (option_map block_place o) → ⊥
+      go None e h = let wrong : ⊥ = cc in wrong
+      go (Some place) e h = let wrong : ⊥ = cc in wrong
 
--- a tree for which there is a cause is of a file of the table, where the run begins with one
-by_cause : (tables : TablesValue) (w : Workspace) (finished : Maps) (from : Beginning) (last : State) (root : EditionedFileId) → from.tree ≡ tree_of_root root → (key : TreeKey)
-    → IsSome (source_of_tree tables key.id) → HasCause tables w finished from last (keys.Tree key) → is_some (source_of tables key.id.file key.id.block) ≡ true
-by_cause tables w finished from last root begins key means (root_tree is) =
-    let same : key ≡ tree_key from.start from.tree = cc in
-    of_file tables key.id root (ap (λ (k : TreeKey). k.id) same ∙ begins) means
-by_cause tables w finished from last root begins key means (declared_enum home id listed is) = absurd (let wrong : ⊥ = cc in wrong)
-by_cause tables w finished from last root begins key means (candidate at passed of) =
-    let same : key ≡ file_key at.core.map.id.krate at.core.map.crate_data.edition of.id = (let is = of.is in cc) in
-    of_file tables key.id (record { file_id = of.id; edition = at.core.map.crate_data.edition }) (ap (λ (k : TreeKey). k.id) same) means
-by_cause tables w finished from last root begins key means (dependency krate among is) = absurd (let wrong : ⊥ = cc in wrong)
+  bare : (held : HirFileId) (block : Option BlockId) → IsSome (source_of_tree tables (record { file = held; block = block })) → block ≡ None
+  bare held None means = refl
+  bare held (Some b) means = absurd (no_block b means)
 
--- a tree that the run for a current crate asked for is of a file of the table
+  -- few calls can stand in one another where a call before the one of this number is written
+  few_around : (n m : ℕ) (held : HirFileId) (block : Option BlockId) → m ≤ n → ((c : MacroCallId) → held ≡ Macro c → block ≡ None → c.0 < m) → block ≡ None → most_calls held ≤ n
+  few_around n m (File f) block low earlier none = omega arith
+  few_around n m (Macro c) block low earlier none = let before : c.0 < m = earlier c refl none in omega arith
+
+  -- what holds a tree that has a number, where as many calls may stand in one another as can
+  numbered_within : (n : ℕ) (held : HirFileId) (block : Option BlockId) → most_calls held ≤ n → IsSome (source_of_tree tables (record { file = held; block = block }))
+      → is_some (source_within n tables held block) ≡ true
+  numbered_within n held (Some b) low means = absurd (no_block b means)
+  numbered_within n (File f) None low means = file_there tables f means
+  numbered_within zero (Macro c) None low means = absurd (omega arith)
+  numbered_within (suc n) (Macro c) None low means = go (call_at tables c) refl means (λ held block. numbered_within n held block)
+    where
+      inside : MacroCallLoc → Option ItemSource
+      inside call = option_map (and_call (source_call call.kind)) (source_within n tables (call_node call.kind).file_id (call_node call.kind).block)
+
+      within : c.0 ≤ n
+      within = let below : suc c.0 ≤ suc n = low in omega arith
+
+      of_call : (call : MacroCallLoc) → call_at tables c ≡ Some call
+          → ((held : HirFileId) (block : Option BlockId) → most_calls held ≤ n → IsSome (source_of_tree tables (record { file = held; block = block })) → is_some (source_within n tables held block) ≡ true)
+          → is_some (option_and_then inside (call_at tables c)) ≡ true
+      of_call call e next =
+          let node : AstId = call_node call.kind in
+          let own : IsPlacedBelow tables c.0 node = placed.calls c.0 call e in
+          let none : node.block ≡ None = bare node.file_id node.block own.source in
+          let there : is_some (source_within n tables node.file_id node.block) ≡ true = next node.file_id node.block (few_around n c.0 node.file_id node.block within own.earlier none) own.source in
+          subst (λ (o : Option MacroCallLoc). is_some (option_and_then inside o) ≡ true) (sym e)
+          (mapped_some (and_call (source_call call.kind)) (source_within n tables node.file_id node.block) ∙ there)
+
+      go : (o : Option MacroCallLoc) → call_at tables c ≡ o → IsSome (option_map expansion (option_and_then (λ (call : MacroCallLoc). entry_at tables call.entry) o))
+          → ((held : HirFileId) (block : Option BlockId) → most_calls held ≤ n → IsSome (source_of_tree tables (record { file = held; block = block })) → is_some (source_within n tables held block) ≡ true)
+          → is_some (option_and_then inside (call_at tables c)) ≡ true
+      go None e h next = absurd (let wrong : ⊥ = cc in wrong)
+      go (Some call) e h next = of_call call e next
+
+  -- so each tree that has a number is held by something
+  numbered_there : (id : TreeId) → IsSome (source_of_tree tables id) → is_some (source_of tables id.file id.block) ≡ true
+  numbered_there id means = numbered_within (most_calls id.file) id.file id.block (omega arith) means
+
+-- a tree that the run for a current crate asked for is of a file, or of what a call expands to
 pub asked_there : (s : SessionState) (sound : IsSound s) (j : ℕ) (off : is_marked s (id_of j) ≡ false) (key : TreeKey) → Contains (current_of s sound j off).asked (keys.Tree key)
     → is_some (source_of s.tables key.id.file key.id.block) ≡ true
 asked_there s sound j off key asked =
@@ -319,7 +357,7 @@ asked_there s sound j off key asked =
     let ended : Ends s.tables (workspace_of s) (finished_of s) (beginning_of s (id_of j)) now.found = now.gives.resolved.ends (workspace_of s) (finished_of s) AgreeOn-refl in
     let rooted : HasMeaning s.tables (root_key (beginning_of s (id_of j)).start (beginning_of s (id_of j)).tree) = root_means s sound (id_of j) (sound.placed (id_of j) off) in
     let means : IsSome (source_of_tree s.tables key.id) = asked_keys_have_meaning s.tables (workspace_of s) (finished_of s) (beginning_of s (id_of j)) now.found rooted ended (keys.Tree key) asked in
-    by_cause s.tables (workspace_of s) (finished_of s) (beginning_of s (id_of j)) ended.last (root_of_crate (crate_in s.crates j)) refl key means (ended.caused (keys.Tree key) asked)
+    numbered_there s.tables sound.calls key.id means
 
 -- ---- the module that a place names
 

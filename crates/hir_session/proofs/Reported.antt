@@ -1,5 +1,5 @@
 -- A run reports only what the sources write that it asked for, in modules of its map.
-use Rattle.std.specs.Prelude.{◌≡◌, ◌<◌, ◌≤◌, ℕ, Bool, true, false, List, [], ◌∷◌, ◌++◌, length, Contains, Option, None, Some, cond, map as list_map, if◌then◌else◌}
+use Rattle.std.specs.Prelude.{◌≡◌, ◌<◌, ◌≤◌, ℕ, zero, suc, slice_get, Bool, true, false, List, [], ◌∷◌, ◌++◌, length, Contains, Option, None, Some, cond, map as list_map, if◌then◌else◌}
 use Rattle.std.specs.List.{list_any}
 use Rattle.std.proofs.Common.{◌||◌, ap, refl, subst, sym, ◌∙◌, arith}
 use Rattle.std.proofs.lemmas.List.Elements.{Contains-append_left, Contains-append_right}
@@ -12,7 +12,9 @@ use Rattle.hir_base.specs.declared.ast_id.BlockId.{BlockId}
 use Rattle.hir_base.specs.declared.ast_id.HirFileId.{HirFileId}
 use Rattle.hir_base.specs.declared.ast_id.SyntaxId.{SyntaxId}
 use Rattle.hir_base.specs.declared.cfg.CfgAtom.{CfgAtom}
+use Rattle.hir_base.specs.declared.ids.Crate.{Crate}
 use Rattle.hir_base.specs.declared.macro_kind.MacroId.{MacroId}
+use Rattle.hir_base.specs.declared.macro_kind.MacroId.TheVariants as macros
 use Rattle.hir_base.specs.declared.ids.MapId.{MapId}
 use Rattle.hir_base.specs.declared.macro_kind.MacroExpander.{MacroExpander}
 use Rattle.hir_item_tree.specs.Collected.{is_enabled}
@@ -39,7 +41,8 @@ use Rattle.hir_import_resolution.specs.State.{ImportState}
 use Rattle.hir_import_resolution.specs.declared.directive.ImportDirective.{ImportDirective}
 use Rattle.hir_import_resolution.specs.declared.directive.ImportSource.{ImportSource}
 use Rattle.hir_import_resolution.specs.declared.directive.ImportSource.TheVariants as sources
-use Rattle.hir_def_collector.specs.Changes.{Change, adds_textual, takes_textual, defines, uses_macros, lists, makes, gives_variants, begins_paths, reaches, changes_imports, tells, goes_on, act, perform}
+use Rattle.hir_def_collector.specs.Calls.{Expanding, call_key, call_site, error_of, expansion_readings, text_readings}
+use Rattle.hir_def_collector.specs.Changes.{Change, adds_textual, takes_textual, defines, uses_macros, lists, makes, gives_variants, begins_paths, reaches, awaits, ends, settles, changes_imports, tells, goes_on, act, perform}
 use Rattle.hir_def_collector.specs.Derivation.{CollectedValue, Ends}
 use Rattle.hir_def_collector.specs.Imports.{reached_import}
 use Rattle.hir_def_collector.specs.ItemIds.{macro_def_id, macro_rules_id, module_id, node_of, use_id}
@@ -47,11 +50,14 @@ use Rattle.hir_def_collector.specs.Items.{inline_origin, own_visibility}
 use Rattle.hir_def_collector.specs.Keys.{Environment, environment, map_keys}
 use Rattle.hir_def_collector.specs.Macros.{is_exported, is_macro_use, macro_declaration}
 use Rattle.hir_def_collector.specs.ModuleFiles.{file_key}
-use Rattle.hir_def_collector.specs.Reports.{IsUnconfigured, begins_with, crates_among, is_unimplemented, leftover_diagnostics, report_by, reports_of, unimplemented_macro, unresolved_among}
+use Rattle.hir_def_collector.specs.Reports.{IsUnconfigured, begins_with, crates_among, is_unimplemented, leftover_diagnostics, report_by, reports_of, unimplemented_macro, unresolved_among, unresolved_calls}
 use Rattle.hir_def_collector.specs.Start.{Beginning, begin_of, krate_of, read_by, root_key, root_site, root_tree, start_of, tree_key}
 use Rattle.hir_def_collector.specs.State.{State, Task, Visit, visits, closes, import_state, visits_over}
-use Rattle.hir_def_collector.specs.Steps.{Rule, drops_item, passes_over, defines_rules, defines_macro, closes_module, closing, declaring, exporting, reporting, declares_item, declares_enum, lists_constant, lists_impl, opens_module, opens_file, drops_file, misses_file, enters_block, reaches_imports, reaches_crate, resolves_imports, May, acts, asking, inside_block, inside_file, inside_module, keys_read, making, path_of, reads, visits_inside, Step, Steps, none, more}
+use Rattle.hir_def_collector.specs.Steps.{Rule, drops_item, defines_rules, defines_macro, closes_module, closing, declaring, exporting, failing, reporting, declares_item, declares_enum, lists_constant, lists_impl, opens_module, opens_file, drops_file, misses_file, enters_block, reaches_imports, reaches_crate, reaches_call, rests, expands_call, drops_call, resolves_imports, May, acts, asking, inside_block, inside_file, inside_module, keys_read, making, path_of, reads, visits_inside, Step, Steps, none, more}
 use Rattle.hir_def_collector.specs.Workspace.{Workspace, transitive_dependencies_in}
+use Rattle.hir_def_collector.specs.declared.collector.macro_directive.Fate.{Fate}
+use Rattle.hir_def_collector.specs.declared.collector.macro_directive.Fate.TheVariants as fates
+use Rattle.hir_def_collector.specs.declared.collector.macro_directive.MacroDirective.{MacroDirective}
 use Rattle.hir_def_collector.specs.declared.collector.site.Site.{Site}
 use Rattle.hir_def_collector.specs.declared.source_database.Key.{Key}
 use Rattle.hir_def_collector.specs.declared.source_database.Key.TheVariants as keys
@@ -67,6 +73,12 @@ use Rattle.hir_def_collector.proofs.ModuleFiles.{found_read}
 -- the node that a diagnostic is about
 abbrev pub reported_node : DefDiagnostic → AstId
 reported_node d = node_about (diagnostic_view d).kind
+
+-- a call that reaches a macro asks for what it expands to
+tree_read : (own : Crate) (d : MacroDirective) (makro : MacroId) (x : Expanding) → Contains (keys_read (text_readings makro x.text ++ expansion_readings own d x)) (keys.Tree (call_key own x.id))
+tree_read own d (macros.Macro2Id id) x = (3, (let here : 3 < 4 = omega arith in here), refl)
+tree_read own d (macros.MacroRulesId id) x = (3, (let here : 3 < 4 = omega arith in here), refl)
+tree_read own d (macros.ProcMacroId id) x = (2, (let here : 2 < 3 = omega arith in here), refl)
 
 -- changes leave the map's id, and those of imports what was reported
 id-perform : (cs : List Change) (s : State) → (perform s cs).core.map.id ≡ s.core.map.id
@@ -99,11 +111,21 @@ module _ (unwritten : HirFileId → Option BlockId → Bool) where
   abbrev on_reached : ImportDirective → Bool
   on_reached r = of_source r.source
 
+  -- a call is of one of so many modules, and on something of which the test doesn't hold
+  record IsCall (count : ℕ) (d : MacroDirective) : Type 0 where
+    below : d.site.home < count
+    written : unwritten d.ast_id.file_id d.ast_id.block ≡ false
+
+  abbrev AreCalls : ℕ → List MacroDirective → Type 0
+  AreCalls count [] = Unit {0}
+  AreCalls count (d ∷ ds) = IsCall count d × AreCalls count ds
+
   -- the test holds of nothing that a run has reported or come upon
   record IsReported (s : State) : Type 0 where
     reports : AreReports s.core.map.id (length s.core.map.modules) s.core.map.diagnostics
     visits : list_any on_site s.agenda ≡ false
     reached : list_any on_reached s.core.reached ≡ false
+    calls : AreCalls (length s.core.map.modules) s.core.calls
 
   -- nor of a source that was asked for
   abbrev AreClear : State → Type 0
@@ -120,6 +142,21 @@ module _ (unwritten : HirFileId → Option BlockId → Bool) where
   reports_joined : (id : MapId) (n : ℕ) (xs ys : List DefDiagnostic) → AreReports id n xs → AreReports id n ys → AreReports id n (xs ++ ys)
   reports_joined id n [] ys f g = g
   reports_joined id n (x ∷ xs) ys f g = (f.0, reports_joined id n xs ys f.1 g)
+
+  calls_more : (n k : ℕ) → n ≤ k → (ds : List MacroDirective) → AreCalls n ds → AreCalls k ds
+  calls_more n k low [] f = tt
+  calls_more n k low (d ∷ ds) f =
+      let first : IsCall n d = f.0 in
+      (record { below = (let below : d.site.home < n = first.below in omega arith); written = first.written }, calls_more n k low ds f.1)
+
+  calls_joined : (n : ℕ) (ds es : List MacroDirective) → AreCalls n ds → AreCalls n es → AreCalls n (ds ++ es)
+  calls_joined n [] es f g = g
+  calls_joined n (d ∷ ds) es f g = (f.0, calls_joined n ds es f.1 g)
+
+  call_there : (n : ℕ) (ds : List MacroDirective) (i : ℕ) (d : MacroDirective) → AreCalls n ds → slice_get ds i ≡ Some d → IsCall n d
+  call_there n [] i d f e = absurd cc
+  call_there n (x ∷ xs) zero d f e = let same : x ≡ d = cc in subst (IsCall n) same f.0
+  call_there n (x ∷ xs) (suc i) d f e = call_there n xs i d f.1 e
 
   site_visits : (s : Site) → unwritten s.tree.file s.tree.block ≡ false → (is : KeptForest) → list_any on_site (visits_over s is) ≡ false
   site_visits s f no_items = refl
@@ -140,6 +177,9 @@ module _ (unwritten : HirFileId → Option BlockId → Bool) where
   StaysReported s (gives_variants id variants) = Unit {0}
   StaysReported s (begins_paths r) = Unit {0}
   StaysReported s (reaches rs) = list_any on_reached rs ≡ false
+  StaysReported s (awaits ds) = AreCalls (length s.core.map.modules) ds
+  StaysReported s (ends i fate) = Unit {0}
+  StaysReported s settles = Unit {0}
   StaysReported s (changes_imports c) = Unit {0}
   StaysReported s (adds_textual home name makro) = Unit {0}
   StaysReported s (takes_textual home from) = Unit {0}
@@ -155,38 +195,42 @@ module _ (unwritten : HirFileId → Option BlockId → Bool) where
       (subst (λ (id : MapId). AreReports id (length m.modules) s.core.map.diagnostics) (sym same)
       (reports_more s.core.map.id (length s.core.map.modules) (length m.modules) longer s.core.map.diagnostics p.reports))
 
+  -- so it stays where a change leaves all of that, and as many modules or more
+  grown_reported : (s : State) (c : Change) → (act s c).core.map.id ≡ s.core.map.id → (act s c).core.map.diagnostics ≡ s.core.map.diagnostics → (act s c).agenda ≡ s.agenda
+      → (act s c).core.reached ≡ s.core.reached → (act s c).core.calls ≡ s.core.calls → IsReported s → IsReported (act s c)
+  grown_reported s c same told undone reached waiting p =
+      let longer : length s.core.map.modules ≤ length (act s c).core.map.modules = (Grows-act s c).longer in
+      record {
+        reports = in_larger s (act s c).core.map same told longer p;
+        visits = subst (λ (ts : List Task). list_any on_site ts ≡ false) (sym undone) p.visits;
+        reached = subst (λ (rs : List ImportDirective). list_any on_reached rs ≡ false) (sym reached) p.reached;
+        calls = subst (AreCalls (length (act s c).core.map.modules)) (sym waiting) (calls_more (length s.core.map.modules) (length (act s c).core.map.modules) longer s.core.calls p.calls);
+      }
+
   reported-act : (s : State) (c : Change) → IsReported s → StaysReported s c → IsReported (act s c)
-  reported-act s (lists home d) p fine =
-      record { reports = in_larger s (act s (lists home d)).core.map refl refl (Grows-act s (lists home d)).longer p; visits = p.visits; reached = p.reached }
-  reported-act s (makes home name origin visibility) p fine = record {
-    reports = in_larger s (act s (makes home name origin visibility)).core.map refl refl (Grows-act s (makes home name origin visibility)).longer p;
-    visits = p.visits;
-    reached = p.reached;
-  }
-  reported-act s (gives_variants id variants) p fine =
-      record { reports = in_larger s (act s (gives_variants id variants)).core.map refl refl (Grows-act s (gives_variants id variants)).longer p; visits = p.visits; reached = p.reached }
-  reported-act s (begins_paths r) p fine = record { reports = p.reports; visits = p.visits; reached = p.reached }
-  reported-act s (reaches rs) p fine = record { reports = p.reports; visits = p.visits; reached = none_joined on_reached s.core.reached rs p.reached fine }
+  reported-act s (lists home d) p fine = grown_reported s (lists home d) refl refl refl refl refl p
+  reported-act s (makes home name origin visibility) p fine = grown_reported s (makes home name origin visibility) refl refl refl refl refl p
+  reported-act s (gives_variants id variants) p fine = grown_reported s (gives_variants id variants) refl refl refl refl refl p
+  reported-act s (begins_paths r) p fine = record { reports = p.reports; visits = p.visits; reached = p.reached; calls = p.calls }
+  reported-act s (reaches rs) p fine = record { reports = p.reports; visits = p.visits; reached = none_joined on_reached s.core.reached rs p.reached fine; calls = p.calls }
+  reported-act s (awaits ds) p fine = record { reports = p.reports; visits = p.visits; reached = p.reached; calls = calls_joined (length s.core.map.modules) s.core.calls ds p.calls fine }
+  reported-act s (ends i fate) p fine = record { reports = p.reports; visits = p.visits; reached = p.reached; calls = p.calls }
+  reported-act s settles p fine = record { reports = p.reports; visits = p.visits; reached = p.reached; calls = p.calls }
   reported-act s (changes_imports c) p fine =
       let i : ImportState = import_state s in
       let told : (act s (changes_imports c)).core.map.diagnostics ≡ s.core.map.diagnostics = ap (λ (m : Map). m.diagnostics) (map_after i c) ∙ diagnostics_edited s.core.map (edit_of i c) in
-      record {
-        reports = in_larger s (act s (changes_imports c)).core.map (Keeps-act s (changes_imports c)).id told (Grows-act s (changes_imports c)).longer p;
-        visits = p.visits;
-        reached = subst (λ (rs : List ImportDirective). list_any on_reached rs ≡ false) (sym (imports_after i c)) p.reached;
-      }
-  reported-act s (adds_textual home name makro) p fine =
-      record { reports = in_larger s (act s (adds_textual home name makro)).core.map refl refl (Grows-act s (adds_textual home name makro)).longer p; visits = p.visits; reached = p.reached }
-  reported-act s (takes_textual home from) p fine =
-      record { reports = in_larger s (act s (takes_textual home from)).core.map refl refl (Grows-act s (takes_textual home from)).longer p; visits = p.visits; reached = p.reached }
-  reported-act s (defines node makro) p fine = record { reports = p.reports; visits = p.visits; reached = p.reached }
-  reported-act s (uses_macros macros by) p fine = record { reports = p.reports; visits = p.visits; reached = p.reached }
+      grown_reported s (changes_imports c) (Keeps-act s (changes_imports c)).id told refl (imports_after i c) refl p
+  reported-act s (adds_textual home name makro) p fine = grown_reported s (adds_textual home name makro) refl refl refl refl refl p
+  reported-act s (takes_textual home from) p fine = grown_reported s (takes_textual home from) refl refl refl refl refl p
+  reported-act s (defines node makro) p fine = record { reports = p.reports; visits = p.visits; reached = p.reached; calls = p.calls }
+  reported-act s (uses_macros macros by) p fine = record { reports = p.reports; visits = p.visits; reached = p.reached; calls = p.calls }
   reported-act s (tells d) p fine = record {
     reports = reports_joined s.core.map.id (length s.core.map.modules) s.core.map.diagnostics (d ∷ []) p.reports (fine, tt);
     visits = p.visits;
     reached = p.reached;
+    calls = p.calls;
   }
-  reported-act s (goes_on vs) p fine = record { reports = p.reports; visits = fine; reached = p.reached }
+  reported-act s (goes_on vs) p fine = record { reports = p.reports; visits = fine; reached = p.reached; calls = p.calls }
 
   -- ---- rules
 
@@ -255,6 +299,14 @@ module _ (unwritten : HirFileId → Option BlockId → Bool) where
         fine-append StaysReported (exporting head name makro) (reporting (module_id s.core.map site.home) node expander) t (macro_exported t head name makro)
         (macro_reported later site node expander (id-perform (exporting head name makro) t ∙ same) (omega (arith, longer, more)) here own)
 
+    -- so is a call that didn't expand, or not well
+    failing_reported : (t : State) (d : MacroDirective) (error : Option (List ℕ)) → t.core.map.id ≡ s.core.map.id → length s.core.map.modules ≤ length t.core.map.modules
+        → IsCall (length s.core.map.modules) d → AllFine StaysReported t (failing (module_id s.core.map d.site.home) d error)
+    failing_reported t d None same longer call = tt
+    failing_reported t d (Some error) same longer call =
+        let here : d.site.home < length s.core.map.modules = call.below in
+        (record { own = sym same; below = (let within : d.site.home < length t.core.map.modules = omega arith in within); written = call.written }, tt)
+
     -- the sources that a rule reads are clear of the test too
     stays_reported : (finished : Maps) (r : Rule) → May finished s r → ((key : TreeKey) → Contains (keys_read (reads s r)) (keys.Tree key) → unwritten key.id.file key.id.block ≡ false)
         → AllFine StaysReported (asking s r) (acts finished s r)
@@ -306,16 +358,27 @@ module _ (unwritten : HirFileId → Option BlockId → Bool) where
         let longer : length s.core.map.modules ≤ length (perform before changes).core.map.modules = (Grows-perform changes before).longer in
         (left _ rest may.next, (tt, (tt, (tt, macro_reported (perform before changes) site node expander (id-perform changes before) longer (low _ rest may.next) (file _ rest may.next)))))
     stays_reported finished (closes_module parent child rest) may read = (subst (λ (ts : List Task). list_any on_site ts ≡ false) may p.visits, (tt, tt))
-    stays_reported finished (passes_over site head l rest) may read = (left _ rest may.here.next, tt)
+    stays_reported finished (reaches_call site head path rest) may read =
+        (left _ rest may.next, ((record { below = low _ rest may.next; written = file _ rest may.next }, tt), tt))
+    stays_reported finished rests may read = (tt, tt)
+    stays_reported finished (expands_call i d makro x) may read =
+        let own : Crate = s.core.map.id.krate in
+        let within : Site = call_site d x.id in
+        let clear : unwritten within.tree.file within.tree.block ≡ false = read (call_key own x.id) (tree_read own d makro x) in
+        let call : IsCall (length s.core.map.modules) d = call_there (length s.core.map.modules) s.core.calls i d p.calls may.due.waiting.call in
+        let after : State = perform (asking s (expands_call i d makro x)) (ends i fates.Handled ∷ goes_on (visits_over within x.tree.tree.items) ∷ []) in
+        let longer : length s.core.map.modules ≤ length s.core.map.modules = omega arith in
+        (tt, (site_visits within clear x.tree.tree.items, failing_reported after d (error_of x.there) refl longer call))
+    stays_reported finished (drops_call i d) may read = (tt, tt)
     stays_reported finished (resolves_imports rule) may read = all_fine StaysReported (λ t c. tt) (import_acts finished (import_state s) rule) s
 
     reported-Step : (env : Environment) (finished : Maps) (new : State) → Step env finished s new → AreClear new → IsReported new
     reported-Step env finished new step clear =
         let read : (key : TreeKey) → Contains (keys_read (reads s step.rule)) (keys.Tree key) → unwritten key.id.file key.id.block ≡ false =
         λ key h. clear key (subst (λ (ks : List Key). Contains ks (keys.Tree key)) (sym (asked-Step step)) (Contains-append_right s.core.asked (keys_read (reads s step.rule)) (keys.Tree key) h)) in
-        let first : IsReported (asking s step.rule) = record { reports = p.reports; visits = p.visits; reached = p.reached } in
+        let first : IsReported (asking s step.rule) = record { reports = p.reports; visits = p.visits; reached = p.reached; calls = p.calls } in
         let done = perform_keeps IsReported StaysReported reported-act (acts finished s step.rule) (asking s step.rule) first (stays_reported finished step.rule step.may read) in
-        subst IsReported (sym step.is) (record { reports = done.reports; visits = done.visits; reached = done.reached })
+        subst IsReported (sym step.is) (record { reports = done.reports; visits = done.visits; reached = done.reached; calls = done.calls })
 
   -- so it is in all states to which steps lead
   all_reported : (env : Environment) (finished : Maps) (from to : State) → IsInRange from → IsReported from → Steps env finished from to → AreClear to → IsReported to
@@ -328,11 +391,19 @@ module _ (unwritten : HirFileId → Option BlockId → Bool) where
 
   first_reported : (finished : Maps) (tables : TablesValue) (w : Workspace) (from : Beginning) → unwritten from.tree.file from.tree.block ≡ false → IsReported (start_of tables w finished from)
   first_reported finished tables w from written =
-      let tree = root_tree tables w from in record { reports = tt; visits = go (is_enabled tree.attributes) tree.items; reached = refl }
+      let tree = root_tree tables w from in record { reports = tt; visits = go (is_enabled tree.attributes) tree.items; reached = refl; calls = tt }
     where
       go : (b : Bool) (is : KeptForest) → list_any on_site (if b then visits_over (root_site from.tree) is else []) ≡ false
       go true is = site_visits (root_site from.tree) written is
       go false is = refl
+
+  -- what is told of calls that are left over
+  calls_reported : (id : MapId) (n : ℕ) (ds : List MacroDirective) (fs : List Fate) → AreCalls n ds → AreReports id n (unresolved_calls id ds fs)
+  calls_reported id n [] fs f = tt
+  calls_reported id n (d ∷ ds) [] f = tt
+  calls_reported id n (d ∷ ds) (fates.Waits ∷ fs) f =
+      let call : IsCall n d = f.0 in (record { own = refl; below = call.below; written = call.written }, calls_reported id n ds fs f.1)
+  calls_reported id n (d ∷ ds) (fates.Handled ∷ fs) f = calls_reported id n ds fs f.1
 
   -- the imports that are left over are among those that were reached
   unresolved_clear : (rs : List ImportDirective) (ts : List TakenValue) → list_any on_reached rs ≡ false → list_any on_reached (unresolved_among rs ts) ≡ false
@@ -391,5 +462,7 @@ module _ (unwritten : HirFileId → Option BlockId → Bool) where
       let leftover : AreReports m.id n (leftover_diagnostics m e.last.core.reached e.last.core.taken) =
       imports_reported m.id n (crates_among [] unresolved) unresolved (unresolved_clear e.last.core.reached e.last.core.taken end.reached)
       (unresolved_below n e.last.core.reached e.last.core.taken below.imports) in
+      let waiting : AreReports m.id n (unresolved_calls m.id e.last.core.calls e.last.core.fates) = calls_reported m.id n e.last.core.calls e.last.core.fates end.calls in
       subst (λ (x : Map). AreReports x.id (length x.modules) x.diagnostics) (sym e.map_is)
-      (reports_joined m.id n m.diagnostics (leftover_diagnostics m e.last.core.reached e.last.core.taken) end.reports leftover)
+      (reports_joined m.id n m.diagnostics (unresolved_calls m.id e.last.core.calls e.last.core.fates ++ leftover_diagnostics m e.last.core.reached e.last.core.taken) end.reports
+      (reports_joined m.id n (unresolved_calls m.id e.last.core.calls e.last.core.fates) (leftover_diagnostics m e.last.core.reached e.last.core.taken) waiting leftover))

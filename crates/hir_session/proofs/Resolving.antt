@@ -17,6 +17,7 @@ use Rattle.hir_def_map.specs.State.{Map, ModuleValue, crate_map, module_at}
 use Rattle.hir_def_map.specs.Overlay.{Maps, Placed, overlay, module_in, placed_in}
 use Rattle.hir_tables.specs.SourcePlaces.{file}
 use Rattle.std.specs.Option.{IsSome, option_and_then}
+use Rattle.hir_def_collector.specs.Calls.{AreCallsPlaced}
 use Rattle.hir_def_collector.specs.Derivation.{Ends}
 use Rattle.hir_def_collector.specs.Growth.{AnswersStand, AskedKeysHaveMeaning, LooksStand}
 use Rattle.hir_def_collector.specs.Keys.{AgreeOn, HasMeaning, look}
@@ -155,7 +156,8 @@ may_join s id r p = joins (transitive_in s.crates id.krate.0) (finished_of s) r.
 pub root_means : (s : SessionState) → IsSound s → (id : MapId) → IsPlace s id → HasMeaning s.tables (root_key (beginning_of s id).start (beginning_of s id).tree)
 root_means s sound id place = subst (λ (o : Option (List ℕ)). IsSome (option_map file o)) (sym (sound.rooted id.krate.0 place.within)) refl
 
-module _ (looks : LooksStand) (meaning : AskedKeysHaveMeaning) (answers : AnswersStand) (s : SessionState) (T : TablesValue) (keeps : KeepsTables s.tables T) where
+module _ (looks : LooksStand) (meaning : AskedKeysHaveMeaning) (answers : AnswersStand) (s : SessionState) (T : TablesValue) (keeps : KeepsTables s.tables T)
+    (placed : AreCallsPlaced s.tables → AreCallsPlaced T) where
   -- a resolution stays where the number of its root file means something
   grown_resolution : (id : MapId) (r : Resolution) → HasMeaning s.tables (root_key (beginning_of s id).start (beginning_of s id).tree) → IsResolutionOf s id r
       → IsResolutionOf (record s { tables = T }) id r
@@ -187,6 +189,7 @@ module _ (looks : LooksStand) (meaning : AskedKeysHaveMeaning) (answers : Answer
         let now = sound.current id off in
         record { found = now.found; is = now.is; gives = grown_resolution id now.found (root_means s sound id (sound.placed id off)) now.gives };
     rooted = λ k within. keeps.files (crate_in s.crates k).file.0 (crate_in s.crates k).own.root (sound.rooted k within);
+    calls = placed sound.calls;
   }
 
   -- and nothing else changes then

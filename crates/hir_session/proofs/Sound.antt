@@ -217,6 +217,7 @@ module _ (s : SessionState) (sound : IsSound s) (F : SourceTable) (hits : List M
           gives = IsResolutionOf-stays s F K id now.found now.gives (behind_still id off) (unhit id off now.found now.is);
         };
     rooted = sound.rooted;
+    calls = sound.calls;
   }
     where
       unhit : (id : MapId) → is_none (kept_in K id) ≡ false → (r : Resolution) → kept_of s id ≡ Some r → AgreeOn s.tables r.asked (workspace_of s) no_maps edited no_maps
@@ -319,6 +320,7 @@ module _ (s : SessionState) (k : ℕ) (r : Resolution) (K : Resolutions) (sound 
         let now = sound.current j (was j ne off) in
         record { found = now.found; is = kept_else j ne ∙ now.is; gives = stays_resolved j now.found (behind_it j (was j ne off)) now.gives });
     rooted = sound.rooted;
+    calls = sound.calls;
   }
 
 -- ---- a resolution over tables that grew

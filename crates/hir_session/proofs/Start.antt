@@ -4,6 +4,8 @@ use Rattle.std.proofs.lemmas.List.Folds.{list_any_at}
 use Rattle.hir_base.specs.declared.ast_id.EditionedFileId.{EditionedFileId}
 use Rattle.hir_base.specs.declared.ids.Crate.{Crate}
 use Rattle.hir_base.specs.declared.ids.MapId.{MapId}
+use Rattle.hir_base.specs.declared.macro_kind.MacroCallLoc.{MacroCallLoc}
+use Rattle.hir_def_collector.specs.Calls.{AreCallsPlaced}
 use Rattle.hir_def_collector.specs.declared.source_database.Dependency.{Dependency}
 use Rattle.hir_wire.specs.CommandValue.{CrateInputValue, crate_input_view}
 use Rattle.hir_wire.specs.declared.command.CrateInput.{CrateInput}
@@ -31,21 +33,23 @@ abbrev pub IsMaking : ℕ → List CrateInput → List CrateValue → Type 0
 IsMaking k inputs crates =
     (rest : List CrateValue) → AreMade (map crate_input_view (drop k inputs)) rest → AreMade (map crate_input_view inputs) (crates ++ rest)
 
--- the crates of the first so many inputs were made
-pub record IsBeginning (k : ℕ) (inputs : List CrateInput) (crates : List CrateValue) (tables : TablesValue) : Type 0 where
+-- the crates of the first so many inputs were made, and only files got numbers
+pub record IsBeginning (k : ℕ) (inputs : List CrateInput) (crates : List CrateValue) (first tables : TablesValue) : Type 0 where
   pub making : IsMaking k inputs crates
   pub rooted : AreRooted tables crates
+  pub others : tables ≡ record first { files = tables.files }
 
-pub beginning-start : (inputs : List CrateInput) (crates : List CrateValue) (tables : TablesValue) → crates ≡ [] → IsBeginning 0 inputs crates tables
-beginning-start inputs crates tables none = subst (λ (cs : List CrateValue). IsBeginning 0 inputs cs tables) (sym none) (record {
+pub beginning-start : (inputs : List CrateInput) (crates : List CrateValue) (tables : TablesValue) → crates ≡ [] → IsBeginning 0 inputs crates tables tables
+beginning-start inputs crates tables none = subst (λ (cs : List CrateValue). IsBeginning 0 inputs cs tables tables) (sym none) (record {
   making = λ rest made. made;
   rooted = λ k within. absurd (omega arith);
+  others = refl;
 })
 
 -- one more crate is made
-pub beginning-more : (k : ℕ) (inputs : List CrateInput) (crates next : List CrateValue) (before after : TablesValue) (i other : CrateInput) → k < length inputs
-    → i ≡ get_or inputs k other → IsAdded (crate_input_view i) crates next before after → IsBeginning k inputs crates before → IsBeginning (k + 1) inputs next after
-beginning-more k inputs crates next before after i other within is added so_far = record {
+pub beginning-more : (k : ℕ) (inputs : List CrateInput) (crates next : List CrateValue) (first before after : TablesValue) (i other : CrateInput) → k < length inputs
+    → i ≡ get_or inputs k other → IsAdded (crate_input_view i) crates next before after → IsBeginning k inputs crates first before → IsBeginning (k + 1) inputs next first after
+beginning-more k inputs crates next first before after i other within is added so_far = record {
   making = λ rest h.
       let here : drop k inputs ≡ i ∷ drop (k + 1) inputs = rw (add-one, drop-cons inputs k other, is) refl in
       let from : AreMade (map crate_input_view (drop k inputs)) (added.made ∷ rest) = rw here (added.is, h) in
@@ -58,6 +62,7 @@ beginning-more k inputs crates next before after i other within is added so_far 
       let below : j < length crates = omega arith in
       number_of j (crate_in crates j) (sym (get_or_append_left crates (added.made ∷ []) no_crate j below))
       (added.kept.files (crate_in crates j).file.0 (crate_in crates j).own.root (so_far.rooted j below))));
+  others = added.others ∙ ap (λ (t : TablesValue). record t { files = after.files }) so_far.others;
 }
   where
     number_of : (j : ℕ) (c : CrateValue) → c ≡ crate_in (crates ++ added.made ∷ []) j → file_at after c.file ≡ Some c.own.root
@@ -69,9 +74,9 @@ beginning-more k inputs crates next before after i other within is added so_far 
     length_more (x ∷ cs) = let e : length (cs ++ added.made ∷ []) ≡ length cs + 1 = length_more cs in omega arith
 
 -- all crates are made
-pub beginning-end : (k : ℕ) (inputs : List CrateInput) (crates : List CrateValue) (tables : TablesValue) → length inputs ≤ k → IsBeginning k inputs crates tables
+pub beginning-end : (k : ℕ) (inputs : List CrateInput) (crates : List CrateValue) (first tables : TablesValue) → length inputs ≤ k → IsBeginning k inputs crates first tables
     → AreMade (map crate_input_view inputs) crates
-beginning-end k inputs crates tables past so_far =
+beginning-end k inputs crates first tables past so_far =
     let none : drop k inputs ≡ [] = drop_of_length-le inputs past in
     subst (λ (cs : List CrateValue). AreMade (map crate_input_view inputs) cs) (append-nil crates) (so_far.making [] (rw none tt))
 
@@ -94,13 +99,14 @@ crates_named (d ∷ ds) = ap (λ (cs : List Crate). d.krate ∷ cs) (crates_name
 -- a crate that is made with the number of its root file is added
 pub added_by : (input : CrateInputValue) (old new : List CrateValue) (before after : TablesValue) (c : CrateValue) → IsMade input c
     → (number : FileId) (root : List ℕ) → root ≡ input.root → file_at after number ≡ Some root → c.file ≡ number
-    → new ≡ old ++ c ∷ [] → KeepsTables before after → IsAdded input old new before after
-added_by input old new before after c made number root is_root found is_number longer kept = record {
+    → new ≡ old ++ c ∷ [] → KeepsTables before after → after ≡ record before { files = after.files } → IsAdded input old new before after
+added_by input old new before after c made number root is_root found is_number longer kept others = record {
   made = c;
   is = made;
   number = ap (file_at after) is_number ∙ found ∙ ap (λ (p : List ℕ). Some p) (is_root ∙ sym made.root);
   longer = longer;
   kept = kept;
+  others = others;
 }
 
 -- where no crate is out of order, each dependency comes before its crate
@@ -117,6 +123,14 @@ below_from n (i ∷ is) (c ∷ cs) made none (suc k) d among = on_bool (has_late
     (λ late. absurd (let wrong : ⊥ = cc (rw late at none) in wrong))
     (λ early. let lower : d.0 < n + 1 + k = below_from (n + 1) is cs made.1 (rw early at none) k d among in omega arith)
 
+-- where neither a call nor a block has a number
+none_placed : (t : TablesValue) → t ≡ record { files = t.files; blocks = []; entries = []; calls = [] } → AreCallsPlaced t
+none_placed t is = record {
+  calls = λ n loc e.
+      let gone : None ≡ Some loc = sym (ap (λ (x : TablesValue). slice_get x.calls n) is) ∙ e in absurd (let wrong : ⊥ = cc in wrong);
+  blocks = ap (λ (x : TablesValue). x.blocks) is;
+}
+
 -- a session is sound when it begins
 pub begins_sound : (inputs : List CrateInputValue) (s : SessionState) → length inputs ≤ 10000 → first_out_of_order 0 inputs ≡ None → Begins inputs s → IsSound s
 begins_sound inputs s few ordered is =
@@ -129,15 +143,18 @@ begins_sound inputs s few ordered is =
       closed = λ id d off among. clash (on id) off;
       current = λ id off. clash (on id) off;
       rooted = is.rooted;
+      calls = none_placed s.tables is.tables;
     }
 
 -- the parts of a session that begins
 pub begins_with : (inputs : List CrateInput) (crates : List CrateValue) (tables : TablesValue) (sources : SourceTable) (kept : Resolutions)
     → AreMade (map crate_input_view inputs) crates → AreRooted tables crates → sources ≡ record { files = []; entries = [] } → ((id : MapId) → kept_in kept id ≡ None)
+    → (first : TablesValue) → first ≡ record { files = []; blocks = []; entries = []; calls = [] } → tables ≡ record first { files = tables.files }
     → Begins (map crate_input_view inputs) (record { crates = crates; tables = tables; sources = sources; kept = kept })
-begins_with inputs crates tables sources kept made rooted none is_kept = record {
+begins_with inputs crates tables sources kept made rooted none is_kept first empty others = record {
   crates = made;
   rooted = rooted;
+  tables = others ∙ ap (λ (t : TablesValue). record t { files = tables.files }) empty;
   sources = none;
   kept = is_kept;
 }

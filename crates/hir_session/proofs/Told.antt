@@ -1,4 +1,4 @@
--- Each diagnostic of a current crate is told: it is in a module of the crate's map, and about something that is written in a file of the table.
+-- Each diagnostic of a current crate is told: it is in a module of the crate's map, and about something that is written in a file, or in what a call expands to.
 use Rattle.std.specs.Prelude.{◌≡◌, ℕ, ◌<◌, Bool, true, false, not, is_none, is_some, Contains, List, [], ◌∷◌, length, map, nat_lt, Option, None, Some, option_map, Result, Ok}
 use Rattle.std.specs.List.{cons_option}
 use Rattle.std.proofs.Common.{ap, refl, subst, sym, ◌∙◌}
@@ -37,7 +37,7 @@ use Rattle.hir_session.proofs.Worlds.{AgreeOn-refl}
 abbrev unwritten : SessionState → HirFileId → Option BlockId → Bool
 unwritten s file block = not (is_some (source_of s.tables file block))
 
--- what a run for a current crate reported is in modules of its map, and about what is written in files of the table
+-- what a run for a current crate reported is in modules of its map, and about what has a source item
 reported : (s : SessionState) (sound : IsSound s) (k : ℕ) (off : is_marked s (id_of k) ≡ false)
     → AreReports (unwritten s) (current_of s sound k off).map.id (length (current_of s sound k off).map.modules) (current_of s sound k off).map.diagnostics
 reported s sound k off =

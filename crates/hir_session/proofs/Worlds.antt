@@ -1,7 +1,9 @@
 -- The finished maps that a crate reads stay while what is kept of the crates on which it stands does.
-use Rattle.std.proofs.Common.{◌≡◌, ℕ, zero, suc, ◌<◌, List, [], ◌∷◌, true, false, arith, Option, option_map, refl, sym, ap, ◌∙◌, subst, Contains, eq-eqb}
+use Rattle.std.proofs.Common.{◌≡◌, ◌≢◌, ℕ, zero, suc, ◌<◌, List, [], ◌∷◌, ◌++◌, true, false, arith, Option, option_map, refl, sym, ap, ◌∙◌, subst, Contains, eq-eqb}
 use Rattle.hir_base.specs.declared.ids.Crate.{Crate}
 use Rattle.hir_base.specs.declared.ids.MapId.{MapId}
+use Rattle.hir_base.specs.declared.macro_kind.MacroId.{MacroId}
+use Rattle.hir_base.specs.declared.macro_kind.MacroId.TheVariants as macros
 use Rattle.hir_tables.specs.Tables.{TablesValue}
 use Rattle.hir_def_map.specs.Inner.PartLaws.{among_agrees}
 use Rattle.hir_def_map.specs.WorldParts.{unheld}
@@ -9,12 +11,15 @@ use Rattle.hir_def_map.specs.WellFormed.{HasNoDanglingExtern, HasNoDanglingRefer
 use Rattle.hir_def_map.specs.Overlay.{Maps, Placed, overlay, no_maps}
 use Rattle.hir_def_map.specs.State.{crate_map}
 use Rattle.hir_def_collector.specs.Causes.{HasCause}
-use Rattle.hir_def_collector.specs.Causes.HasCause.{root_tree, declared_enum, candidate, dependency}
+use Rattle.hir_def_collector.specs.Causes.HasCause.{root_tree, declared_enum, candidate, of_call, dependency}
+use Rattle.hir_def_collector.specs.Calls.{Expanding, call_key, expansion_readings, text_readings}
 use Rattle.hir_def_collector.specs.Derivation.{Ends}
 use Rattle.hir_def_collector.specs.Keys.{AgreeOn, look, map_key, of_map}
 use Rattle.hir_def_collector.specs.Start.{Beginning, krate_of}
 use Rattle.hir_def_collector.specs.State.{State}
+use Rattle.hir_def_collector.specs.Steps.{keys_read}
 use Rattle.hir_def_collector.specs.Workspace.{Workspace, transitive_dependencies_in}
+use Rattle.hir_def_collector.specs.declared.collector.macro_directive.MacroDirective.{MacroDirective}
 use Rattle.hir_def_collector.specs.declared.source_database.Key.{Key}
 use Rattle.hir_def_collector.specs.declared.source_database.Key.TheVariants as keys
 use Rattle.hir_crate_graph.specs.CrateSet.{has_crate}
@@ -64,12 +69,36 @@ AgreeOn-trans a b = record {
 pub AgreeOn-refl : {tables : TablesValue} {keys : List Key} {w : Workspace} {f : Maps} → AgreeOn tables keys w f w f
 AgreeOn-refl = record { crates = refl; config = λ krate. refl; same = λ key c. refl }
 
+-- no call asks for a map
+one_of_three : {A : Type 0} (a b c d : A) → Contains (a ∷ b ∷ c ∷ []) d → (a ≢ d) → (b ≢ d) → (c ≢ d) → ⊥
+one_of_three a b c d (zero, within, is) f g h = f is
+one_of_three a b c d (suc zero, within, is) f g h = g is
+one_of_three a b c d (suc (suc zero), within, is) f g h = h is
+one_of_three a b c d (suc (suc (suc n)), within, is) f g h = let past : suc (suc (suc n)) < 3 = within in omega arith
+
+one_of_four : {A : Type 0} (a b c d e : A) → Contains (a ∷ b ∷ c ∷ d ∷ []) e → (a ≢ e) → (b ≢ e) → (c ≢ e) → (d ≢ e) → ⊥
+one_of_four a b c d e (zero, within, is) f g h k = f is
+one_of_four a b c d e (suc n, within, is) f g h k = one_of_three b c d e (n, (let past : suc n < 4 = within in omega arith), is) g h k
+
+of_no_call : (own : Crate) (d : MacroDirective) (makro : MacroId) (x : Expanding) (id : MapId)
+    → Contains (keys_read (text_readings makro x.text ++ expansion_readings own d x)) (keys.Map id) → ⊥
+of_no_call own d (macros.Macro2Id m) x id among =
+    one_of_four (keys.Text (macros.Macro2Id m)) (keys.Input own d.ast_id) (keys.Expansion x.entry) (keys.Tree (call_key own x.id)) (keys.Map id) among
+    (λ e. let wrong : ⊥ = cc in wrong) (λ e. let wrong : ⊥ = cc in wrong) (λ e. let wrong : ⊥ = cc in wrong) (λ e. let wrong : ⊥ = cc in wrong)
+of_no_call own d (macros.MacroRulesId m) x id among =
+    one_of_four (keys.Text (macros.MacroRulesId m)) (keys.Input own d.ast_id) (keys.Expansion x.entry) (keys.Tree (call_key own x.id)) (keys.Map id) among
+    (λ e. let wrong : ⊥ = cc in wrong) (λ e. let wrong : ⊥ = cc in wrong) (λ e. let wrong : ⊥ = cc in wrong) (λ e. let wrong : ⊥ = cc in wrong)
+of_no_call own d (macros.ProcMacroId m) x id among =
+    one_of_three (keys.Input own d.ast_id) (keys.Expansion x.entry) (keys.Tree (call_key own x.id)) (keys.Map id) among
+    (λ e. let wrong : ⊥ = cc in wrong) (λ e. let wrong : ⊥ = cc in wrong) (λ e. let wrong : ⊥ = cc in wrong)
+
 -- a map is asked for because the run's crate depends on its crate
 of_dependency : {tables : TablesValue} {w : Workspace} {finished : Maps} {from : Beginning} {last : State} {id : MapId} → HasCause tables w finished from last (keys.Map id)
     → (c : Crate) × Contains (transitive_dependencies_in w (krate_of from.start)) c × (keys.Map id ≡ map_key c)
 of_dependency (root_tree is) = absurd (let wrong : ⊥ = cc in wrong)
 of_dependency (declared_enum home n listed is) = absurd (let wrong : ⊥ = cc in wrong)
 of_dependency (candidate at passed of) = let is = of.is in absurd (let wrong : ⊥ = cc in wrong)
+of_dependency {id = id} (of_call at passed of) = absurd (of_no_call at.core.map.id.krate of.call of.makro of.seen id of.among)
 of_dependency (dependency c among is) = (c, among, is)
 
 -- ---- a session that changes

@@ -46,11 +46,14 @@ pub record IsAdded (input : CrateInputValue) (old new : List CrateValue) (before
   pub number : file_at after made.file ≡ Some made.own.root
   pub longer : new ≡ old ++ made ∷ []
   pub kept : KeepsTables before after
+  pub others : after ≡ record before { files = after.files }
 
 -- the session is over these crates, without sources, and nothing of it is resolved
 pub record Begins (inputs : List CrateInputValue) (s : SessionState) : Type 0 where
   pub crates : AreMade inputs s.crates
   -- two crates with one root file have one number for it
   pub rooted : AreRooted s.tables s.crates
+  -- and nothing else has a number
+  pub tables : s.tables ≡ record { files = s.tables.files; blocks = []; entries = []; calls = [] }
   pub sources : s.sources ≡ record { files = []; entries = [] }
   pub kept : (id : MapId) → kept_of s id ≡ None

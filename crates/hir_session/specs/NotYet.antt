@@ -24,7 +24,7 @@ abbrev pub are_variants_taken : List VariantValue → Bool
 are_variants_taken [] = true
 are_variants_taken (v ∷ vs) = are_attributes_taken v.attributes && are_variants_taken vs
 
--- all kinds but a macro's call
+-- a kind all of whose parts are taken
 abbrev pub is_kind_taken : Plain → Bool
 is_kind_taken (import written) = true
 is_kind_taken (extern_crate name alias) = true
@@ -36,7 +36,7 @@ is_kind_taken (constant name body) = true
 is_kind_taken (static_item name body) = true
 is_kind_taken (type_alias name) = true
 is_kind_taken (outline_module name) = true
-is_kind_taken (macro_call path) = false
+is_kind_taken (macro_call path) = true
 is_kind_taken (macro_rules name makro) = true
 is_kind_taken (macro_def name makro) = true
 

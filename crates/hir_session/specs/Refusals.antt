@@ -54,6 +54,7 @@ IsDiagnosticsMemory e = e ≡ diagnostics_error.Memory
 -- why a refresh ends early where a run was given up
 abbrev pub refresh_error_of : CollectError → RefreshError
 refresh_error_of collect_error.TooMany = refresh_error.TooMany
+refresh_error_of collect_error.UnknownSource = refresh_error.Memory
 refresh_error_of collect_error.Memory = refresh_error.Memory
 
 -- the crates that a list names as dependencies

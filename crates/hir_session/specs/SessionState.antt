@@ -6,6 +6,7 @@ use Rattle.hir_def_map.specs.WorldParts.{among}
 use Rattle.hir_def_map.specs.WellFormed.{HasNoDanglingExtern, HasNoDanglingReference}
 use Rattle.hir_def_map.specs.Overlay.{Maps, overlay}
 use Rattle.hir_def_collector.specs.Workspace.{Workspace}
+use Rattle.hir_def_collector.specs.Calls.{AreCallsPlaced}
 use Rattle.hir_def_collector.specs.Keys.{AgreeOn}
 use Rattle.hir_def_collector.specs.Derivation.{CollectedValue, Ends}
 use Rattle.hir_def_collector.specs.Start.{Beginning}
@@ -101,3 +102,5 @@ pub record IsSound (s : SessionState) : Type 0 where
   pub current : (id : MapId) → is_marked s id ≡ false → IsCurrent s id
   -- the number of a crate's root file means its path
   pub rooted : (k : ℕ) → k < length s.crates → file_at s.tables (crate_in s.crates k).file ≡ Some (crate_in s.crates k).own.root
+  -- each call that has a number is written in a source that has one, and in an expansion only of a call before it
+  pub calls : AreCallsPlaced s.tables

@@ -105,6 +105,7 @@ fn info_of(alloc: Global, file: FileId, input: &CrateInput) -> Result<CrateInfo,
 fn number_of(tables: &mut Tables, root: FilePath) -> Result<FileId, AllocError>
     ensures found { IfOk result (λ id. file_at tables.new id ≡ Some root) }
     ensures kept { KeepsTables tables.old tables.new }
+    ensures others { tables.new ≡ record tables.old { files = tables.new.files } }
 {
     match tables.intern_file(root) {
         Ok(number) => Ok(number),
@@ -135,6 +136,7 @@ fn infos_of(
 ) -> Result<Vec<CrateInfo>, AllocError>
     ensures made { IfOk result (λ v. AreMade (map crate_input_view inputs.now.items) v.items) }
     ensures rooted { IfOk result (λ v. AreRooted tables.new v.items) }
+    ensures others { IfOk result (λ v. tables.new ≡ record tables.old { files = tables.new.files }) }
 {
     let mut infos = Vec::new(alloc);
     for input in inputs {
@@ -151,6 +153,7 @@ pub fn crates_of(
 ) -> Result<Crates, AllocError>
     ensures made { IfOk result (λ crates. AreMade (map crate_input_view inputs.now.items) crates) }
     ensures rooted { IfOk result (λ crates. AreRooted tables.new crates) }
+    ensures others { IfOk result (λ crates. tables.new ≡ record tables.old { files = tables.new.files }) }
 {
     let infos = infos_of(alloc, inputs, tables)?;
     match Crates::new(alloc, infos) {

@@ -169,7 +169,8 @@ impl From<CollectError> for RefreshError {
     fn from(error: CollectError) -> RefreshError {
         match error {
             CollectError::TooMany => RefreshError::TooMany,
-            CollectError::Memory => RefreshError::Memory,
+            // The maps beside a run were made over the session's own tables, so that no source is unknown.
+            CollectError::UnknownSource | CollectError::Memory => RefreshError::Memory,
         }
     }
 }

@@ -5,6 +5,7 @@ ghost use Rattle.hir_tables.specs.SourcePlaces.{expansion_value, file, source_va
 ghost use Rattle.hir_tables.specs.Tables.{KeepsTables};
 ghost use Rattle.hir_wire.specs.Edits.{entry_view};
 ghost use Rattle.hir_def_map.specs.World.{finished_in};
+ghost use Rattle.hir_def_collector.specs.Calls.{AreCallsPlaced};
 ghost use Rattle.hir_def_collector.specs.Derivation.{IsOverlong, collected_view};
 ghost use Rattle.hir_session.specs.Crates.{beginning_in};
 ghost use Rattle.hir_session.specs.Entries.{with_entry, without_entry};
@@ -166,6 +167,7 @@ impl Inputs {
         requires within { k < length self.old.crates }
         ensures same { self.new ≡ self.old }
         ensures kept { KeepsTables tables.old tables.new }
+        ensures placed { AreCallsPlaced tables.old → AreCallsPlaced tables.new }
         ensures resolved { IfOk result (λ found. IsResolved tables.new (workspace_by self.old) (finished_in world.now.maps)
             (beginning_in self.old.crates k) (collected_view found)) }
         ensures many { result ≡ Err RefreshError.TooMany

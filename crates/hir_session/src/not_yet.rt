@@ -82,14 +82,14 @@ fn is_node_taken(node: &Node) -> bool
         | NodeKind::Static { .. }
         | NodeKind::TypeAlias { .. }
         | NodeKind::MacroRules { .. }
-        | NodeKind::MacroDef { .. } => true,
+        | NodeKind::MacroDef { .. }
+        | NodeKind::MacroCall { .. } => true,
         NodeKind::ExternBlock { nodes } => are_nodes_taken(nodes),
         NodeKind::Trait { items, .. } | NodeKind::Impl { items, .. } => are_nodes_taken(items),
         NodeKind::Module { nodes, .. } => match nodes {
             Some(nodes) => are_nodes_taken(nodes),
             None => true,
         },
-        NodeKind::MacroCall { .. } => false,
     }
 }
 

@@ -3,6 +3,7 @@ ghost use Rattle.std.specs.Prelude.{◌≡◌, ◌<◌, length, Err, IfOk};
 ghost use Rattle.hir_tables.specs.SourcePlaces.{source_value};
 ghost use Rattle.hir_tables.specs.Tables.{KeepsTables};
 ghost use Rattle.hir_def_map.specs.World.{finished_in};
+ghost use Rattle.hir_def_collector.specs.Calls.{AreCallsPlaced};
 ghost use Rattle.hir_def_collector.specs.Derivation.{IsOverlong, collected_view};
 ghost use Rattle.hir_session.specs.Crates.{begins_at, beginning_in};
 ghost use Rattle.hir_session.specs.SessionState.{IsResolved};
@@ -109,6 +110,7 @@ fn run(
 ) -> Result<Collected, RefreshError>
     ensures same { workspace_in sources.new.crates.now sources.new.table.now ≡ workspace_in sources.old.crates.now sources.old.table.now }
     ensures kept { KeepsTables tables.old tables.new }
+    ensures placed { AreCallsPlaced tables.old → AreCallsPlaced tables.new }
     ensures resolved { IfOk result (λ found. IsResolved tables.new (workspace_in sources.old.crates.now sources.old.table.now)
         (finished_in world.now.maps) (begins_at krate root) (collected_view found)) }
     ensures many { result ≡ Err RefreshError.TooMany
@@ -134,6 +136,7 @@ pub fn collect(
     requires within { k < length sources.old.crates.now }
     ensures same { workspace_in sources.new.crates.now sources.new.table.now ≡ workspace_in sources.old.crates.now sources.old.table.now }
     ensures kept { KeepsTables tables.old tables.new }
+    ensures placed { AreCallsPlaced tables.old → AreCallsPlaced tables.new }
     ensures resolved { IfOk result (λ found. IsResolved tables.new (workspace_in sources.old.crates.now sources.old.table.now)
         (finished_in world.now.maps) (beginning_in sources.old.crates.now k) (collected_view found)) }
     ensures many { result ≡ Err RefreshError.TooMany

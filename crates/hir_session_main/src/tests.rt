@@ -6,6 +6,7 @@ mod built;
 mod chain;
 mod faults;
 mod library;
+mod macros;
 mod streams;
 
 use hir_session::run;

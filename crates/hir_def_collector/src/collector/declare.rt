@@ -4,7 +4,7 @@ ghost use Rattle.hir_item_tree.specs.Collected.{is_enabled};
 ghost use Rattle.hir_item_tree.specs.KeptForest.{leaf, function, structure, union_structure, constant, static_item, trait_item, type_alias};
 ghost use Rattle.hir_def_map.specs.WorldParts.{part_of};
 ghost use Rattle.hir_def_collector.specs.Keys.{Environment};
-ghost use Rattle.hir_def_collector.specs.State.{with_map, counted};
+ghost use Rattle.hir_def_collector.specs.State.{core_in, counted, with_map};
 ghost use Rattle.hir_def_collector.specs.ItemIds.{module_id};
 ghost use Rattle.hir_def_collector.specs.Items.{constructor_of, declared_struct, meet_of, own_visibility, type_declaration, value_declaration};
 ghost use Rattle.hir_import_resolution.specs.Visibilities.{visibility_in};
@@ -32,7 +32,7 @@ use std::alloc::AllocError;
 
 /// Lists a definition in a module, and binds its name there.
 pub fn bind(run: &mut DefCollector, home: u32, declaration: Declaration) -> Result<(), AllocError>
-    ensures ok { OnOk result (run.new ≡ with_map run.old (with_declaration run.old.map home declaration)) }
+    ensures ok { OnOk result (core_in run.new ≡ with_declaration (core_in run.old) home declaration) }
 {
     let Declaration { name, def, items } = declaration;
     run.declare(home, def)?;
@@ -46,8 +46,8 @@ pub fn declare(
     home: u32,
     declaration: Declaration,
 ) -> Result<(), CollectError>
-    ensures ok { OnOk result (run.new ≡ counted (with_map run.old (with_declaration run.old.map home declaration))) }
-    ensures many { result ≡ Err CollectError.TooMany → STEP_LIMIT ≤ run.old.count }
+    ensures ok { OnOk result (core_in run.new ≡ counted (with_declaration (core_in run.old) home declaration)) }
+    ensures many { result ≡ Err CollectError.TooMany → STEP_LIMIT ≤ (core_in run.old).count }
 {
     bind(run, home, declaration)?;
     run.tick()?;
@@ -63,9 +63,9 @@ fn declare_type(
     name: &Name,
     def: ModuleDefId,
 ) -> Result<(), CollectError>
-    ensures ok { OnOk result (run.new ≡ counted (with_map run.old (with_declaration run.old.map site.now.home
-        (type_declaration name.now def (own_visibility (part_of world.entry) run.old.local run.old.map site.now (head_of head.entry)))))) }
-    ensures many { result ≡ Err CollectError.TooMany → STEP_LIMIT ≤ run.old.count }
+    ensures ok { OnOk result (core_in run.new ≡ counted (with_declaration (core_in run.old) site.now.home
+        (type_declaration name.now def (own_visibility (part_of world.entry) (core_in run.old).local (core_in run.old).map site.now (head_of head.entry))))) }
+    ensures many { result ≡ Err CollectError.TooMany → STEP_LIMIT ≤ (core_in run.old).count }
 {
     let vis = run.visibility(world, site, head);
     let declaration = Declaration {
@@ -86,9 +86,9 @@ fn declare_value(
     name: &Name,
     def: ModuleDefId,
 ) -> Result<(), CollectError>
-    ensures ok { OnOk result (run.new ≡ counted (with_map run.old (with_declaration run.old.map site.now.home
-        (value_declaration name.now def (own_visibility (part_of world.entry) run.old.local run.old.map site.now (head_of head.entry)))))) }
-    ensures many { result ≡ Err CollectError.TooMany → STEP_LIMIT ≤ run.old.count }
+    ensures ok { OnOk result (core_in run.new ≡ counted (with_declaration (core_in run.old) site.now.home
+        (value_declaration name.now def (own_visibility (part_of world.entry) (core_in run.old).local (core_in run.old).map site.now (head_of head.entry))))) }
+    ensures many { result ≡ Err CollectError.TooMany → STEP_LIMIT ≤ (core_in run.old).count }
 {
     let vis = run.visibility(world, site, head);
     let declaration = Declaration {
@@ -109,8 +109,8 @@ pub fn declare_function(
     name: &Name,
 ) -> Result<(), CollectError>
     requires enabled { is_enabled (head_of head).attributes ≡ true }
-    ensures ok { OnOk result ((env : Environment) → Handles env (part_of world.entry) run.old run.new (visit site.now (leaf (head_of head.entry) (function name.now))) []) }
-    ensures many { result ≡ Err CollectError.TooMany → STEP_LIMIT ≤ run.old.count }
+    ensures ok { OnOk result ((env : Environment) → Handles env (part_of world.entry) (core_in run.old) (core_in run.new) (visit site.now (leaf (head_of head.entry) (function name.now))) []) }
+    ensures many { result ≡ Err CollectError.TooMany → STEP_LIMIT ≤ (core_in run.old).count }
 {
     let def = ModuleDefId::FunctionId(FunctionId {
         loc: ItemLoc {
@@ -133,8 +133,8 @@ pub fn declare_const(
     name: &Name,
 ) -> Result<(), CollectError>
     requires enabled { is_enabled (head_of head).attributes ≡ true }
-    ensures ok { OnOk result ((env : Environment) → Handles env (part_of world.entry) run.old run.new (visit site.now (leaf (head_of head.entry) (constant (Some name.now)))) []) }
-    ensures many { result ≡ Err CollectError.TooMany → STEP_LIMIT ≤ run.old.count }
+    ensures ok { OnOk result ((env : Environment) → Handles env (part_of world.entry) (core_in run.old) (core_in run.new) (visit site.now (leaf (head_of head.entry) (constant (Some name.now)))) []) }
+    ensures many { result ≡ Err CollectError.TooMany → STEP_LIMIT ≤ (core_in run.old).count }
 {
     let def = ModuleDefId::ConstId(ConstId {
         loc: ItemLoc {
@@ -157,8 +157,8 @@ pub fn declare_static(
     name: &Name,
 ) -> Result<(), CollectError>
     requires enabled { is_enabled (head_of head).attributes ≡ true }
-    ensures ok { OnOk result ((env : Environment) → Handles env (part_of world.entry) run.old run.new (visit site.now (leaf (head_of head.entry) (static_item name.now))) []) }
-    ensures many { result ≡ Err CollectError.TooMany → STEP_LIMIT ≤ run.old.count }
+    ensures ok { OnOk result ((env : Environment) → Handles env (part_of world.entry) (core_in run.old) (core_in run.new) (visit site.now (leaf (head_of head.entry) (static_item name.now))) []) }
+    ensures many { result ≡ Err CollectError.TooMany → STEP_LIMIT ≤ (core_in run.old).count }
 {
     let def = ModuleDefId::StaticId(StaticId {
         loc: ItemLoc {
@@ -181,8 +181,8 @@ pub fn declare_type_alias(
     name: &Name,
 ) -> Result<(), CollectError>
     requires enabled { is_enabled (head_of head).attributes ≡ true }
-    ensures ok { OnOk result ((env : Environment) → Handles env (part_of world.entry) run.old run.new (visit site.now (leaf (head_of head.entry) (type_alias name.now))) []) }
-    ensures many { result ≡ Err CollectError.TooMany → STEP_LIMIT ≤ run.old.count }
+    ensures ok { OnOk result ((env : Environment) → Handles env (part_of world.entry) (core_in run.old) (core_in run.new) (visit site.now (leaf (head_of head.entry) (type_alias name.now))) []) }
+    ensures many { result ≡ Err CollectError.TooMany → STEP_LIMIT ≤ (core_in run.old).count }
 {
     let def = ModuleDefId::TypeAliasId(TypeAliasId {
         loc: ItemLoc {
@@ -205,8 +205,8 @@ pub fn declare_trait(
     name: &Name,
 ) -> Result<(), CollectError>
     requires enabled { is_enabled (head_of head).attributes ≡ true }
-    ensures ok { OnOk result ((env : Environment) → Handles env (part_of world.entry) run.old run.new (visit site.now (leaf (head_of head.entry) (trait_item name.now))) []) }
-    ensures many { result ≡ Err CollectError.TooMany → STEP_LIMIT ≤ run.old.count }
+    ensures ok { OnOk result ((env : Environment) → Handles env (part_of world.entry) (core_in run.old) (core_in run.new) (visit site.now (leaf (head_of head.entry) (trait_item name.now))) []) }
+    ensures many { result ≡ Err CollectError.TooMany → STEP_LIMIT ≤ (core_in run.old).count }
 {
     let def = ModuleDefId::TraitId(TraitId {
         loc: ItemLoc {
@@ -229,8 +229,8 @@ pub fn declare_union(
     name: &Name,
 ) -> Result<(), CollectError>
     requires enabled { is_enabled (head_of head).attributes ≡ true }
-    ensures ok { OnOk result ((env : Environment) (fields : _) → Handles env (part_of world.entry) run.old run.new (visit site.now (leaf (head_of head.entry) (union_structure name.now fields))) []) }
-    ensures many { result ≡ Err CollectError.TooMany → STEP_LIMIT ≤ run.old.count }
+    ensures ok { OnOk result ((env : Environment) (fields : _) → Handles env (part_of world.entry) (core_in run.old) (core_in run.new) (visit site.now (leaf (head_of head.entry) (union_structure name.now fields))) []) }
+    ensures many { result ≡ Err CollectError.TooMany → STEP_LIMIT ≤ (core_in run.old).count }
 {
     let def = ModuleDefId::AdtId(AdtId::UnionId(UnionId {
         loc: ItemLoc {
@@ -252,8 +252,8 @@ fn meet(
     own: Visibility,
     others: &[RawVisibility],
 ) -> Option<Visibility>
-    ensures value { result ≡ meet_of (part_of world.entry) run.now.map own
-        (map (visibility_in (part_of world.entry) run.now.local run.now.map at) others.now) }
+    ensures value { result ≡ meet_of (part_of world.entry) (core_in run.now).map own
+        (map (visibility_in (part_of world.entry) (core_in run.now).local (core_in run.now).map at) others.now) }
 {
     let mut least = own;
     for other in others {
@@ -271,8 +271,8 @@ fn constructor(
     shape: FieldsShape,
     fields: &[RawVisibility],
 ) -> Option<Visibility>
-    ensures value { result ≡ constructor_of (part_of world.entry) run.now.map own shape
-        (map (visibility_in (part_of world.entry) run.now.local run.now.map at) fields.now) }
+    ensures value { result ≡ constructor_of (part_of world.entry) (core_in run.now).map own shape
+        (map (visibility_in (part_of world.entry) (core_in run.now).local (core_in run.now).map at) fields.now) }
 {
     match shape {
         FieldsShape::Record => None,
@@ -317,8 +317,8 @@ pub fn declare_struct(
     item: Struct<'_>,
 ) -> Result<(), CollectError>
     requires enabled { is_enabled (head_of head).attributes ≡ true }
-    ensures ok { OnOk result ((env : Environment) → Handles env (part_of world.entry) run.old run.new (visit site.now (leaf (head_of head.entry) (structure item.entry.name.now item.entry.shape item.entry.fields.now))) []) }
-    ensures many { result ≡ Err CollectError.TooMany → STEP_LIMIT ≤ run.old.count }
+    ensures ok { OnOk result ((env : Environment) → Handles env (part_of world.entry) (core_in run.old) (core_in run.new) (visit site.now (leaf (head_of head.entry) (structure item.entry.name.now item.entry.shape item.entry.fields.now))) []) }
+    ensures many { result ≡ Err CollectError.TooMany → STEP_LIMIT ≤ (core_in run.old).count }
 {
     let at = run.module_id(site.home);
     let def = ModuleDefId::AdtId(AdtId::StructId(StructId {

@@ -1,21 +1,31 @@
 //! Where a run stands, and what each change leaves.
-ghost use Rattle.std.specs.Prelude.{◌≡◌, ◌<◌, ◌≤◌, length, option_map, OnOk, IfOk};
-ghost use Rattle.std.specs.Prelude.{◌∷◌, [], Some};
+#![tactic(auto, unfolding(crate::specs::State::core_in))]
+
+ghost use Rattle.std.specs.Prelude.{◌≡◌, ◌<◌, ◌≤◌, ℕ, true, false, ◌∷◌, [], Some, length, option_map, slice_get, slice_set, IfNone, IfOk, IfSome, OnOk};
 ghost use Rattle.hir_def_map.specs.State.{with_enum, with_module, new_id, new_module, with_declared, with_use, with_impl, with_extern_block, with_extern_crate, with_unnamed_const};
 ghost use Rattle.hir_def_map.specs.WorldParts.{part_of};
 ghost use Rattle.hir_def_map.specs.Macros.{with_diagnostic, with_macro_def};
-ghost use Rattle.hir_import_resolution.specs.Inner.State.{state_in};
+ghost use Rattle.hir_import_resolution.specs.Inner.State.{IsApart};
+ghost use Rattle.hir_import_resolution.specs.Rest.{IsAtRest, IsClosed, IsSound};
 ghost use Rattle.hir_import_resolution.specs.Visibilities.{visibility_in};
-ghost use Rattle.hir_def_collector.specs.State.{at_rest, import_state, with_local, with_asked, with_map, with_imports, counted};
+ghost use Rattle.hir_def_collector.specs.Keys.{Environment};
+ghost use Rattle.hir_def_collector.specs.State.{at_rest, core_in, core_with_imports, counted, import_state, with_asked, with_bound, with_calls, with_fate, with_imports, with_local, with_map, with_settled};
 ghost use Rattle.hir_def_collector.specs.ItemIds.{container_of, module_id};
-ghost use Rattle.hir_def_collector.specs.Items.{bound_in, own_visibility};
+ghost use Rattle.hir_def_collector.specs.Items.{own_visibility};
+ghost use Rattle.hir_def_collector.specs.Calls.{IsWaiting, called_macro, macro_among};
 ghost use Rattle.hir_def_collector.specs.TreeReads.{head_of};
 ghost use Rattle.hir_def_collector.specs.Imports.{crate_named, dependency_named, extern_after};
 ghost use Rattle.hir_def_collector.specs.Macros.{macros_brought, other_scope, textual_at, with_macros_used, with_textual_macro, with_textual_scope};
 ghost use Rattle.hir_def_collector.specs.Start.{core_by};
 ghost use Rattle.hir_def_collector.specs.ModuleFiles.{file_key};
-ghost use Rattle.hir_def_collector.specs.Moves.{AreUntaken, begun};
+ghost use Rattle.hir_def_collector.specs.Steps.{Steps};
+ghost use Rattle.hir_def_collector.specs.Derivation.{IsSpent, collected_view, finished_run};
+ghost use Rattle.hir_def_collector.specs.Moves.{begun};
 
+use crate::collector::collected::{Asked, Collected};
+use crate::collector::diagnostics::{report_calls, report_unresolved, unresolved_crates};
+use crate::collector::leftovers::untaken;
+use crate::collector::macro_directive::{Fate, MacroDirective};
 use crate::collector::macro_use::{root_scope, use_prelude_macros, use_wanted};
 use crate::collector::preludes::prelude;
 use crate::collector::site::{ItemHead, Site};
@@ -29,6 +39,8 @@ use hir_base::ids::{
 };
 use hir_base::macro_kind::MacroId;
 use hir_base::name::Name;
+use hir_crate_graph::crate_set::CrateSet;
+use hir_def_map::def_maps::DefMaps;
 use hir_def_map::nameres::DefMap;
 use hir_def_map::nameres::crate_data::DefMapCrateData;
 use hir_def_map::nameres::diagnostics::DefDiagnostic;
@@ -36,10 +48,14 @@ use hir_def_map::nameres::enum_variants::EnumVariants;
 use hir_def_map::nameres::local_def_map::LocalDefMap;
 use hir_def_map::nameres::module_data::ModuleData;
 use hir_def_map::nameres::origin::ModuleOrigin;
+use hir_def_map::nameres::path_resolution::query::Query;
+use hir_def_map::nameres::path_resolution::{BuiltinShadowMode, MacroSubNs, ResolveMode};
 use hir_def_map::world::part::WorldPart;
 use hir_glob_imports::GlobImports;
 use hir_import_resolution::answers::visibility;
-use hir_import_resolution::{ImportDirective, ImportSource, Imports, Taken};
+use hir_import_resolution::{
+    ImportDirective, ImportSource, Imports, Taken, forget, restart_imports, spread_globs,
+};
 use hir_item_tree::raw_visibility::RawVisibility;
 use hir_item_tree::shape::ExternCrateName;
 use hir_item_tree::tree_id::{TreeId, TreeKey};
@@ -49,6 +65,7 @@ use hir_scope::per_ns::PerNs;
 use hir_scope::visibility::Visibility;
 use std::alloc::{AllocError, Global};
 use std::marker::Model;
+use std::rc::Rc;
 
 /// Where a run stands, what it has still to visit aside.
 #[derive(Drop)]
@@ -58,28 +75,43 @@ pub struct DefCollector {
     dependencies: Vec<Dependency>,
     options: CfgOptions,
     from_glob_import: PerNsGlobImports,
+    globs: GlobImports,
     reached: Vec<ImportDirective>,
     taken: Vec<Taken>,
+    calls: Vec<MacroDirective>,
+    fates: Vec<Fate>,
+    settled: usize,
     asked: Vec<Key>,
     count: u32,
 }
 
 impl Model for DefCollector {
-    ghost use Rattle.std.specs.Prelude.{◌≡◌, ◌≤◌};
-    ghost use Rattle.hir_def_map.specs.State.{no_globs};
-    ghost use Rattle.hir_def_collector.specs.Codes.{coded_core};
-    ghost use Rattle.hir_def_collector.specs.Moves.{AreUntaken};
-    ghost use Rattle.hir_def_collector.specs.State.{Core};
+    ghost use Rattle.std.specs.Prelude.{◌≤◌};
+    ghost use Rattle.hir_def_collector.specs.Codes.{coded_run};
+    ghost use Rattle.hir_def_collector.specs.State.{Run};
     ghost use Rattle.hir_def_collector.specs.declared.collector.TheConstants.{STEP_LIMIT};
 
-    ghost Value = { Core };
+    ghost Value = { Run };
 
-    ghost coded = { coded_core };
+    ghost coded = { coded_run };
 
-    ghost view = { λ r. record { map = r.map; local = r.local; dependencies = r.dependencies.items; options = r.options; reached = r.reached.items; taken = r.taken.items; asked = r.asked.items; count = r.count } };
+    ghost view = { λ r. record {
+      map = r.map;
+      local = r.local;
+      dependencies = r.dependencies.items;
+      options = r.options;
+      names = r.from_glob_import;
+      globs = r.globs;
+      reached = r.reached.items;
+      taken = r.taken.items;
+      calls = r.calls.items;
+      fates = r.fates.items;
+      settled = r.settled;
+      asked = r.asked.items;
+      count = r.count;
+    } };
 
-    // Before imports are resolved no glob is recorded, and no import taken.
-    ghost invariant = { λ r. (r.count ≤ STEP_LIMIT) × (r.from_glob_import ≡ no_globs) × AreUntaken r.taken.items };
+    ghost invariant = { λ r. r.count ≤ STEP_LIMIT };
 }
 
 /// The first crate of a name.
@@ -94,6 +126,25 @@ fn dependency_named(dependencies: &[Dependency], name: &Name) -> Option<Crate>
     None
 }
 
+/// The macro among what a path reaches.
+fn macro_among(items: PerNs) -> Option<MacroId>
+    ensures value { result ≡ macro_among items }
+{
+    match items.macros {
+        Some(item) => Some(item.def),
+        None => None,
+    }
+}
+
+/// The call at the place is handled.
+fn end(fates: &mut Vec<Fate>, i: usize)
+    ensures value { fates.new.items ≡ slice_set fates.old.items i Fate.Handled }
+{
+    if i < fates.len() {
+        fates[i] = Fate::Handled;
+    }
+}
+
 impl DefCollector {
     /// The root module alone, beside what all modules find, its tree asked for.
     pub fn start(
@@ -106,7 +157,7 @@ impl DefCollector {
         start: Start,
         tree: TreeId,
     ) -> Result<DefCollector, AllocError>
-        ensures value { IfOk result (λ run. run ≡ core_by (part_of world.entry) crate_data local dependencies.items options start tree) }
+        ensures value { IfOk result (λ run. core_in run ≡ core_by (part_of world.entry) crate_data local dependencies.items options start tree) }
     {
         let krate = start.krate();
         let root = ModuleData::new(alloc, start.origin(), Visibility::Public, None);
@@ -122,8 +173,12 @@ impl DefCollector {
             dependencies,
             options,
             from_glob_import: PerNsGlobImports::new(alloc),
+            globs: GlobImports::new(alloc),
             reached: Vec::new(alloc),
             taken: Vec::new(alloc),
+            calls: Vec::new(alloc),
+            fates: Vec::new(alloc),
+            settled: 0,
             asked,
             count: 0,
         })
@@ -131,14 +186,14 @@ impl DefCollector {
 
     /// The modules so far.
     pub fn map(&self) -> &DefMap
-        ensures value { result.now ≡ self.now.map }
+        ensures value { result.now ≡ (core_in self.now).map }
     {
         &self.map
     }
 
     /// The module of a number.
     pub fn module_id(&self, home: u32) -> ModuleId
-        ensures value { result ≡ module_id self.now.map home }
+        ensures value { result ≡ module_id (core_in self.now).map home }
     {
         ModuleId {
             map: self.map.id(),
@@ -148,7 +203,7 @@ impl DefCollector {
 
     /// What holds the items of a site.
     pub fn container(&self, site: &Site) -> ItemContainerId
-        ensures value { result ≡ container_of self.now.map site.now }
+        ensures value { result ≡ container_of (core_in self.now).map site.now }
     {
         match site.extern_block {
             Some(block) => ItemContainerId::ExternBlockId(block),
@@ -163,14 +218,14 @@ impl DefCollector {
         at: ModuleId,
         raw: &RawVisibility,
     ) -> Visibility
-        ensures value { result ≡ visibility_in (part_of world.entry) self.now.local self.now.map at raw.now }
+        ensures value { result ≡ visibility_in (part_of world.entry) (core_in self.now).local (core_in self.now).map at raw.now }
     {
         visibility(&self.map, &self.local, world, at, raw)
     }
 
     /// The visibility of an item at a site.
     pub fn visibility(&self, world: WorldPart<'_>, site: &Site, head: ItemHead<'_>) -> Visibility
-        ensures value { result ≡ own_visibility (part_of world.entry) self.now.local self.now.map site.now (head_of head.entry) }
+        ensures value { result ≡ own_visibility (part_of world.entry) (core_in self.now).local (core_in self.now).map site.now (head_of head.entry) }
     {
         self.visibility_in(world, self.module_id(site.home), head.visibility)
     }
@@ -182,7 +237,7 @@ impl DefCollector {
 
     /// How many steps were taken.
     pub fn count(&self) -> u32
-        ensures value { result ≡ self.now.count }
+        ensures value { result ≡ (core_in self.now).count }
         ensures small { result ≤ STEP_LIMIT }
     {
         self.count
@@ -190,8 +245,8 @@ impl DefCollector {
 
     /// Counts a step.
     pub fn tick(&mut self) -> Result<(), CollectError>
-        ensures ok { OnOk result (self.new ≡ counted self.old) }
-        ensures many { result ≡ Err CollectError.TooMany → STEP_LIMIT ≤ self.old.count }
+        ensures ok { OnOk result (core_in self.new ≡ counted (core_in self.old)) }
+        ensures many { result ≡ Err CollectError.TooMany → STEP_LIMIT ≤ (core_in self.old).count }
     {
         if self.count >= STEP_LIMIT {
             return Err(CollectError::TooMany);
@@ -200,12 +255,13 @@ impl DefCollector {
         Ok(())
     }
 
-    /// Binds what a declaration brings under a name in a module.
+    /// Binds what a declaration brings under a name in a module. Along globs it goes later.
     ///
     /// After rust-analyzer's `DefCollector::update`.
     pub fn bind(&mut self, home: u32, name: Name, items: PerNs) -> Result<(), AllocError>
-        ensures ok { OnOk result (self.new ≡ with_map self.old (bound_in self.old.map home name items)) }
+        ensures ok { OnOk result (core_in self.new ≡ with_bound (core_in self.old) home name items) }
     {
+        forget(&mut self.globs, home, &name, items)?;
         self.map
             .push(&mut self.from_glob_import, home, name, items, None)?;
         Ok(())
@@ -218,8 +274,8 @@ impl DefCollector {
         name: Name,
         makro: MacroId,
     ) -> Result<(), AllocError>
-        requires in_range { home < length self.old.map.modules }
-        ensures ok { OnOk result (self.new ≡ with_map self.old (with_textual_macro self.old.map home name makro)) }
+        requires in_range { home < length (core_in self.old).map.modules }
+        ensures ok { OnOk result (core_in self.new ≡ with_map (core_in self.old) (with_textual_macro (core_in self.old).map home name makro)) }
     {
         textual::define(&mut self.map, home, name, makro)?;
         Ok(())
@@ -227,8 +283,8 @@ impl DefCollector {
 
     /// Lets a module take over the macros that are in textual scope in another.
     pub fn take_textual(&mut self, home: u32, from: u32) -> Result<(), AllocError>
-        requires in_range { home < length self.old.map.modules }
-        ensures ok { OnOk result (self.new ≡ with_map self.old (with_textual_scope self.old.map home (textual_at self.old.map from))) }
+        requires in_range { home < length (core_in self.old).map.modules }
+        ensures ok { OnOk result (core_in self.new ≡ with_map (core_in self.old) (with_textual_scope (core_in self.old).map home (textual_at (core_in self.old).map from))) }
     {
         textual::take(self.allocator(), &mut self.map, home, from)?;
         Ok(())
@@ -236,7 +292,7 @@ impl DefCollector {
 
     /// Notes the macro that an item defines.
     pub fn define_macro(&mut self, node: AstId, makro: MacroId) -> Result<(), AllocError>
-        ensures ok { OnOk result (self.new ≡ with_map self.old (with_macro_def self.old.map node makro)) }
+        ensures ok { OnOk result (core_in self.new ≡ with_map (core_in self.old) (with_macro_def (core_in self.old).map node makro)) }
     {
         self.map.add_macro_def(node, makro)?;
         Ok(())
@@ -250,10 +306,10 @@ impl DefCollector {
         origin: ModuleOrigin,
         visibility: Visibility,
     ) -> Result<ModuleId, CollectError>
-        requires in_range { home < length self.old.map.modules }
-        ensures made { IfOk result (λ id. id ≡ new_id self.old.map) }
-        ensures ok { OnOk result (self.new ≡ with_map self.old (begun self.old.map home name (new_module origin visibility (Some (module_id self.old.map home))))) }
-        ensures many { result ≡ Err CollectError.TooMany → STEP_LIMIT ≤ length self.old.map.modules }
+        requires in_range { home < length (core_in self.old).map.modules }
+        ensures made { IfOk result (λ id. id ≡ new_id (core_in self.old).map) }
+        ensures ok { OnOk result (core_in self.new ≡ with_map (core_in self.old) (begun (core_in self.old).map home name (new_module origin visibility (Some (module_id (core_in self.old).map home))))) }
+        ensures many { result ≡ Err CollectError.TooMany → STEP_LIMIT ≤ length (core_in self.old).map.modules }
     {
         let parent = self.module_id(home);
         let module = ModuleData::new(self.allocator(), origin, visibility, Some(parent));
@@ -264,7 +320,7 @@ impl DefCollector {
 
     /// Lists a definition in a module.
     pub fn declare(&mut self, home: u32, def: ModuleDefId) -> Result<(), AllocError>
-        ensures ok { OnOk result (self.new ≡ with_map self.old (with_declared self.old.map home def)) }
+        ensures ok { OnOk result (core_in self.new ≡ with_map (core_in self.old) (with_declared (core_in self.old).map home def)) }
     {
         self.map.declare(home, def)?;
         Ok(())
@@ -272,7 +328,7 @@ impl DefCollector {
 
     /// Keeps the variants of an enum, which were asked for.
     pub fn add_enum(&mut self, id: EnumId, variants: EnumVariants) -> Result<(), AllocError>
-        ensures ok { OnOk result (self.new ≡ with_asked (with_map self.old (with_enum self.old.map id variants)) (Key.Variants id)) }
+        ensures ok { OnOk result (core_in self.new ≡ with_asked (with_map (core_in self.old) (with_enum (core_in self.old).map id variants)) (Key.Variants id)) }
     {
         self.asked.push(Key::Variants(id))?;
         self.map.add_enum(id, variants)?;
@@ -281,7 +337,7 @@ impl DefCollector {
 
     /// The tree of a file in the crate's edition, under the crate.
     pub fn file_key(&self, id: FileId) -> TreeKey
-        ensures value { result ≡ file_key self.now.map.id.krate self.now.map.crate_data.edition id }
+        ensures value { result ≡ file_key (core_in self.now).map.id.krate (core_in self.now).map.crate_data.edition id }
     {
         TreeKey {
             krate: self.map.id().krate,
@@ -297,7 +353,7 @@ impl DefCollector {
 
     /// Notes a key that was asked for.
     pub fn ask(&mut self, key: Key) -> Result<(), AllocError>
-        ensures ok { OnOk result (self.new ≡ with_asked self.old key) }
+        ensures ok { OnOk result (core_in self.new ≡ with_asked (core_in self.old) key) }
     {
         self.asked.push(key)?;
         Ok(())
@@ -305,7 +361,7 @@ impl DefCollector {
 
     /// Adds a diagnostic.
     pub fn tell(&mut self, report: DefDiagnostic) -> Result<(), AllocError>
-        ensures ok { OnOk result (self.new ≡ with_map self.old (with_diagnostic self.old.map report)) }
+        ensures ok { OnOk result (core_in self.new ≡ with_map (core_in self.old) (with_diagnostic (core_in self.old).map report)) }
     {
         self.map.add_diagnostic(report)?;
         Ok(())
@@ -313,14 +369,14 @@ impl DefCollector {
 
     /// The options of the crate that are set.
     pub fn options(&self) -> &CfgOptions
-        ensures value { result.now ≡ self.now.options }
+        ensures value { result.now ≡ (core_in self.now).options }
     {
         &self.options
     }
 
     /// Lists a `use` item in a module.
     pub fn list_use(&mut self, home: u32, use_: UseId) -> Result<(), AllocError>
-        ensures ok { OnOk result (self.new ≡ with_map self.old (with_use self.old.map home use_)) }
+        ensures ok { OnOk result (core_in self.new ≡ with_map (core_in self.old) (with_use (core_in self.old).map home use_)) }
     {
         self.map.define_use(home, use_)?;
         Ok(())
@@ -328,7 +384,7 @@ impl DefCollector {
 
     /// Lists an `extern crate` in a module.
     pub fn list_extern_crate(&mut self, home: u32, id: ExternCrateId) -> Result<(), AllocError>
-        ensures ok { OnOk result (self.new ≡ with_map self.old (with_extern_crate self.old.map home id)) }
+        ensures ok { OnOk result (core_in self.new ≡ with_map (core_in self.old) (with_extern_crate (core_in self.old).map home id)) }
     {
         self.map.define_extern_crate_decl(home, id)?;
         Ok(())
@@ -336,7 +392,7 @@ impl DefCollector {
 
     /// Lists an impl in a module.
     pub fn list_impl(&mut self, home: u32, id: ImplId, of_trait: bool) -> Result<(), AllocError>
-        ensures ok { OnOk result (self.new ≡ with_map self.old (with_impl self.old.map home id of_trait)) }
+        ensures ok { OnOk result (core_in self.new ≡ with_map (core_in self.old) (with_impl (core_in self.old).map home id of_trait)) }
     {
         self.map.define_impl(home, id, of_trait)?;
         Ok(())
@@ -344,7 +400,7 @@ impl DefCollector {
 
     /// Lists an extern block in a module.
     pub fn list_extern_block(&mut self, home: u32, id: ExternBlockId) -> Result<(), AllocError>
-        ensures ok { OnOk result (self.new ≡ with_map self.old (with_extern_block self.old.map home id)) }
+        ensures ok { OnOk result (core_in self.new ≡ with_map (core_in self.old) (with_extern_block (core_in self.old).map home id)) }
     {
         self.map.define_extern_block(home, id)?;
         Ok(())
@@ -352,7 +408,7 @@ impl DefCollector {
 
     /// Lists a constant without a name in a module.
     pub fn list_unnamed_const(&mut self, home: u32, id: ConstId) -> Result<(), AllocError>
-        ensures ok { OnOk result (self.new ≡ with_map self.old (with_unnamed_const self.old.map home id)) }
+        ensures ok { OnOk result (core_in self.new ≡ with_map (core_in self.old) (with_unnamed_const (core_in self.old).map home id)) }
     {
         self.map.define_unnamed_const(home, id)?;
         Ok(())
@@ -360,7 +416,7 @@ impl DefCollector {
 
     /// The crate that an `extern crate` names: its own, or the first dependency of the name.
     pub fn crate_named(&self, name: &ExternCrateName) -> Option<Crate>
-        ensures value { result ≡ crate_named self.now.map.id.krate self.now.dependencies name.now }
+        ensures value { result ≡ crate_named (core_in self.now).map.id.krate (core_in self.now).dependencies name.now }
     {
         match name {
             ExternCrateName::SelfCrate => Some(self.map.id().krate),
@@ -370,7 +426,7 @@ impl DefCollector {
 
     /// What the root of the crate binds that an `extern crate` names, if it is another one.
     fn other_scope<'a>(&self, world: WorldPart<'a>, name: &ExternCrateName) -> Option<&'a ItemScope>
-        ensures value { option_map (λ s. s.now) result ≡ other_scope (part_of world.entry) self.now.dependencies name.now }
+        ensures value { option_map (λ s. s.now) result ≡ other_scope (part_of world.entry) (core_in self.now).dependencies name.now }
     {
         match name {
             ExternCrateName::SelfCrate => None,
@@ -389,8 +445,8 @@ impl DefCollector {
         name: &ExternCrateName,
         by: ExternCrateId,
     ) -> Result<(), AllocError>
-        ensures ok { OnOk result (self.new ≡ with_map self.old (with_macros_used self.old.map
-            (macros_brought (part_of world.entry) self.old.map self.old.dependencies (head_of head.entry) name.now) (Some by))) }
+        ensures ok { OnOk result (core_in self.new ≡ with_map (core_in self.old) (with_macros_used (core_in self.old).map
+            (macros_brought (part_of world.entry) (core_in self.old).map (core_in self.old).dependencies (head_of head.entry) name.now) (Some by))) }
     {
         if self.map.id().block.is_some() {
             return Ok(());
@@ -405,7 +461,7 @@ impl DefCollector {
 
     /// Lets paths begin with the name of an `extern crate` of the crate's root module.
     pub fn add_extern(&mut self, import: &ImportDirective) -> Result<(), AllocError>
-        ensures ok { OnOk result (self.new ≡ with_local self.old (extern_after self.old.map self.old.local import.now)) }
+        ensures ok { OnOk result (core_in self.new ≡ with_local (core_in self.old) (extern_after (core_in self.old).map (core_in self.old).local import.now)) }
     {
         if import.home != 0 || self.map.id().block.is_some() {
             return Ok(());
@@ -430,7 +486,7 @@ impl DefCollector {
 
     /// Notes an import that was come upon.
     pub fn reach(&mut self, import: ImportDirective) -> Result<(), AllocError>
-        ensures ok { OnOk result (self.new ≡ with_imports self.old (import ∷ [])) }
+        ensures ok { OnOk result (core_in self.new ≡ with_imports (core_in self.old) (import ∷ [])) }
     {
         let taken = Taken::nothing(self.allocator());
         self.reached.push(import)?;
@@ -438,24 +494,179 @@ impl DefCollector {
         Ok(())
     }
 
-    /// The imports that were come upon, none of them taken, and the keys that were asked for.
-    pub fn into_imports(self) -> (Imports, Vec<Key>)
-        ensures imports { state_in result.0 ≡ import_state (at_rest self) }
-        ensures no_globs { result.0.globs.edges ≡ [] × result.0.globs.brought ≡ [] × result.0.globs.pending ≡ [] }
-        ensures untaken { AreUntaken result.0.taken.items }
-        ensures asked { result.1.items ≡ self.asked }
-        ensures small { result.0.count ≤ STEP_LIMIT }
+    /// Notes a macro call that was come upon.
+    pub fn await_call(&mut self, call: MacroDirective) -> Result<(), AllocError>
+        ensures ok { OnOk result (core_in self.new ≡ with_calls (core_in self.old) (call ∷ [])) }
     {
-        let globs = GlobImports::new(self.allocator());
-        let imports = Imports {
-            map: self.map,
-            local: self.local,
-            from_glob_import: self.from_glob_import,
-            imports: self.reached,
-            taken: self.taken,
-            globs,
-            count: self.count,
+        self.calls.push(call)?;
+        self.fates.push(Fate::Waits)?;
+        Ok(())
+    }
+
+    /// How many calls there were when imports rested last: these may be tried.
+    pub fn settled(&self) -> usize
+        ensures value { result ≡ (core_in self.now).settled }
+    {
+        self.settled
+    }
+
+    /// The call at the place, where it waits.
+    pub fn waiting(&self, i: usize) -> Option<&MacroDirective>
+        ensures waits { IfSome result (λ call. IsWaiting (at_rest (core_in self.now)) i call.now) }
+        ensures none { IfNone result ((call : MacroDirective) → ¬ IsWaiting (at_rest (core_in self.now)) i call) }
+    {
+        match self.fates.get(i)? {
+            Fate::Waits => self.calls.get(i),
+            Fate::Handled => None,
+        }
+    }
+
+    /// The macro that the path of a call reaches.
+    pub fn called_macro(&self, world: WorldPart<'_>, call: &MacroDirective) -> Option<MacroId>
+        ensures value { result ≡ called_macro (part_of world.entry) (core_in self.now).local (core_in self.now).map call.now }
+    {
+        let query = Query {
+            maps: DefMaps::new(world, &self.map),
+            local: Some(&self.local),
+            mode: ResolveMode::Other,
+            shadow: BuiltinShadowMode::Module,
+            sub_ns: Some(MacroSubNs::Bang),
         };
-        (imports, self.asked)
+        let path = call.path();
+        let answer = query.resolve(self.module_id(call.site.home), path.kind(), path.segments());
+        macro_among(answer.resolved_def)
+    }
+
+    /// Whether a call is deeper than calls may be.
+    pub fn is_too_deep(&self, call: &MacroDirective) -> bool
+        ensures deep { result ≡ true → (core_in self.now).map.crate_data.recursion_limit ≤ call.now.site.level }
+        ensures shallow { result ≡ false → call.now.site.level < (core_in self.now).map.crate_data.recursion_limit }
+        ensures below { result ≡ false → call.now.site.level < 4294967295 }
+    {
+        call.site.level >= self.map.recursion_limit()
+    }
+
+    /// Notes that the call at the place was handled.
+    pub fn end_call(&mut self, i: usize)
+        ensures value { core_in self.new ≡ with_fate (core_in self.old) i Fate.Handled }
+    {
+        end(&mut self.fates, i);
+    }
+
+    /// Imports rest: all calls that there are may be tried from now on.
+    pub fn rest(&mut self) -> Result<(), CollectError>
+        ensures ok { OnOk result (core_in self.new ≡ counted (with_settled (core_in self.old))) }
+        ensures many { result ≡ Err CollectError.TooMany → STEP_LIMIT ≤ (core_in self.old).count }
+    {
+        self.settled = self.calls.len();
+        self.tick()
+    }
+
+    /// Takes imports, and what comes of them along globs, until no more comes.
+    pub fn settle(self, world: WorldPart<'_>, apart: bool) -> Result<DefCollector, CollectError>
+        requires apart { apart ≡ true → IsApart (part_of world) (core_in self).map.id (core_in self).local }
+        requires there { (i : ℕ) (r : ImportDirective) → slice_get (core_in self).reached i ≡ Some r → r.home < length (core_in self).map.modules }
+        requires sound { IsSound (part_of world) (import_state (at_rest (core_in self))) }
+        ensures ok { IfOk result (λ run. (env : Environment) → Steps env (part_of world.entry) (at_rest (core_in self)) (at_rest (core_in run))) }
+        ensures rests { IfOk result (λ run. IsAtRest (part_of world.entry) (import_state (at_rest (core_in run)))) }
+        ensures sound { IfOk result (λ run. IsSound (part_of world.entry) (import_state (at_rest (core_in run)))) }
+        ensures others { IfOk result (λ run. core_in run ≡ core_with_imports (core_in self) (import_state (at_rest (core_in run)))) }
+        ensures many { result ≡ Err CollectError.TooMany → (env : Environment) → IsSpent env (part_of world.entry) (at_rest (core_in self)) }
+    {
+        let alloc = self.allocator();
+        let imports = restart_imports(
+            alloc,
+            world,
+            apart,
+            Imports {
+                map: self.map,
+                local: self.local,
+                from_glob_import: self.from_glob_import,
+                imports: self.reached,
+                taken: self.taken,
+                globs: self.globs,
+                count: self.count,
+            },
+        )?;
+        Ok(DefCollector {
+            map: imports.map,
+            local: imports.local,
+            dependencies: self.dependencies,
+            options: self.options,
+            from_glob_import: imports.from_glob_import,
+            globs: imports.globs,
+            reached: imports.imports,
+            taken: imports.taken,
+            calls: self.calls,
+            fates: self.fates,
+            settled: self.settled,
+            asked: self.asked,
+            count: imports.count,
+        })
+    }
+
+    /// Lets names go along globs until none is left to go.
+    pub fn spread(self, world: WorldPart<'_>) -> Result<DefCollector, CollectError>
+        requires sound { IsSound (part_of world) (import_state (at_rest (core_in self))) }
+        ensures ok { IfOk result (λ run. (env : Environment) → Steps env (part_of world.entry) (at_rest (core_in self)) (at_rest (core_in run))) }
+        ensures closed { IfOk result (λ run. IsClosed (part_of world.entry) (import_state (at_rest (core_in run)))) }
+        ensures sound { IfOk result (λ run. IsSound (part_of world.entry) (import_state (at_rest (core_in run)))) }
+        ensures others { IfOk result (λ run. core_in run ≡ core_with_imports (core_in self) (import_state (at_rest (core_in run)))) }
+        ensures many { result ≡ Err CollectError.TooMany → (env : Environment) → IsSpent env (part_of world.entry) (at_rest (core_in self)) }
+    {
+        let alloc = self.allocator();
+        let imports = spread_globs(
+            alloc,
+            world,
+            Imports {
+                map: self.map,
+                local: self.local,
+                from_glob_import: self.from_glob_import,
+                imports: self.reached,
+                taken: self.taken,
+                globs: self.globs,
+                count: self.count,
+            },
+        )?;
+        Ok(DefCollector {
+            map: imports.map,
+            local: imports.local,
+            dependencies: self.dependencies,
+            options: self.options,
+            from_glob_import: imports.from_glob_import,
+            globs: imports.globs,
+            reached: imports.imports,
+            taken: imports.taken,
+            calls: self.calls,
+            fates: self.fates,
+            settled: self.settled,
+            asked: self.asked,
+            count: imports.count,
+        })
+    }
+
+    /// What a run comes to: what waits still is left over, and reported.
+    ///
+    /// After rust-analyzer's `DefCollector::finish`.
+    pub fn finish(
+        self,
+        round_limit_met: bool,
+        transitive: Rc<CrateSet>,
+    ) -> Result<Collected, AllocError>
+        ensures value { IfOk result (λ c. collected_view c ≡ finished_run (core_in self) round_limit_met transitive.value) }
+    {
+        let alloc = self.allocator();
+        let leftover = untaken(alloc, &self.reached, &self.taken)?;
+        let names = unresolved_crates(alloc, &self.reached, &self.taken)?;
+        let mut map = self.map;
+        report_calls(&mut map, &self.calls, &self.fates)?;
+        report_unresolved(&mut map, &names, &self.reached, &self.taken)?;
+        Ok(Collected {
+            map,
+            local: self.local,
+            leftover,
+            round_limit_met,
+            asked: Asked::new(self.asked, transitive),
+        })
     }
 }

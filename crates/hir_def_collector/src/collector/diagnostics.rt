@@ -1,9 +1,10 @@
 //! The diagnostics of a run.
-ghost use Rattle.std.specs.Prelude.{◌≡◌, ◌++◌, [], IfOk, OnOk, map};
+ghost use Rattle.std.specs.Prelude.{◌≡◌, ◌++◌, ◌∷◌, [], IfOk, OnOk, map};
 ghost use Rattle.hir_base.specs.Cfg.{cfg_view};
 ghost use Rattle.hir_def_collector.specs.CrateTop.{with_names};
-ghost use Rattle.hir_def_collector.specs.Reports.{IsUnconfigured, IsUnresolvedModule, begins_with, crate_names, crates_among, report_by, reports_of, unresolved_among, with_diagnostics};
+ghost use Rattle.hir_def_collector.specs.Reports.{IsUnconfigured, IsUnresolvedModule, begins_with, call_report, crate_names, crates_among, report_by, reports_of, unresolved_among, unresolved_calls, with_diagnostics};
 
+use crate::collector::macro_directive::{Fate, MacroDirective};
 use hir_base::ast_id::{AstId, AstKind};
 use hir_base::cfg::CfgExpr;
 use hir_base::cfg_options::CfgOptions;
@@ -170,4 +171,43 @@ pub fn report_unresolved(
         takings = others;
     }
     Ok(())
+}
+
+/// Reports the macro calls that wait, in their order.
+pub fn report_calls(
+    map: &mut DefMap,
+    calls: &[MacroDirective],
+    fates: &[Fate],
+) -> Result<(), AllocError>
+    ensures ok { OnOk result (map.new ≡ with_diagnostics map.old (unresolved_calls map.old.id calls.now fates.now)) }
+{
+    let mut left = calls;
+    let mut left_fates = fates;
+    'next: while let [call, others @ ..] = left {
+        let [fate, other_fates @ ..] = left_fates else {
+            return Ok(());
+        };
+        match fate {
+            Fate::Waits => report_call(map, call)?,
+            Fate::Handled => {}
+        }
+        left = others;
+        left_fates = other_fates;
+    }
+    Ok(())
+}
+
+/// Reports a macro call that reached no macro.
+fn report_call(map: &mut DefMap, call: &MacroDirective) -> Result<(), AllocError>
+    ensures ok { OnOk result (map.new ≡ with_diagnostics map.old (call_report map.old.id call.now ∷ [])) }
+{
+    let at = ModuleId {
+        map: map.id(),
+        index: call.site.home,
+    };
+    map.add_diagnostic(DefDiagnostic::unresolved_macro_call(
+        at,
+        call.call_kind(),
+        call.path().clone()?,
+    ))
 }

@@ -3,6 +3,7 @@ ghost use Rattle.std.specs.Prelude.{◌≡◌, ◌≤◌, true, [], OnOk, IfOk, 
 ghost use Rattle.hir_item_tree.specs.Collected.{is_enabled};
 ghost use Rattle.hir_item_tree.specs.KeptForest.{leaf, enumeration};
 ghost use Rattle.hir_def_map.specs.WorldParts.{part_of};
+ghost use Rattle.hir_def_collector.specs.State.{core_in};
 ghost use Rattle.hir_def_collector.specs.Keys.{Environment, source_in};
 ghost use Rattle.hir_def_collector.specs.Enums.{variant_of, variants_by_name, variants_of};
 ghost use Rattle.hir_def_collector.specs.TreeReads.{head_of};
@@ -74,9 +75,9 @@ pub fn declare_enum(
 ) -> Result<(), CollectError>
     requires enabled { is_enabled (head_of head).attributes ≡ true }
     ensures ok { OnOk result ((env : Environment)
-        → source_in env.tables env.workspace (record { krate = run.old.map.id.krate; id = site.now.tree }) ≡ source.now
-        → Handles env (part_of world.entry) run.old run.new (visit site.now (leaf (head_of head.entry) (enumeration name.now))) []) }
-    ensures many { result ≡ Err CollectError.TooMany → STEP_LIMIT ≤ run.old.count }
+        → source_in env.tables env.workspace (record { krate = (core_in run.old).map.id.krate; id = site.now.tree }) ≡ source.now
+        → Handles env (part_of world.entry) (core_in run.old) (core_in run.new) (visit site.now (leaf (head_of head.entry) (enumeration name.now))) []) }
+    ensures many { result ≡ Err CollectError.TooMany → STEP_LIMIT ≤ (core_in run.old).count }
 {
     let id = EnumId {
         loc: ItemLoc {

@@ -7,7 +7,7 @@ ghost use Rattle.hir_item_tree.specs.UseTree.{use_tree_view};
 ghost use Rattle.hir_def_map.specs.Overlay.{Maps};
 ghost use Rattle.hir_def_map.specs.WorldParts.{part_of};
 ghost use Rattle.hir_def_collector.specs.Keys.{Environment};
-ghost use Rattle.hir_def_collector.specs.State.{counted, with_imports, with_local};
+ghost use Rattle.hir_def_collector.specs.State.{core_in, counted, with_imports, with_local};
 ghost use Rattle.hir_def_collector.specs.Imports.{crate_import, extern_after, path_of_crate, reached_import};
 ghost use Rattle.hir_def_collector.specs.ItemIds.{extern_crate_id};
 ghost use Rattle.hir_def_collector.specs.TreeReads.{head_of};
@@ -64,7 +64,7 @@ fn reach_all(
     visibility: &RawVisibility,
     mut imports: VecDeque<Import>,
 ) -> Result<(), AllocError>
-    ensures ok { OnOk result (run.new ≡ with_imports run.old (map (reached_import home use_ visibility.now) imports.items)) }
+    ensures ok { OnOk result (core_in run.new ≡ with_imports (core_in run.old) (map (reached_import home use_ visibility.now) imports.items)) }
 {
     while let Some(import) = imports.pop_front() {
         let Import {
@@ -95,8 +95,8 @@ pub fn reach_use(
     tree: &UseTree,
 ) -> Result<(), CollectError>
     requires enabled { is_enabled (head_of head).attributes ≡ true }
-    ensures ok { OnOk result ((env : Environment) (finished : Maps) → Handles env finished run.old run.new (visit site.now (leaf (head_of head.entry) (import (use_tree_view tree.now)))) []) }
-    ensures many { result ≡ Err CollectError.TooMany → STEP_LIMIT ≤ run.old.count }
+    ensures ok { OnOk result ((env : Environment) (finished : Maps) → Handles env finished (core_in run.old) (core_in run.new) (visit site.now (leaf (head_of head.entry) (import (use_tree_view tree.now)))) []) }
+    ensures many { result ≡ Err CollectError.TooMany → STEP_LIMIT ≤ (core_in run.old).count }
 {
     let use_ = UseId {
         loc: ItemLoc {
@@ -146,9 +146,9 @@ fn crate_import(
     name: &ExternCrateName,
     alias: &Option<ImportAlias>,
 ) -> Result<ImportDirective, AllocError>
-    requires own { id ≡ extern_crate_id run.now.map site.now head.id }
+    requires own { id ≡ extern_crate_id (core_in run.now).map site.now head.id }
     ensures value { IfOk result (λ import. import
-        ≡ crate_import run.now.map run.now.dependencies site.now (head_of head.entry) name.now alias.now) }
+        ≡ crate_import (core_in run.now).map (core_in run.now).dependencies site.now (head_of head.entry) name.now alias.now) }
 {
     Ok(ImportDirective {
         home: site.home,
@@ -175,8 +175,8 @@ pub fn reach_extern_crate(
     alias: &Option<ImportAlias>,
 ) -> Result<(), CollectError>
     requires enabled { is_enabled (head_of head).attributes ≡ true }
-    ensures ok { OnOk result ((env : Environment) → Handles env (part_of world.entry) run.old run.new (visit site.now (leaf (head_of head.entry) (extern_crate name.now alias.now))) []) }
-    ensures many { result ≡ Err CollectError.TooMany → STEP_LIMIT ≤ run.old.count }
+    ensures ok { OnOk result ((env : Environment) → Handles env (part_of world.entry) (core_in run.old) (core_in run.new) (visit site.now (leaf (head_of head.entry) (extern_crate name.now alias.now))) []) }
+    ensures many { result ≡ Err CollectError.TooMany → STEP_LIMIT ≤ (core_in run.old).count }
 {
     let id = ExternCrateId {
         loc: ItemLoc {

@@ -4,6 +4,7 @@ ghost use Rattle.hir_item_tree.specs.Collected.{collected_of, is_enabled};
 ghost use Rattle.hir_item_tree.specs.KeptForest.{leaf, macro_def, macro_rules};
 ghost use Rattle.hir_def_map.specs.Overlay.{Maps};
 ghost use Rattle.hir_def_map.specs.WorldParts.{part_of};
+ghost use Rattle.hir_def_collector.specs.State.{core_in};
 ghost use Rattle.hir_def_collector.specs.ItemIds.{macro_loc, node_of};
 ghost use Rattle.hir_def_collector.specs.Keys.{Environment};
 ghost use Rattle.hir_def_collector.specs.Macros.{is_exported, is_macro_use};
@@ -47,7 +48,7 @@ pub fn is_macro_use(attrs: &AttrsOrCfg) -> bool
 
 /// The location of a macro that an item of a site defines.
 fn macro_loc(run: &DefCollector, site: &Site, id: SyntaxId, expander: MacroExpander) -> MacroLoc
-    ensures value { result ≡ macro_loc run.now.map site.now id expander }
+    ensures value { result ≡ macro_loc (core_in run.now).map site.now id expander }
 {
     MacroLoc {
         container: run.module_id(site.home),
@@ -91,7 +92,7 @@ fn report(
     node: AstId,
     expander: MacroExpander,
 ) -> Result<(), AllocError>
-    ensures ok { OnOk result (Makes (reporting at node expander) run.old run.new) }
+    ensures ok { OnOk result (Makes (reporting at node expander) (core_in run.old) (core_in run.new)) }
 {
     if is_unimplemented(expander) {
         run.tell(DefDiagnostic::unimplemented_builtin_macro(at, node))?;
@@ -106,7 +107,7 @@ fn export(
     name: &Name,
     makro: MacroId,
 ) -> Result<(), AllocError>
-    ensures ok { OnOk result (Makes (exporting (head_of head.entry) name.now makro) run.old run.new) }
+    ensures ok { OnOk result (Makes (exporting (head_of head.entry) name.now makro) (core_in run.old) (core_in run.new)) }
 {
     if !is_exported(head.attrs) {
         return Ok(());
@@ -124,11 +125,11 @@ pub fn define_rules(
     head: ItemHead<'_>,
     item: MacroRules<'_>,
 ) -> Result<(), CollectError>
-    requires in_range { site.now.home < length run.old.map.modules }
+    requires in_range { site.now.home < length (core_in run.old).map.modules }
     requires enabled { is_enabled (head_of head).attributes ≡ true }
-    ensures ok { OnOk result ((env : Environment) (finished : Maps) → Handles env finished run.old run.new
+    ensures ok { OnOk result ((env : Environment) (finished : Maps) → Handles env finished (core_in run.old) (core_in run.new)
         (visit site.now (leaf (head_of head.entry) (macro_rules item.entry.name.now item.entry.expander item.entry.helpers.now))) []) }
-    ensures many { result ≡ Err CollectError.TooMany → STEP_LIMIT ≤ run.old.count }
+    ensures many { result ≡ Err CollectError.TooMany → STEP_LIMIT ≤ (core_in run.old).count }
 {
     let loc = macro_loc(run, site, head.id, item.expander);
     let makro = MacroId::MacroRulesId(MacroRulesId { loc });
@@ -152,9 +153,9 @@ pub fn define_macro(
     item: Macro2<'_>,
 ) -> Result<(), CollectError>
     requires enabled { is_enabled (head_of head).attributes ≡ true }
-    ensures ok { OnOk result ((env : Environment) → Handles env (part_of world.entry) run.old run.new
+    ensures ok { OnOk result ((env : Environment) → Handles env (part_of world.entry) (core_in run.old) (core_in run.new)
         (visit site.now (leaf (head_of head.entry) (macro_def item.entry.name.now item.entry.expander item.entry.helpers.now))) []) }
-    ensures many { result ≡ Err CollectError.TooMany → STEP_LIMIT ≤ run.old.count }
+    ensures many { result ≡ Err CollectError.TooMany → STEP_LIMIT ≤ (core_in run.old).count }
 {
     let vis = run.visibility(world, site, head);
     let loc = macro_loc(run, site, head.id, item.expander);
@@ -182,9 +183,9 @@ pub fn close(
     parent: u32,
     child: u32,
 ) -> Result<(), CollectError>
-    requires in_range { parent < length run.old.map.modules }
-    ensures ok { OnOk result ((env : Environment) (finished : Maps) → Walks env finished run.old run.new (closing macro_use parent child)) }
-    ensures many { result ≡ Err CollectError.TooMany → (env : Environment) (finished : Maps) → WalksTooFar env finished run.old (closing macro_use parent child) }
+    requires in_range { parent < length (core_in run.old).map.modules }
+    ensures ok { OnOk result ((env : Environment) (finished : Maps) → Walks env finished (core_in run.old) (core_in run.new) (closing macro_use parent child)) }
+    ensures many { result ≡ Err CollectError.TooMany → (env : Environment) (finished : Maps) → WalksTooFar env finished (core_in run.old) (closing macro_use parent child) }
 {
     if !macro_use {
         return Ok(());

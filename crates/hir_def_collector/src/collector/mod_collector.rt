@@ -1,25 +1,27 @@
 //! The walk over the items of a tree.
-ghost use Rattle.std.specs.Prelude.{◌≡◌, ◌<◌, ◌≤◌, true, ◌∷◌, [], List, length, map, OnOk, IfOk, IsSome};
+ghost use Rattle.std.specs.Prelude.{◌≡◌, ◌<◌, ◌≤◌, true, ◌∷◌, [], List, length, map, OnOk, IfOk};
 ghost use Rattle.std.specs.List.{All};
 ghost use Rattle.hir_base.specs.Cfg.{cfg_view};
 ghost use Rattle.hir_item_tree.specs.Collected.{is_enabled};
-ghost use Rattle.hir_item_tree.specs.KeptForest.{KeptItem, all_items, leaf, holder, constant, implementation, extern_block, inline_module, outline_module};
+ghost use Rattle.hir_item_tree.specs.KeptForest.{KeptItem, all_items, leaf, holder, constant, implementation, extern_block, inline_module, macro_call, outline_module};
 ghost use Rattle.hir_item_tree.specs.Kinds.{kind_content, kind_of};
 ghost use Rattle.hir_item_tree.specs.Rows.{held_numbers, item_of, items_at, numbers_of};
-ghost use Rattle.hir_tables.specs.Tables.{KeepsTables, TablesValue, source_of};
+ghost use Rattle.hir_tables.specs.Tables.{KeepsTables, TablesValue};
 ghost use Rattle.hir_def_map.specs.Overlay.{Maps};
 ghost use Rattle.hir_def_map.specs.declared.nameres.diagnostics.DefDiagnostic.{DefDiagnostic};
 ghost use Rattle.hir_def_map.specs.WorldParts.{part_of};
 ghost use Rattle.hir_def_collector.specs.Workspace.{Workspace};
 ghost use Rattle.hir_def_collector.specs.Keys.{Environment, source_in};
 ghost use Rattle.hir_def_collector.specs.ItemIds.{module_id, node_of};
+ghost use Rattle.hir_def_collector.specs.Calls.{AreCallsPlaced};
+ghost use Rattle.hir_def_collector.specs.ModuleFiles.{IsFileMeant};
 ghost use Rattle.hir_def_collector.specs.Items.{file_origin, inline_origin};
 ghost use Rattle.hir_def_collector.specs.Reports.{IsUnconfigured, IsUnresolvedModule};
-ghost use Rattle.hir_def_collector.specs.State.{visits};
+ghost use Rattle.hir_def_collector.specs.State.{core_in, visits};
 ghost use Rattle.hir_def_collector.specs.Steps.{inside_file, visit};
 ghost use Rattle.hir_def_collector.specs.TreeReads.{head_of, visits_at};
 ghost use Rattle.hir_def_collector.specs.Derivation.{IsFull};
-ghost use Rattle.hir_def_collector.specs.Moves.{Drops, GoesInside, Handles, IsHeld, MayTake, OnceGrown, TakesFile, Tells, Walks, WalksTooFar, found_view, is_single, opened, tasks_of};
+ghost use Rattle.hir_def_collector.specs.Moves.{Drops, GoesInside, Handles, IsWritten, MayTake, OnceGrown, TakesFile, Tells, Walks, WalksTooFar, found_view, is_single, opened, tasks_of};
 
 use crate::collector::declaration::Declaration;
 use crate::collector::declare::{
@@ -30,14 +32,16 @@ use crate::collector::def_collector::DefCollector;
 use crate::collector::diagnostics::{unconfigured, unresolved_module};
 use crate::collector::enums::declare_enum;
 use crate::collector::imports::{reach_extern_crate, reach_use};
+use crate::collector::macro_directive::{MacroDirective, MacroDirectiveKind};
 use crate::collector::macros::{close, define_macro, define_rules, is_macro_use};
-use crate::collector::mod_resolution::{FoundFile, file_of, find_file, path_attr};
+use crate::collector::mod_resolution::{FoundFile, find_file, path_attr, path_of};
 use crate::collector::site::{ItemHead, Site, head_at};
 use crate::collector::{CollectError, STEP_LIMIT};
 use crate::source_database::SourceDatabase;
 use hir_base::ast_id::{AstId, AstKind, EditionedFileId, HirFileId, SyntaxId};
 use hir_base::cfg::CfgExpr;
 use hir_base::ids::{ConstId, ExternBlockId, ImplId, ItemLoc, ModuleDefId};
+use hir_base::mod_path::ModPath;
 use hir_base::name::Name;
 use hir_def_map::nameres::origin::ModuleOrigin;
 use hir_def_map::world::part::WorldPart;
@@ -71,8 +75,8 @@ pub enum Inside<'a> {
 /// Lists a constant that has no name.
 fn list_const(run: &mut DefCollector, site: &Site, head: ItemHead<'_>) -> Result<(), CollectError>
     requires enabled { is_enabled (head_of head).attributes ≡ true }
-    ensures ok { OnOk result ((env : Environment) (finished : Maps) → Handles env finished run.old run.new (visit site.now (leaf (head_of head.entry) (constant None))) []) }
-    ensures many { result ≡ Err CollectError.TooMany → STEP_LIMIT ≤ run.old.count }
+    ensures ok { OnOk result ((env : Environment) (finished : Maps) → Handles env finished (core_in run.old) (core_in run.new) (visit site.now (leaf (head_of head.entry) (constant None))) []) }
+    ensures many { result ≡ Err CollectError.TooMany → STEP_LIMIT ≤ (core_in run.old).count }
 {
     let id = ConstId {
         loc: ItemLoc {
@@ -96,8 +100,8 @@ fn visit_const(
     name: &Option<Name>,
 ) -> Result<(), CollectError>
     requires enabled { is_enabled (head_of head).attributes ≡ true }
-    ensures ok { OnOk result ((env : Environment) → Handles env (part_of world.entry) run.old run.new (visit site.now (leaf (head_of head.entry) (constant name.now))) []) }
-    ensures many { result ≡ Err CollectError.TooMany → STEP_LIMIT ≤ run.old.count }
+    ensures ok { OnOk result ((env : Environment) → Handles env (part_of world.entry) (core_in run.old) (core_in run.new) (visit site.now (leaf (head_of head.entry) (constant name.now))) []) }
+    ensures many { result ≡ Err CollectError.TooMany → STEP_LIMIT ≤ (core_in run.old).count }
 {
     match name {
         Some(name) => declare_const(run, world, site, head, name)?,
@@ -114,8 +118,8 @@ fn list_impl(
     of_trait: bool,
 ) -> Result<(), CollectError>
     requires enabled { is_enabled (head_of head).attributes ≡ true }
-    ensures ok { OnOk result ((env : Environment) (finished : Maps) → Handles env finished run.old run.new (visit site.now (leaf (head_of head.entry) (implementation of_trait))) []) }
-    ensures many { result ≡ Err CollectError.TooMany → STEP_LIMIT ≤ run.old.count }
+    ensures ok { OnOk result ((env : Environment) (finished : Maps) → Handles env finished (core_in run.old) (core_in run.new) (visit site.now (leaf (head_of head.entry) (implementation of_trait))) []) }
+    ensures many { result ≡ Err CollectError.TooMany → STEP_LIMIT ≤ (core_in run.old).count }
 {
     let id = ImplId {
         loc: ItemLoc {
@@ -151,10 +155,10 @@ fn open(
     name: &Name,
     origin: ModuleOrigin,
 ) -> Result<u32, CollectError>
-    requires in_range { site.now.home < length run.old.map.modules }
-    ensures made { IfOk result (λ home. home ≡ length run.old.map.modules) }
-    ensures ok { OnOk result (run.new ≡ opened (part_of world.entry) run.old site.now (head_of head.entry) name.now origin) }
-    ensures many { result ≡ Err CollectError.TooMany → IsFull run.old.count run.old.map }
+    requires in_range { site.now.home < length (core_in run.old).map.modules }
+    ensures made { IfOk result (λ home. home ≡ length (core_in run.old).map.modules) }
+    ensures ok { OnOk result (core_in run.new ≡ opened (part_of world.entry) (core_in run.old) site.now (head_of head.entry) name.now origin) }
+    ensures many { result ≡ Err CollectError.TooMany → IsFull (core_in run.old).count (core_in run.old).map }
 {
     let vis = run.visibility(world, site, head);
     let made = run.open(site.home, name.clone()?, origin, vis)?;
@@ -177,13 +181,13 @@ fn visit_inline<'a>(
     name: &Name,
     ids: &'a [ModItemId],
 ) -> Result<Inside<'a>, CollectError>
-    requires in_range { site.now.home < length run.old.map.modules }
+    requires in_range { site.now.home < length (core_in run.old).map.modules }
     requires enabled { is_enabled (head_of head).attributes ≡ true }
-    ensures ok { IfOk result (λ inside. (env : Environment) (items : List KeptItem) → Handles env (part_of world.entry) run.old run.new
+    ensures ok { IfOk result (λ inside. (env : Environment) (items : List KeptItem) → Handles env (part_of world.entry) (core_in run.old) (core_in run.new)
         (visit site.now (holder (head_of head.entry) (inline_module name.now) (items_at items (numbers_of ids.entry.now)))) (tasks_of site.now.home items inside)) }
     ensures within { IfOk result (λ inside. (tables : TablesValue) (w : Workspace) →
-        GoesInside tables w run.old.map.id.krate (length run.new.map.modules) site.now (numbers_of ids.entry.now) inside) }
-    ensures many { result ≡ Err CollectError.TooMany → IsFull run.old.count run.old.map }
+        GoesInside tables w (core_in run.old).map.id.krate (length (core_in run.new).map.modules) site.now (numbers_of ids.entry.now) inside) }
+    ensures many { result ≡ Err CollectError.TooMany → IsFull (core_in run.old).count (core_in run.old).map }
 {
     let path = path_attr(head.attrs.attrs.as_slice());
     let dir = site
@@ -202,6 +206,7 @@ fn visit_inline<'a>(
         site: Site {
             home,
             tree: site.tree,
+            file: site.file,
             extern_block: None,
             dir,
             level: site.level,
@@ -220,11 +225,11 @@ fn open_file(
     name: &Name,
     file: &FoundFile,
 ) -> Result<Site, CollectError>
-    requires in_range { site.now.home < length run.old.map.modules }
-    ensures inside { IfOk result (λ inside. inside ≡ inside_file run.old.map (found_view file.now)) }
-    ensures ok { OnOk result (run.new ≡ opened (part_of world.entry) run.old site.now (head_of head.entry) name.now
-        (file_origin site.now.tree head.entry.id run.old.map.crate_data.edition (found_view file.now))) }
-    ensures many { result ≡ Err CollectError.TooMany → IsFull run.old.count run.old.map }
+    requires in_range { site.now.home < length (core_in run.old).map.modules }
+    ensures inside { IfOk result (λ inside. inside ≡ inside_file (core_in run.old).map (found_view file.now)) }
+    ensures ok { OnOk result (core_in run.new ≡ opened (part_of world.entry) (core_in run.old) site.now (head_of head.entry) name.now
+        (file_origin site.now.tree head.entry.id (core_in run.old).map.crate_data.edition (found_view file.now))) }
+    ensures many { result ≡ Err CollectError.TooMany → IsFull (core_in run.old).count (core_in run.old).map }
 {
     let definition = EditionedFileId {
         file_id: file.id,
@@ -244,6 +249,7 @@ fn open_file(
             file: HirFileId::File(definition),
             block: None,
         },
+        file: Some(file.id),
         extern_block: None,
         dir,
         level: 0,
@@ -257,8 +263,8 @@ fn drop_file(
     head: ItemHead<'_>,
     cfg: &CfgExpr,
 ) -> Result<(), CollectError>
-    ensures ok { OnOk result (Drops (IsUnconfigured (module_id run.old.map site.now.home) (node_of site.now.tree AstKind.Module head.entry.id) (cfg_view cfg.now) run.old.options) run.old run.new) }
-    ensures many { result ≡ Err CollectError.TooMany → STEP_LIMIT ≤ run.old.count }
+    ensures ok { OnOk result (Drops (IsUnconfigured (module_id (core_in run.old).map site.now.home) (node_of site.now.tree AstKind.Module head.entry.id) (cfg_view cfg.now) (core_in run.old).options) (core_in run.old) (core_in run.new)) }
+    ensures many { result ≡ Err CollectError.TooMany → STEP_LIMIT ≤ (core_in run.old).count }
 {
     let at = run.module_id(site.home);
     let node = mod_node(site.tree, head.id);
@@ -277,11 +283,11 @@ fn miss_file(
     name: &Name,
     candidates: &[Candidate],
 ) -> Result<(), CollectError>
-    requires in_range { site.now.home < length run.old.map.modules }
-    ensures ok { OnOk result (Tells (IsUnresolvedModule (module_id run.old.map site.now.home) (node_of site.now.tree AstKind.Module head.entry.id) (map (λ c. c.text) candidates.now))
-        (opened (part_of world.entry) run.old site.now (head_of head.entry) name.now (inline_origin site.now.tree head.entry.id)) run.new) }
-    ensures many { result ≡ Err CollectError.TooMany → IsFull run.old.count run.old.map
-        × ((d : DefDiagnostic) × IsUnresolvedModule (module_id run.old.map site.now.home) (node_of site.now.tree AstKind.Module head.entry.id) (map (λ c. c.text) candidates.now) d) }
+    requires in_range { site.now.home < length (core_in run.old).map.modules }
+    ensures ok { OnOk result (Tells (IsUnresolvedModule (module_id (core_in run.old).map site.now.home) (node_of site.now.tree AstKind.Module head.entry.id) (map (λ c. c.text) candidates.now))
+        (opened (part_of world.entry) (core_in run.old) site.now (head_of head.entry) name.now (inline_origin site.now.tree head.entry.id)) (core_in run.new)) }
+    ensures many { result ≡ Err CollectError.TooMany → IsFull (core_in run.old).count (core_in run.old).map
+        × ((d : DefDiagnostic) × IsUnresolvedModule (module_id (core_in run.old).map site.now.home) (node_of site.now.tree AstKind.Module head.entry.id) (map (λ c. c.text) candidates.now) d) }
 {
     let node = mod_node(site.tree, head.id);
     let at = run.module_id(site.home);
@@ -305,9 +311,9 @@ fn take_file<'a>(
     name: &Name,
     file: FoundFile,
 ) -> Result<Inside<'a>, CollectError>
-    requires in_range { site.now.home < length run.old.map.modules }
-    ensures ok { IfOk result (λ inside. TakesFile (part_of world.entry) site.now (head_of head.entry) name.now (found_view file) file.source.value run.old run.new inside) }
-    ensures many { result ≡ Err CollectError.TooMany → IsFull run.old.count run.old.map × MayTake site.now (head_of head.entry) (found_view file) run.old }
+    requires in_range { site.now.home < length (core_in run.old).map.modules }
+    ensures ok { IfOk result (λ inside. TakesFile (part_of world.entry) site.now (head_of head.entry) name.now (found_view file) file.source.value (core_in run.old) (core_in run.new) inside) }
+    ensures many { result ≡ Err CollectError.TooMany → IsFull (core_in run.old).count (core_in run.old).map × MayTake site.now (head_of head.entry) (found_view file) (core_in run.old) }
 {
     if let Some(cfg) = &file.source.tree().top_level_attrs().disabled {
         drop_file(run, site, head, cfg)?;
@@ -332,20 +338,21 @@ fn visit_outline<'a, D: SourceDatabase>(
     head: ItemHead<'_>,
     name: &Name,
 ) -> Result<Inside<'a>, CollectError>
-    requires in_range { site.now.home < length run.old.map.modules }
+    requires in_range { site.now.home < length (core_in run.old).map.modules }
     requires enabled { is_enabled (head_of head).attributes ≡ true }
-    requires meant { IsSome (source_of locations.old site.now.tree) }
+    requires meant { IsFileMeant locations.old site.now.file }
     ensures kept { KeepsTables locations.old locations.new }
+    ensures placed { AreCallsPlaced locations.old → AreCallsPlaced locations.new }
     ensures same { D.workspace db.new ≡ D.workspace db.old }
-    ensures ok { IfOk result (λ inside. OnceGrown locations.new (D.workspace db.old) (λ env. (items : List KeptItem) → Handles env (part_of world.entry) run.old run.new
+    ensures ok { IfOk result (λ inside. OnceGrown locations.new (D.workspace db.old) (λ env. (items : List KeptItem) → Handles env (part_of world.entry) (core_in run.old) (core_in run.new)
         (visit site.now (leaf (head_of head.entry) (outline_module name.now))) (tasks_of site.now.home items inside))) }
-    ensures within { IfOk result (λ inside. GoesInside locations.new (D.workspace db.old) run.old.map.id.krate (length run.new.map.modules) site.now [] inside) }
+    ensures within { IfOk result (λ inside. GoesInside locations.new (D.workspace db.old) (core_in run.old).map.id.krate (length (core_in run.new).map.modules) site.now [] inside) }
     ensures many { result ≡ Err CollectError.TooMany → OnceGrown locations.new (D.workspace db.old)
-        (λ env. WalksTooFar env (part_of world.entry) run.old (visits (visit site.now (leaf (head_of head.entry) (outline_module name.now))) ∷ [])) }
+        (λ env. WalksTooFar env (part_of world.entry) (core_in run.old) (visits (visit site.now (leaf (head_of head.entry) (outline_module name.now))) ∷ [])) }
 {
     let path = path_attr(head.attrs.attrs.as_slice());
     let candidates = site.dir.candidates(run.allocator(), name, path)?;
-    let declaring = file_of(locations, site.tree)?;
+    let declaring = path_of(locations, site.file)?;
     let found = find_file(
         run,
         db,
@@ -368,13 +375,13 @@ fn enter<'a>(
     head: ItemHead<'_>,
     ids: &'a [ModItemId],
 ) -> Result<Inside<'a>, CollectError>
-    requires in_range { site.now.home < length run.old.map.modules }
+    requires in_range { site.now.home < length (core_in run.old).map.modules }
     requires enabled { is_enabled (head_of head).attributes ≡ true }
-    ensures ok { IfOk result (λ inside. (env : Environment) (finished : Maps) (items : List KeptItem) → Handles env finished run.old run.new
+    ensures ok { IfOk result (λ inside. (env : Environment) (finished : Maps) (items : List KeptItem) → Handles env finished (core_in run.old) (core_in run.new)
         (visit site.now (holder (head_of head.entry) extern_block (items_at items (numbers_of ids.entry.now)))) (tasks_of site.now.home items inside)) }
     ensures within { IfOk result (λ inside. (tables : TablesValue) (w : Workspace) →
-        GoesInside tables w run.old.map.id.krate (length run.new.map.modules) site.now (numbers_of ids.entry.now) inside) }
-    ensures many { result ≡ Err CollectError.TooMany → STEP_LIMIT ≤ run.old.count }
+        GoesInside tables w (core_in run.old).map.id.krate (length (core_in run.new).map.modules) site.now (numbers_of ids.entry.now) inside) }
+    ensures many { result ≡ Err CollectError.TooMany → STEP_LIMIT ≤ (core_in run.old).count }
 {
     let id = ExternBlockId {
         loc: ItemLoc {
@@ -391,6 +398,7 @@ fn enter<'a>(
         site: Site {
             home: site.home,
             tree: site.tree,
+            file: site.file,
             extern_block: Some(id),
             dir,
             level: site.level,
@@ -398,6 +406,34 @@ fn enter<'a>(
         ids,
         macro_use: false,
     })
+}
+
+/// Notes a macro call, which waits.
+fn reach_call(
+    run: &mut DefCollector,
+    site: &Site,
+    head: ItemHead<'_>,
+    path: &ModPath,
+) -> Result<(), CollectError>
+    requires enabled { is_enabled (head_of head).attributes ≡ true }
+    ensures ok { OnOk result ((env : Environment) (finished : Maps) → Handles env finished (core_in run.old) (core_in run.new) (visit site.now (leaf (head_of head.entry) (macro_call path.now))) []) }
+    ensures many { result ≡ Err CollectError.TooMany → STEP_LIMIT ≤ (core_in run.old).count }
+{
+    let call = MacroDirective {
+        site: site.clone()?,
+        ast_id: AstId {
+            file_id: site.tree.file,
+            block: site.tree.block,
+            kind: AstKind::MacroCall,
+            id: head.id,
+        },
+        kind: MacroDirectiveKind::FnLike {
+            path: path.clone()?,
+        },
+    };
+    run.await_call(call)?;
+    run.tick()?;
+    Ok(())
 }
 
 /// Handles an item that isn't disabled and holds no others, modules aside.
@@ -409,13 +445,13 @@ fn visit_leaf(
     head: ItemHead<'_>,
     item: ModItemKind<'_>,
 ) -> Result<(), CollectError>
-    requires in_range { site.now.home < length run.old.map.modules }
+    requires in_range { site.now.home < length (core_in run.old).map.modules }
     requires enabled { is_enabled (head_of head).attributes ≡ true }
     requires single { is_single item ≡ true }
     ensures ok { OnOk result ((env : Environment)
-        → source_in env.tables env.workspace (record { krate = run.old.map.id.krate; id = site.now.tree }) ≡ source.now → (items : List KeptItem)
-        → Handles env (part_of world.entry) run.old run.new (visit site.now (item_of items (head_of head.entry) (kind_content item.entry))) []) }
-    ensures many { result ≡ Err CollectError.TooMany → STEP_LIMIT ≤ run.old.count }
+        → source_in env.tables env.workspace (record { krate = (core_in run.old).map.id.krate; id = site.now.tree }) ≡ source.now → (items : List KeptItem)
+        → Handles env (part_of world.entry) (core_in run.old) (core_in run.new) (visit site.now (item_of items (head_of head.entry) (kind_content item.entry))) []) }
+    ensures many { result ≡ Err CollectError.TooMany → STEP_LIMIT ≤ (core_in run.old).count }
 {
     match item {
         ModItemKind::Use(item) => reach_use(run, site, head, item.use_tree),
@@ -433,10 +469,7 @@ fn visit_leaf(
         }
         ModItemKind::MacroRules(item) => define_rules(run, site, head, item),
         ModItemKind::Macro2(item) => define_macro(run, world, site, head, item),
-        ModItemKind::MacroCall(_) => {
-            run.tick()?;
-            Ok(())
-        }
+        ModItemKind::MacroCall(item) => reach_call(run, site, head, item.path),
         ModItemKind::Mod(_) | ModItemKind::ExternBlock(_) => Ok(()),
     }
 }
@@ -476,17 +509,18 @@ fn visit_item<'a, D: SourceDatabase>(
     head: ItemHead<'_>,
     item: ModItemKind<'a>,
 ) -> Result<Inside<'a>, CollectError>
-    requires in_range { site.now.home < length run.old.map.modules }
+    requires in_range { site.now.home < length (core_in run.old).map.modules }
     requires enabled { is_enabled (head_of head).attributes ≡ true }
-    requires held { IsHeld locations.old (D.workspace db.old) run.old.map.id.krate site.now.tree source.now }
+    requires held { IsWritten locations.old (D.workspace db.old) (core_in run.old).map.id.krate site.now source.now }
     ensures kept { KeepsTables locations.old locations.new }
+    ensures placed { AreCallsPlaced locations.old → AreCallsPlaced locations.new }
     ensures same { D.workspace db.new ≡ D.workspace db.old }
-    ensures ok { IfOk result (λ inside. OnceGrown locations.new (D.workspace db.old) (λ env. (items : List KeptItem) → Handles env (part_of world.entry) run.old run.new
+    ensures ok { IfOk result (λ inside. OnceGrown locations.new (D.workspace db.old) (λ env. (items : List KeptItem) → Handles env (part_of world.entry) (core_in run.old) (core_in run.new)
         (visit site.now (item_of items (head_of head.entry) (kind_content item.entry))) (tasks_of site.now.home items inside))) }
-    ensures within { IfOk result (λ inside. GoesInside locations.new (D.workspace db.old) run.old.map.id.krate (length run.new.map.modules) site.now
+    ensures within { IfOk result (λ inside. GoesInside locations.new (D.workspace db.old) (core_in run.old).map.id.krate (length (core_in run.new).map.modules) site.now
         (held_numbers (kind_content item.entry)) inside) }
     ensures many { result ≡ Err CollectError.TooMany → OnceGrown locations.new (D.workspace db.old) (λ env. (items : List KeptItem) →
-        WalksTooFar env (part_of world.entry) run.old (visits (visit site.now (item_of items (head_of head.entry) (kind_content item.entry))) ∷ [])) }
+        WalksTooFar env (part_of world.entry) (core_in run.old) (visits (visit site.now (item_of items (head_of head.entry) (kind_content item.entry))) ∷ [])) }
 {
     match item {
         ModItemKind::Mod(item) => match item.kind {
@@ -509,8 +543,8 @@ fn drop_item(
     item: ModItemKind<'_>,
     cfg: &CfgExpr,
 ) -> Result<(), CollectError>
-    ensures ok { OnOk result (Drops (IsUnconfigured (module_id run.old.map site.now.home) (node_of site.now.tree (kind_of item.entry) id) (cfg_view cfg.now) run.old.options) run.old run.new) }
-    ensures many { result ≡ Err CollectError.TooMany → STEP_LIMIT ≤ run.old.count }
+    ensures ok { OnOk result (Drops (IsUnconfigured (module_id (core_in run.old).map site.now.home) (node_of site.now.tree (kind_of item.entry) id) (cfg_view cfg.now) (core_in run.old).options) (core_in run.old) (core_in run.new)) }
+    ensures many { result ≡ Err CollectError.TooMany → STEP_LIMIT ≤ (core_in run.old).count }
 {
     let node = AstId {
         file_id: site.tree.file,
@@ -544,15 +578,16 @@ fn walk_item<D: SourceDatabase>(
     site: &Site,
     id: ModItemId,
 ) -> Result<(), CollectError>
-    requires in_range { site.now.home < length run.old.map.modules }
-    requires held { IsHeld locations.old (D.workspace db.old) run.old.map.id.krate site.now.tree source.now }
+    requires in_range { site.now.home < length (core_in run.old).map.modules }
+    requires held { IsWritten locations.old (D.workspace db.old) (core_in run.old).map.id.krate site.now source.now }
     requires there { id.0 < length (all_items source.now.tree.items) }
     ensures kept { KeepsTables locations.old locations.new }
+    ensures placed { AreCallsPlaced locations.old → AreCallsPlaced locations.new }
     ensures same { D.workspace db.new ≡ D.workspace db.old }
     ensures ok { OnOk result (OnceGrown locations.new (D.workspace db.old)
-        (λ env. Walks env (part_of world.entry) run.old run.new (visits_at source.now.tree site.now (id.0 ∷ [])))) }
+        (λ env. Walks env (part_of world.entry) (core_in run.old) (core_in run.new) (visits_at source.now.tree site.now (id.0 ∷ [])))) }
     ensures many { result ≡ Err CollectError.TooMany → OnceGrown locations.new (D.workspace db.old)
-        (λ env. WalksTooFar env (part_of world.entry) run.old (visits_at source.now.tree site.now (id.0 ∷ []))) }
+        (λ env. WalksTooFar env (part_of world.entry) (core_in run.old) (visits_at source.now.tree site.now (id.0 ∷ []))) }
 {
     let head = head_at(source.tree(), id);
     let item = source.tree().index(id);
@@ -596,15 +631,16 @@ pub fn walk_all<D: SourceDatabase>(
     site: &Site,
     ids: &[ModItemId],
 ) -> Result<(), CollectError>
-    requires in_range { site.now.home < length run.old.map.modules }
-    requires held { IsHeld locations.old (D.workspace db.old) run.old.map.id.krate site.now.tree source.now }
+    requires in_range { site.now.home < length (core_in run.old).map.modules }
+    requires held { IsWritten locations.old (D.workspace db.old) (core_in run.old).map.id.krate site.now source.now }
     requires there { All (λ n. n < length (all_items source.now.tree.items)) (numbers_of ids.now) }
     ensures kept { KeepsTables locations.old locations.new }
+    ensures placed { AreCallsPlaced locations.old → AreCallsPlaced locations.new }
     ensures same { D.workspace db.new ≡ D.workspace db.old }
     ensures ok { OnOk result (OnceGrown locations.new (D.workspace db.old)
-        (λ env. Walks env (part_of world.entry) run.old run.new (visits_at source.now.tree site.now (numbers_of ids.now)))) }
+        (λ env. Walks env (part_of world.entry) (core_in run.old) (core_in run.new) (visits_at source.now.tree site.now (numbers_of ids.now)))) }
     ensures many { result ≡ Err CollectError.TooMany → OnceGrown locations.new (D.workspace db.old)
-        (λ env. WalksTooFar env (part_of world.entry) run.old (visits_at source.now.tree site.now (numbers_of ids.now))) }
+        (λ env. WalksTooFar env (part_of world.entry) (core_in run.old) (visits_at source.now.tree site.now (numbers_of ids.now))) }
 {
     for id in ids {
         let id = ModItemId(counted(id.0));

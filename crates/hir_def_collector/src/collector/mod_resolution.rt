@@ -1,10 +1,12 @@
 //! The files of outline modules.
-ghost use Rattle.std.specs.Prelude.{◌≡◌, ◌≤◌, length, false, map, option_map, IfOk, IfSome, IsSome};
+ghost use Rattle.std.specs.Prelude.{◌≡◌, ◌≤◌, length, false, map, option_map, IfOk, IfSome};
 ghost use Rattle.std.specs.Option.{option_map_or};
 ghost use Rattle.hir_base.specs.Locations.{max_locations};
 ghost use Rattle.hir_item_tree.specs.Collected.{numbered};
-ghost use Rattle.hir_tables.specs.Tables.{KeepsTables, TablesValue, source_of};
-ghost use Rattle.hir_def_collector.specs.ModuleFiles.{IsNumberOf, file_of_tree, file_tree, named_by, path_attribute, path_in, taken_by};
+ghost use Rattle.hir_tables.specs.Tables.{KeepsTables, TablesValue};
+ghost use Rattle.hir_def_collector.specs.State.{core_in};
+ghost use Rattle.hir_def_collector.specs.Calls.{AreCallsPlaced};
+ghost use Rattle.hir_def_collector.specs.ModuleFiles.{IsFileMeant, IsNumberOf, file_of_tree, file_tree, named_by, path_attribute, path_in, taken_by};
 ghost use Rattle.hir_def_collector.specs.Moves.{Finds, IsHeld, LooksAt, found_view, looked_view};
 
 use crate::collector::CollectError;
@@ -65,20 +67,30 @@ pub fn path_attr(attrs: &[Attr]) -> Option<&str>
     None
 }
 
+/// The path of a file, if there is one.
+pub fn path_of(locations: &Tables, file: Option<FileId>) -> Result<Option<FilePath>, AllocError>
+    requires meant { IsFileMeant locations.now file }
+    ensures value { IfOk result (λ path. (grown : TablesValue) → KeepsTables locations.now grown → IsNumberOf grown file path) }
+{
+    let Some(id) = file else {
+        return Ok(None);
+    };
+    match locations.file(id) {
+        Some(path) => Ok(Some(path.clone()?)),
+        None => Ok(None),
+    }
+}
+
 /// The file that a tree is of, if it is one's.
-pub fn file_of(locations: &Tables, tree: TreeId) -> Result<Option<FilePath>, AllocError>
-    requires meant { IsSome (source_of locations.now tree) }
-    ensures value { IfOk result (λ path. (grown : TablesValue) → KeepsTables locations.now grown → IsNumberOf grown (file_of_tree tree) path) }
+pub fn file_of_tree(tree: TreeId) -> Option<FileId>
+    ensures value { result ≡ file_of_tree tree }
 {
     match tree {
         TreeId {
             file: HirFileId::File(file),
             block: None,
-        } => match locations.file(file.file_id) {
-            Some(path) => Ok(Some(path.clone()?)),
-            None => Ok(None),
-        },
-        TreeId { .. } => Ok(None),
+        } => Some(file.file_id),
+        TreeId { .. } => None,
     }
 }
 
@@ -105,9 +117,10 @@ fn look_at<D: SourceDatabase>(
     candidate: &Candidate,
 ) -> Result<Option<LookedFile>, CollectError>
     ensures kept { KeepsTables locations.old locations.new }
+    ensures placed { AreCallsPlaced locations.old → AreCallsPlaced locations.new }
     ensures same { D.workspace db.new ≡ D.workspace db.old }
-    ensures ok { IfOk result (λ file. LooksAt locations.new (D.workspace db.old) (option_map (λ p. p.now) declaring.entry) candidate.now run.old run.new (option_map looked_view file)) }
-    ensures held { IfOk result (λ file. IfSome file (λ f. IsHeld locations.new (D.workspace db.old) run.old.map.id.krate (file_tree run.old.map.crate_data.edition f.id) f.source.value)) }
+    ensures ok { IfOk result (λ file. LooksAt locations.new (D.workspace db.old) (option_map (λ p. p.now) declaring.entry) candidate.now (core_in run.old) (core_in run.new) (option_map looked_view file)) }
+    ensures held { IfOk result (λ file. IfSome file (λ f. IsHeld locations.new (D.workspace db.old) (core_in run.old).map.id.krate (file_tree (core_in run.old).map.crate_data.edition f.id) f.source.value)) }
     ensures many { result ≡ Err CollectError.TooMany → max_locations ≤ length locations.new.files }
 {
     let Some(path) = named_by(run.allocator(), declaring, candidate)? else {
@@ -158,9 +171,10 @@ pub fn find_file<D: SourceDatabase>(
     candidates: &[Candidate],
 ) -> Result<Option<FoundFile>, CollectError>
     ensures kept { KeepsTables locations.old locations.new }
+    ensures placed { AreCallsPlaced locations.old → AreCallsPlaced locations.new }
     ensures same { D.workspace db.new ≡ D.workspace db.old }
-    ensures ok { IfOk result (λ file. Finds locations.new (D.workspace db.old) (option_map (λ p. p.now) declaring.entry) candidates.now run.old run.new (option_map found_view file)) }
-    ensures held { IfOk result (λ file. IfSome file (λ f. IsHeld locations.new (D.workspace db.old) run.old.map.id.krate (file_tree run.old.map.crate_data.edition f.id) f.source.value)) }
+    ensures ok { IfOk result (λ file. Finds locations.new (D.workspace db.old) (option_map (λ p. p.now) declaring.entry) candidates.now (core_in run.old) (core_in run.new) (option_map found_view file)) }
+    ensures held { IfOk result (λ file. IfSome file (λ f. IsHeld locations.new (D.workspace db.old) (core_in run.old).map.id.krate (file_tree (core_in run.old).map.crate_data.edition f.id) f.source.value)) }
     ensures many { result ≡ Err CollectError.TooMany → max_locations ≤ length locations.new.files }
 {
     let [candidate, others @ ..] = candidates else {

@@ -5,5 +5,5 @@ use Rattle.hir_session.proofs.beginning.add_crate.Goals as goal
 pub returns : goal.returns
 returns c = record {
   added = added_by _ _ _ _ _ c.in_ok-info.info c.in_ok-info.ensures.made c.in_ok-file.file _ c.in_ok-clone.ensures.value c.in_ok-file.ensures.found
-      c.in_ok-info.ensures.number c.in_ok-push.ensures.items c.in_ok-file.ensures.kept;
+      c.in_ok-info.ensures.number c.in_ok-push.ensures.items c.in_ok-file.ensures.kept c.in_ok-file.ensures.others;
 }

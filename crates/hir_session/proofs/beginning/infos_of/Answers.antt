@@ -10,9 +10,9 @@ loop-input-init c = beginning-start _ _ _ c.new-infos.ensures.items
 pub loop-input-preserved : goal.loop-input-preserved
 loop-input-preserved c =
     let within : c.loop-input.input-index < length c.args.inputs.now.items = omega (arith, c.loop-input-test.true, c.deref-input-items.ensures.len) in
-    beginning-more c.loop-input.input-index c.args.inputs.now.items _ _ _ _ c.input-item.result c.input-item.result within
+    beginning-more c.loop-input.input-index c.args.inputs.now.items _ _ _ _ _ c.input-item.result c.input-item.result within
     (c.input-item.is ∙ ap (λ (xs : List CrateInput). get_or xs c.loop-input.input-index c.input-item.result) c.deref-input-items.ensures.value)
     c.in_ok-add_crate.ensures.added c.loop-input.invariant
 
 pub returns-clause-made : goal.returns-clause-made
-returns-clause-made c = beginning-end c.loop-input.input-index c.args.inputs.now.items _ _ (omega (arith, c.loop-input-test.false, c.deref-input-items.ensures.len)) c.loop-input.invariant
+returns-clause-made c = beginning-end c.loop-input.input-index c.args.inputs.now.items _ _ _ (omega (arith, c.loop-input-test.false, c.deref-input-items.ensures.len)) c.loop-input.invariant

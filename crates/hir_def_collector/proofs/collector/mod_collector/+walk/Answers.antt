@@ -12,30 +12,30 @@ use Rattle.hir_item_tree.specs.Kinds.{item_head, kind_content, kind_of}
 use Rattle.hir_item_tree.specs.Rows.{numbers_of, held_numbers, item_of, items_at}
 use Rattle.hir_item_tree.specs.SourceTree.{SourceTreeValue}
 use Rattle.hir_item_tree.specs.declared.rows.ModItemId.{ModItemId}
-use Rattle.hir_item_tree.specs.declared.tree_id.TreeId.{TreeId}
 use Rattle.hir_tables.proofs.Growth.{KeepsTables-trans}
 use Rattle.hir_def_map.specs.WorldParts.{part_of}
 use Rattle.hir_def_map.specs.declared.nameres.diagnostics.DefDiagnosticKind.TheVariants as diagnostics
 use Rattle.hir_def_collector.specs.ItemIds.{module_id, node_of}
 use Rattle.hir_def_collector.specs.Workspace.{Workspace}
 use Rattle.hir_def_collector.specs.Keys.{environment}
-use Rattle.hir_def_collector.specs.Moves.{GoesInside, Handles, IsHeld, IsOfFile, IsWithin, OnceGrown, Walks, WalksTooFar, tasks_of}
-use Rattle.hir_def_collector.specs.State.{Task, visits, visits_over}
+use Rattle.hir_def_collector.specs.Moves.{GoesInside, Handles, IsOfFile, IsWithin, IsWritten, OnceGrown, Walks, WalksTooFar, tasks_of}
+use Rattle.hir_def_collector.specs.State.{Task, core_in, visits, visits_over}
 use Rattle.hir_def_collector.specs.Steps.{closing, none, visit}
 use Rattle.hir_def_collector.specs.TreeReads.{head_of, visits_at, above}
 use Rattle.hir_def_collector.specs.declared.collector.mod_collector.Inside.{Inside}
 use Rattle.hir_def_collector.proofs.Changes.{id-Step, id-Steps}
 use Rattle.hir_def_collector.proofs.Numbers.{tables_stay}
 use Rattle.hir_def_collector.proofs.Finding.{falls_inside, falls_to_file, falls_to_item}
-use Rattle.hir_def_collector.proofs.Outline.{held_grown}
+use Rattle.hir_def_collector.proofs.Outline.{written_grown, written_inside}
 use Rattle.hir_def_collector.proofs.Walked.{All-below, All-same_numbers, Walks-all, Walks-append, Walks-first, WalksTo-next, WalksTo-none, WalksTooFar-behind, WalksTooFar-first, WalksTooFar-inside, WalksTooFar-next, above_each, above_least, at_each, at_index, dropped_at, far_at, longer_after, still_there, visits_one}
 use Rattle.hir_def_collector.proofs.collector.mod_collector.+walk.Goals as goal
 
 pub walk_all-loop-id-init : goal.walk_all-loop-id-init
 walk_all-loop-id-init g t c = record {
   kept = tables_stay c.args.locations.now;
+  placed = λ h. h;
   same = refl;
-  walked = λ grown k. WalksTo-none c.args.source.now.tree c.args.site.now (environment grown (g.D.SourceDatabase.workspace c.args.db.now)) (part_of c.args.world) c.args.ids.now c.args.run.now;
+  walked = λ grown k. WalksTo-none c.args.source.now.tree c.args.site.now (environment grown (g.D.SourceDatabase.workspace c.args.db.now)) (part_of c.args.world) c.args.ids.now (core_in c.args.run.now);
   in_range = c.requires.in_range;
   own = refl;
 }
@@ -52,10 +52,10 @@ walk_all-walk_item-requires g t c =
     let tree = c.args.source.now.tree in
     let part = part_of c.args.world in
     let there = at_each (length (all_items tree.items)) ids i x c.requires.there within e in
-    let held : IsHeld c.loop-id.locations (g.D.SourceDatabase.workspace c.loop-id.db) c.loop-id.run.map.id.krate site.tree c.args.source.now =
-    subst (λ (v : Workspace). IsHeld c.loop-id.locations v c.loop-id.run.map.id.krate site.tree c.args.source.now) (sym c.loop-id.invariant.same)
-    (subst (λ (id : MapId). IsHeld c.loop-id.locations w id.krate site.tree c.args.source.now) (sym c.loop-id.invariant.own)
-    (held_grown c.args.locations.now c.loop-id.locations w c.args.run.now.map.id.krate site.tree c.args.source.now c.loop-id.invariant.kept c.requires.held)) in
+    let held : IsWritten c.loop-id.locations (g.D.SourceDatabase.workspace c.loop-id.db) (core_in c.loop-id.run).map.id.krate site c.args.source.now =
+    subst (λ (v : Workspace). IsWritten c.loop-id.locations v (core_in c.loop-id.run).map.id.krate site c.args.source.now) (sym c.loop-id.invariant.same)
+    (subst (λ (id : MapId). IsWritten c.loop-id.locations w id.krate site c.args.source.now) (sym c.loop-id.invariant.own)
+    (written_grown c.args.locations.now c.loop-id.locations w (core_in c.args.run.now).map.id.krate site c.args.source.now c.loop-id.invariant.kept c.requires.held)) in
     let falls = falls_to_item site.dir.depth x.0 (above (numbers_of ids)) (above_each ids i x within e) (subst (λ (m : ℕ). m < 18446744073709551616) (sym c.counted.ensures.value) c.counted.ensures.below) in
     λ κs lives. (omega (arith, falls, c.decreases), (lives, (c.loop-id.invariant.in_range, (held, there))))
 
@@ -70,16 +70,17 @@ walk_all-loop-id-preserved g t c =
     let site = c.args.site.now in
     let tree = c.args.source.now.tree in
     let part = part_of c.args.world in
-    let step : OnceGrown c.walk_item.new.locations w (λ env. Walks env part c.loop-id.run c.walk_item.new.run (visits_at tree site (x.0 ∷ []))) =
-    subst (λ (v : Workspace). OnceGrown c.walk_item.new.locations v (λ env. Walks env part c.loop-id.run c.walk_item.new.run (visits_at tree site (x.0 ∷ [])))) c.loop-id.invariant.same c.in_ok-walk_item.ensures.ok in
+    let step : OnceGrown c.walk_item.new.locations w (λ env. Walks env part (core_in c.loop-id.run) (core_in c.walk_item.new.run) (visits_at tree site (x.0 ∷ []))) =
+    subst (λ (v : Workspace). OnceGrown c.walk_item.new.locations v (λ env. Walks env part (core_in c.loop-id.run) (core_in c.walk_item.new.run) (visits_at tree site (x.0 ∷ [])))) c.loop-id.invariant.same c.in_ok-walk_item.ensures.ok in
     let walks = step c.walk_item.new.locations (tables_stay c.walk_item.new.locations) in
-    let longer : length c.loop-id.run.map.modules ≤ length c.walk_item.new.run.map.modules = longer_after c.loop-id.run c.walk_item.new.run (visits_at tree site (x.0 ∷ [])) walks in
-    let own : c.walk_item.new.run.map.id ≡ c.loop-id.run.map.id = id-Steps (walks.steps []) in
+    let longer : length (core_in c.loop-id.run).map.modules ≤ length (core_in c.walk_item.new.run).map.modules = longer_after (core_in c.loop-id.run) (core_in c.walk_item.new.run) (visits_at tree site (x.0 ∷ [])) walks in
+    let own : (core_in c.walk_item.new.run).map.id ≡ (core_in c.loop-id.run).map.id = id-Steps (walks.steps []) in
     record {
       kept = KeepsTables-trans c.args.locations.now c.loop-id.locations c.walk_item.new.locations c.loop-id.invariant.kept c.in_ok-walk_item.ensures.kept;
+      placed = λ h. c.in_ok-walk_item.ensures.placed (c.loop-id.invariant.placed h);
       same = c.in_ok-walk_item.ensures.same ∙ c.loop-id.invariant.same;
       walked = λ grown k.
-          WalksTo-next tree site (environment grown w) part ids c.args.run.now c.loop-id.run c.walk_item.new.run i x within e
+          WalksTo-next tree site (environment grown w) part ids (core_in c.args.run.now) (core_in c.loop-id.run) (core_in c.walk_item.new.run) i x within e
           (c.loop-id.invariant.walked grown (KeepsTables-trans c.loop-id.locations c.walk_item.new.locations grown c.in_ok-walk_item.ensures.kept k)) (step grown k);
       in_range = omega (arith, longer, c.loop-id.invariant.in_range);
       own = own ∙ c.loop-id.invariant.own;
@@ -88,6 +89,9 @@ walk_all-loop-id-preserved g t c =
 pub walk_all-returns-in_err-walk_item-clause-kept : goal.walk_all-returns-in_err-walk_item-clause-kept
 walk_all-returns-in_err-walk_item-clause-kept g t c =
     KeepsTables-trans c.args.locations.now c.loop-id.locations c.walk_item.new.locations c.loop-id.invariant.kept c.in_err-walk_item.ensures.kept
+
+pub walk_all-returns-in_err-walk_item-clause-placed : goal.walk_all-returns-in_err-walk_item-clause-placed
+walk_all-returns-in_err-walk_item-clause-placed g t c = λ h. c.in_err-walk_item.ensures.placed (c.loop-id.invariant.placed h)
 
 pub walk_all-returns-in_err-walk_item-clause-many : goal.walk_all-returns-in_err-walk_item-clause-many
 walk_all-returns-in_err-walk_item-clause-many g t c = λ far_off grown k.
@@ -100,14 +104,14 @@ walk_all-returns-in_err-walk_item-clause-many g t c = λ far_off grown k.
     let site = c.args.site.now in
     let tree = c.args.source.now.tree in
     let part = part_of c.args.world in
-    let far : OnceGrown c.walk_item.new.locations w (λ env. WalksTooFar env part c.loop-id.run (visits_at tree site (x.0 ∷ []))) =
-    subst (λ (v : Workspace). OnceGrown c.walk_item.new.locations v (λ env. WalksTooFar env part c.loop-id.run (visits_at tree site (x.0 ∷ [])))) c.loop-id.invariant.same (c.in_err-walk_item.ensures.many (search rules)) in
-    WalksTooFar-next tree site (environment grown w) part ids c.args.run.now c.loop-id.run i x within e
+    let far : OnceGrown c.walk_item.new.locations w (λ env. WalksTooFar env part (core_in c.loop-id.run) (visits_at tree site (x.0 ∷ []))) =
+    subst (λ (v : Workspace). OnceGrown c.walk_item.new.locations v (λ env. WalksTooFar env part (core_in c.loop-id.run) (visits_at tree site (x.0 ∷ [])))) c.loop-id.invariant.same (c.in_err-walk_item.ensures.many (search rules)) in
+    WalksTooFar-next tree site (environment grown w) part ids (core_in c.args.run.now) (core_in c.loop-id.run) i x within e
     (c.loop-id.invariant.walked grown (KeepsTables-trans c.loop-id.locations c.walk_item.new.locations grown c.in_err-walk_item.ensures.kept k)) (far grown k)
 
 pub walk_all-returns-clause-ok : goal.walk_all-returns-clause-ok
 walk_all-returns-clause-ok g t c = λ grown k.
-    Walks-all c.args.source.now.tree c.args.site.now (environment grown (g.D.SourceDatabase.workspace c.args.db.now)) (part_of c.args.world) c.args.ids.now c.args.run.now c.loop-id.run c.loop-id.id-index c.loop-id-test.false
+    Walks-all c.args.source.now.tree c.args.site.now (environment grown (g.D.SourceDatabase.workspace c.args.db.now)) (part_of c.args.world) c.args.ids.now (core_in c.args.run.now) (core_in c.loop-id.run) c.loop-id.id-index c.loop-id-test.false
     (c.loop-id.invariant.walked grown k)
 
 pub walk_item-returns-in_err-drop_item-clause-many : goal.walk_item-returns-in_err-drop_item-clause-many
@@ -124,7 +128,7 @@ walk_item-returns-in_err-drop_item-clause-many g t c = λ far_off grown k.
     (subst (λ (t : Tree). IfSome (slice_get (all_items t.items) n) (λ i. h ≡ item_head i)) c.tree.ensures.value c.head_at-head.ensures.value)
     (subst (λ (t : Tree). IfSome (slice_get (all_items t.items) n) (λ i. item_of (all_items t.items) (item_head i) (kind_content item) ≡ i)) c.tree-2.ensures.value c.index-item.ensures.value) in
     let off : h.attributes.disabled ≡ Some (cfg_view c.in-Some.cfg) = ap (λ (o : Option CfgExpr). option_map cfg_view o) c.in-Some.is in
-    let run = c.args.run.now in
+    let run = core_in c.args.run.now in
     far_at site tree n h item (cfg_view c.in-Some.cfg) is off (environment grown w) part run
     (record { in_module = module_id run.map site.home; kind = diagnostics.UnconfiguredCode (node_of site.tree (kind_of item) h.id) c.in-Some.cfg run.options })
     (record { cfg = c.in-Some.cfg; is = refl; says = refl }) (inl (c.in_err-drop_item.ensures.many (search rules)))
@@ -143,7 +147,7 @@ walk_item-returns-in-Some-clause-ok g t c = λ grown k.
     (subst (λ (t : Tree). IfSome (slice_get (all_items t.items) n) (λ i. h ≡ item_head i)) c.tree.ensures.value c.head_at-head.ensures.value)
     (subst (λ (t : Tree). IfSome (slice_get (all_items t.items) n) (λ i. item_of (all_items t.items) (item_head i) (kind_content item) ≡ i)) c.tree-2.ensures.value c.index-item.ensures.value) in
     let off : h.attributes.disabled ≡ Some (cfg_view c.in-Some.cfg) = ap (λ (o : Option CfgExpr). option_map cfg_view o) c.in-Some.is in
-    dropped_at site tree n h item (cfg_view c.in-Some.cfg) is off (environment grown w) part c.args.run.now c.drop_item.new.run c.in_ok-drop_item.ensures.ok
+    dropped_at site tree n h item (cfg_view c.in-Some.cfg) is off (environment grown w) part (core_in c.args.run.now) (core_in c.drop_item.new.run) c.in_ok-drop_item.ensures.ok
 
 pub walk_item-returns-in_err-inside-clause-many : goal.walk_item-returns-in_err-inside-clause-many
 walk_item-returns-in_err-inside-clause-many g t c = λ far_off grown k.
@@ -158,7 +162,7 @@ walk_item-returns-in_err-inside-clause-many g t c = λ far_off grown k.
     visits_one tree site n h (kind_content item) c.requires.there
     (subst (λ (t : Tree). IfSome (slice_get (all_items t.items) n) (λ i. h ≡ item_head i)) c.tree.ensures.value c.head_at-head.ensures.value)
     (subst (λ (t : Tree). IfSome (slice_get (all_items t.items) n) (λ i. item_of (all_items t.items) (item_head i) (kind_content item) ≡ i)) c.tree-2.ensures.value c.index-item.ensures.value) in
-    subst (λ (vs : List Task). WalksTooFar (environment grown w) part c.args.run.now vs) (sym is) (c.in_err-inside.ensures.many (search rules) grown k (all_items tree.items))
+    subst (λ (vs : List Task). WalksTooFar (environment grown w) part (core_in c.args.run.now) vs) (sym is) (c.in_err-inside.ensures.many (search rules) grown k (all_items tree.items))
 
 pub walk_item-walk_all-requires : goal.walk_item-walk_all-requires
 walk_item-walk_all-requires g t c =
@@ -174,29 +178,32 @@ walk_item-walk_all-requires g t c =
     (subst (λ (t : Tree). IfSome (slice_get (all_items t.items) n) (λ i. h ≡ item_head i)) c.tree.ensures.value c.head_at-head.ensures.value)
     (subst (λ (t : Tree). IfSome (slice_get (all_items t.items) n) (λ i. item_of (all_items t.items) (item_head i) (kind_content item) ≡ i)) c.tree-2.ensures.value c.index-item.ensures.value) in
     let now = c.visit_item.new.locations in
-    let mid = c.visit_item.new.run in
+    let mid = core_in c.visit_item.new.run in
     let handles = c.in_ok-inside.ensures.ok now (tables_stay now) (all_items tree.items) in
-    let own : mid.map.id ≡ c.args.run.now.map.id = id-Step (handles.step []) in
+    let own : mid.map.id ≡ (core_in c.args.run.now).map.id = id-Step (handles.step []) in
     let inner = c.in-Held.inner in
     let ns = numbers_of c.in-Held.ids.now in
     let goes : IsWithin (length mid.map.modules) site inner × (ns ≡ held_numbers (kind_content item)) =
-    subst (λ (o : Inside). GoesInside now w c.args.run.now.map.id.krate (length mid.map.modules) site (held_numbers (kind_content item)) o) c.in-Held.is c.in_ok-inside.ensures.within in
+    subst (λ (o : Inside). GoesInside now w (core_in c.args.run.now).map.id.krate (length mid.map.modules) site (held_numbers (kind_content item)) o) c.in-Held.is c.in_ok-inside.ensures.within in
     let size = length (all_items tree.items) in
     let below : All (λ m. m < n) ns =
     All-same_numbers (λ m. m < n) ns (held_numbers (kind_content item)) goes.1 c.index-item.ensures.below in
     let least : above ns ≤ n = above_least n ns below in
     let there : n < size = c.requires.there in
     let falls = falls_inside site.dir.depth inner.dir.depth n (above ns) goes.0.deep least in
-    let held : IsHeld now (g.D.SourceDatabase.workspace c.visit_item.new.db) mid.map.id.krate inner.tree c.args.source.now =
-    subst (λ (v : Workspace). IsHeld now v mid.map.id.krate inner.tree c.args.source.now) (sym c.in_ok-inside.ensures.same)
-    (subst (λ (id : MapId). IsHeld now w id.krate inner.tree c.args.source.now) (sym own)
-    (subst (λ (t : TreeId). IsHeld now w c.args.run.now.map.id.krate t c.args.source.now) (sym goes.0.tree)
-    (held_grown c.args.locations.now now w c.args.run.now.map.id.krate site.tree c.args.source.now c.in_ok-inside.ensures.kept c.requires.held))) in
+    let held : IsWritten now (g.D.SourceDatabase.workspace c.visit_item.new.db) mid.map.id.krate inner c.args.source.now =
+    subst (λ (v : Workspace). IsWritten now v mid.map.id.krate inner c.args.source.now) (sym c.in_ok-inside.ensures.same)
+    (subst (λ (id : MapId). IsWritten now w id.krate inner c.args.source.now) (sym own)
+    (written_inside now w (core_in c.args.run.now).map.id.krate site inner c.args.source.now goes.0.tree goes.0.file
+    (written_grown c.args.locations.now now w (core_in c.args.run.now).map.id.krate site c.args.source.now c.in_ok-inside.ensures.kept c.requires.held))) in
     λ κs lives. (omega (arith, falls, c.decreases), (lives, (goes.0.there, (held, All-below n size ns (omega (arith, there)) below))))
 
 pub walk_item-returns-in_err-walk_all-in-Held-clause-kept : goal.walk_item-returns-in_err-walk_all-in-Held-clause-kept
 walk_item-returns-in_err-walk_all-in-Held-clause-kept g t c =
     KeepsTables-trans c.args.locations.now c.visit_item.new.locations c.walk_all.new.locations c.in_ok-inside.ensures.kept c.in_err-walk_all-in-Held.ensures.kept
+
+pub walk_item-returns-in_err-walk_all-in-Held-clause-placed : goal.walk_item-returns-in_err-walk_all-in-Held-clause-placed
+walk_item-returns-in_err-walk_all-in-Held-clause-placed g t c = λ h. c.in_err-walk_all-in-Held.ensures.placed (c.in_ok-inside.ensures.placed h)
 
 pub walk_item-returns-in_err-walk_all-in-Held-clause-many : goal.walk_item-returns-in_err-walk_all-in-Held-clause-many
 walk_item-returns-in_err-walk_all-in-Held-clause-many g t c = λ far_off grown k.
@@ -212,24 +219,27 @@ walk_item-returns-in_err-walk_all-in-Held-clause-many g t c = λ far_off grown k
     (subst (λ (t : Tree). IfSome (slice_get (all_items t.items) n) (λ i. h ≡ item_head i)) c.tree.ensures.value c.head_at-head.ensures.value)
     (subst (λ (t : Tree). IfSome (slice_get (all_items t.items) n) (λ i. item_of (all_items t.items) (item_head i) (kind_content item) ≡ i)) c.tree-2.ensures.value c.index-item.ensures.value) in
     let now = c.visit_item.new.locations in
-    let mid = c.visit_item.new.run in
+    let mid = core_in c.visit_item.new.run in
     let handles = c.in_ok-inside.ensures.ok now (tables_stay now) (all_items tree.items) in
-    let own : mid.map.id ≡ c.args.run.now.map.id = id-Step (handles.step []) in
+    let own : mid.map.id ≡ (core_in c.args.run.now).map.id = id-Step (handles.step []) in
     let inner = c.in-Held.inner in
     let ns = numbers_of c.in-Held.ids.now in
     let goes : IsWithin (length mid.map.modules) site inner × (ns ≡ held_numbers (kind_content item)) =
-    subst (λ (o : Inside). GoesInside now w c.args.run.now.map.id.krate (length mid.map.modules) site (held_numbers (kind_content item)) o) c.in-Held.is c.in_ok-inside.ensures.within in
-    let first : Handles (environment grown w) part c.args.run.now mid (visit site (item_of (all_items tree.items) h (kind_content item))) (visits_at tree inner ns ++ closing c.in-Held.macro_use site.home inner.home) =
-    subst (λ (o : Inside). Handles (environment grown w) part c.args.run.now mid (visit site (item_of (all_items tree.items) h (kind_content item))) (tasks_of site.home (all_items tree.items) o)) c.in-Held.is
+    subst (λ (o : Inside). GoesInside now w (core_in c.args.run.now).map.id.krate (length mid.map.modules) site (held_numbers (kind_content item)) o) c.in-Held.is c.in_ok-inside.ensures.within in
+    let first : Handles (environment grown w) part (core_in c.args.run.now) mid (visit site (item_of (all_items tree.items) h (kind_content item))) (visits_at tree inner ns ++ closing c.in-Held.macro_use site.home inner.home) =
+    subst (λ (o : Inside). Handles (environment grown w) part (core_in c.args.run.now) mid (visit site (item_of (all_items tree.items) h (kind_content item))) (tasks_of site.home (all_items tree.items) o)) c.in-Held.is
     (c.in_ok-inside.ensures.ok grown (KeepsTables-trans now c.walk_all.new.locations grown c.in_err-walk_all-in-Held.ensures.kept k) (all_items tree.items)) in
     let later : OnceGrown c.walk_all.new.locations w (λ env. WalksTooFar env part mid (visits_at tree inner ns)) =
     subst (λ (v : Workspace). OnceGrown c.walk_all.new.locations v (λ env. WalksTooFar env part mid (visits_at tree inner ns))) c.in_ok-inside.ensures.same (c.in_err-walk_all-in-Held.ensures.many (search rules)) in
     let behind = closing c.in-Held.macro_use site.home inner.home in
-    WalksTooFar-inside c.args.run.now mid _ (visits_at tree site (n ∷ [])) (visits_at tree inner ns ++ behind) is first (WalksTooFar-first mid (visits_at tree inner ns) behind (later grown k))
+    WalksTooFar-inside (core_in c.args.run.now) mid _ (visits_at tree site (n ∷ [])) (visits_at tree inner ns ++ behind) is first (WalksTooFar-first mid (visits_at tree inner ns) behind (later grown k))
 
 pub walk_item-returns-in_err-walk_all-in-File-clause-kept : goal.walk_item-returns-in_err-walk_all-in-File-clause-kept
 walk_item-returns-in_err-walk_all-in-File-clause-kept g t c =
     KeepsTables-trans c.args.locations.now c.visit_item.new.locations c.walk_all-in-File.new.locations c.in_ok-inside.ensures.kept c.in_err-walk_all-in-File.ensures.kept
+
+pub walk_item-returns-in_err-walk_all-in-File-clause-placed : goal.walk_item-returns-in_err-walk_all-in-File-clause-placed
+walk_item-returns-in_err-walk_all-in-File-clause-placed g t c = λ h. c.in_err-walk_all-in-File.ensures.placed (c.in_ok-inside.ensures.placed h)
 
 pub walk_item-returns-in_err-walk_all-in-File-clause-many : goal.walk_item-returns-in_err-walk_all-in-File-clause-many
 walk_item-returns-in_err-walk_all-in-File-clause-many g t c = λ far_off grown k.
@@ -245,15 +255,15 @@ walk_item-returns-in_err-walk_all-in-File-clause-many g t c = λ far_off grown k
     (subst (λ (t : Tree). IfSome (slice_get (all_items t.items) n) (λ i. h ≡ item_head i)) c.tree.ensures.value c.head_at-head.ensures.value)
     (subst (λ (t : Tree). IfSome (slice_get (all_items t.items) n) (λ i. item_of (all_items t.items) (item_head i) (kind_content item) ≡ i)) c.tree-2.ensures.value c.index-item.ensures.value) in
     let now = c.visit_item.new.locations in
-    let mid = c.visit_item.new.run in
+    let mid = core_in c.visit_item.new.run in
     let handles = c.in_ok-inside.ensures.ok now (tables_stay now) (all_items tree.items) in
-    let own : mid.map.id ≡ c.args.run.now.map.id = id-Step (handles.step []) in
+    let own : mid.map.id ≡ (core_in c.args.run.now).map.id = id-Step (handles.step []) in
     let inner = c.in-File.inner in
     let source = c.in-File.source.value in
-    let goes : IsOfFile now w c.args.run.now.map.id.krate (length mid.map.modules) site inner source =
-    subst (λ (o : Inside). GoesInside now w c.args.run.now.map.id.krate (length mid.map.modules) site (held_numbers (kind_content item)) o) c.in-File.is c.in_ok-inside.ensures.within in
-    let first : Handles (environment grown w) part c.args.run.now mid (visit site (item_of (all_items tree.items) h (kind_content item))) (visits_over inner source.tree.items ++ closing c.in-File.macro_use site.home inner.home) =
-    subst (λ (o : Inside). Handles (environment grown w) part c.args.run.now mid (visit site (item_of (all_items tree.items) h (kind_content item))) (tasks_of site.home (all_items tree.items) o)) c.in-File.is
+    let goes : IsOfFile now w (core_in c.args.run.now).map.id.krate (length mid.map.modules) site inner source =
+    subst (λ (o : Inside). GoesInside now w (core_in c.args.run.now).map.id.krate (length mid.map.modules) site (held_numbers (kind_content item)) o) c.in-File.is c.in_ok-inside.ensures.within in
+    let first : Handles (environment grown w) part (core_in c.args.run.now) mid (visit site (item_of (all_items tree.items) h (kind_content item))) (visits_over inner source.tree.items ++ closing c.in-File.macro_use site.home inner.home) =
+    subst (λ (o : Inside). Handles (environment grown w) part (core_in c.args.run.now) mid (visit site (item_of (all_items tree.items) h (kind_content item))) (tasks_of site.home (all_items tree.items) o)) c.in-File.is
     (c.in_ok-inside.ensures.ok grown (KeepsTables-trans now c.walk_all-in-File.new.locations grown c.in_err-walk_all-in-File.ensures.kept k) (all_items tree.items)) in
     let items_same : visits_at c.deref-in-File.result.now.tree inner (numbers_of c.top_level_items-ids.result.now) ≡ visits_over inner source.tree.items =
     ap (λ (s : SourceTreeValue). visits_at s.tree inner (numbers_of c.top_level_items-ids.result.now)) c.deref-in-File.ensures
@@ -262,7 +272,7 @@ walk_item-returns-in_err-walk_all-in-File-clause-many g t c = λ far_off grown k
     subst (λ (vs : List Task). OnceGrown c.walk_all-in-File.new.locations w (λ env. WalksTooFar env part mid vs)) items_same
     (subst (λ (v : Workspace). OnceGrown c.walk_all-in-File.new.locations v (λ env. WalksTooFar env part mid (visits_at c.deref-in-File.result.now.tree inner (numbers_of c.top_level_items-ids.result.now)))) c.in_ok-inside.ensures.same (c.in_err-walk_all-in-File.ensures.many (search rules))) in
     let behind = closing c.in-File.macro_use site.home inner.home in
-    WalksTooFar-inside c.args.run.now mid _ (visits_at tree site (n ∷ [])) (visits_over inner source.tree.items ++ behind) is first (WalksTooFar-first mid (visits_over inner source.tree.items) behind (later grown k))
+    WalksTooFar-inside (core_in c.args.run.now) mid _ (visits_at tree site (n ∷ [])) (visits_over inner source.tree.items ++ behind) is first (WalksTooFar-first mid (visits_over inner source.tree.items) behind (later grown k))
 
 pub walk_item-walk_all-requires-in-File : goal.walk_item-walk_all-requires-in-File
 walk_item-walk_all-requires-in-File g t c =
@@ -278,31 +288,37 @@ walk_item-walk_all-requires-in-File g t c =
     (subst (λ (t : Tree). IfSome (slice_get (all_items t.items) n) (λ i. h ≡ item_head i)) c.tree.ensures.value c.head_at-head.ensures.value)
     (subst (λ (t : Tree). IfSome (slice_get (all_items t.items) n) (λ i. item_of (all_items t.items) (item_head i) (kind_content item) ≡ i)) c.tree-2.ensures.value c.index-item.ensures.value) in
     let now = c.visit_item.new.locations in
-    let mid = c.visit_item.new.run in
+    let mid = core_in c.visit_item.new.run in
     let handles = c.in_ok-inside.ensures.ok now (tables_stay now) (all_items tree.items) in
-    let own : mid.map.id ≡ c.args.run.now.map.id = id-Step (handles.step []) in
+    let own : mid.map.id ≡ (core_in c.args.run.now).map.id = id-Step (handles.step []) in
     let inner = c.in-File.inner in
     let source = c.in-File.source.value in
-    let goes : IsOfFile now w c.args.run.now.map.id.krate (length mid.map.modules) site inner source =
-    subst (λ (o : Inside). GoesInside now w c.args.run.now.map.id.krate (length mid.map.modules) site (held_numbers (kind_content item)) o) c.in-File.is c.in_ok-inside.ensures.within in
+    let goes : IsOfFile now w (core_in c.args.run.now).map.id.krate (length mid.map.modules) site inner source =
+    subst (λ (o : Inside). GoesInside now w (core_in c.args.run.now).map.id.krate (length mid.map.modules) site (held_numbers (kind_content item)) o) c.in-File.is c.in_ok-inside.ensures.within in
     let ns = numbers_of c.top_level_items-ids.result.now in
     let falls = falls_to_file site.dir.depth inner.dir.depth n (above ns) goes.above goes.deeper in
-    let held : IsHeld now (g.D.SourceDatabase.workspace c.visit_item.new.db) mid.map.id.krate inner.tree source =
-    subst (λ (v : Workspace). IsHeld now v mid.map.id.krate inner.tree source) (sym c.in_ok-inside.ensures.same)
-    (subst (λ (id : MapId). IsHeld now w id.krate inner.tree source) (sym own) goes.held) in
+    let held : IsWritten now (g.D.SourceDatabase.workspace c.visit_item.new.db) mid.map.id.krate inner source =
+    subst (λ (v : Workspace). IsWritten now v mid.map.id.krate inner source) (sym c.in_ok-inside.ensures.same)
+    (subst (λ (id : MapId). IsWritten now w id.krate inner source) (sym own) goes.held) in
     let there : All (λ m. m < length (all_items c.deref-in-File.result.now.tree.items)) ns =
     subst (λ (s : SourceTreeValue). All (λ m. m < length (all_items s.tree.items)) ns) (sym c.deref-in-File.ensures)
     (All-map (λ m. m < length (all_items source.tree.items)) (λ (id : ModItemId). id.0) c.top_level_items-ids.result.now
     (subst (λ (t : Tree). All (λ (id : ModItemId). id.0 < length (all_items t.items)) c.top_level_items-ids.result.now) (c.tree-in-File.ensures.value ∙ ap (λ (s : SourceTreeValue). s.tree) c.deref.ensures) c.top_level_items-ids.ensures.there)) in
-    λ κs lives. (omega (arith, falls, c.decreases), (lives, (goes.there, (subst (λ (s : SourceTreeValue). IsHeld now (g.D.SourceDatabase.workspace c.visit_item.new.db) mid.map.id.krate inner.tree s) (sym c.deref-in-File.ensures) held, there))))
+    λ κs lives. (omega (arith, falls, c.decreases), (lives, (goes.there, (subst (λ (s : SourceTreeValue). IsWritten now (g.D.SourceDatabase.workspace c.visit_item.new.db) mid.map.id.krate inner s) (sym c.deref-in-File.ensures) held, there))))
 
 pub walk_item-returns-in_err-close-in-Held-clause-kept : goal.walk_item-returns-in_err-close-in-Held-clause-kept
 walk_item-returns-in_err-close-in-Held-clause-kept g t c =
     KeepsTables-trans c.args.locations.now c.visit_item.new.locations c.walk_all.new.locations c.in_ok-inside.ensures.kept c.in_ok-walk_all-in-Held.ensures.kept
 
+pub walk_item-returns-in_err-close-in-Held-clause-placed : goal.walk_item-returns-in_err-close-in-Held-clause-placed
+walk_item-returns-in_err-close-in-Held-clause-placed g t c = λ h. c.in_ok-walk_all-in-Held.ensures.placed (c.in_ok-inside.ensures.placed h)
+
 pub walk_item-returns-in_ok-close-in-Held-clause-kept : goal.walk_item-returns-in_ok-close-in-Held-clause-kept
 walk_item-returns-in_ok-close-in-Held-clause-kept g t c =
     KeepsTables-trans c.args.locations.now c.visit_item.new.locations c.walk_all.new.locations c.in_ok-inside.ensures.kept c.in_ok-walk_all-in-Held.ensures.kept
+
+pub walk_item-returns-in_ok-close-in-Held-clause-placed : goal.walk_item-returns-in_ok-close-in-Held-clause-placed
+walk_item-returns-in_ok-close-in-Held-clause-placed g t c = λ h. c.in_ok-walk_all-in-Held.ensures.placed (c.in_ok-inside.ensures.placed h)
 
 pub walk_item-returns-in_ok-close-in-Held-clause-ok : goal.walk_item-returns-in_ok-close-in-Held-clause-ok
 walk_item-returns-in_ok-close-in-Held-clause-ok g t c = λ grown k.
@@ -318,21 +334,21 @@ walk_item-returns-in_ok-close-in-Held-clause-ok g t c = λ grown k.
     (subst (λ (t : Tree). IfSome (slice_get (all_items t.items) n) (λ i. h ≡ item_head i)) c.tree.ensures.value c.head_at-head.ensures.value)
     (subst (λ (t : Tree). IfSome (slice_get (all_items t.items) n) (λ i. item_of (all_items t.items) (item_head i) (kind_content item) ≡ i)) c.tree-2.ensures.value c.index-item.ensures.value) in
     let now = c.visit_item.new.locations in
-    let mid = c.visit_item.new.run in
+    let mid = core_in c.visit_item.new.run in
     let handles = c.in_ok-inside.ensures.ok now (tables_stay now) (all_items tree.items) in
-    let own : mid.map.id ≡ c.args.run.now.map.id = id-Step (handles.step []) in
+    let own : mid.map.id ≡ (core_in c.args.run.now).map.id = id-Step (handles.step []) in
     let inner = c.in-Held.inner in
     let ns = numbers_of c.in-Held.ids.now in
     let goes : IsWithin (length mid.map.modules) site inner × (ns ≡ held_numbers (kind_content item)) =
-    subst (λ (o : Inside). GoesInside now w c.args.run.now.map.id.krate (length mid.map.modules) site (held_numbers (kind_content item)) o) c.in-Held.is c.in_ok-inside.ensures.within in
-    let first : Handles (environment grown w) part c.args.run.now mid (visit site (item_of (all_items tree.items) h (kind_content item))) (visits_at tree inner ns ++ closing c.in-Held.macro_use site.home inner.home) =
-    subst (λ (o : Inside). Handles (environment grown w) part c.args.run.now mid (visit site (item_of (all_items tree.items) h (kind_content item))) (tasks_of site.home (all_items tree.items) o)) c.in-Held.is
+    subst (λ (o : Inside). GoesInside now w (core_in c.args.run.now).map.id.krate (length mid.map.modules) site (held_numbers (kind_content item)) o) c.in-Held.is c.in_ok-inside.ensures.within in
+    let first : Handles (environment grown w) part (core_in c.args.run.now) mid (visit site (item_of (all_items tree.items) h (kind_content item))) (visits_at tree inner ns ++ closing c.in-Held.macro_use site.home inner.home) =
+    subst (λ (o : Inside). Handles (environment grown w) part (core_in c.args.run.now) mid (visit site (item_of (all_items tree.items) h (kind_content item))) (tasks_of site.home (all_items tree.items) o)) c.in-Held.is
     (c.in_ok-inside.ensures.ok grown (KeepsTables-trans now c.walk_all.new.locations grown c.in_ok-walk_all-in-Held.ensures.kept k) (all_items tree.items)) in
-    let later : OnceGrown c.walk_all.new.locations w (λ env. Walks env part mid c.walk_all.new.run (visits_at tree inner ns)) =
-    subst (λ (v : Workspace). OnceGrown c.walk_all.new.locations v (λ env. Walks env part mid c.walk_all.new.run (visits_at tree inner ns))) c.in_ok-inside.ensures.same c.in_ok-walk_all-in-Held.ensures.ok in
+    let later : OnceGrown c.walk_all.new.locations w (λ env. Walks env part mid (core_in c.walk_all.new.run) (visits_at tree inner ns)) =
+    subst (λ (v : Workspace). OnceGrown c.walk_all.new.locations v (λ env. Walks env part mid (core_in c.walk_all.new.run) (visits_at tree inner ns))) c.in_ok-inside.ensures.same c.in_ok-walk_all-in-Held.ensures.ok in
     let behind = closing c.in-Held.macro_use site.home inner.home in
-    Walks-first c.args.run.now mid c.close.new.run _ (visits_at tree site (n ∷ [])) (visits_at tree inner ns ++ behind) is first
-    (Walks-append mid c.walk_all.new.run c.close.new.run (visits_at tree inner ns) behind (later grown k) (c.in_ok-close-in-Held.ensures.ok (environment grown w) part))
+    Walks-first (core_in c.args.run.now) mid (core_in c.close.new.run) _ (visits_at tree site (n ∷ [])) (visits_at tree inner ns ++ behind) is first
+    (Walks-append mid (core_in c.walk_all.new.run) (core_in c.close.new.run) (visits_at tree inner ns) behind (later grown k) (c.in_ok-close-in-Held.ensures.ok (environment grown w) part))
 
 pub walk_item-returns-in_err-close-in-Held-clause-many : goal.walk_item-returns-in_err-close-in-Held-clause-many
 walk_item-returns-in_err-close-in-Held-clause-many g t c = λ far_off grown k.
@@ -348,21 +364,21 @@ walk_item-returns-in_err-close-in-Held-clause-many g t c = λ far_off grown k.
     (subst (λ (t : Tree). IfSome (slice_get (all_items t.items) n) (λ i. h ≡ item_head i)) c.tree.ensures.value c.head_at-head.ensures.value)
     (subst (λ (t : Tree). IfSome (slice_get (all_items t.items) n) (λ i. item_of (all_items t.items) (item_head i) (kind_content item) ≡ i)) c.tree-2.ensures.value c.index-item.ensures.value) in
     let now = c.visit_item.new.locations in
-    let mid = c.visit_item.new.run in
+    let mid = core_in c.visit_item.new.run in
     let handles = c.in_ok-inside.ensures.ok now (tables_stay now) (all_items tree.items) in
-    let own : mid.map.id ≡ c.args.run.now.map.id = id-Step (handles.step []) in
+    let own : mid.map.id ≡ (core_in c.args.run.now).map.id = id-Step (handles.step []) in
     let inner = c.in-Held.inner in
     let ns = numbers_of c.in-Held.ids.now in
     let goes : IsWithin (length mid.map.modules) site inner × (ns ≡ held_numbers (kind_content item)) =
-    subst (λ (o : Inside). GoesInside now w c.args.run.now.map.id.krate (length mid.map.modules) site (held_numbers (kind_content item)) o) c.in-Held.is c.in_ok-inside.ensures.within in
-    let first : Handles (environment grown w) part c.args.run.now mid (visit site (item_of (all_items tree.items) h (kind_content item))) (visits_at tree inner ns ++ closing c.in-Held.macro_use site.home inner.home) =
-    subst (λ (o : Inside). Handles (environment grown w) part c.args.run.now mid (visit site (item_of (all_items tree.items) h (kind_content item))) (tasks_of site.home (all_items tree.items) o)) c.in-Held.is
+    subst (λ (o : Inside). GoesInside now w (core_in c.args.run.now).map.id.krate (length mid.map.modules) site (held_numbers (kind_content item)) o) c.in-Held.is c.in_ok-inside.ensures.within in
+    let first : Handles (environment grown w) part (core_in c.args.run.now) mid (visit site (item_of (all_items tree.items) h (kind_content item))) (visits_at tree inner ns ++ closing c.in-Held.macro_use site.home inner.home) =
+    subst (λ (o : Inside). Handles (environment grown w) part (core_in c.args.run.now) mid (visit site (item_of (all_items tree.items) h (kind_content item))) (tasks_of site.home (all_items tree.items) o)) c.in-Held.is
     (c.in_ok-inside.ensures.ok grown (KeepsTables-trans now c.walk_all.new.locations grown c.in_ok-walk_all-in-Held.ensures.kept k) (all_items tree.items)) in
-    let later : OnceGrown c.walk_all.new.locations w (λ env. Walks env part mid c.walk_all.new.run (visits_at tree inner ns)) =
-    subst (λ (v : Workspace). OnceGrown c.walk_all.new.locations v (λ env. Walks env part mid c.walk_all.new.run (visits_at tree inner ns))) c.in_ok-inside.ensures.same c.in_ok-walk_all-in-Held.ensures.ok in
+    let later : OnceGrown c.walk_all.new.locations w (λ env. Walks env part mid (core_in c.walk_all.new.run) (visits_at tree inner ns)) =
+    subst (λ (v : Workspace). OnceGrown c.walk_all.new.locations v (λ env. Walks env part mid (core_in c.walk_all.new.run) (visits_at tree inner ns))) c.in_ok-inside.ensures.same c.in_ok-walk_all-in-Held.ensures.ok in
     let behind = closing c.in-Held.macro_use site.home inner.home in
-    WalksTooFar-inside c.args.run.now mid _ (visits_at tree site (n ∷ [])) (visits_at tree inner ns ++ behind) is first
-    (WalksTooFar-behind mid c.walk_all.new.run (visits_at tree inner ns) behind (later grown k) (c.in_err-close-in-Held.ensures.many (search rules) (environment grown w) part))
+    WalksTooFar-inside (core_in c.args.run.now) mid _ (visits_at tree site (n ∷ [])) (visits_at tree inner ns ++ behind) is first
+    (WalksTooFar-behind mid (core_in c.walk_all.new.run) (visits_at tree inner ns) behind (later grown k) (c.in_err-close-in-Held.ensures.many (search rules) (environment grown w) part))
 
 pub walk_item-close-requires : goal.walk_item-close-requires
 walk_item-close-requires g t c =
@@ -379,29 +395,35 @@ walk_item-close-requires g t c =
     (subst (λ (t : Tree). IfSome (slice_get (all_items t.items) n) (λ i. item_of (all_items t.items) (item_head i) (kind_content item) ≡ i)) c.tree-2.ensures.value c.index-item.ensures.value) in
     let now = c.visit_item.new.locations in
     let last = c.walk_all.new.locations in
-    let mid = c.visit_item.new.run in
+    let mid = core_in c.visit_item.new.run in
     let handles = c.in_ok-inside.ensures.ok now (tables_stay now) (all_items tree.items) in
-    let own : mid.map.id ≡ c.args.run.now.map.id = id-Step (handles.step []) in
+    let own : mid.map.id ≡ (core_in c.args.run.now).map.id = id-Step (handles.step []) in
     let inner = c.in-Held.inner in
     let ns = numbers_of c.in-Held.ids.now in
     let goes : IsWithin (length mid.map.modules) site inner × (ns ≡ held_numbers (kind_content item)) =
-    subst (λ (o : Inside). GoesInside now w c.args.run.now.map.id.krate (length mid.map.modules) site (held_numbers (kind_content item)) o) c.in-Held.is c.in_ok-inside.ensures.within in
-    let first : Handles (environment last w) part c.args.run.now mid (visit site (item_of (all_items tree.items) h (kind_content item))) (visits_at tree inner ns ++ closing c.in-Held.macro_use site.home inner.home) =
-    subst (λ (o : Inside). Handles (environment last w) part c.args.run.now mid (visit site (item_of (all_items tree.items) h (kind_content item))) (tasks_of site.home (all_items tree.items) o)) c.in-Held.is
+    subst (λ (o : Inside). GoesInside now w (core_in c.args.run.now).map.id.krate (length mid.map.modules) site (held_numbers (kind_content item)) o) c.in-Held.is c.in_ok-inside.ensures.within in
+    let first : Handles (environment last w) part (core_in c.args.run.now) mid (visit site (item_of (all_items tree.items) h (kind_content item))) (visits_at tree inner ns ++ closing c.in-Held.macro_use site.home inner.home) =
+    subst (λ (o : Inside). Handles (environment last w) part (core_in c.args.run.now) mid (visit site (item_of (all_items tree.items) h (kind_content item))) (tasks_of site.home (all_items tree.items) o)) c.in-Held.is
     (c.in_ok-inside.ensures.ok last c.in_ok-walk_all-in-Held.ensures.kept (all_items tree.items)) in
-    let later : OnceGrown c.walk_all.new.locations w (λ env. Walks env part mid c.walk_all.new.run (visits_at tree inner ns)) =
-    subst (λ (v : Workspace). OnceGrown c.walk_all.new.locations v (λ env. Walks env part mid c.walk_all.new.run (visits_at tree inner ns))) c.in_ok-inside.ensures.same c.in_ok-walk_all-in-Held.ensures.ok in
-    let there : site.home < length mid.map.modules = still_there c.args.run.now mid _ (visits_at tree inner ns ++ closing c.in-Held.macro_use site.home inner.home) site.home first c.requires.in_range in
-    let longer : length mid.map.modules ≤ length c.walk_all.new.run.map.modules = longer_after mid c.walk_all.new.run (visits_at tree inner ns) (later last (tables_stay last)) in
+    let later : OnceGrown c.walk_all.new.locations w (λ env. Walks env part mid (core_in c.walk_all.new.run) (visits_at tree inner ns)) =
+    subst (λ (v : Workspace). OnceGrown c.walk_all.new.locations v (λ env. Walks env part mid (core_in c.walk_all.new.run) (visits_at tree inner ns))) c.in_ok-inside.ensures.same c.in_ok-walk_all-in-Held.ensures.ok in
+    let there : site.home < length mid.map.modules = still_there (core_in c.args.run.now) mid _ (visits_at tree inner ns ++ closing c.in-Held.macro_use site.home inner.home) site.home first c.requires.in_range in
+    let longer : length mid.map.modules ≤ length (core_in c.walk_all.new.run).map.modules = longer_after mid (core_in c.walk_all.new.run) (visits_at tree inner ns) (later last (tables_stay last)) in
     record { in_range = omega (arith, there, longer) }
 
 pub walk_item-returns-in_err-close-in-File-clause-kept : goal.walk_item-returns-in_err-close-in-File-clause-kept
 walk_item-returns-in_err-close-in-File-clause-kept g t c =
     KeepsTables-trans c.args.locations.now c.visit_item.new.locations c.walk_all-in-File.new.locations c.in_ok-inside.ensures.kept c.in_ok-walk_all-in-File.ensures.kept
 
+pub walk_item-returns-in_err-close-in-File-clause-placed : goal.walk_item-returns-in_err-close-in-File-clause-placed
+walk_item-returns-in_err-close-in-File-clause-placed g t c = λ h. c.in_ok-walk_all-in-File.ensures.placed (c.in_ok-inside.ensures.placed h)
+
 pub walk_item-returns-in_ok-close-in-File-clause-kept : goal.walk_item-returns-in_ok-close-in-File-clause-kept
 walk_item-returns-in_ok-close-in-File-clause-kept g t c =
     KeepsTables-trans c.args.locations.now c.visit_item.new.locations c.walk_all-in-File.new.locations c.in_ok-inside.ensures.kept c.in_ok-walk_all-in-File.ensures.kept
+
+pub walk_item-returns-in_ok-close-in-File-clause-placed : goal.walk_item-returns-in_ok-close-in-File-clause-placed
+walk_item-returns-in_ok-close-in-File-clause-placed g t c = λ h. c.in_ok-walk_all-in-File.ensures.placed (c.in_ok-inside.ensures.placed h)
 
 pub walk_item-returns-in_ok-close-in-File-clause-ok : goal.walk_item-returns-in_ok-close-in-File-clause-ok
 walk_item-returns-in_ok-close-in-File-clause-ok g t c = λ grown k.
@@ -417,25 +439,25 @@ walk_item-returns-in_ok-close-in-File-clause-ok g t c = λ grown k.
     (subst (λ (t : Tree). IfSome (slice_get (all_items t.items) n) (λ i. h ≡ item_head i)) c.tree.ensures.value c.head_at-head.ensures.value)
     (subst (λ (t : Tree). IfSome (slice_get (all_items t.items) n) (λ i. item_of (all_items t.items) (item_head i) (kind_content item) ≡ i)) c.tree-2.ensures.value c.index-item.ensures.value) in
     let now = c.visit_item.new.locations in
-    let mid = c.visit_item.new.run in
+    let mid = core_in c.visit_item.new.run in
     let handles = c.in_ok-inside.ensures.ok now (tables_stay now) (all_items tree.items) in
-    let own : mid.map.id ≡ c.args.run.now.map.id = id-Step (handles.step []) in
+    let own : mid.map.id ≡ (core_in c.args.run.now).map.id = id-Step (handles.step []) in
     let inner = c.in-File.inner in
     let source = c.in-File.source.value in
-    let goes : IsOfFile now w c.args.run.now.map.id.krate (length mid.map.modules) site inner source =
-    subst (λ (o : Inside). GoesInside now w c.args.run.now.map.id.krate (length mid.map.modules) site (held_numbers (kind_content item)) o) c.in-File.is c.in_ok-inside.ensures.within in
-    let first : Handles (environment grown w) part c.args.run.now mid (visit site (item_of (all_items tree.items) h (kind_content item))) (visits_over inner source.tree.items ++ closing c.in-File.macro_use site.home inner.home) =
-    subst (λ (o : Inside). Handles (environment grown w) part c.args.run.now mid (visit site (item_of (all_items tree.items) h (kind_content item))) (tasks_of site.home (all_items tree.items) o)) c.in-File.is
+    let goes : IsOfFile now w (core_in c.args.run.now).map.id.krate (length mid.map.modules) site inner source =
+    subst (λ (o : Inside). GoesInside now w (core_in c.args.run.now).map.id.krate (length mid.map.modules) site (held_numbers (kind_content item)) o) c.in-File.is c.in_ok-inside.ensures.within in
+    let first : Handles (environment grown w) part (core_in c.args.run.now) mid (visit site (item_of (all_items tree.items) h (kind_content item))) (visits_over inner source.tree.items ++ closing c.in-File.macro_use site.home inner.home) =
+    subst (λ (o : Inside). Handles (environment grown w) part (core_in c.args.run.now) mid (visit site (item_of (all_items tree.items) h (kind_content item))) (tasks_of site.home (all_items tree.items) o)) c.in-File.is
     (c.in_ok-inside.ensures.ok grown (KeepsTables-trans now c.walk_all-in-File.new.locations grown c.in_ok-walk_all-in-File.ensures.kept k) (all_items tree.items)) in
     let items_same : visits_at c.deref-in-File.result.now.tree inner (numbers_of c.top_level_items-ids.result.now) ≡ visits_over inner source.tree.items =
     ap (λ (s : SourceTreeValue). visits_at s.tree inner (numbers_of c.top_level_items-ids.result.now)) c.deref-in-File.ensures
     ∙ ap (visits_over inner) (subst (λ (t : Tree). items_at (all_items t.items) (numbers_of c.top_level_items-ids.result.now) ≡ t.items) (c.tree-in-File.ensures.value ∙ ap (λ (s : SourceTreeValue). s.tree) c.deref.ensures) c.top_level_items-ids.ensures.value) in
-    let later : OnceGrown c.walk_all-in-File.new.locations w (λ env. Walks env part mid c.walk_all-in-File.new.run (visits_over inner source.tree.items)) =
-    subst (λ (vs : List Task). OnceGrown c.walk_all-in-File.new.locations w (λ env. Walks env part mid c.walk_all-in-File.new.run vs)) items_same
-    (subst (λ (v : Workspace). OnceGrown c.walk_all-in-File.new.locations v (λ env. Walks env part mid c.walk_all-in-File.new.run (visits_at c.deref-in-File.result.now.tree inner (numbers_of c.top_level_items-ids.result.now)))) c.in_ok-inside.ensures.same c.in_ok-walk_all-in-File.ensures.ok) in
+    let later : OnceGrown c.walk_all-in-File.new.locations w (λ env. Walks env part mid (core_in c.walk_all-in-File.new.run) (visits_over inner source.tree.items)) =
+    subst (λ (vs : List Task). OnceGrown c.walk_all-in-File.new.locations w (λ env. Walks env part mid (core_in c.walk_all-in-File.new.run) vs)) items_same
+    (subst (λ (v : Workspace). OnceGrown c.walk_all-in-File.new.locations v (λ env. Walks env part mid (core_in c.walk_all-in-File.new.run) (visits_at c.deref-in-File.result.now.tree inner (numbers_of c.top_level_items-ids.result.now)))) c.in_ok-inside.ensures.same c.in_ok-walk_all-in-File.ensures.ok) in
     let behind = closing c.in-File.macro_use site.home inner.home in
-    Walks-first c.args.run.now mid c.close-in-File.new.run _ (visits_at tree site (n ∷ [])) (visits_over inner source.tree.items ++ behind) is first
-    (Walks-append mid c.walk_all-in-File.new.run c.close-in-File.new.run (visits_over inner source.tree.items) behind (later grown k) (c.in_ok-close-in-File.ensures.ok (environment grown w) part))
+    Walks-first (core_in c.args.run.now) mid (core_in c.close-in-File.new.run) _ (visits_at tree site (n ∷ [])) (visits_over inner source.tree.items ++ behind) is first
+    (Walks-append mid (core_in c.walk_all-in-File.new.run) (core_in c.close-in-File.new.run) (visits_over inner source.tree.items) behind (later grown k) (c.in_ok-close-in-File.ensures.ok (environment grown w) part))
 
 pub walk_item-returns-in_err-close-in-File-clause-many : goal.walk_item-returns-in_err-close-in-File-clause-many
 walk_item-returns-in_err-close-in-File-clause-many g t c = λ far_off grown k.
@@ -451,25 +473,25 @@ walk_item-returns-in_err-close-in-File-clause-many g t c = λ far_off grown k.
     (subst (λ (t : Tree). IfSome (slice_get (all_items t.items) n) (λ i. h ≡ item_head i)) c.tree.ensures.value c.head_at-head.ensures.value)
     (subst (λ (t : Tree). IfSome (slice_get (all_items t.items) n) (λ i. item_of (all_items t.items) (item_head i) (kind_content item) ≡ i)) c.tree-2.ensures.value c.index-item.ensures.value) in
     let now = c.visit_item.new.locations in
-    let mid = c.visit_item.new.run in
+    let mid = core_in c.visit_item.new.run in
     let handles = c.in_ok-inside.ensures.ok now (tables_stay now) (all_items tree.items) in
-    let own : mid.map.id ≡ c.args.run.now.map.id = id-Step (handles.step []) in
+    let own : mid.map.id ≡ (core_in c.args.run.now).map.id = id-Step (handles.step []) in
     let inner = c.in-File.inner in
     let source = c.in-File.source.value in
-    let goes : IsOfFile now w c.args.run.now.map.id.krate (length mid.map.modules) site inner source =
-    subst (λ (o : Inside). GoesInside now w c.args.run.now.map.id.krate (length mid.map.modules) site (held_numbers (kind_content item)) o) c.in-File.is c.in_ok-inside.ensures.within in
-    let first : Handles (environment grown w) part c.args.run.now mid (visit site (item_of (all_items tree.items) h (kind_content item))) (visits_over inner source.tree.items ++ closing c.in-File.macro_use site.home inner.home) =
-    subst (λ (o : Inside). Handles (environment grown w) part c.args.run.now mid (visit site (item_of (all_items tree.items) h (kind_content item))) (tasks_of site.home (all_items tree.items) o)) c.in-File.is
+    let goes : IsOfFile now w (core_in c.args.run.now).map.id.krate (length mid.map.modules) site inner source =
+    subst (λ (o : Inside). GoesInside now w (core_in c.args.run.now).map.id.krate (length mid.map.modules) site (held_numbers (kind_content item)) o) c.in-File.is c.in_ok-inside.ensures.within in
+    let first : Handles (environment grown w) part (core_in c.args.run.now) mid (visit site (item_of (all_items tree.items) h (kind_content item))) (visits_over inner source.tree.items ++ closing c.in-File.macro_use site.home inner.home) =
+    subst (λ (o : Inside). Handles (environment grown w) part (core_in c.args.run.now) mid (visit site (item_of (all_items tree.items) h (kind_content item))) (tasks_of site.home (all_items tree.items) o)) c.in-File.is
     (c.in_ok-inside.ensures.ok grown (KeepsTables-trans now c.walk_all-in-File.new.locations grown c.in_ok-walk_all-in-File.ensures.kept k) (all_items tree.items)) in
     let items_same : visits_at c.deref-in-File.result.now.tree inner (numbers_of c.top_level_items-ids.result.now) ≡ visits_over inner source.tree.items =
     ap (λ (s : SourceTreeValue). visits_at s.tree inner (numbers_of c.top_level_items-ids.result.now)) c.deref-in-File.ensures
     ∙ ap (visits_over inner) (subst (λ (t : Tree). items_at (all_items t.items) (numbers_of c.top_level_items-ids.result.now) ≡ t.items) (c.tree-in-File.ensures.value ∙ ap (λ (s : SourceTreeValue). s.tree) c.deref.ensures) c.top_level_items-ids.ensures.value) in
-    let later : OnceGrown c.walk_all-in-File.new.locations w (λ env. Walks env part mid c.walk_all-in-File.new.run (visits_over inner source.tree.items)) =
-    subst (λ (vs : List Task). OnceGrown c.walk_all-in-File.new.locations w (λ env. Walks env part mid c.walk_all-in-File.new.run vs)) items_same
-    (subst (λ (v : Workspace). OnceGrown c.walk_all-in-File.new.locations v (λ env. Walks env part mid c.walk_all-in-File.new.run (visits_at c.deref-in-File.result.now.tree inner (numbers_of c.top_level_items-ids.result.now)))) c.in_ok-inside.ensures.same c.in_ok-walk_all-in-File.ensures.ok) in
+    let later : OnceGrown c.walk_all-in-File.new.locations w (λ env. Walks env part mid (core_in c.walk_all-in-File.new.run) (visits_over inner source.tree.items)) =
+    subst (λ (vs : List Task). OnceGrown c.walk_all-in-File.new.locations w (λ env. Walks env part mid (core_in c.walk_all-in-File.new.run) vs)) items_same
+    (subst (λ (v : Workspace). OnceGrown c.walk_all-in-File.new.locations v (λ env. Walks env part mid (core_in c.walk_all-in-File.new.run) (visits_at c.deref-in-File.result.now.tree inner (numbers_of c.top_level_items-ids.result.now)))) c.in_ok-inside.ensures.same c.in_ok-walk_all-in-File.ensures.ok) in
     let behind = closing c.in-File.macro_use site.home inner.home in
-    WalksTooFar-inside c.args.run.now mid _ (visits_at tree site (n ∷ [])) (visits_over inner source.tree.items ++ behind) is first
-    (WalksTooFar-behind mid c.walk_all-in-File.new.run (visits_over inner source.tree.items) behind (later grown k) (c.in_err-close-in-File.ensures.many (search rules) (environment grown w) part))
+    WalksTooFar-inside (core_in c.args.run.now) mid _ (visits_at tree site (n ∷ [])) (visits_over inner source.tree.items ++ behind) is first
+    (WalksTooFar-behind mid (core_in c.walk_all-in-File.new.run) (visits_over inner source.tree.items) behind (later grown k) (c.in_err-close-in-File.ensures.many (search rules) (environment grown w) part))
 
 pub walk_item-close-requires-in-File : goal.walk_item-close-requires-in-File
 walk_item-close-requires-in-File g t c =
@@ -486,24 +508,24 @@ walk_item-close-requires-in-File g t c =
     (subst (λ (t : Tree). IfSome (slice_get (all_items t.items) n) (λ i. item_of (all_items t.items) (item_head i) (kind_content item) ≡ i)) c.tree-2.ensures.value c.index-item.ensures.value) in
     let now = c.visit_item.new.locations in
     let last = c.walk_all-in-File.new.locations in
-    let mid = c.visit_item.new.run in
+    let mid = core_in c.visit_item.new.run in
     let handles = c.in_ok-inside.ensures.ok now (tables_stay now) (all_items tree.items) in
-    let own : mid.map.id ≡ c.args.run.now.map.id = id-Step (handles.step []) in
+    let own : mid.map.id ≡ (core_in c.args.run.now).map.id = id-Step (handles.step []) in
     let inner = c.in-File.inner in
     let source = c.in-File.source.value in
-    let goes : IsOfFile now w c.args.run.now.map.id.krate (length mid.map.modules) site inner source =
-    subst (λ (o : Inside). GoesInside now w c.args.run.now.map.id.krate (length mid.map.modules) site (held_numbers (kind_content item)) o) c.in-File.is c.in_ok-inside.ensures.within in
-    let first : Handles (environment last w) part c.args.run.now mid (visit site (item_of (all_items tree.items) h (kind_content item))) (visits_over inner source.tree.items ++ closing c.in-File.macro_use site.home inner.home) =
-    subst (λ (o : Inside). Handles (environment last w) part c.args.run.now mid (visit site (item_of (all_items tree.items) h (kind_content item))) (tasks_of site.home (all_items tree.items) o)) c.in-File.is
+    let goes : IsOfFile now w (core_in c.args.run.now).map.id.krate (length mid.map.modules) site inner source =
+    subst (λ (o : Inside). GoesInside now w (core_in c.args.run.now).map.id.krate (length mid.map.modules) site (held_numbers (kind_content item)) o) c.in-File.is c.in_ok-inside.ensures.within in
+    let first : Handles (environment last w) part (core_in c.args.run.now) mid (visit site (item_of (all_items tree.items) h (kind_content item))) (visits_over inner source.tree.items ++ closing c.in-File.macro_use site.home inner.home) =
+    subst (λ (o : Inside). Handles (environment last w) part (core_in c.args.run.now) mid (visit site (item_of (all_items tree.items) h (kind_content item))) (tasks_of site.home (all_items tree.items) o)) c.in-File.is
     (c.in_ok-inside.ensures.ok last c.in_ok-walk_all-in-File.ensures.kept (all_items tree.items)) in
     let items_same : visits_at c.deref-in-File.result.now.tree inner (numbers_of c.top_level_items-ids.result.now) ≡ visits_over inner source.tree.items =
     ap (λ (s : SourceTreeValue). visits_at s.tree inner (numbers_of c.top_level_items-ids.result.now)) c.deref-in-File.ensures
     ∙ ap (visits_over inner) (subst (λ (t : Tree). items_at (all_items t.items) (numbers_of c.top_level_items-ids.result.now) ≡ t.items) (c.tree-in-File.ensures.value ∙ ap (λ (s : SourceTreeValue). s.tree) c.deref.ensures) c.top_level_items-ids.ensures.value) in
-    let later : OnceGrown c.walk_all-in-File.new.locations w (λ env. Walks env part mid c.walk_all-in-File.new.run (visits_over inner source.tree.items)) =
-    subst (λ (vs : List Task). OnceGrown c.walk_all-in-File.new.locations w (λ env. Walks env part mid c.walk_all-in-File.new.run vs)) items_same
-    (subst (λ (v : Workspace). OnceGrown c.walk_all-in-File.new.locations v (λ env. Walks env part mid c.walk_all-in-File.new.run (visits_at c.deref-in-File.result.now.tree inner (numbers_of c.top_level_items-ids.result.now)))) c.in_ok-inside.ensures.same c.in_ok-walk_all-in-File.ensures.ok) in
-    let there : site.home < length mid.map.modules = still_there c.args.run.now mid _ (visits_over inner source.tree.items ++ closing c.in-File.macro_use site.home inner.home) site.home first c.requires.in_range in
-    let longer : length mid.map.modules ≤ length c.walk_all-in-File.new.run.map.modules = longer_after mid c.walk_all-in-File.new.run (visits_over inner source.tree.items) (later last (tables_stay last)) in
+    let later : OnceGrown c.walk_all-in-File.new.locations w (λ env. Walks env part mid (core_in c.walk_all-in-File.new.run) (visits_over inner source.tree.items)) =
+    subst (λ (vs : List Task). OnceGrown c.walk_all-in-File.new.locations w (λ env. Walks env part mid (core_in c.walk_all-in-File.new.run) vs)) items_same
+    (subst (λ (v : Workspace). OnceGrown c.walk_all-in-File.new.locations v (λ env. Walks env part mid (core_in c.walk_all-in-File.new.run) (visits_at c.deref-in-File.result.now.tree inner (numbers_of c.top_level_items-ids.result.now)))) c.in_ok-inside.ensures.same c.in_ok-walk_all-in-File.ensures.ok) in
+    let there : site.home < length mid.map.modules = still_there (core_in c.args.run.now) mid _ (visits_over inner source.tree.items ++ closing c.in-File.macro_use site.home inner.home) site.home first c.requires.in_range in
+    let longer : length mid.map.modules ≤ length (core_in c.walk_all-in-File.new.run).map.modules = longer_after mid (core_in c.walk_all-in-File.new.run) (visits_over inner source.tree.items) (later last (tables_stay last)) in
     record { in_range = omega (arith, there, longer) }
 
 pub walk_item-returns-in-Nothing-clause-ok : goal.walk_item-returns-in-Nothing-clause-ok
@@ -519,7 +541,7 @@ walk_item-returns-in-Nothing-clause-ok g t c = λ grown k.
     visits_one tree site n h (kind_content item) c.requires.there
     (subst (λ (t : Tree). IfSome (slice_get (all_items t.items) n) (λ i. h ≡ item_head i)) c.tree.ensures.value c.head_at-head.ensures.value)
     (subst (λ (t : Tree). IfSome (slice_get (all_items t.items) n) (λ i. item_of (all_items t.items) (item_head i) (kind_content item) ≡ i)) c.tree-2.ensures.value c.index-item.ensures.value) in
-    let first : Handles (environment grown w) part c.args.run.now c.visit_item.new.run (visit site (item_of (all_items tree.items) h (kind_content item))) [] =
-    subst (λ (o : Inside). Handles (environment grown w) part c.args.run.now c.visit_item.new.run (visit site (item_of (all_items tree.items) h (kind_content item))) (tasks_of site.home (all_items tree.items) o)) c.in-Nothing.is
+    let first : Handles (environment grown w) part (core_in c.args.run.now) (core_in c.visit_item.new.run) (visit site (item_of (all_items tree.items) h (kind_content item))) [] =
+    subst (λ (o : Inside). Handles (environment grown w) part (core_in c.args.run.now) (core_in c.visit_item.new.run) (visit site (item_of (all_items tree.items) h (kind_content item))) (tasks_of site.home (all_items tree.items) o)) c.in-Nothing.is
     (c.in_ok-inside.ensures.ok grown k (all_items tree.items)) in
-    Walks-first c.args.run.now c.visit_item.new.run c.visit_item.new.run _ (visits_at tree site (n ∷ [])) [] is first (record { steps = λ rest. none })
+    Walks-first (core_in c.args.run.now) (core_in c.visit_item.new.run) (core_in c.visit_item.new.run) _ (visits_at tree site (n ∷ [])) [] is first (record { steps = λ rest. none })

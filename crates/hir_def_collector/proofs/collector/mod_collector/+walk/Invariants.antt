@@ -2,18 +2,21 @@ use Rattle.std.proofs.Common.{◌≡◌, ◌<◌, ◌+◌, ◌-◌, ◌*◌, len
 use Rattle.hir_item_tree.specs.Rows.{numbers_of}
 use Rattle.hir_tables.specs.Tables.{KeepsTables}
 use Rattle.hir_def_map.specs.WorldParts.{part_of}
+use Rattle.hir_def_collector.specs.Calls.{AreCallsPlaced}
 use Rattle.hir_def_collector.specs.Moves.{OnceGrown}
 use Rattle.hir_def_collector.specs.TreeReads.{above}
 use Rattle.hir_def_collector.proofs.Walked.{WalksTo}
 use Rattle.hir_def_collector.proofs.collector.mod_collector.+walk.Given as goal
+use Rattle.hir_def_collector.specs.State.{core_in}
 
 abbrev pub invariant-walk_all-loop-id : goal.invariant-walk_all-loop-id
 invariant-walk_all-loop-id g l = record {
   kept : KeepsTables l.initial.locations l.locations;
+  placed : AreCallsPlaced l.initial.locations → AreCallsPlaced l.locations;
   same : g.D.SourceDatabase.workspace l.db ≡ g.D.SourceDatabase.workspace l.initial.db;
-  walked : OnceGrown l.locations (g.D.SourceDatabase.workspace l.initial.db) (λ env. WalksTo l.source.tree l.site env (part_of l.world) l.ids l.initial.run l.run l.id-index);
-  in_range : l.site.home < length l.run.map.modules;
-  own : l.run.map.id ≡ l.initial.run.map.id;
+  walked : OnceGrown l.locations (g.D.SourceDatabase.workspace l.initial.db) (λ env. WalksTo l.source.tree l.site env (part_of l.world) l.ids (core_in l.initial.run) (core_in l.run) l.id-index);
+  in_range : l.site.home < length (core_in l.run).map.modules;
+  own : (core_in l.run).map.id ≡ (core_in l.initial.run).map.id;
 }
 
 -- what an item holds has lower numbers, or is deeper, and a file is deeper

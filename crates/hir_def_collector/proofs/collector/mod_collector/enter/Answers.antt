@@ -1,7 +1,7 @@
 use Rattle.std.proofs.Common.{◌≡◌, refl, arith, append-nil}
 use Rattle.hir_def_map.specs.State.{with_extern_block}
 use Rattle.hir_def_collector.specs.ItemIds.{extern_block_id}
-use Rattle.hir_def_collector.specs.State.{counted, with_map}
+use Rattle.hir_def_collector.specs.State.{core_in, counted, with_map}
 use Rattle.hir_def_collector.specs.TreeReads.{head_of}
 use Rattle.hir_def_collector.specs.Steps.{enters_block}
 use Rattle.hir_def_collector.proofs.Made.{made}
@@ -17,11 +17,12 @@ returns-clause-ok c = λ env finished items. record {
 
 pub returns-clause-within : goal.returns-clause-within
 returns-clause-within c = λ tables w.
-    let listed : c.tick.new.self ≡ counted (with_map c.args.run.now (with_extern_block c.args.run.now.map c.args.site.now.home (extern_block_id c.args.run.now.map c.args.site.now c.args.head.id))) =
+    let listed : (core_in c.tick.new.self) ≡ counted (with_map (core_in c.args.run.now) (with_extern_block (core_in c.args.run.now).map c.args.site.now.home (extern_block_id (core_in c.args.run.now).map c.args.site.now c.args.head.id))) =
     rw (c.in_ok-tick.ensures.ok, c.in_ok-list_extern_block.ensures.ok, c.module_id.ensures.value) refl in (
       record {
-        there = longer_by_block c.args.run.now c.tick.new.self c.args.site.now.home (extern_block_id c.args.run.now.map c.args.site.now c.args.head.id) listed c.requires.in_range;
+        there = longer_by_block (core_in c.args.run.now) (core_in c.tick.new.self) c.args.site.now.home (extern_block_id (core_in c.args.run.now).map c.args.site.now c.args.head.id) listed c.requires.in_range;
         tree = refl;
+        file = refl;
         deep = rw c.in_ok-dir.ensures.value (omega arith);
       },
       refl,

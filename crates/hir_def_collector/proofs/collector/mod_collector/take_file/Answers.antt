@@ -8,6 +8,7 @@ use Rattle.hir_item_tree.specs.SourceTree.{SourceTreeValue}
 use Rattle.hir_def_map.specs.declared.nameres.diagnostics.DefDiagnosticKind.TheVariants as kinds
 use Rattle.hir_def_collector.specs.ItemIds.{module_id, node_of}
 use Rattle.hir_def_collector.specs.Moves.{may_drop}
+use Rattle.hir_def_collector.specs.State.{core_in}
 use Rattle.hir_def_collector.proofs.collector.mod_collector.take_file.Goals as goal
 
 pub returns-in_err-drop_file-clause-many : goal.returns-in_err-drop_file-clause-many
@@ -19,6 +20,6 @@ returns-in_err-drop_file-clause-many c = λ h.
     ∙ ap (λ (o : Option CfgExpr). option_map cfg_view o) c.in-Some.is in (
       inl (c.in_err-drop_file.ensures.many (search rules)),
       may_drop (cfg_view c.in-Some.cfg)
-          (record { in_module = module_id c.args.run.now.map c.args.site.now.home; kind = kinds.UnconfiguredCode (node_of c.args.site.now.tree nodes.Module c.args.head.id) c.in-Some.cfg c.args.run.now.options }) off
+          (record { in_module = module_id (core_in c.args.run.now).map c.args.site.now.home; kind = kinds.UnconfiguredCode (node_of c.args.site.now.tree nodes.Module c.args.head.id) c.in-Some.cfg (core_in c.args.run.now).options }) off
           (record { cfg = c.in-Some.cfg; is = refl; says = refl }),
     )

@@ -1,15 +1,52 @@
--- A declaration is no glob, so globs still have brought nothing.
-use Rattle.std.proofs.Common.{◌≡◌, ◌∙◌, ap, None, refl}
+-- What is bound explicitly no glob has brought.
+use Rattle.std.proofs.Common.{◌≡◌, ◌∙◌, ℕ, List, None, ap}
 use Rattle.hir_scope.specs.Globs.{GlobNames}
-use Rattle.hir_def_map.specs.State.{globs_after, no_globs}
-use Rattle.hir_def_map.proofs.Grown.{globs_after-none}
+use Rattle.hir_scope.specs.declared.per_ns.PerNs.{PerNs}
+use Rattle.hir_def_map.specs.State.{Map, globs_after, pushed}
+use Rattle.hir_glob_imports.specs.Waves.{GlobsValue, brought_of}
+use Rattle.hir_import_resolution.specs.Changes.{forgotten}
+use Rattle.hir_def_collector.specs.State.{Run, core_in, with_bound}
 use Rattle.hir_def_collector.proofs.collector.def_collector.DefCollector.bind.Goals as goal
 
-pub invariant_of-self-2 : goal.invariant_of-self-2
-invariant_of-self-2 c =
-    let map = c.self.inside.map in
-    let none : c.push.new.glob_imports ≡ no_globs =
-    c.in_ok-push.ensures.globs
-    ∙ ap (λ (globs : GlobNames). globs_after map globs c.args.home c.args.name c.args.items None) c.self.invariant.1
-    ∙ globs_after-none map c.args.home c.args.name c.args.items None refl in
-    (c.self.invariant.0, none, c.self.invariant.2)
+bound_after : (r : Run) (map : Map) (names : GlobNames) (globs : GlobsValue) (home : ℕ) (name : List ℕ) (items : PerNs)
+    → map ≡ pushed r.map r.names home name items None → names ≡ globs_after r.map r.names home name items None → globs.edges ≡ r.globs.edges
+    → brought_of globs ≡ forgotten home name items (brought_of r.globs) → core_in (record r { map = map; names = names; globs = globs }) ≡ with_bound (core_in r) home name items
+unfolding core_in
+bound_after r map names globs home name items in_map in_names edges brought = λ i. record {
+  map = in_map i;
+  local = r.local;
+  dependencies = r.dependencies;
+  options = r.options;
+  globs = record { names = in_names i; edges = edges i; brought = brought i };
+  reached = r.reached;
+  taken = r.taken;
+  calls = r.calls;
+  fates = r.fates;
+  settled = r.settled;
+  asked = r.asked;
+  count = r.count;
+}
+
+pub returns : goal.returns
+returns c =
+    let inside : Run = record {
+      map = c.self.inside.map;
+      local = c.self.inside.local;
+      dependencies = c.self.inside.dependencies.items;
+      options = c.self.inside.options;
+      names = c.self.inside.from_glob_import;
+      globs = c.self.inside.globs;
+      reached = c.self.inside.reached.items;
+      taken = c.self.inside.taken.items;
+      calls = c.self.inside.calls.items;
+      fates = c.self.inside.fates.items;
+      settled = c.self.inside.settled;
+      asked = c.self.inside.asked.items;
+      count = c.self.inside.count;
+    } in
+    record {
+      ok =
+          bound_after inside c.push.new.self c.push.new.glob_imports c.forget.new.globs c.args.home c.args.name c.args.items c.in_ok-push.ensures.ok c.in_ok-push.ensures.globs c.in_ok-forget.ensures.edges
+          c.in_ok-forget.ensures.brought
+          ∙ ap (λ (r : Run). with_bound (core_in r) c.args.home c.args.name c.args.items) c.self.view_is;
+    }

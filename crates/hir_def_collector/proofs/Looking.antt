@@ -1,0 +1,172 @@
+-- What is asked for of a call that reaches a macro.
+use Rattle.std.proofs.Common.{◌≡◌, ◌∙◌, ◌⊎◌, ◌<◌, ℕ, zero, suc, length, inl, inr, ◌++◌, List, [], ◌∷◌, Option, Some, None, refl, sym, ap, subst, slice_get, option_and_then, option_map}
+use Rattle.std.specs.Prelude.{IsSome}
+use Rattle.hir_base.specs.declared.ast_id.AstId.{AstId}
+use Rattle.hir_base.specs.declared.ast_id.BlockId.{BlockId}
+use Rattle.hir_base.specs.declared.ast_id.EntryId.{EntryId}
+use Rattle.hir_base.specs.declared.ast_id.HirFileId.{HirFileId}
+use Rattle.hir_base.specs.declared.ast_id.HirFileId.TheVariants.{Macro}
+use Rattle.hir_base.specs.declared.ast_id.MacroCallId.{MacroCallId}
+use Rattle.hir_base.specs.declared.ids.Crate.{Crate}
+use Rattle.hir_base.specs.declared.macro_kind.MacroId.{MacroId}
+use Rattle.hir_base.specs.declared.macro_kind.MacroCallLoc.{MacroCallLoc}
+use Rattle.hir_base.specs.declared.macro_kind.MacroId.TheVariants as macros
+use Rattle.hir_item_tree.specs.SourceTree.{SourceTreeValue}
+use Rattle.hir_tables.specs.Interning.{Interns, gets_next, had_number}
+use Rattle.hir_tables.specs.SourcePlaces.{ExpansionValue, SourcePlaceValue, expansion}
+use Rattle.hir_tables.specs.Tables.{KeepsTables, TablesValue, call_at, entry_at, source_of, source_under as source_under_file}
+use Rattle.hir_tables.proofs.Growth.{KeepsTables-trans}
+use Rattle.hir_def_map.specs.Diagnostics.{call_node}
+use Rattle.hir_def_map.specs.Overlay.{Maps}
+use Rattle.hir_def_collector.specs.declared.collector.macro_directive.MacroDirective.{MacroDirective}
+use Rattle.hir_def_collector.specs.declared.source_database.Key.{Key}
+use Rattle.hir_def_collector.specs.declared.source_database.Key.TheVariants as keys
+use Rattle.hir_def_collector.specs.CallMoves.{SeesCall}
+use Rattle.hir_def_collector.specs.Calls.{AreCallsPlaced, Expanding, IsMeantCall, IsPlacedBelow, IsNumberedCall, call_key, call_loc, call_site, call_tree, expansion_of_call, expansion_readings, text_readings}
+use Rattle.hir_def_collector.specs.Keys.{Environment, IsMeant, Look, entry_under, environment, input_at, look, node_tree, of_entry, of_input, of_text, of_tree, source_in, source_under, text_at}
+use Rattle.hir_def_collector.specs.ModuleFiles.{Reading}
+use Rattle.hir_def_collector.specs.Moves.{IsHeld, IsWritten, OnceGrown}
+use Rattle.hir_def_collector.specs.State.{Core, with_asked}
+use Rattle.hir_def_collector.specs.Steps.{Sees, keys_read, with_keys}
+use Rattle.hir_def_collector.specs.Workspace.{EntryLook, Workspace, seen_of}
+use Rattle.hir_def_collector.proofs.CallPlaces.{placed_grown}
+use Rattle.hir_def_collector.proofs.Lists.{get_inside}
+use Rattle.hir_def_collector.proofs.Meaning.{looks_stand}
+use Rattle.hir_def_collector.proofs.ModuleFiles.{call_kept, macro_kept, site_kept}
+use Rattle.hir_def_collector.proofs.Rootless.{root_there}
+
+-- ---- keys, one after another
+
+pub with_keys-append : (asked ks ls : List Key) → with_keys asked (ks ++ ls) ≡ with_keys (with_keys asked ks) ls
+with_keys-append asked [] ls = refl
+with_keys-append asked (k ∷ ks) ls = with_keys-append (asked ++ k ∷ []) ks ls
+
+pub keys_read-append : (xs ys : List Reading) → keys_read (xs ++ ys) ≡ keys_read xs ++ keys_read ys
+keys_read-append [] ys = refl
+keys_read-append (x ∷ xs) ys = ap (λ (ks : List Key). x.key ∷ ks) (keys_read-append xs ys)
+
+-- what is seen of readings is seen of them before others
+pub Sees-append : (env : Environment) (finished : Maps) (xs ys : List Reading) → Sees env finished xs → Sees env finished ys → Sees env finished (xs ++ ys)
+Sees-append env finished [] ys p q = q
+Sees-append env finished (x ∷ xs) ys p q = (p.0, Sees-append env finished xs ys p.1 q)
+
+-- the text of a macro was asked for, and then the input, the expansion and its items
+pub asked_all : (c text input entry tree : Core) (own : Crate) (d : MacroDirective) (makro : MacroId) (x : Expanding)
+    → text ≡ record c { asked = with_keys c.asked (keys_read (text_readings makro x.text)) } → input ≡ with_asked text (keys.Input own d.ast_id) → entry ≡ with_asked input (keys.Expansion x.entry)
+    → tree ≡ with_asked entry (keys.Tree (call_key own x.id))
+    → tree ≡ record c { asked = with_keys c.asked (keys_read (text_readings makro x.text ++ expansion_readings own d x)) }
+asked_all c text input entry tree own d makro x first second third fourth =
+    let behind : List Key = keys_read (expansion_readings own d x) in
+    fourth
+    ∙ ap (λ (e : Core). with_asked e (keys.Tree (call_key own x.id))) (third ∙ ap (λ (e : Core). with_asked e (keys.Expansion x.entry)) (second ∙ ap (λ (e : Core). with_asked e (keys.Input own d.ast_id)) first))
+    ∙ ap (λ (ks : List Key). record c { asked = ks }) (sym (with_keys-append c.asked (keys_read (text_readings makro x.text)) behind))
+    ∙ ap (λ (ks : List Key). record c { asked = with_keys c.asked ks }) (sym (keys_read-append (text_readings makro x.text) (expansion_readings own d x)))
+
+-- ---- numbers
+
+-- a call whose expansion has a number expands to that source
+pub source_of_call : (tables : TablesValue) (id : MacroCallId) (loc : MacroCallLoc) (key : ExpansionValue) → call_at tables id ≡ Some loc → entry_at tables loc.entry ≡ Some key
+    → source_of tables (call_tree id) ≡ Some (expansion key)
+source_of_call tables id loc key call entry =
+    ap (λ (o : Option MacroCallLoc). option_map expansion (option_and_then (λ (l : MacroCallLoc). entry_at tables l.entry) o)) call ∙ ap (λ (o : Option ExpansionValue). option_map expansion o) entry
+
+module _ (first second tables : TablesValue) (w : Workspace) (c new : Core) (d : MacroDirective) (makro : MacroId) (x : Expanding) (source : SourceTreeValue)
+    (before : KeepsTables first second) (after : KeepsTables second tables) (meant : IsMeantCall first d) (of_macro : IsMeant first makro) where
+  abbrev own : Crate
+  own = c.map.id.krate
+
+  abbrev key : ExpansionValue
+  key = expansion_of_call own makro x.text x.input
+
+  kept : KeepsTables first tables
+  kept = KeepsTables-trans first second tables before after
+
+  numbered : entry_at second x.entry ≡ Some key → call_at tables x.id ≡ Some (call_loc d x.entry) → IsNumberedCall tables own d makro x
+  numbered entry call = record { meant = macro_kept first tables kept makro of_macro; entry = after.entries x.entry.0 key entry; call = call }
+
+  sees_text : (makro : MacroId) → IsMeant first makro → x.text ≡ text_at first w makro → (grown : TablesValue) → KeepsTables tables grown → (finished : Maps) → Sees (environment grown w) finished (text_readings makro x.text)
+  sees_text (macros.Macro2Id id) there is grown k finished =
+      (looks_stand first grown w finished (keys.Text (macros.Macro2Id id)) (KeepsTables-trans first tables grown kept k) there ∙ ap of_text (sym is), tt)
+  sees_text (macros.MacroRulesId id) there is grown k finished =
+      (looks_stand first grown w finished (keys.Text (macros.MacroRulesId id)) (KeepsTables-trans first tables grown kept k) there ∙ ap of_text (sym is), tt)
+  sees_text (macros.ProcMacroId id) there is grown k finished = tt
+
+  pub sees_call : entry_at second x.entry ≡ Some key → call_at tables x.id ≡ Some (call_loc d x.entry) → x.text ≡ text_at first w makro → x.input ≡ input_at first w own d.ast_id
+      → x.there ≡ w.entry key → x.tree ≡ seen_of source → source ≡ source_in tables w (call_key own x.id)
+      → new ≡ record c { asked = with_keys c.asked (keys_read (text_readings makro x.text ++ expansion_readings own d x)) } → SeesCall tables w d makro c new x source
+  sees_call entry call text input there tree found asked =
+      let at_last : IsNumberedCall tables own d makro x = numbered entry call in
+      let place : source_of tables (call_tree x.id) ≡ Some (expansion key) = source_of_call tables x.id (call_loc d x.entry) key call at_last.entry in
+      let is : source ≡ w.tree own (expansion key) = found ∙ ap (λ (o : Option SourcePlaceValue). source_under w own o) place in
+      record {
+        numbered = λ grown k. call_kept tables grown k own d makro x at_last;
+        sees = λ grown k finished.
+            Sees-append (environment grown w) finished (text_readings makro x.text) (expansion_readings own d x) (sees_text makro of_macro text grown k finished) (
+              looks_stand first grown w finished (keys.Input own d.ast_id) (KeepsTables-trans first tables grown kept k) meant.node ∙ ap of_input (sym input),
+              (
+                ap (λ (o : Option ExpansionValue). of_entry (entry_under w o)) (k.entries x.entry.0 key at_last.entry) ∙ ap of_entry (sym there),
+                (
+                  looks_stand tables grown w finished (keys.Tree (call_key own x.id)) k (subst (λ (o : Option SourcePlaceValue). IsSome o) (sym place) refl)
+                      ∙ ap (λ (s : SourceTreeValue). of_tree (seen_of s)) (sym found) ∙ ap of_tree (sym tree),
+                  tt,
+                ),
+              ),
+            );
+        tree = tree;
+        asked = asked;
+        written = record { held = record { place = expansion key; at = place; is = sym is }; file = (site_kept first tables kept d.site meant.site).file };
+      }
+
+-- ---- where calls are written
+
+-- what is found in a list with one value more is the last, or was there
+found_behind : {A : Type 0} (xs : List A) (x : A) (n : ℕ) (y : A) → slice_get (xs ++ x ∷ []) n ≡ Some y → ((length xs ≡ n) × (x ≡ y)) ⊎ (slice_get xs n ≡ Some y)
+found_behind [] x zero y e = inl (refl, cc)
+found_behind [] x (suc n) y e = absurd (let no : ⊥ = cc in no)
+found_behind (z ∷ zs) x zero y e = inr e
+found_behind (z ∷ zs) x (suc n) y e = elim (found_behind zs x n y e) [
+  | inl p ↦ inl (ap suc p.0, p.1)
+  | inr old ↦ inr old
+]
+
+no_call : (c : MacroCallId) (o : Option MacroCallLoc) (tables : TablesValue) → call_at tables c ≡ o → IsSome (option_map expansion (option_and_then (λ (l : MacroCallLoc). entry_at tables l.entry) o)) → c.0 < length tables.calls
+no_call c None tables e there = absurd (let no : ⊥ = cc in no)
+no_call c (Some loc) tables e there = get_inside tables.calls c.0 loc e
+
+-- a source that a call expands to, where it has a number, is of a call that has one
+within_calls : (tables : TablesValue) (node : AstId) (c : MacroCallId) → IsSome (source_of tables (node_tree node)) → node.file_id ≡ Macro c → node.block ≡ None → c.0 < length tables.calls
+within_calls tables node c there file block =
+    no_call c (call_at tables c) tables refl
+    (subst (λ (o : Option SourcePlaceValue). IsSome o) (ap (λ (id : HirFileId). source_under_file tables id node.block) file ∙ ap (λ (b : Option BlockId). source_under_file tables (Macro c) b) block) there)
+
+-- where an expansion gets a number, and then a call in a source that has one, each call is placed still
+pub placed_call : (first second tables : TablesValue) (d : MacroDirective) (entry : EntryId) → KeepsTables first second → KeepsTables second tables → second ≡ record first { entries = second.entries }
+    → tables ≡ record second { calls = tables.calls } → Interns second.calls tables.calls (call_loc d entry) → IsSome (source_of first (node_tree d.ast_id)) → AreCallsPlaced first → AreCallsPlaced tables
+placed_call first second tables d entry before after entries calls interns there placed = record {
+  calls = go interns;
+  blocks = ap (λ (t : TablesValue). t.blocks) calls ∙ ap (λ (t : TablesValue). t.blocks) entries ∙ placed.blocks;
+}
+  where
+    middle : AreCallsPlaced second
+    middle = placed_grown first second before (ap (λ (t : TablesValue). t.calls) entries) (ap (λ (t : TablesValue). t.blocks) entries) placed
+
+    here : (n : ℕ) → length second.calls ≡ n → IsPlacedBelow tables n d.ast_id
+    here n last =
+        let known : IsSome (source_of second (node_tree d.ast_id)) = root_there first second (node_tree d.ast_id) before there in
+        record {
+          source = root_there second tables (node_tree d.ast_id) after known;
+          earlier = λ c file block. subst (λ (k : ℕ). c.0 < k) last (within_calls second d.ast_id c known file block);
+        }
+
+    earlier : (n : ℕ) (loc : MacroCallLoc) → slice_get second.calls n ≡ Some loc → IsPlacedBelow tables n (call_node loc.kind)
+    earlier n loc e = let at = middle.calls n loc e in record { source = root_there second tables (node_tree (call_node loc.kind)) after at.source; earlier = at.earlier }
+
+    last_or_before : (n : ℕ) (loc : MacroCallLoc) → slice_get (second.calls ++ call_loc d entry ∷ []) n ≡ Some loc → ((length second.calls ≡ n) × (call_loc d entry ≡ loc)) ⊎ (slice_get second.calls n ≡ Some loc)
+    last_or_before n loc e = found_behind second.calls (call_loc d entry) n loc e
+
+    go : Interns second.calls tables.calls (call_loc d entry) → (n : ℕ) (loc : MacroCallLoc) → slice_get tables.calls n ≡ Some loc → IsPlacedBelow tables n (call_node loc.kind)
+    go (had_number known same) n loc e = earlier n loc (ap (λ (ls : List MacroCallLoc). slice_get ls n) (sym same) ∙ e)
+    go (gets_next fresh same) n loc e = elim (last_or_before n loc (ap (λ (ls : List MacroCallLoc). slice_get ls n) (sym same) ∙ e)) [
+      | inl p ↦ subst (λ (l : MacroCallLoc). IsPlacedBelow tables n (call_node l.kind)) p.1 (here n p.0)
+      | inr old ↦ earlier n loc old
+    ]

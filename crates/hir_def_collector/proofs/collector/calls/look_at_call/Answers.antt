@@ -1,0 +1,112 @@
+-- All that the expansion of a call depends on is asked for, and the expansion.
+use Rattle.std.proofs.Common.{rules, ◌≡◌, ◌∙◌, List, Option, Some, ap, refl, subst, sym}
+use Rattle.hir_base.specs.declared.ast_id.AstId.{AstId}
+use Rattle.hir_base.specs.declared.ids.MapId.{MapId}
+use Rattle.hir_base.specs.declared.macro_kind.MacroCallKind.{MacroCallKind}
+use Rattle.hir_tables.specs.Interning.{Interns}
+use Rattle.hir_tables.specs.SourcePlaces.{expansion_value}
+use Rattle.hir_tables.specs.Tables.{KeepsTables, TablesValue}
+use Rattle.hir_tables.proofs.Growth.{KeepsTables-trans}
+use Rattle.hir_def_map.specs.State.{Map}
+use Rattle.hir_def_collector.specs.declared.source_database.Key.TheVariants as keys
+use Rattle.hir_def_collector.specs.Calls.{AreCallsPlaced, Expanding, call_key, expansion_of_call}
+use Rattle.hir_def_collector.specs.Keys.{input_at, source_in}
+use Rattle.hir_def_collector.specs.State.{Core, core_in, with_asked}
+use Rattle.hir_def_collector.specs.Workspace.{Workspace, entry_look, seen_of}
+use Rattle.hir_def_collector.proofs.CallPlaces.{placed_grown}
+use Rattle.hir_def_collector.proofs.Looking.{asked_all, placed_call, sees_call}
+use Rattle.hir_def_collector.proofs.collector.calls.look_at_call.Goals as goal
+
+pub returns-in_err-id-clause-placed : goal.returns-in_err-id-clause-placed
+returns-in_err-id-clause-placed g c =
+    subst (λ (t : TablesValue). AreCallsPlaced c.args.locations.now → AreCallsPlaced t) (sym c.in_err-id.ensures.err)
+    (placed_grown c.args.locations.now c.intern_entry.new.self c.intern_entry.ensures.kept (ap (λ (t : TablesValue). t.calls) c.intern_entry.ensures.others) (ap (λ (t : TablesValue). t.blocks) c.intern_entry.ensures.others))
+
+pub returns-in_err-source-clause-kept : goal.returns-in_err-source-clause-kept
+returns-in_err-source-clause-kept g c =
+    KeepsTables-trans c.args.locations.now c.intern_entry.new.self c.intern_call.new.self c.intern_entry.ensures.kept c.intern_call.ensures.kept
+
+pub returns-in_err-source-clause-placed : goal.returns-in_err-source-clause-placed
+returns-in_err-source-clause-placed g c =
+    placed_call c.args.locations.now c.intern_entry.new.self c.intern_call.new.self c.args.call.now c.in_ok-entry.entry c.intern_entry.ensures.kept c.intern_call.ensures.kept c.intern_entry.ensures.others c.intern_call.ensures.others
+    (subst (λ (k : MacroCallKind). Interns c.intern_entry.new.self.calls c.intern_call.new.self.calls (record { kind = k; entry = c.in_ok-entry.entry })) c.call_kind.ensures.value c.in_ok-id.ensures.grown) c.requires.meant.node
+
+pub returns-in_err-ask_text-clause-kept : goal.returns-in_err-ask_text-clause-kept
+returns-in_err-ask_text-clause-kept g c =
+    KeepsTables-trans c.args.locations.now c.intern_entry.new.self c.intern_call.new.self c.intern_entry.ensures.kept c.intern_call.ensures.kept
+
+pub returns-in_err-ask_text-clause-placed : goal.returns-in_err-ask_text-clause-placed
+returns-in_err-ask_text-clause-placed g c =
+    placed_call c.args.locations.now c.intern_entry.new.self c.intern_call.new.self c.args.call.now c.in_ok-entry.entry c.intern_entry.ensures.kept c.intern_call.ensures.kept c.intern_entry.ensures.others c.intern_call.ensures.others
+    (subst (λ (k : MacroCallKind). Interns c.intern_entry.new.self.calls c.intern_call.new.self.calls (record { kind = k; entry = c.in_ok-entry.entry })) c.call_kind.ensures.value c.in_ok-id.ensures.grown) c.requires.meant.node
+
+pub returns-in_err-ask-clause-kept : goal.returns-in_err-ask-clause-kept
+returns-in_err-ask-clause-kept g c =
+    KeepsTables-trans c.args.locations.now c.intern_entry.new.self c.intern_call.new.self c.intern_entry.ensures.kept c.intern_call.ensures.kept
+
+pub returns-in_err-ask-clause-placed : goal.returns-in_err-ask-clause-placed
+returns-in_err-ask-clause-placed g c =
+    placed_call c.args.locations.now c.intern_entry.new.self c.intern_call.new.self c.args.call.now c.in_ok-entry.entry c.intern_entry.ensures.kept c.intern_call.ensures.kept c.intern_entry.ensures.others c.intern_call.ensures.others
+    (subst (λ (k : MacroCallKind). Interns c.intern_entry.new.self.calls c.intern_call.new.self.calls (record { kind = k; entry = c.in_ok-entry.entry })) c.call_kind.ensures.value c.in_ok-id.ensures.grown) c.requires.meant.node
+
+pub returns-in_err-ask-2-clause-kept : goal.returns-in_err-ask-2-clause-kept
+returns-in_err-ask-2-clause-kept g c =
+    KeepsTables-trans c.args.locations.now c.intern_entry.new.self c.intern_call.new.self c.intern_entry.ensures.kept c.intern_call.ensures.kept
+
+pub returns-in_err-ask-2-clause-placed : goal.returns-in_err-ask-2-clause-placed
+returns-in_err-ask-2-clause-placed g c =
+    placed_call c.args.locations.now c.intern_entry.new.self c.intern_call.new.self c.args.call.now c.in_ok-entry.entry c.intern_entry.ensures.kept c.intern_call.ensures.kept c.intern_entry.ensures.others c.intern_call.ensures.others
+    (subst (λ (k : MacroCallKind). Interns c.intern_entry.new.self.calls c.intern_call.new.self.calls (record { kind = k; entry = c.in_ok-entry.entry })) c.call_kind.ensures.value c.in_ok-id.ensures.grown) c.requires.meant.node
+
+pub returns-in_err-ask-3-clause-kept : goal.returns-in_err-ask-3-clause-kept
+returns-in_err-ask-3-clause-kept g c =
+    KeepsTables-trans c.args.locations.now c.intern_entry.new.self c.intern_call.new.self c.intern_entry.ensures.kept c.intern_call.ensures.kept
+
+pub returns-in_err-ask-3-clause-placed : goal.returns-in_err-ask-3-clause-placed
+returns-in_err-ask-3-clause-placed g c =
+    placed_call c.args.locations.now c.intern_entry.new.self c.intern_call.new.self c.args.call.now c.in_ok-entry.entry c.intern_entry.ensures.kept c.intern_call.ensures.kept c.intern_entry.ensures.others c.intern_call.ensures.others
+    (subst (λ (k : MacroCallKind). Interns c.intern_entry.new.self.calls c.intern_call.new.self.calls (record { kind = k; entry = c.in_ok-entry.entry })) c.call_kind.ensures.value c.in_ok-id.ensures.grown) c.requires.meant.node
+
+pub returns-clause-kept : goal.returns-clause-kept
+returns-clause-kept g c =
+    KeepsTables-trans c.args.locations.now c.intern_entry.new.self c.intern_call.new.self c.intern_entry.ensures.kept c.intern_call.ensures.kept
+
+pub returns-clause-placed : goal.returns-clause-placed
+returns-clause-placed g c =
+    placed_call c.args.locations.now c.intern_entry.new.self c.intern_call.new.self c.args.call.now c.in_ok-entry.entry c.intern_entry.ensures.kept c.intern_call.ensures.kept c.intern_entry.ensures.others c.intern_call.ensures.others
+    (subst (λ (k : MacroCallKind). Interns c.intern_entry.new.self.calls c.intern_call.new.self.calls (record { kind = k; entry = c.in_ok-entry.entry })) c.call_kind.ensures.value c.in_ok-id.ensures.grown) c.requires.meant.node
+
+pub returns-clause-ok : goal.returns-clause-ok
+returns-clause-ok g c =
+    let w = g.D.SourceDatabase.workspace c.args.db.now in
+    let old : Core = core_in c.args.run.now in
+    let node : AstId = c.args.call.now.ast_id in
+    let x : Expanding = record {
+      text = c.in_ok-text.text;
+      input = c.in_ok-input.input;
+      entry = c.in_ok-entry.entry;
+      id = c.in_ok-id.id;
+      there = entry_look c.expansion.result;
+      tree = seen_of c.in_ok-source.source.value;
+    } in
+    let own : c.id.result ≡ old.map.id = c.id.ensures.value ∙ ap (λ (m : Map). m.id) c.map.ensures.value in
+    let after_text = c.in_ok-text.ensures.same in
+    let after_input = c.in_ok-input.ensures.same ∙ after_text in
+    let key = c.in_ok-key.ensures.value ∙ ap (λ (i : MapId). expansion_of_call i.krate c.args.makro x.text x.input) own in (
+      x,
+      sees_call c.args.locations.now c.intern_entry.new.self c.intern_call.new.self w old (core_in c.ask-3.new.self) c.args.call.now c.args.makro x c.in_ok-source.source.value
+          c.intern_entry.ensures.kept c.intern_call.ensures.kept c.requires.meant (c.is_meant.ensures.meant c.if-not-is_meant.false)
+          (c.in_ok-entry.ensures.found ∙ ap Some key)
+          (c.in_ok-id.ensures.found ∙ ap (λ (k : MacroCallKind). Some (record { kind = k; entry = x.entry })) c.call_kind.ensures.value)
+          c.in_ok-text.ensures.value
+          (c.in_ok-input.ensures.value ∙ ap (λ (v : Workspace). input_at c.args.locations.now v c.id.result.krate node) after_text ∙ ap (λ (i : MapId). input_at c.args.locations.now w i.krate node) own)
+          (c.expansion.ensures.value ∙ ap (λ (v : Workspace). v.entry (expansion_value c.in_ok-key.key)) after_input ∙ ap w.entry key)
+          refl
+          (c.in_ok-source.ensures.value ∙ ap (λ (v : Workspace). source_in c.intern_call.new.self v (call_key c.id.result.krate x.id)) after_input
+          ∙ ap (λ (i : MapId). source_in c.intern_call.new.self w (call_key i.krate x.id)) own)
+          (asked_all old (core_in c.ask_text.new.run) (core_in c.ask.new.self) (core_in c.ask-2.new.self) (core_in c.ask-3.new.self) old.map.id.krate c.args.call.now c.args.makro x (c.in_ok-ask_text.ensures.ok x.text)
+          (c.in_ok-ask.ensures.ok ∙ ap (λ (i : MapId). with_asked (core_in c.ask_text.new.run) (keys.Input i.krate node)) own) c.in_ok-ask-2.ensures.ok
+          (c.in_ok-ask-3.ensures.ok ∙ ap (λ (i : MapId). with_asked (core_in c.ask-2.new.self) (keys.Tree (call_key i.krate x.id))) own)),
+      refl,
+      c.in_ok-error.ensures.value,
+    )

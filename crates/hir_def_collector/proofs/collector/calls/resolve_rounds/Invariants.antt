@@ -1,0 +1,22 @@
+use Rattle.std.proofs.Common.{◌≡◌, ◌+◌, ◌-◌}
+use Rattle.hir_tables.specs.Tables.{KeepsTables}
+use Rattle.hir_def_map.specs.WorldParts.{part_of}
+use Rattle.hir_def_collector.specs.CallMoves.{IsReady}
+use Rattle.hir_def_collector.specs.Calls.{AreCallsPlaced}
+use Rattle.hir_def_collector.specs.Moves.{OnceGrown}
+use Rattle.hir_def_collector.specs.Rounds.{Rounds}
+use Rattle.hir_def_collector.specs.State.{at_rest, core_in}
+use Rattle.hir_def_collector.proofs.collector.calls.resolve_rounds.Given as goal
+
+abbrev pub invariant-rounds : goal.invariant-rounds
+invariant-rounds g l = record {
+  kept : KeepsTables l.initial.locations l.locations;
+  same : g.D.SourceDatabase.workspace l.db ≡ g.D.SourceDatabase.workspace l.initial.db;
+  placed : AreCallsPlaced l.initial.locations → AreCallsPlaced l.locations;
+  ready : IsReady l.locations (part_of l.world) (core_in l.run);
+  own : (core_in l.run).map.id ≡ (core_in l.initial.run).map.id;
+  rounds : OnceGrown l.locations (g.D.SourceDatabase.workspace l.initial.db) (λ env. Rounds env (part_of l.world) (at_rest (core_in l.initial.run)) (at_rest (core_in l.run)) l.rounds);
+}
+
+abbrev pub decreases-rounds : goal.decreases-rounds
+decreases-rounds g l = 8193 - l.rounds

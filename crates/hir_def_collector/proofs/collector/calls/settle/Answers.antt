@@ -1,0 +1,25 @@
+-- Imports rest, and then calls may be expanded.
+use Rattle.std.proofs.Common.{rules, ◌∙◌, ap, length, subst, sym}
+use Rattle.hir_def_map.specs.WorldParts.{part_of}
+use Rattle.hir_import_resolution.specs.Rest.{IsAtRest}
+use Rattle.hir_def_collector.specs.State.{Core, at_rest, core_in, import_state}
+use Rattle.hir_def_collector.proofs.CallSteps.{rest_counted, rested, rested_past}
+use Rattle.hir_def_collector.proofs.Moves.{Steps-append, spent_after}
+use Rattle.hir_def_collector.proofs.collector.calls.settle.Goals as goal
+
+pub returns-clause-ok : goal.returns-clause-ok
+returns-clause-ok c = λ env.
+    Steps-append (c.in_ok-run.ensures.ok env)
+    (rested env (part_of c.args.world) (core_in c.in_ok-run.run') (core_in c.rest.new.self) c.in_ok-run.ensures.rests c.in_ok-rest.ensures.ok)
+
+pub returns-clause-rests : goal.returns-clause-rests
+returns-clause-rests c =
+    subst (λ (n : Core). IsAtRest (part_of c.args.world) (import_state (at_rest n))) (sym c.in_ok-rest.ensures.ok)
+    (rest_counted (part_of c.args.world) (core_in c.in_ok-run.run') c.in_ok-run.ensures.rests)
+
+pub returns-in_err-rest-clause-many : goal.returns-in_err-rest-clause-many
+returns-in_err-rest-clause-many c = λ h env.
+    spent_after (c.in_ok-run.ensures.ok env) (rested_past env (part_of c.args.world) (core_in c.in_ok-run.run') c.in_ok-run.ensures.rests (c.in_err-rest.ensures.many (search rules)))
+
+pub returns-clause-settled : goal.returns-clause-settled
+returns-clause-settled c = ap (λ (n : Core). n.settled) c.in_ok-rest.ensures.ok ∙ sym (ap (λ (n : Core). length n.calls) c.in_ok-rest.ensures.ok)

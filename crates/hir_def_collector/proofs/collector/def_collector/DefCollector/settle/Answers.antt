@@ -1,0 +1,29 @@
+-- Imports that are taken are so in the run.
+use Rattle.std.proofs.Common.{rules, ◌≡◌, ◌<◌, ℕ, Some, length, slice_get, refl, sym, subst}
+use Rattle.hir_def_map.specs.WorldParts.{part_of}
+use Rattle.hir_import_resolution.specs.declared.directive.ImportDirective.{ImportDirective}
+use Rattle.hir_import_resolution.specs.Inner.State.{state_in}
+use Rattle.hir_def_collector.specs.Derivation.{IsSpent}
+use Rattle.hir_def_collector.specs.contracts.collector.def_collector.DefCollector.{the_view}
+use Rattle.hir_def_collector.specs.State.{Run, State, at_rest, core_in, import_state, with_import_state}
+use Rattle.hir_def_collector.specs.Steps.{Steps}
+use Rattle.hir_def_collector.proofs.ImportSteps.{spent_from, steps_from}
+use Rattle.hir_def_collector.proofs.collector.def_collector.DefCollector.settle.Goals as goal
+
+pub restart_imports-requires-clause-there : goal.restart_imports-requires-clause-there
+unfolding core_in
+restart_imports-requires-clause-there c =
+    subst (λ (r : Run). (i : ℕ) (d : ImportDirective) → slice_get (core_in r).reached i ≡ Some d → d.home < length (core_in r).map.modules) (sym c.self.view_is) c.requires.there
+
+pub returns-in_err-imports-clause-many : goal.returns-in_err-imports-clause-many
+unfolding core_in
+returns-in_err-imports-clause-many c = λ h env.
+    subst (λ (r : Run). IsSpent env (part_of c.args.world) (at_rest (core_in r))) c.self.view_is
+    (spent_from _ _ refl (c.in_err-imports.ensures.many (search rules)))
+
+pub returns-clause-ok : goal.returns-clause-ok
+unfolding core_in
+returns-clause-ok c = λ env.
+    let before : State = at_rest (core_in (the_view c.self.inside)) in
+    subst (λ (r : Run). Steps env (part_of c.args.world) (at_rest (core_in r)) (with_import_state before (state_in c.in_ok-imports.imports))) c.self.view_is
+    (steps_from before (import_state before) refl c.in_ok-imports.ensures.derived)

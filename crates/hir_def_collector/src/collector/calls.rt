@@ -1,0 +1,453 @@
+//! Macro calls: what each expands to, and rounds in which they are tried.
+ghost use Rattle.std.specs.Prelude.{◌≡◌, ◌<◌, ℕ, cond, true, [], IfOk, OnOk, Some, length, option_map, slice_get, unwrap_or};
+ghost use Rattle.hir_item_tree.specs.SyntaxIds.{node_id};
+ghost use Rattle.hir_tables.specs.SourcePlaces.{expansion_value};
+ghost use Rattle.hir_tables.specs.Tables.{KeepsTables};
+ghost use Rattle.hir_def_map.specs.State.{Local};
+ghost use Rattle.hir_def_map.specs.WorldParts.{part_of};
+ghost use Rattle.hir_import_resolution.specs.Inner.State.{IsApart};
+ghost use Rattle.hir_import_resolution.specs.Rest.{IsAtRest, IsSound};
+ghost use Rattle.hir_import_resolution.specs.declared.directive.ImportDirective.{ImportDirective};
+ghost use Rattle.hir_def_collector.specs.CallMoves.{ComesToRest, IsDueOf, IsReady, SeesCall, TriesCall, TriesCalls};
+ghost use Rattle.hir_def_collector.specs.Calls.{AreCallsPlaced, Expanding, IsMeantCall, call_site, error_of, expansion_of_call, text_readings};
+ghost use Rattle.hir_def_collector.specs.Derivation.{IsNumberedOut, IsSpent};
+ghost use Rattle.hir_def_collector.specs.ItemIds.{module_id};
+ghost use Rattle.hir_def_collector.specs.Keys.{Environment, IsMeant, input_at, macro_key, macro_tree, source_in, text_at, text_of};
+ghost use Rattle.hir_def_collector.specs.Moves.{Makes, OnceGrown};
+ghost use Rattle.hir_def_collector.specs.State.{at_rest, core_in, import_state};
+ghost use Rattle.hir_def_collector.specs.Steps.{Expands, Steps, failing, keys_read, with_keys};
+ghost use Rattle.hir_def_collector.specs.Workspace.{entry_look};
+
+use crate::collector::CollectError;
+use crate::collector::def_collector::DefCollector;
+use crate::collector::macro_directive::{Fate, MacroDirective};
+use crate::collector::mod_collector::walk_all;
+use crate::collector::site::Site;
+use crate::collector::sources::source_at;
+use crate::source_database::{ExpansionLook, Key, SourceDatabase};
+use hir_base::ast_id::{AstId, AstKind, HirFileId, MacroCallId};
+use hir_base::ids::{Crate, HasModule};
+use hir_base::macro_kind::{CallStyle, ExpansionKey, MacroCallLoc, MacroId, MacroLoc, MacroText};
+use hir_base::text::Text;
+use hir_def_map::nameres::diagnostics::DefDiagnostic;
+use hir_def_map::world::part::WorldPart;
+use hir_item_tree::check::NodeId;
+use hir_item_tree::source_tree::SourceTree;
+use hir_item_tree::tree_id::{TreeId, TreeKey};
+use hir_tables::Tables;
+use std::alloc::{AllocError, Global};
+use std::rc::Rc;
+
+/// How many rounds may make progress. One more ends a run.
+pub const ROUND_LIMIT: u32 = 8192;
+
+/// The same text, if there is one.
+fn copied(alloc: Global, text: Option<&str>) -> Result<Option<Text>, AllocError>
+    ensures value { IfOk result (λ copy. copy ≡ option_map (λ t. t.now) text.entry) }
+{
+    match text {
+        Some(text) => Ok(Some(Text::from_str(alloc, text)?)),
+        None => Ok(None),
+    }
+}
+
+/// Whether the source that writes a macro has a number; a procedural macro is in no source.
+fn is_meant(locations: &Tables, makro: MacroId) -> bool
+    ensures meant { result ≡ true → IsMeant locations.now makro }
+{
+    match makro {
+        MacroId::Macro2Id(id) => locations.source_of(tree_of(id.loc)).is_some(),
+        MacroId::MacroRulesId(id) => locations.source_of(tree_of(id.loc)).is_some(),
+        MacroId::ProcMacroId(_) => true,
+    }
+}
+
+/// The tree that writes a macro.
+fn tree_of(loc: MacroLoc) -> TreeId
+    ensures value { result ≡ macro_tree loc }
+{
+    TreeId {
+        file: loc.file_id,
+        block: loc.block,
+    }
+}
+
+/// The text of the macro that a node defines.
+fn text_in<D: SourceDatabase>(
+    alloc: Global,
+    db: &mut D,
+    locations: &Tables,
+    loc: MacroLoc,
+    kind: AstKind,
+) -> Result<Option<Text>, AllocError>
+    ensures value { IfOk result (λ text. text
+        ≡ text_of (source_in locations.now (D.workspace db.old) (macro_key loc)) (node_id kind loc.id)) }
+    ensures same { D.workspace db.new ≡ D.workspace db.old }
+{
+    let key = TreeKey {
+        krate: loc.container.map.krate,
+        id: tree_of(loc),
+    };
+    let source = source_at(alloc, db, locations, key)?;
+    copied(alloc, source.text(NodeId { kind, id: loc.id }))
+}
+
+/// The text of a macro, where a source writes it.
+fn text_at<D: SourceDatabase>(
+    alloc: Global,
+    db: &mut D,
+    locations: &Tables,
+    makro: MacroId,
+) -> Result<Option<Text>, AllocError>
+    ensures value { IfOk result (λ text. text ≡ text_at locations.now (D.workspace db.old) makro) }
+    ensures same { D.workspace db.new ≡ D.workspace db.old }
+{
+    match makro {
+        MacroId::Macro2Id(id) => text_in(alloc, db, locations, id.loc, AstKind::MacroDef),
+        MacroId::MacroRulesId(id) => text_in(alloc, db, locations, id.loc, AstKind::MacroRules),
+        MacroId::ProcMacroId(_) => Ok(None),
+    }
+}
+
+/// The input of a call, where it isn't empty.
+fn input_at<D: SourceDatabase>(
+    alloc: Global,
+    db: &mut D,
+    locations: &Tables,
+    krate: Crate,
+    ast: AstId,
+) -> Result<Option<Text>, AllocError>
+    ensures value { IfOk result (λ input. input ≡ input_at locations.now (D.workspace db.old) krate ast) }
+    ensures same { D.workspace db.new ≡ D.workspace db.old }
+{
+    let key = TreeKey {
+        krate,
+        id: TreeId {
+            file: ast.file_id,
+            block: ast.block,
+        },
+    };
+    let source = source_at(alloc, db, locations, key)?;
+    copied(
+        alloc,
+        source.input(NodeId {
+            kind: ast.kind,
+            id: ast.id,
+        }),
+    )
+}
+
+/// A text, or an empty one.
+fn or_empty(alloc: Global, text: Option<Text>) -> Result<Text, AllocError>
+    ensures value { IfOk result (λ t. t ≡ unwrap_or text []) }
+{
+    match text {
+        Some(text) => Ok(text),
+        None => Text::from_str(alloc, ""),
+    }
+}
+
+/// The key of a call's expansion.
+fn expansion_key(
+    alloc: Global,
+    caller: Crate,
+    makro: MacroId,
+    text: Option<Text>,
+    input: Option<Text>,
+) -> Result<ExpansionKey, AllocError>
+    ensures value { IfOk result (λ key. expansion_value key ≡ expansion_of_call caller makro text input) }
+{
+    Ok(ExpansionKey {
+        caller,
+        called: MacroText {
+            krate: makro.module().map.krate,
+            text: or_empty(alloc, text)?,
+        },
+        call: CallStyle::Bang,
+        input: or_empty(alloc, input)?,
+        reached: Vec::new(alloc),
+    })
+}
+
+/// The error that a call is told with: that of its expansion, or that there is none.
+fn error_of(alloc: Global, look: ExpansionLook<'_>) -> Result<Option<Text>, AllocError>
+    ensures value { IfOk result (λ error. error ≡ error_of (entry_look look.entry)) }
+{
+    if !look.present {
+        return Ok(Some(Text::from_str(alloc, "absent")?));
+    }
+    match look.error {
+        Some(error) => Ok(Some(error.clone()?)),
+        None => Ok(None),
+    }
+}
+
+/// What a call expands to.
+#[derive(Drop)]
+struct Expansion {
+    id: MacroCallId,
+    /// Why it didn't expand, or not well.
+    error: Option<Text>,
+    source: Rc<SourceTree>,
+}
+
+/// Notes the text of a macro as asked for, where a source writes it.
+fn ask_text(run: &mut DefCollector, makro: MacroId) -> Result<(), AllocError>
+    ensures ok { OnOk result ((text : _) → core_in run.new ≡ record (core_in run.old) { asked = with_keys (core_in run.old).asked (keys_read (text_readings makro text)) }) }
+{
+    match makro {
+        MacroId::Macro2Id(_) | MacroId::MacroRulesId(_) => run.ask(Key::Text(makro)),
+        MacroId::ProcMacroId(_) => Ok(()),
+    }
+}
+
+/// Asks for all that the expansion of a call depends on, and for the expansion.
+fn look_at_call<D: SourceDatabase>(
+    run: &mut DefCollector,
+    db: &mut D,
+    locations: &mut Tables,
+    call: &MacroDirective,
+    makro: MacroId,
+) -> Result<Expansion, CollectError>
+    requires meant { IsMeantCall locations.old call.now }
+    ensures kept { KeepsTables locations.old locations.new }
+    ensures same { D.workspace db.new ≡ D.workspace db.old }
+    ensures placed { AreCallsPlaced locations.old → AreCallsPlaced locations.new }
+    ensures ok { IfOk result (λ e. (x : Expanding) × SeesCall locations.new (D.workspace db.old) call.now makro (core_in run.old) (core_in run.new) x e.source.value
+        × (e.id ≡ x.id) × (e.error ≡ error_of x.there)) }
+    ensures many { result ≡ Err CollectError.TooMany → IsNumberedOut locations.new }
+{
+    if !is_meant(locations, makro) {
+        return Err(CollectError::UnknownSource);
+    }
+    let alloc = run.allocator();
+    let krate = run.map().id().krate;
+    let text = text_at(alloc, db, locations, makro)?;
+    let input = input_at(alloc, db, locations, krate, call.ast_id)?;
+    let key = expansion_key(alloc, krate, makro, text, input)?;
+    let error = error_of(alloc, db.expansion(&key))?;
+    let entry = locations.intern_entry(key)?;
+    let id = locations.intern_call(MacroCallLoc {
+        kind: call.call_kind(),
+        entry,
+    })?;
+    let tree = TreeKey {
+        krate,
+        id: TreeId {
+            file: HirFileId::Macro(id),
+            block: None,
+        },
+    };
+    let source = source_at(alloc, db, locations, tree)?;
+    ask_text(run, makro)?;
+    run.ask(Key::Input(krate, call.ast_id))?;
+    run.ask(Key::Expansion(entry))?;
+    run.ask(Key::Tree(tree))?;
+    Ok(Expansion { id, error, source })
+}
+
+/// Where the items are written to which a call expands.
+fn call_site(call: &MacroDirective, id: MacroCallId) -> Result<Site, AllocError>
+    requires below { call.now.site.level < 4294967295 }
+    ensures value { IfOk result (λ site. site ≡ call_site call.now id) }
+{
+    Ok(Site {
+        home: call.site.home,
+        tree: TreeId {
+            file: HirFileId::Macro(id),
+            block: None,
+        },
+        file: call.site.file,
+        extern_block: call.site.extern_block,
+        dir: call.site.dir.clone()?,
+        level: call.site.level + 1,
+    })
+}
+
+/// Reports a call that didn't expand, or not well.
+fn report_failed(
+    run: &mut DefCollector,
+    call: &MacroDirective,
+    error: Option<Text>,
+) -> Result<(), AllocError>
+    ensures ok { OnOk result (Makes (failing (module_id (core_in run.old).map call.now.site.home) call.now error) (core_in run.old) (core_in run.new)) }
+{
+    let Some(error) = error else {
+        return Ok(());
+    };
+    let at = run.module_id(call.site.home);
+    run.tell(DefDiagnostic::macro_error(at, call.ast_id, call.path().clone()?, error))
+}
+
+/// Expands the call at the place, which reaches a macro: handles the items of its expansion, with all that is in them.
+fn expand<D: SourceDatabase>(
+    run: &mut DefCollector,
+    db: &mut D,
+    world: WorldPart<'_>,
+    locations: &mut Tables,
+    i: usize,
+    call: &MacroDirective,
+    makro: MacroId,
+) -> Result<(), CollectError>
+    requires ready { IsReady locations.old (part_of world) (core_in run.old) }
+    requires expands { Expands (part_of world) (at_rest (core_in run.old)) i call.now makro }
+    requires below { call.now.site.level < 4294967295 }
+    ensures kept { KeepsTables locations.old locations.new }
+    ensures same { D.workspace db.new ≡ D.workspace db.old }
+    ensures placed { AreCallsPlaced locations.old → AreCallsPlaced locations.new }
+    ensures ok { OnOk result (OnceGrown locations.new (D.workspace db.old) (λ env. Steps env (part_of world.entry) (at_rest (core_in run.old)) (at_rest (core_in run.new)))) }
+    ensures handled { OnOk result (slice_get (core_in run.new).fates i ≡ Some Fate.Handled) }
+    ensures many { result ≡ Err CollectError.TooMany → OnceGrown locations.new (D.workspace db.old) (λ env. IsSpent env (part_of world.entry) (at_rest (core_in run.old))) }
+{
+    let Expansion { id, error, source } = look_at_call(run, db, locations, call, makro)?;
+    let site = call_site(call, id)?;
+    run.end_call(i);
+    report_failed(run, call, error)?;
+    run.tick()?;
+    let ids = source.tree().top_level_items();
+    walk_all(run, db, world, locations, &source, &site, ids)?;
+    Ok(())
+}
+
+/// What is to be done about a call that waits.
+enum Due {
+    Nothing,
+    /// It is deeper than calls may be.
+    TooDeep,
+    /// It reaches a macro.
+    Reaches(MacroId),
+}
+
+/// What is to be done about a call.
+fn due_of(run: &DefCollector, world: WorldPart<'_>, call: &MacroDirective) -> Due
+    ensures value { IsDueOf (part_of world.entry) (core_in run.now) call.now result }
+    ensures below { (makro : MacroId) → result ≡ Due.Reaches makro → call.now.site.level < 4294967295 }
+{
+    if run.is_too_deep(call) {
+        return Due::TooDeep;
+    }
+    match run.called_macro(world, call) {
+        Some(makro) => Due::Reaches(makro),
+        None => Due::Nothing,
+    }
+}
+
+/// Tries the call at the place, if it waits: whether it was handled.
+fn try_call<D: SourceDatabase>(
+    run: &mut DefCollector,
+    db: &mut D,
+    world: WorldPart<'_>,
+    locations: &mut Tables,
+    i: usize,
+) -> Result<bool, CollectError>
+    requires ready { IsReady locations.old (part_of world) (core_in run.old) }
+    requires settled { i < (core_in run.old).settled }
+    ensures kept { KeepsTables locations.old locations.new }
+    ensures same { D.workspace db.new ≡ D.workspace db.old }
+    ensures placed { AreCallsPlaced locations.old → AreCallsPlaced locations.new }
+    ensures ok { OnOk result (OnceGrown locations.new (D.workspace db.old) (λ env. Steps env (part_of world.entry) (at_rest (core_in run.old)) (at_rest (core_in run.new)))) }
+    ensures tried { IfOk result (λ done. TriesCall (part_of world.entry) (core_in run.old) (core_in run.new) i done) }
+    ensures many { result ≡ Err CollectError.TooMany → OnceGrown locations.new (D.workspace db.old) (λ env. IsSpent env (part_of world.entry) (at_rest (core_in run.old))) }
+{
+    let Some(call) = run.waiting(i) else {
+        return Ok(false);
+    };
+    match due_of(run, world, call) {
+        Due::Nothing => Ok(false),
+        Due::TooDeep => {
+            run.end_call(i);
+            run.tick()?;
+            Ok(true)
+        }
+        Due::Reaches(makro) => {
+            let call = call.clone()?;
+            expand(run, db, world, locations, i, &call, makro)?;
+            Ok(true)
+        }
+    }
+}
+
+/// Whether one of two holds.
+fn either(first: bool, second: bool) -> bool
+    ensures value { result ≡ cond first true second }
+{
+    first || second
+}
+
+/// Tries each call that waits, one after another: whether one was handled. A call sees what those before it have
+/// expanded to; those that are come upon meanwhile wait for the next round.
+fn try_calls<D: SourceDatabase>(
+    run: &mut DefCollector,
+    db: &mut D,
+    world: WorldPart<'_>,
+    locations: &mut Tables,
+) -> Result<bool, CollectError>
+    requires ready { IsReady locations.old (part_of world) (core_in run.old) }
+    requires settled { (core_in run.old).settled ≡ length (core_in run.old).calls }
+    ensures kept { KeepsTables locations.old locations.new }
+    ensures same { D.workspace db.new ≡ D.workspace db.old }
+    ensures placed { AreCallsPlaced locations.old → AreCallsPlaced locations.new }
+    ensures ok { OnOk result (OnceGrown locations.new (D.workspace db.old) (λ env. Steps env (part_of world.entry) (at_rest (core_in run.old)) (at_rest (core_in run.new)))) }
+    ensures tried { IfOk result (λ progress. OnceGrown locations.new (D.workspace db.old) (λ env. TriesCalls env (part_of world.entry) (core_in run.old) (core_in run.new) progress)) }
+    ensures many { result ≡ Err CollectError.TooMany → OnceGrown locations.new (D.workspace db.old) (λ env. IsSpent env (part_of world.entry) (at_rest (core_in run.old))) }
+{
+    let mut progress = false;
+    let end = run.settled();
+    for i in 0..end {
+        let done = try_call(run, db, world, locations, i)?;
+        progress = either(done, progress);
+    }
+    Ok(progress)
+}
+
+/// Takes imports until no more comes of them; then those calls may be expanded that there are.
+fn settle(
+    run: DefCollector,
+    world: WorldPart<'_>,
+    apart: bool,
+) -> Result<DefCollector, CollectError>
+    requires apart { apart ≡ true → IsApart (part_of world) (core_in run).map.id (core_in run).local }
+    requires imports { (i : ℕ) (r : ImportDirective) → slice_get (core_in run).reached i ≡ Some r → r.home < length (core_in run).map.modules }
+    requires sound { IsSound (part_of world) (import_state (at_rest (core_in run))) }
+    ensures ok { IfOk result (λ run'. (env : Environment) → Steps env (part_of world.entry) (at_rest (core_in run)) (at_rest (core_in run'))) }
+    ensures rests { IfOk result (λ run'. IsAtRest (part_of world.entry) (import_state (at_rest (core_in run')))) }
+    ensures settled { IfOk result (λ run'. (core_in run').settled ≡ length (core_in run').calls) }
+    ensures many { result ≡ Err CollectError.TooMany → (env : Environment) → IsSpent env (part_of world.entry) (at_rest (core_in run)) }
+{
+    let mut run = run.settle(world, apart)?;
+    run.rest()?;
+    Ok(run)
+}
+
+/// Takes imports and expands calls, round by round, until no more comes of them, and whether rounds were cut off.
+///
+/// A round tries each call that waits once imports rest. More rounds than `ROUND_LIMIT` end the run, with imports and
+/// calls that would go on; names go along globs all the same.
+pub fn resolve_rounds<D: SourceDatabase>(
+    run: DefCollector,
+    db: &mut D,
+    world: WorldPart<'_>,
+    locations: &mut Tables,
+    apart: bool,
+) -> Result<(DefCollector, bool), CollectError>
+    requires apart { apart ≡ true → (local : Local) → IsApart (part_of world) (core_in run).map.id local }
+    requires ready { IsReady locations.old (part_of world) (core_in run) }
+    ensures kept { KeepsTables locations.old locations.new }
+    ensures same { D.workspace db.new ≡ D.workspace db.old }
+    ensures placed { AreCallsPlaced locations.old → AreCallsPlaced locations.new }
+    ensures ok { IfOk result (λ r. OnceGrown locations.new (D.workspace db.old) (λ env. Steps env (part_of world.entry) (at_rest (core_in run)) (at_rest (core_in r.0)))) }
+    ensures rests { IfOk result (λ r. OnceGrown locations.new (D.workspace db.old) (λ env. ComesToRest env (part_of world.entry) (core_in run) (core_in r.0) r.1)) }
+    ensures many { result ≡ Err CollectError.TooMany → OnceGrown locations.new (D.workspace db.old) (λ env. IsSpent env (part_of world.entry) (at_rest (core_in run))) }
+{
+    let mut run = run;
+    let mut rounds: u32 = 0;
+    'rounds: while rounds <= ROUND_LIMIT {
+        run = settle(run, world, apart)?;
+        if !try_calls(&mut run, db, world, locations)? {
+            return Ok((run, false));
+        }
+        rounds += 1;
+    }
+    let run = run.spread(world)?;
+    Ok((run, true))
+}
