@@ -5,10 +5,11 @@ Usage, at the top of the repository: tools/random_sessions.py [--sessions N] [--
 Without --program it takes crates/hir_session_main/out/hir_session_main, which `rt run < /dev/null` builds there.
 With --print it runs nothing, and writes the commands of the sessions as they stand in crates/hir_session_rows/stdin.
 
-A session has one to four crates, each with a root file, and module files that any of them may name, all with imports and globs.
-Files are set, changed, removed and refreshed some times. At its end all files are refreshed, and a list of paths and the diagnostics are asked at
-each crate. A second session is handed the sources of that moment at once, and asked the same. It ends with 1 at the first
-session whose answers differ, which it writes to standard error.
+A session has one to four crates, each with a root file, and module files that any of them may name, all with imports, globs,
+macros and calls, and a table of expansions. Files and expansions are set, changed, removed and refreshed some times. At its end
+all is refreshed, and a list of paths and the diagnostics are asked at each crate. A second session is handed the sources and
+expansions of that moment at once, and asked the same. It ends with 1 at the first session whose answers differ, which it
+writes to standard error.
 """
 import argparse
 import json
@@ -19,8 +20,9 @@ import sys
 NAMES = ["a", "b", "c", "m", "x", "S", "T"]
 VISIBILITIES = [None, None, "pub", "pub", "pub", "crate", {"in": "super"}, "self"]
 ROOTS = ["", "", "", "self::", "super::", "crate::", "::"]
-# a file of a `path` attribute has no module files, or it could name itself twice
+# a file of a `path` attribute has no module files and no calls, or it could name itself twice
 LEAF = "leaf.rs"
+MACROS, TEXTS, INPUTS = ["f", "g", "x"], ["A", "B"], ["i", "j"]
 FILES = ["a.rs", "a/mod.rs", "a/b.rs", "a/b/mod.rs", "b.rs", "m.rs", LEAF]
 EDITIONS = ["2015", "2018", "2021", "2024"]
 
@@ -32,6 +34,8 @@ class Crates:
         self.random = random.Random(seed)
         self.next_id = 0
         self.leaf = False
+        # how many calls may still come, and whether they stand in an expansion
+        self.calls, self.expansion = 0, False
 
     def choose(self, things):
         return self.random.choice(things)
@@ -61,15 +65,25 @@ class Crates:
         return tree
 
     def item(self, depth):
-        kind = self.choose(["Module", "Module", "Use", "Use", "Use", "Struct", "Fn", "Enum", "Const", "Trait", "ExternCrate"])
+        kinds = ["Module", "Module", "Use", "Use", "Use", "Struct", "Fn", "Enum", "Const", "Trait", "ExternCrate", "Macro", "Macro"]
+        kind = self.choose(kinds + 6 * ["MacroCall"] if self.calls else kinds)
         name = self.choose(NAMES)
-        if kind == "Module" and not self.leaf and self.random.random() < 0.3:
+        if kind == "Module" and not self.leaf and self.random.random() < (0.1 if self.expansion else 0.3):
             declared = self.node("Module", name=self.choose(["a", "b", "m"]))
-            if self.random.random() < 0.2:
+            if self.random.random() < 0.2 and not self.expansion:
                 declared["attrs"] = [{"path": "path", "literal": LEAF}]
             return declared
         if kind == "Module":
-            return self.node("Module", name=name, nodes=self.items(depth + 1) if depth < 3 else [])
+            module = self.node("Module", name=name, nodes=self.items(depth + 1) if depth < 3 else [])
+            if self.random.random() < 0.3:
+                module["attrs"] = [{"path": "macro_use"}]
+            return module
+        if kind == "Macro":
+            return self.makro()
+        if kind == "MacroCall":
+            self.calls -= 1
+            path = self.choose(MACROS) if self.random.random() < 0.8 else self.path() + "::" + self.choose(MACROS)
+            return self.node("MacroCall", path=path, input=self.choose(INPUTS))
         if kind == "Use":
             return self.node("Use", tree=self.use_tree(0))
         if kind == "Struct":
@@ -86,23 +100,44 @@ class Crates:
         extern_crate = self.node("ExternCrate", name=self.choose(["d0", "d1", "self"]))
         if self.random.random() < 0.5 or extern_crate["name"] == "self":
             extern_crate["as"] = self.choose([name, name, "_"])
+        if self.random.random() < 0.4:
+            extern_crate["attrs"] = [{"path": "macro_use"}]
         return extern_crate
+
+    def makro(self):
+        fields = {"name": self.choose(MACROS), "text": self.choose(TEXTS)}
+        if self.random.random() < 0.1:
+            fields["styles"] = self.choose([["attr"], ["bang", "derive"]])
+        if self.random.random() < 0.3:
+            return self.node("MacroDef", **fields)
+        if self.random.random() < 0.3:
+            fields["attrs"] = [{"path": "macro_export"}]
+        return self.node("MacroRules", **fields)
 
     def items(self, depth):
         return [self.item(depth) for _ in range(self.random.randint(0, 5))]
 
     def unit(self, file):
         self.next_id = 0
-        self.leaf = file == LEAF
-        unit = {"nodes": self.items(0)}
+        self.leaf, self.expansion, self.calls = file == LEAF, False, 0 if file == LEAF else 6
+        first = [self.makro() for _ in range(self.random.randint(0, 2))]
+        unit = {"nodes": first + self.items(0) + (self.items(0) if self.calls else [])}
         if self.random.random() < 0.05:
             unit["attrs"] = [{"path": "cfg", "cfg": False}]
         return unit
 
+    def expansion_of(self):
+        """What a key may expand to, with its error."""
+        self.next_id = 0
+        self.leaf, self.expansion, self.calls = False, True, 2
+        unit = {"nodes": self.items(2)} if self.random.random() < 0.95 else "broken"
+        return unit, "e" if self.random.random() < 0.1 else None
+
     def crates(self, count):
         found = []
         for number in range(count):
-            entry = {"edition": self.choose(EDITIONS), "root": f"c{number}.rs"}
+            limit = {"path": "recursion_limit", "literal": self.choose("1234")}
+            entry = {"edition": self.choose(EDITIONS), "root": f"c{number}.rs", "attrs": [limit]}
             below = [other for other in range(number) if self.random.random() < 0.6]
             if below:
                 entry["deps"] = [{"crate": other, "name": f"d{place}", "prelude": self.random.random() < 0.7} for place, other in enumerate(below)]
@@ -111,10 +146,35 @@ class Crates:
 
 
 def edited(file, unit, drawn):
-    """The unit with its bodies alone changed, or another one."""
-    if drawn.random.random() < 0.3:
+    """The unit with its bodies or some texts alone changed, or another one."""
+    roll = drawn.random.random()
+    if roll < 0.2:
         return json.loads(json.dumps(unit).replace('"body": "1"', '"body": "2"'))
-    return drawn.unit(file)
+    return with_one_text_changed(unit, drawn) if roll < 0.45 else drawn.unit(file)
+
+
+def with_one_text_changed(unit, drawn):
+    """The unit with the inputs of some calls, or the texts of some macros, changed alone."""
+    old, new = drawn.choose([('"input": "i"', '"input": "j"'), ('"text": "A"', '"text": "B"')])
+    return json.loads(json.dumps(unit).replace(old, new))
+
+
+def entry(key, found):
+    caller, of, text, given = key
+    command = {"do": "set expansion", "key": {"caller": caller, "crate": of, "text": text, "call": "bang", "input": given}, "unit": found[0]}
+    return command if found[1] is None else {**command, "error": found[1]}
+
+
+def edit_of_expansions(entries, count, drawn):
+    """Sets an expansion, or takes one away; now and then one that isn't there."""
+    caller = drawn.random.randrange(count)
+    of = caller if drawn.random.random() < 0.7 else drawn.random.randrange(count)
+    key = (caller, of, drawn.choose(TEXTS), drawn.choose(INPUTS))
+    if drawn.random.random() < 0.2:
+        entries.pop(key, None)
+        return {**entry(key, (None, None)), "do": "remove expansion"}
+    entries[key] = drawn.expansion_of() if drawn.random.random() < 0.9 or not entries else drawn.choose(list(entries.values()))
+    return entry(key, entries[key])
 
 
 def session(seed):
@@ -122,9 +182,14 @@ def session(seed):
     drawn = Crates(seed)
     crates = drawn.crates(drawn.random.randint(1, 4))
     begin = {"do": "crates", "crates": crates}
-    files, commands = {}, [begin]
-    for _ in range(drawn.random.randint(3, 16)):
-        file = drawn.choose(crates)["root"] if drawn.random.random() < 0.5 else drawn.choose(FILES)
+    files, entries, commands = {}, {}, [begin]
+    for _ in range(drawn.random.randint(8, 30)):
+        if drawn.random.random() < 0.5:
+            commands.append(edit_of_expansions(entries, len(crates), drawn))
+            if drawn.random.random() < 0.5:
+                commands.append({"do": "refresh"})
+            continue
+        file = drawn.choose(crates)["root"] if drawn.random.random() < 0.6 else drawn.choose(FILES)
         if files.get(file) is not None and drawn.random.random() < 0.15:
             del files[file]
             commands.append({"do": "remove file", "file": file})
@@ -135,11 +200,12 @@ def session(seed):
             commands.append({"do": "refresh"})
     asks = []
     for number in range(len(crates)):
-        paths = [name for name in NAMES] + [drawn.path() for _ in range(12)]
+        paths = [name for name in NAMES + MACROS] + [drawn.path() for _ in range(12)]
         places = 6 * [[number]] + [[number, name] for name in NAMES[:3]]
         asks += [{"do": "resolve", "at": drawn.choose(places), "path": path} for path in paths]
         asks.append({"do": "diagnostics", "crate": number})
     fresh = [begin] + [{"do": "set file", "file": file, "unit": unit} for file, unit in files.items()]
+    fresh += [entry(key, found) for key, found in entries.items()]
     last = [{"do": "refresh"}] + asks
     return commands + last, fresh + last, len(asks)
 

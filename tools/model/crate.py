@@ -1,0 +1,627 @@
+"""A crate's map: its modules, and what their names stand for once nothing moves any more."""
+import json
+import posixpath
+
+from model.syntax import collect, dump, leaves, parse_path, print_condition, print_path
+
+KINDS = ("types", "values", "macros")
+BUILTINS = "char bool str isize i8 i16 i32 i64 i128 usize u8 u16 u32 u64 u128 f16 f32 f64 f128".split()
+STYLES = {"builtin": ["bang"], "builtin_eager": ["bang"], "builtin_attr": ["attr"], "builtin_derive": ["derive"], "unimplemented": ["bang", "attr", "derive"]}
+FOREIGN = ("Fn", "Static", "TypeAlias", "MacroCall")
+# 8,192 rounds in which a call was handled may follow one another, and one more ends the run
+ROUNDS, DEEPEST = 8192, 32
+
+
+class Source:
+    """Where a node is written: a file, or the expansion of a call."""
+
+    def __init__(self, file=None, outer=None, call=None, entry=None):
+        self.file, self.outer, self.call, self.entry = file, outer, call, entry
+
+    def text(self):
+        calls, at = [], self
+        while at.outer is not None:
+            calls.append({"id": at.call, "kind": "MacroCall"})
+            at = at.outer
+        return [at.file] + calls[::-1]
+
+    def key(self):
+        return ("file", self.file) if self.outer is None else ("entry", self.entry)
+
+
+class Item:
+    def __init__(self, krate, kind, node_id, source, **more):
+        self.krate, self.kind, self.id, self.source = krate, kind, node_id, source
+        self.__dict__.update(more)
+
+    def text(self):
+        return {"crate": self.krate.number, "id": self.id, "in": self.source.text(), "kind": self.kind}
+
+
+class Builtin:
+    def __init__(self, name):
+        self.name = name
+
+    def text(self):
+        return {"builtin": self.name}
+
+
+BUILTIN = {name: Builtin(name) for name in BUILTINS}
+
+
+class Module:
+    def __init__(self, krate, parent, item, directory, file):
+        self.krate, self.parent, self.item, self.directory, self.file = krate, parent, item, directory, file
+        self.children = {}
+        self.scope = {kind: {} for kind in KINDS}
+        # the macros in textual scope, of each name the last
+        self.textual = dict(parent.textual) if parent is not None else {}
+
+    def up(self):
+        at = self
+        while at is not None:
+            yield at
+            at = at.parent
+
+    def text(self):
+        return {"crate": self.krate.number, "kind": "CrateRoot"} if self.item is None else self.item.text()
+
+
+class Binding:
+    """What a name stands for in one namespace: its definition, who may see it, what bound it, and along which edge it came."""
+
+    def __init__(self, definition, vis, by=None, edge=None, saw=None):
+        self.definition, self.vis, self.by, self.edge, self.saw = definition, vis, by, edge, saw
+
+
+class Edge:
+    def __init__(self, source, importer, by, vis):
+        self.source, self.importer, self.by, self.vis = source, importer, by, vis
+
+
+class Import:
+    def __init__(self, at, item, kind, path, name, vis, place=None):
+        self.at, self.item, self.kind, self.path, self.name, self.vis, self.place = at, item, kind, path, name, vis, place
+        self.taken = []
+
+
+class Call:
+    def __init__(self, at, node, source, depth):
+        self.at, self.node, self.source, self.depth, self.handled = at, node, source, depth, False
+        self.path = parse_path(node["path"])
+
+
+class Crate:
+    """A crate's map, from its sources and the maps of the crates below it.
+
+    `copies` says when the names that a round's expansions define go along globs: "push" at once; when the round is over,
+    "first" those that came first, "last" those that came last; "after" when the imports that follow have come to rest.
+    """
+
+    def __init__(self, number, fields, workspace, below, copies):
+        self.number, self.fields, self.workspace, self.below, self.copies = number, fields, workspace, below, copies
+        self.options = {dump(option) for option in fields.get("cfg", [])}
+        self.imports, self.calls, self.edges, self.diagnostics, self.asked = [], [], [], [], {}
+        self.late = None
+        self.transitive = set()
+        for dependency in fields.get("deps", []):
+            self.transitive |= {dependency["crate"]} | below[dependency["crate"]].transitive
+        self.run()
+
+    # ---- what is asked for
+
+    def ask(self, key):
+        value = self.workspace.look(key)
+        self.asked[key] = value
+        return value
+
+    def tree(self, source):
+        """The unit of a source, and whether it is there."""
+        present, _ = self.ask(("tree", self.number) + source)
+        unit = self.workspace.unit(source)
+        return (unit if isinstance(unit, dict) else {}), present
+
+    # ---- the run
+
+    def run(self):
+        unit, _ = self.tree(("file", self.fields["root"]))
+        attrs, false = collect(self.fields.get("attrs", []) + unit.get("attrs", []), self.options)
+        flags = {attr["path"] for attr in attrs}
+        self.edition = self.fields["edition"]
+        self.limit = 128
+        for attr in attrs:
+            text = attr.get("literal", "") if attr["path"] == "recursion_limit" else ""
+            digits = text[1:] if text.startswith("+") else text
+            if digits.isascii() and digits.isdigit() and int(digits) < 2**32:
+                self.limit = int(digits)
+        no_core = "no_core" in flags
+        no_std = "no_std" in flags or no_core
+        self.root = Module(self, None, None, ("", False, 0), self.fields["root"])
+        self.extern_prelude, self.macro_use, self.prelude = {}, {}, None
+        for dependency in self.fields.get("deps", []):
+            name = dependency["name"]
+            hidden = (name == "std" and no_std) or (name == "core" and no_core)
+            if dependency.get("prelude", True) and name not in self.extern_prelude and not hidden:
+                self.extern_prelude[name] = (self.below[dependency["crate"]].root, None)
+        if not no_core:
+            self.find_prelude()
+        if not false:
+            self.walk(unit.get("nodes", []), self.root, Source(self.fields["root"]), 1)
+            self.rounds()
+        self.report()
+
+    def find_prelude(self):
+        name = "std" if "std" in self.extern_prelude else "core"
+        if name not in self.extern_prelude:
+            return
+        found, stop, _ = self.resolve(self.root, ("abs", [name, "prelude", "rust_" + self.edition]), later=True)
+        target = found["types"].definition if "types" in found and stop is None else None
+        if isinstance(target, Module):
+            self.prelude = target
+            if target.krate is not self:
+                for name, binding in sorted(target.krate.root.scope["macros"].items()):
+                    if binding.vis == "pub":
+                        self.macro_use[name] = (binding.definition, None)
+
+    def rounds(self):
+        self.settle()
+        progressed = 0
+        late = [] if self.copies != "push" else None
+        while self.round(late):
+            progressed += 1
+            if self.copies == "after" and progressed <= ROUNDS:
+                self.settle()
+            for at, ns, name in (late or [])[:: -1 if self.copies == "last" else 1]:
+                self.out_of(at, ns, name)
+            if progressed > ROUNDS:
+                return
+            self.settle()
+            late = [] if late is not None else None
+
+    def round(self, late):
+        """Tries each call that waits, each in the state in which its turn finds it; whether one of them was handled."""
+        progress = False
+        self.late = late
+        for call in [call for call in self.calls if not call.handled]:
+            progress |= self.fire(call)
+        self.late = None
+        return progress
+
+    def fire(self, call):
+        if call.depth > self.limit:
+            call.handled = True
+            return True
+        found, _, _ = self.resolve(call.at, call.path, style="bang")
+        if "macros" not in found:
+            return False
+        call.handled = True
+        macro = found["macros"].definition
+        text = self.ask(("text", macro.krate.number) + macro.source.key() + (macro.kind, tuple(macro.id)))
+        given = self.ask(("input", self.number) + call.source.key() + (tuple(call.node["id"]),))
+        key = (self.number, macro.krate.number, text, given)
+        there, error = self.ask(("entry", key))
+        unit, _ = self.tree(("entry", key))
+        if not there or error is not None:
+            item = {"id": call.node["id"], "in": call.source.text(), "kind": "MacroCall"}
+            self.tell("macro error", call.at, item=item, path=print_path(call.path), error=error if there else "absent")
+        self.walk(unit.get("nodes", []), call.at, Source(outer=call.source, call=call.node["id"], entry=key), call.depth + 1)
+        return True
+
+    def tell(self, kind, at, **fields):
+        self.diagnostics.append({"kind": kind, "module": at.text(), **fields})
+
+    def report(self):
+        for call in self.calls:
+            if not call.handled:
+                item = {"id": call.node["id"], "in": call.source.text(), "kind": "MacroCall"}
+                self.tell("unresolved macro call", call.at, call=item, path=print_path(call.path))
+        missing = {import_.crate for import_ in self.imports if import_.kind == "extern" and not import_.taken}
+        for import_ in self.imports:
+            item = {key: value for key, value in import_.item.text().items() if key != "crate"}
+            if import_.taken:
+                continue
+            if import_.kind == "extern":
+                self.tell("unresolved extern crate", import_.at, item=item)
+            elif not (import_.path[0] in ("plain", "abs") and import_.path[1][:1] and import_.path[1][0] in missing):
+                self.tell("unresolved import", import_.at, item=item, place=import_.place)
+
+    # ---- items
+
+    def walk(self, nodes, at, source, depth):
+        for node in nodes:
+            attrs, false = collect(node.get("attrs", []), self.options)
+            if false:
+                item = {"id": node["id"], "in": source.text(), "kind": node["kind"]}
+                self.tell("unconfigured code", at, item=item, cfg=print_condition(false[0]))
+            else:
+                self.item(node, attrs, at, source, depth)
+
+    def item(self, node, attrs, at, source, depth):
+        kind, name = node["kind"], node.get("name")
+        item = Item(self, kind, node["id"], source)
+        if kind == "Use":
+            for place, path, how, alias in leaves(node["tree"]):
+                given = None if how == "glob" or alias == "_" else alias or (path[1] or [None])[-1]
+                self.imports.append(Import(at, item, how, path, given, node.get("vis"), place))
+        elif kind == "ExternCrate":
+            self.extern_crate(node, attrs, at, item)
+        elif kind == "ExternBlock":
+            self.walk([inner for inner in node["nodes"] if inner["kind"] in FOREIGN], at, source, depth)
+        elif kind == "Module":
+            self.module(node, attrs, at, item, source, depth)
+        elif kind == "MacroCall":
+            self.calls.append(Call(at, node, source, depth))
+        elif kind in ("MacroRules", "MacroDef"):
+            item.expander = node.get("expander", "declarative")
+            item.styles = STYLES.get(item.expander, node.get("styles", ["bang"]))
+            if item.expander == "unimplemented":
+                self.tell("unimplemented builtin macro", at, item={key: v for key, v in item.text().items() if key != "crate"})
+            if kind == "MacroDef":
+                self.push(at, name, {"macros": Binding(item, self.written(node.get("vis"), at))}, None)
+            else:
+                at.textual[name] = item
+                if any(attr["path"] == "macro_export" for attr in attrs):
+                    self.push(self.root, name, {"macros": Binding(item, "pub")}, None)
+        elif name is not None:
+            self.definition(node, at, item)
+
+    def definition(self, node, at, item):
+        own = self.written(node.get("vis"), at)
+        bound = Binding(item, own)
+        types, values = {"types": bound}, {"values": bound}
+        kind = node["kind"]
+        if kind == "Enum":
+            named = self.ask(("variants", self.number) + item.source.key() + (tuple(item.id),))
+            item.variants = {name: (Item(self, "Variant", json.loads(node_id), item.source), shape) for name, node_id, shape in named}
+        if kind == "Struct" and node.get("shape", "unit") != "record":
+            constructor = own
+            for field in node.get("fields", []) if node.get("shape") == "tuple" else []:
+                constructor = constructor and self.compare(constructor, self.written(field, at), True)
+            values = {"values": Binding(item, constructor or own)}
+            self.push(at, node["name"], {**types, **values}, None)
+        elif kind in ("Fn", "Const", "Static"):
+            self.push(at, node["name"], values, None)
+        else:
+            self.push(at, node["name"], types, None)
+
+    def extern_crate(self, node, attrs, at, item):
+        name, alias = node["name"], node.get("as")
+        target = self.root if name == "self" else next(
+            (self.below[d["crate"]].root for d in self.fields.get("deps", []) if d["name"] == name), None)
+        given = None if alias == "_" or (name == "self" and alias is None) else alias or name
+        import_ = Import(at, item, "extern", None, given, node.get("vis"))
+        import_.crate, import_.target = name, target
+        self.imports.append(import_)
+        if at is self.root and given is not None and target is not None:
+            self.extern_prelude[given] = (target, item)
+        use = [attr for attr in attrs if attr["path"] == "macro_use"]
+        if use and name != "self" and target is not None:
+            named = None
+            if all("paths" in attr for attr in use):
+                named = {path for attr in use for path in attr["paths"]}
+            for macro, binding in sorted(target.scope["macros"].items()):
+                if binding.vis == "pub" and (named is None or macro in named):
+                    self.macro_use[macro] = (binding.definition, item)
+
+    # ---- modules
+
+    def module(self, node, attrs, at, item, source, depth):
+        path = next((attr["literal"] for attr in attrs if attr["path"] == "path" and "literal" in attr), None)
+        base, below_file, deep = at.directory
+        start = posixpath.dirname(base.rstrip("/")) if below_file and path is not None else base.rstrip("/")
+        joined = None
+        if path is not None:
+            text = path.removeprefix("./").replace("\\", "/")
+            joined = (start + "/" if start else "") + text
+        name = node["name"]
+        if "nodes" in node:
+            inner = base + name + "/" if path is None else joined + ("/" if joined and not joined.endswith("/") else "")
+            child = self.declare(node, at, item, (inner, False, deep + 1), at.file)
+            if deep + 1 <= DEEPEST:
+                self.walk(node["nodes"], child, source, depth)
+        else:
+            candidates = [joined] if path is not None else [base + name + ".rs", base + name + "/mod.rs"]
+            child, unit = None, {}
+            for candidate in candidates:
+                file = posixpath.normpath("/@/" + posixpath.dirname(at.file) + "/" + candidate)
+                file = file.removeprefix("/@/") if file.startswith("/@/") else None
+                if file is None:
+                    continue
+                unit, present = self.tree(("file", file))
+                if not present:
+                    continue
+                if deep + 1 > DEEPEST:
+                    break
+                top = (self.fields.get("attrs", []) if file == self.fields["root"] else []) + unit.get("attrs", [])
+                inner_attrs, false = collect(top, self.options)
+                if false:
+                    where = {"id": node["id"], "in": source.text(), "kind": "Module"}
+                    self.tell("unconfigured code", at, item=where, cfg=print_condition(false[0]))
+                    return
+                attrs = attrs + inner_attrs
+                plain = path is None and not file.endswith("/mod.rs") and file != "mod.rs"
+                child = self.declare(node, at, item, (name + "/" if plain else "", plain, deep + 1), file)
+                self.walk(unit.get("nodes", []), child, Source(file), 1)
+                break
+            if child is None:
+                where = {"id": node["id"], "in": source.text(), "kind": "Module"}
+                self.tell("unresolved module", at, item=where, candidates=candidates)
+                child = self.declare(node, at, item, (base, below_file, deep + 1), at.file)
+        if any(attr["path"] == "macro_use" for attr in attrs):
+            at.textual = dict(child.textual)
+
+    def declare(self, node, at, item, directory, file):
+        module = Module(self, at, item, directory, file)
+        at.children.setdefault(node["name"], module)
+        self.push(at, node["name"], {"types": Binding(module, self.written(node.get("vis"), at))}, None)
+        return module
+
+    # ---- visibilities: "pub", ("crate", crate), ("in", module, explicit)
+
+    def written(self, vis, at):
+        if vis is None or vis == "self":
+            return ("in", at, vis is not None)
+        if vis == "crate":
+            return ("crate", self)
+        if vis == "pub":
+            return "pub"
+        found, stop, _ = self.resolve(at, parse_path(vis["in"]))
+        target = found["types"].definition if "types" in found and stop is None else None
+        if not isinstance(target, Module):
+            return "pub"
+        return ("in", target if target.krate is self else self.root, True)
+
+    @staticmethod
+    def sees(vis, module):
+        if vis == "pub":
+            return True
+        if vis[0] == "crate":
+            return vis[1] is module.krate
+        return any(up is vis[1] for up in module.up())
+
+    def compare(self, one, other, lower):
+        """The lesser (or the greater) of two visibilities, or None where they are unrelated."""
+        if one == "pub" or other == "pub":
+            rest = other if one == "pub" else one
+            return rest if lower else "pub"
+        if one[0] == "crate" and other[0] == "crate":
+            return one if one[1] is other[1] else None
+        if one[0] == "crate" or other[0] == "crate":
+            krate, module = (one, other) if one[0] == "crate" else (other, one)
+            if module[1].krate is not krate[1]:
+                return None
+            return module if lower else krate
+        m, n = one[1], other[1]
+        if m is n:
+            return ("in", m, one[2] or other[2])
+        if m.krate is not self or n.krate is not self:
+            return None
+        if any(up is n for up in m.up()):
+            return one if lower else other
+        if any(up is m for up in n.up()):
+            return other if lower else one
+        return None
+
+    # ---- paths
+
+    def resolve(self, at, path, importing=False, shadow="module", style=None, later=False):
+        """What a path reaches: bindings by namespace, the segment at which it stopped, and whether it led into another crate.
+
+        With `later` it is asked while the crate is begun, so that it has no scope yet but its extern prelude.
+        """
+        kind, names = path
+        if kind == "crate":
+            found, used = {"types": Binding(self.root, "pub")}, 0
+        elif isinstance(kind, tuple):
+            if kind[1] != self.number and kind[1] not in self.transitive:
+                return {}, None, False
+            krate = self if kind[1] == self.number else self.below[kind[1]]
+            found, used = {"types": Binding(krate.root, "pub")}, 0
+        elif isinstance(kind, int):
+            start = at
+            for _ in range(kind):
+                start = start.parent if start is not None else None
+            if start is None:
+                return {}, None, False
+            found, used = {"types": Binding(start, "pub")}, 0
+        elif not names:
+            return {}, None, False
+        elif self.edition == "2015" and not later and (kind == "abs" or importing):
+            found = {ns: self.root.scope[ns][names[0]] for ns in KINDS if names[0] in self.root.scope[ns]}
+            for ns, binding in self.among_crates(names[0]).items():
+                found.setdefault(ns, binding)
+            used = 1
+        elif kind == "abs":
+            found, used = self.among_crates(names[0]), 1
+        else:
+            found, used = self.in_scope(at, names[0], "module" if len(names) > 1 else shadow, style), 1
+        crossed = False
+        while used < len(names):
+            types = found.get("types")
+            if types is None:
+                return {}, None, False
+            target, name = types.definition, names[used]
+            if isinstance(target, Module):
+                if target.krate is not at.krate:
+                    at, crossed = target, True
+                found = {
+                    ns: target.scope[ns][name]
+                    for ns in KINDS
+                    if name in target.scope[ns] and self.sees(target.scope[ns][name].vis, at)
+                }
+            elif isinstance(target, Item) and target.kind == "Enum":
+                if name not in target.variants:
+                    return {"types": types}, used, crossed
+                if used + 1 < len(names):
+                    return {}, None, crossed
+                found = self.variant(target.variants[name], types.vis)
+            else:
+                return {"types": types}, used, crossed
+            used += 1
+        return found, None, crossed
+
+    @staticmethod
+    def variant(variant, vis):
+        item, shape = variant
+        found = {"types": Binding(item, vis)}
+        if shape != "record":
+            found["values"] = Binding(item, vis)
+        return found
+
+    def in_scope(self, at, name, shadow="module", style=None):
+        """What one name stands for in a module."""
+        fits = lambda macro: style is None or (style in macro.styles if style == "bang" else {"attr", "derive"} & set(macro.styles))
+        found = {}
+        if name in at.textual and fits(at.textual[name]):
+            found["macros"] = Binding(at.textual[name], "pub")
+        scope = {ns: at.scope[ns][name] for ns in KINDS if name in at.scope[ns]}
+        if "macros" in scope and not fits(scope["macros"].definition):
+            del scope["macros"]
+        builtin = {"types": Binding(BUILTIN[name], "pub")} if name in BUILTIN else {}
+        first, second = scope, builtin
+        if shadow == "other" and "types" in scope and isinstance(scope["types"].definition, Module):
+            first, second = builtin, scope
+        macro_use = {"macros": Binding(self.macro_use[name][0], "pub", self.brought(self.macro_use[name][1]))} if name in self.macro_use else {}
+        prelude = {}
+        if self.prelude is not None:
+            prelude = {ns: self.prelude.scope[ns][name] for ns in KINDS if name in self.prelude.scope[ns]}
+        for more in (first, second, self.among_crates(name), macro_use, prelude):
+            for ns, binding in more.items():
+                found.setdefault(ns, binding)
+        return found
+
+    @staticmethod
+    def brought(extern_crate):
+        return None if extern_crate is None else ("extern crate", extern_crate, None)
+
+    def among_crates(self, name):
+        if name not in self.extern_prelude:
+            return {}
+        root, item = self.extern_prelude[name]
+        return {"types": Binding(root, "pub", self.brought(item))}
+
+    # ---- imports
+
+    def push(self, at, name, items, by):
+        """Binds items explicitly; each namespace that changes goes along globs."""
+        for ns in KINDS:
+            if ns not in items:
+                continue
+            new, old = items[ns], at.scope[ns].get(name)
+            if old is None or old.edge is not None:
+                at.scope[ns][name] = Binding(new.definition, new.vis, by)
+            elif by is not None and old.by == by and old.definition is not new.definition:
+                at.scope[ns][name] = Binding(new.definition, new.vis, by)
+            else:
+                continue
+            if self.late is None:
+                self.out_of(at, ns, name)
+            else:
+                self.late.append((at, ns, name))
+
+    def out_of(self, at, ns, name):
+        for edge in self.edges:
+            if edge.source is at:
+                self.along(edge, ns, name)
+
+    def into(self, at, ns, name):
+        for edge in self.edges:
+            if edge.importer is at:
+                self.along(edge, ns, name)
+
+    def shown(self, edge, ns, name):
+        source = edge.source
+        if isinstance(source, Item):
+            variant = source.variants.get(name)
+            return None if variant is None else self.variant(variant, "pub").get(ns)
+        binding = source.scope[ns].get(name)
+        if binding is None:
+            return None
+        if source.krate is not self:
+            return binding if binding.vis == "pub" else None
+        return binding if self.sees(binding.vis, edge.importer) else None
+
+    def along(self, edge, ns, name):
+        binding = self.shown(edge, ns, name)
+        if binding is None:
+            return
+        vis = self.compare(edge.vis, binding.vis, True) or edge.vis
+        saw = (binding.definition, binding.vis, edge.vis)
+        old = edge.importer.scope[ns].get(name)
+        if old is None:
+            edge.importer.scope[ns][name] = Binding(binding.definition, vis, edge.by, edge, saw)
+            self.out_of(edge.importer, ns, name)
+        elif old.edge is edge:
+            if old.saw != saw:
+                old.saw = saw
+                old.definition, old.vis = binding.definition, vis
+                self.out_of(edge.importer, ns, name)
+                self.into(edge.importer, ns, name)
+        elif old.edge is not None and old.definition is binding.definition:
+            wide = self.compare(old.vis, vis, False)
+            if wide is not None and wide != old.vis:
+                old.vis = wide
+                self.out_of(edge.importer, ns, name)
+                self.into(edge.importer, ns, name)
+
+    def record(self, source, importer, by, vis):
+        edge = None
+        if isinstance(source, Module) and source.krate is self:
+            edge = next((e for e in self.edges if e.source is source and e.importer is importer), None)
+        if edge is None:
+            edge = Edge(source, importer, by, vis)
+            self.edges.append(edge)
+        else:
+            wide = self.compare(edge.vis, vis, False)
+            if wide is None or wide == edge.vis:
+                return
+            edge.vis = wide
+        for ns in KINDS:
+            for name in sorted(source.variants if isinstance(source, Item) else source.scope[ns]):
+                self.along(edge, ns, name)
+
+    def take(self, import_):
+        """Tries an import; whether it was taken."""
+        at, own = import_.at, self.written(import_.vis, import_.at)
+        if import_.kind == "extern":
+            if import_.target is None or import_.taken:
+                return False
+            import_.taken.append(import_.target)
+            if import_.name is not None:
+                self.push(at, import_.name, {"types": Binding(import_.target, own)}, ("extern crate", import_.item, None))
+            return True
+        found, _, crossed = self.resolve(at, import_.path, importing=True)
+        if import_.kind == "glob":
+            target = found["types"].definition if "types" in found else None
+            if not (isinstance(target, Module) or (isinstance(target, Item) and target.kind == "Enum")):
+                return False
+            if any(taken is target for taken in import_.taken):
+                return False
+            import_.taken.append(target)
+            self.record(target, at, ("glob", import_.item, import_.place), own)
+            return True
+        new = [ns for ns in found if ns not in import_.taken]
+        if not new:
+            return False
+        import_.taken += new
+        if import_.kind == "types":
+            found = {ns: binding for ns, binding in found.items() if ns == "types"}
+        if crossed:
+            found = {ns: binding for ns, binding in found.items() if binding.vis == "pub"}
+        items = {}
+        for ns, binding in found.items():
+            vis = self.compare(own, binding.vis, True) or own
+            kind, names = import_.path
+            if ns == "types" and kind == "plain" and len(names) == 1 and binding.by and binding.by[0] == "extern crate":
+                vis = own
+            items[ns] = Binding(binding.definition, vis)
+        if import_.name is not None:
+            self.push(at, import_.name, items, ("import", import_.item, import_.place))
+        return True
+
+    def settle(self):
+        moved = True
+        while moved:
+            moved = False
+            for import_ in list(self.imports):
+                moved |= self.take(import_)

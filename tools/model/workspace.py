@@ -1,0 +1,165 @@
+"""What a session is handed in, and what it replies."""
+import posixpath
+
+from model.crate import KINDS, Crate
+from model.syntax import collect, dump, parse_path
+
+
+class Workspace:
+    """What a session is handed in, and the maps of the crates that aren't stale."""
+
+    def __init__(self, copies="push"):
+        self.copies = copies
+        self.crates, self.files, self.entries, self.maps = [], {}, {}, {}
+
+    # ---- sources and keys
+
+    def unit(self, source):
+        how, name = source
+        if how == "file":
+            return self.files.get(name)
+        return self.entries[name][0] if name in self.entries else None
+
+    def nodes(self, source):
+        def inside(nodes):
+            for node in nodes:
+                yield node
+                yield from inside(node.get("nodes", []) + node.get("items", []))
+
+        unit = self.unit(source)
+        return inside(unit.get("nodes", []) if isinstance(unit, dict) else [])
+
+    def look(self, key):
+        """What a run finds under a key: a text, a number or a tuple of them."""
+        kind = key[0]
+        if kind == "entry":
+            entry = self.entries.get(key[1])
+            return (False, None) if entry is None else (True, entry[1])
+        krate, source, rest = self.crates[key[1]], key[2:4], key[4:]
+        options = {dump(option) for option in krate.get("cfg", [])}
+        if kind == "tree":
+            unit = self.unit(source)
+            whole = unit if isinstance(unit, dict) else {}
+            front = krate.get("attrs", []) if source == ("file", krate["root"]) else []
+            top = collect(front + whole.get("attrs", []), options)
+            return unit is not None, dump([top, self.kept(whole.get("nodes", []), options)])
+        wanted = rest[-1]
+        for node in self.nodes(source):
+            if tuple(node["id"]) == wanted:
+                if kind == "text" and node["kind"] == rest[0]:
+                    return node.get("text", "")
+                if kind == "input" and node["kind"] == "MacroCall":
+                    return node.get("input", "")
+                if kind == "variants" and node["kind"] == "Enum":
+                    kept = [v for v in node["variants"] if not collect(v.get("attrs", []), options)[1]]
+                    return tuple((v["name"], dump(v["id"]), v.get("shape", "unit")) for v in kept)
+        return None
+
+    def kept(self, nodes, options):
+        """The items of a tree: without bodies, variants, texts, inputs and associated items."""
+        found = []
+        for node in nodes:
+            left = {name: value for name, value in node.items() if name not in ("body", "variants", "text", "input", "items")}
+            left["attrs"] = collect(node.get("attrs", []), options)
+            left.setdefault("vis", None)
+            if "nodes" in left:
+                left["nodes"] = self.kept(left["nodes"], options)
+            found.append(left)
+        return found
+
+    # ---- edits
+
+    def edit(self, change):
+        change()
+        marked = {number for number, krate in self.maps.items() if any(self.look(key) != value for key, value in krate.asked.items())}
+        for number in list(self.maps):
+            if number in marked or self.maps[number].transitive & (marked | (set(range(len(self.crates))) - set(self.maps))):
+                marked.add(number)
+        for number in marked:
+            del self.maps[number]
+
+    def refresh(self):
+        due = [number for number in range(len(self.crates)) if number not in self.maps]
+        for number in due:
+            self.maps[number] = Crate(number, self.crates[number], self, self.maps, self.copies)
+        return [[number] for number in due]
+
+    # ---- queries
+
+    def status(self, place):
+        if place[0] >= len(self.crates):
+            return "unknown", None
+        if place[0] not in self.maps:
+            return "stale", None
+        at = self.maps[place[0]].root
+        for name in place[1:]:
+            if not isinstance(name, str) or name not in at.children:
+                return "unknown", None
+            at = at.children[name]
+        return "current", at
+
+    def resolve(self, command):
+        status, at = self.status(command["at"])
+        if at is None:
+            return {"error": status + " place"}
+        krate = at.krate
+        found, stop, _ = krate.resolve(at, parse_path(command["path"]), shadow=command.get("shadow", "other"), style=command.get("sub"))
+        return {"ok": {"stop": stop, **{ns: self.answer(found.get(ns)) for ns in KINDS}}}
+
+    @staticmethod
+    def answer(binding):
+        if binding is None:
+            return None
+        by = None
+        if binding.by is not None:
+            kind, item, place = binding.by
+            by = {"id": item.id, "in": item.source.text(), "kind": kind}
+            if place is not None:
+                by["place"] = place
+        vis = binding.vis
+        if vis != "pub":
+            vis = {"crate": vis[1].number} if vis[0] == "crate" else {"explicit": vis[2], "module": vis[1].text()}
+        return {"def": binding.definition.text(), "import": by, "vis": vis}
+
+    def reply(self, command):
+        """The reply to a command, or None where the model has none."""
+        do = command.get("do")
+        if do == "crates":
+            self.crates = [{**krate, "root": fold(krate["root"])} for krate in command["crates"]]
+            return {"ok": None}
+        if do in ("set file", "remove file"):
+            file = fold(command["file"])
+            if do == "set file":
+                self.edit(lambda: self.files.__setitem__(file, command["unit"]))
+            else:
+                self.edit(lambda: self.files.pop(file, None))
+            return {"ok": None}
+        if do in ("set expansion", "remove expansion"):
+            key = command["key"]
+            if key["call"] != "bang":
+                return None
+            name = (key["caller"], key["crate"], key["text"], key["input"])
+            if do == "remove expansion":
+                self.edit(lambda: self.entries.pop(name, None))
+                return {"ok": None}
+            if max(name[0], name[1]) >= len(self.crates):
+                return {"error": "unknown crate"}
+            self.edit(lambda: self.entries.__setitem__(name, (command["unit"], command.get("error"))))
+            return {"ok": None}
+        if do == "refresh":
+            return {"ok": self.refresh()}
+        if do == "status":
+            return {"ok": self.status(command["at"])[0]}
+        if do == "resolve":
+            return self.resolve(command)
+        if do == "diagnostics":
+            if command["crate"] >= len(self.crates):
+                return {"error": "unknown crate"}
+            if command["crate"] not in self.maps:
+                return {"error": "stale place"}
+            return {"ok": self.maps[command["crate"]].diagnostics}
+        return None
+
+
+def fold(file):
+    return posixpath.normpath("/" + file).lstrip("/")
