@@ -9,6 +9,7 @@ use Rattle.hir_glob_imports.specs.Rules.{BroughtBy}
 use Rattle.hir_glob_imports.specs.Waves.{GlobsValue, brought_of}
 use Rattle.hir_glob_imports.specs.declared.edge.Edge.{Edge}
 use Rattle.hir_import_resolution.specs.Changes.{forgotten}
+use Rattle.hir_call_queue.specs.Changes.{ChangedValue}
 use Rattle.hir_import_resolution.specs.declared.directive.ImportDirective.{ImportDirective}
 use Rattle.hir_import_resolution.specs.Directives.{TakenValue, not_taken}
 use Rattle.hir_import_resolution.specs.State.{ImportState, nothing_brought}
@@ -87,6 +88,8 @@ pub record Run : Type 0 where
   pub settled : ℕ
   pub asked : List Key
   pub count : ℕ
+  -- the slots of paths that may have changed since it was last looked at
+  pub changed : ChangedValue
 
 -- the core that this keeps
 unfoldable pub core_in : Run → Core

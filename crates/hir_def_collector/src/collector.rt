@@ -11,10 +11,11 @@
 //! a module goes along all edges out of it at once. And an import is tried again when something is bound that its path has
 //! read. So a path can come to reach more, or something else: the import is then bound again, and a glob gets another edge.
 //!
-//! A macro call waits, in the order in which calls were found, until its path reaches a macro. Once imports rest each call
-//! that waits is tried, one after another: the call that reaches a macro asks for the macro's text and its own input,
-//! and with them for its expansion, whose items are handled as those of a file are, in the module of the call. Then
-//! imports are taken up again, and so on, round by round, until a round handles no call, or more than `ROUND_LIMIT` have.
+//! A macro call waits, in the order in which calls were found, until its path reaches a macro. Once imports rest those are
+//! tried, one after another, that are new or have read something that has changed since they were tried
+//! (`hir_call_queue`): the call that reaches a macro asks for the macro's text and its own input, and with them for its
+//! expansion, whose items are handled as those of a file are, in the module of the call. Then imports are taken up again,
+//! and so on, round by round, until a round handles no call, or more than `ROUND_LIMIT` have.
 //!
 //! When no import waits, none would bind anything, no name is left to go along an edge, and no call that waits reaches a
 //! macro, a run ends. That isn't told by these loops but by the rules in `specs/Steps`: each function below makes one step

@@ -9,6 +9,7 @@ ghost use Rattle.hir_def_collector.specs.Enums.{variant_of, variants_by_name, va
 ghost use Rattle.hir_def_collector.specs.TreeReads.{head_of};
 ghost use Rattle.hir_def_collector.specs.Steps.{visit};
 ghost use Rattle.hir_def_collector.specs.Moves.{Handles};
+ghost use Rattle.hir_def_collector.specs.Waiting.{IsNoted};
 
 use crate::collector::declaration::Declaration;
 use crate::collector::declare::declare;
@@ -77,6 +78,7 @@ pub fn declare_enum(
     ensures ok { OnOk result ((env : Environment)
         → source_in env.tables env.workspace (record { krate = (core_in run.old).map.id.krate; id = site.now.tree }) ≡ source.now
         → Handles env (part_of world.entry) (core_in run.old) (core_in run.new) (visit site.now (leaf (head_of head.entry) (enumeration name.now))) []) }
+    ensures noted { OnOk result (IsNoted run.old run.new) }
     ensures many { result ≡ Err CollectError.TooMany → STEP_LIMIT ≤ (core_in run.old).count }
 {
     let id = EnumId {

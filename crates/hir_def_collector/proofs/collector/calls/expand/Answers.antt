@@ -1,5 +1,5 @@
 -- A call is expanded in one step, and then its items are handled.
-use Rattle.std.proofs.Common.{rules, ◌≡◌, ◌∙◌, ◌<◌, ◌≤◌, List, Option, length, ap, refl, subst, sym, arith}
+use Rattle.std.proofs.Common.{rules, ◌≡◌, ◌∙◌, ◌<◌, length, ap, subst, sym}
 use Rattle.std.proofs.lemmas.List.Elements.{All-map}
 use Rattle.std.specs.List.{All}
 use Rattle.hir_item_tree.specs.ItemTree.{Tree}
@@ -9,11 +9,11 @@ use Rattle.hir_item_tree.specs.SourceTree.{SourceTreeValue}
 use Rattle.hir_item_tree.specs.declared.rows.ModItemId.{ModItemId}
 use Rattle.hir_tables.proofs.Growth.{KeepsTables-trans}
 use Rattle.hir_def_map.specs.WorldParts.{part_of}
-use Rattle.hir_def_collector.specs.Keys.{environment}
 use Rattle.hir_def_collector.specs.Moves.{IsWritten, OnceGrown, Walks, WalksTooFar}
 use Rattle.hir_def_collector.specs.State.{core_in}
 use Rattle.hir_def_collector.specs.TreeReads.{visits_at}
 use Rattle.hir_def_collector.proofs.CallSteps.{expanded_and_walked, expanded_too_far, handled_at_last, past_reported, site_inside, site_written, spent_by_numbers}
+use Rattle.hir_def_collector.proofs.Noted.{noted_follow}
 use Rattle.hir_def_collector.proofs.collector.calls.expand.Goals as goal
 
 pub look_at_call-requires : goal.look_at_call-requires
@@ -164,3 +164,6 @@ returns-clause-handled g c =
     handled_at_last tables w part old asked c.args.i c.args.call.now c.args.makro seen.0 source seen.1 c.requires.expands ended reported c.in_ok-id.field-0.error c.end_call.ensures.value seen.3 c.in_ok-report_failed.ensures.ok
     new c.in_ok-tick.ensures.ok c.in_ok-site.site c.in_ok-id.field-0.id ids c.in_ok-site.ensures.value seen.2 all
     later c.in_ok-walk_all.ensures.kept v c.in_ok-id.ensures.same last walks
+
+pub returns-clause-noted : goal.returns-clause-noted
+returns-clause-noted g c = noted_follow c.in_ok-id.ensures.noted (noted_follow c.end_call.ensures.noted (noted_follow c.in_ok-report_failed.ensures.noted (noted_follow c.in_ok-tick.ensures.noted c.in_ok-walk_all.ensures.noted)))

@@ -1,11 +1,11 @@
 -- All that the expansion of a call depends on is asked for, and the expansion.
-use Rattle.std.proofs.Common.{rules, ◌≡◌, ◌∙◌, List, Option, Some, ap, refl, subst, sym}
+use Rattle.std.proofs.Common.{◌≡◌, ◌∙◌, Some, ap, refl, subst, sym}
 use Rattle.hir_base.specs.declared.ast_id.AstId.{AstId}
 use Rattle.hir_base.specs.declared.ids.MapId.{MapId}
 use Rattle.hir_base.specs.declared.macro_kind.MacroCallKind.{MacroCallKind}
 use Rattle.hir_tables.specs.Interning.{Interns}
 use Rattle.hir_tables.specs.SourcePlaces.{expansion_value}
-use Rattle.hir_tables.specs.Tables.{KeepsTables, TablesValue}
+use Rattle.hir_tables.specs.Tables.{TablesValue}
 use Rattle.hir_tables.proofs.Growth.{KeepsTables-trans}
 use Rattle.hir_def_map.specs.State.{Map}
 use Rattle.hir_def_collector.specs.declared.source_database.Key.TheVariants as keys
@@ -15,6 +15,7 @@ use Rattle.hir_def_collector.specs.State.{Core, core_in, with_asked}
 use Rattle.hir_def_collector.specs.Workspace.{Workspace, entry_look, seen_of}
 use Rattle.hir_def_collector.proofs.CallPlaces.{placed_grown}
 use Rattle.hir_def_collector.proofs.Looking.{asked_all, placed_call, sees_call}
+use Rattle.hir_def_collector.proofs.Noted.{noted_follow}
 use Rattle.hir_def_collector.proofs.collector.calls.look_at_call.Goals as goal
 
 pub returns-in_err-id-clause-placed : goal.returns-in_err-id-clause-placed
@@ -110,3 +111,6 @@ returns-clause-ok g c =
       refl,
       c.in_ok-error.ensures.value,
     )
+
+pub returns-clause-noted : goal.returns-clause-noted
+returns-clause-noted g c = noted_follow c.in_ok-ask_text.ensures.noted (noted_follow c.in_ok-ask.ensures.noted (noted_follow c.in_ok-ask-2.ensures.noted c.in_ok-ask-3.ensures.noted))

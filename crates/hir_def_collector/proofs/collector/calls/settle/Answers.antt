@@ -5,6 +5,7 @@ use Rattle.hir_import_resolution.specs.Rest.{IsAtRest}
 use Rattle.hir_def_collector.specs.State.{Core, at_rest, core_in, import_state}
 use Rattle.hir_def_collector.proofs.CallSteps.{rest_counted, rested, rested_past}
 use Rattle.hir_def_collector.proofs.Moves.{Steps-append, spent_after}
+use Rattle.hir_def_collector.proofs.Noted.{noted_follow}
 use Rattle.hir_def_collector.proofs.collector.calls.settle.Goals as goal
 
 pub returns-clause-ok : goal.returns-clause-ok
@@ -23,3 +24,6 @@ returns-in_err-rest-clause-many c = λ h env.
 
 pub returns-clause-settled : goal.returns-clause-settled
 returns-clause-settled c = ap (λ (n : Core). n.settled) c.in_ok-rest.ensures.ok ∙ sym (ap (λ (n : Core). length n.calls) c.in_ok-rest.ensures.ok)
+
+pub returns-clause-noted : goal.returns-clause-noted
+returns-clause-noted c = noted_follow c.in_ok-run.ensures.noted c.in_ok-rest.ensures.noted

@@ -1,5 +1,5 @@
 -- A call that waits is dropped, expanded, or left to wait.
-use Rattle.std.proofs.Common.{rules, ◌≡◌, ◌∙◌, ◌<◌, ◌≤◌, None, Some, ap, refl, slice_get, subst, sym}
+use Rattle.std.proofs.Common.{rules, ◌≡◌, ◌∙◌, ◌<◌, ◌≤◌, None, Some, ap, refl, slice_get, subst}
 use Rattle.hir_def_map.specs.WorldParts.{part_of}
 use Rattle.hir_def_collector.specs.declared.collector.TheConstants.{STEP_LIMIT}
 use Rattle.hir_def_collector.specs.declared.collector.macro_directive.Fate.TheVariants.{Handled, Waits}
@@ -11,6 +11,7 @@ use Rattle.hir_def_collector.specs.State.{Core, at_rest, core_in, counted}
 use Rattle.hir_def_collector.specs.Steps.{IsDeep, none}
 use Rattle.hir_def_collector.proofs.CallSteps.{dropped, dropped_past}
 use Rattle.hir_def_collector.proofs.Lists.{get_inside, get_set_same}
+use Rattle.hir_def_collector.proofs.Noted.{noted_follow, noted_itself}
 use Rattle.hir_def_collector.proofs.collector.calls.try_call.Goals as goal
 
 -- nothing waits at the place
@@ -67,3 +68,12 @@ returns-in_ok-tick-in-TooDeep-clause-tried g c =
 -- it was expanded
 pub returns-in_ok-expand-in-Reaches-clause-tried : goal.returns-in_ok-expand-in-Reaches-clause-tried
 returns-in_ok-expand-in-Reaches-clause-tried g c = handled c.in-Some.call.now c.in-Some.ensures.waits c.in_ok-expand-in-Reaches.ensures.handled
+
+pub returns-in_default-clause-noted : goal.returns-in_default-clause-noted
+returns-in_default-clause-noted g c = noted_itself c.args.run.now
+
+pub returns-in-Nothing-clause-noted : goal.returns-in-Nothing-clause-noted
+returns-in-Nothing-clause-noted g c = noted_itself c.args.run.now
+
+pub returns-in_ok-tick-in-TooDeep-clause-noted : goal.returns-in_ok-tick-in-TooDeep-clause-noted
+returns-in_ok-tick-in-TooDeep-clause-noted g c = noted_follow c.end_call.ensures.noted c.in_ok-tick-in-TooDeep.ensures.noted
