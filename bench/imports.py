@@ -5,9 +5,7 @@ processor, the least of some runs.
 Usage, at the top of the repository: bench/imports.py [INPUT [SIZE]..]. Without an input it takes each of them, at the
 sizes of INPUTS. The program must be built: `rt run < /dev/null` in crates/hir_session_main.
 """
-import sys
-
-from measure import best_parts, memory
+from measure import double, refresh
 
 SESSION = "crates/hir_session_main/out/hir_session_main"
 
@@ -105,27 +103,8 @@ def seconds_of(made, n):
         {"do": "crates", "crates": [{"edition": "2021", "root": "lib.rs"}]},
         {"do": "set file", "file": "lib.rs", "unit": {"nodes": nodes}},
     ]
-    parts = [begin, [{"do": "refresh"}], [{"do": "resolve", "at": [0], "path": path}]]
-    seconds, replies = best_parts(SESSION, parts, 3)
-    if '"kind":"Struct"' not in replies[-1]:
-        sys.exit(f"{made.__name__} of {n}: {path} is {replies[-1]}")
-    return seconds[1], memory(SESSION, [command for part in parts for command in part])
-
-
-def main():
-    wanted = sys.argv[1:2]
-    given = [int(size) for size in sys.argv[2:]]
-    for made, sizes in INPUTS.items():
-        if wanted and made.__name__ != wanted[0]:
-            continue
-        taken = {}
-        for n in given or sizes:
-            for size in (n, 2 * n):
-                if size not in taken:
-                    taken[size] = seconds_of(made, size)
-            (one, _), (two, most) = taken[n], taken[2 * n]
-            print(f"{made.__name__}: {n}: {one:.3f} s; {2 * n}: {two:.3f} s, {most:.0f} MB; ratio {two / one:.2f}", flush=True)
+    return refresh(SESSION, begin, [0], path)
 
 
 if __name__ == "__main__":
-    main()
+    double(INPUTS, seconds_of)

@@ -83,3 +83,29 @@ def memory(program, commands):
     with script_of(commands) as script:
         done = subprocess.run([sys.executable, "-c", MEMORY, program], stdin=script, stdout=subprocess.PIPE, check=True)
         return int(done.stdout) / 1024
+
+
+def refresh(session, begin, at, path):
+    """Seconds of processor of a refresh after these commands, and the most memory of the session; a path has to lead to
+    a struct then."""
+    parts = [begin, [{"do": "refresh"}], [{"do": "resolve", "at": at, "path": path}]]
+    seconds, replies = best_parts(session, parts, 3)
+    if '"kind":"Struct"' not in replies[-1]:
+        sys.exit(f"{path} is {replies[-1]}")
+    return seconds[1], memory(session, [command for part in parts for command in part])
+
+
+def double(inputs, measured):
+    """Prints what each input, or the one that the command line names, takes at its sizes, or at those given there, and at
+    twice these."""
+    wanted, given = sys.argv[1:2], [int(size) for size in sys.argv[2:]]
+    for made, sizes in inputs.items():
+        if wanted and made.__name__ != wanted[0]:
+            continue
+        taken = {}
+        for n in given or sizes:
+            for size in (n, 2 * n):
+                if size not in taken:
+                    taken[size] = measured(made, size)
+            (one, _), (two, most) = taken[n], taken[2 * n]
+            print(f"{made.__name__}: {n}: {one:.3f} s; {2 * n}: {two:.3f} s, {most:.0f} MB; ratio {two / one:.2f}", flush=True)

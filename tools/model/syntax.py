@@ -64,9 +64,9 @@ def print_condition(condition):
     return "%s(%s)" % (form, ", ".join(print_condition(part) for part in parts))
 
 
-def size(attr):
-    """How many attributes there are in one, itself included."""
-    return 1 + sum(size(inner) for inner in attr.get("attrs", []))
+def count(attrs):
+    """How many attributes there are, with those that a `cfg_attr` holds."""
+    return sum(1 + count(attr["attrs"] if attr["path"] == "cfg_attr" else []) for attr in attrs)
 
 
 def collect(attrs, options, number=0):
@@ -83,7 +83,7 @@ def collect(attrs, options, number=0):
             kept += inner
             if false:
                 return kept, false
-        number += size(attr)
+        number += count([attr])
     return kept, []
 
 

@@ -15,6 +15,7 @@ pub mod Leftovers
 pub mod InRange
 pub mod Holds
 pub mod Tried
+pub mod InOrder
 pub mod Ready
 pub mod Progress
 pub mod Digits
@@ -46,5 +47,11 @@ pub mod Numbers
 pub mod Meaning
 pub mod CallSteps
 pub mod Helping
-pub mod Trying
+pub mod EnumMacros
+pub mod CallReads
+pub mod Noted
+pub mod NotedImports
+pub mod Waiting
+pub mod Queued
+pub mod GivingUp
 pub mod Looking

@@ -7,9 +7,10 @@ use Rattle.hir_item_tree.specs.declared.tree_id.TreeId.{TreeId}
 use Rattle.hir_tables.specs.Tables.{KeepsTables, TablesValue, source_of}
 use Rattle.hir_textual_scope.specs.Macros.{with_macro}
 use Rattle.hir_scope.specs.Scope.{ScopeValue}
+use Rattle.hir_scope.specs.declared.visibility.Visibility.TheVariants as visibilities
 use Rattle.hir_def_map.specs.Macros.{with_derive_helper, with_diagnostic, with_exported, with_macro_data, with_macro_def}
 use Rattle.hir_def_map.specs.Overlay.{Maps}
-use Rattle.hir_def_map.specs.State.{Map, entry_at, module_at, with_enum}
+use Rattle.hir_def_map.specs.State.{IsBefore, IsInOrder, Map, ModuleValue, entry_at, module_at, new_module, with_enum}
 use Rattle.hir_glob_imports.specs.Waves.{Stands}
 use Rattle.hir_glob_imports.specs.declared.edge.Brought.{Brought}
 use Rattle.hir_glob_imports.specs.declared.edge.Key.{Key as SlotKey}
@@ -34,7 +35,7 @@ use Rattle.hir_def_collector.specs.Workspace.{Workspace}
 use Rattle.hir_def_collector.specs.Imports.{extern_after}
 use Rattle.hir_def_collector.specs.ItemIds.{module_id}
 use Rattle.hir_def_collector.specs.Macros.{textual_at, with_macros_used}
-use Rattle.hir_def_collector.specs.Start.{began}
+use Rattle.hir_def_collector.specs.Start.{began, origin_of}
 use Rattle.hir_def_collector.specs.State.{Core, State, at_rest, import_state, ticked}
 use Rattle.hir_def_collector.specs.Changes.{Change, lists, makes, gives_variants, begins_paths, reaches, awaits, ends, settles, changes_imports, adds_textual, takes_textual, defines, describes, helps, lists_derive, exports, uses_macros, tells, goes_on, act, on_map, perform, with_builtin_derive}
 use Rattle.hir_def_collector.specs.Steps.{Rule, drops_item, awaits_attribute, lists_derives, faults_derive, exports_macro, reaches_call, rests, expands_call, drops_call, drops_reached, derives_builtin, skips_attribute, falls_back, defines_rules, defines_macro, closes_module, declares_item, declares_enum, lists_constant, lists_impl, opens_module, opens_file, drops_file, misses_file, enters_block, reaches_imports, reaches_crate, resolves_imports, May, acts, after, asking, Step, Steps, none, more}
@@ -42,6 +43,7 @@ use Rattle.hir_def_collector.proofs.Changes.{AllFine, fine_bringing, fine_expand
 use Rattle.hir_def_collector.proofs.Holds.{in_range-begun}
 use Rattle.hir_def_collector.proofs.ImportEdits.{imports_after}
 use Rattle.hir_def_collector.proofs.ImportSteps.{perform-imports}
+use Rattle.hir_def_collector.proofs.InOrder.{in_order_Step, root_in_order}
 use Rattle.hir_def_collector.proofs.InRange.{CallsBelow, ImportsBelow, IsInRange, call_below, import_at, in_range-Step}
 use Rattle.hir_def_collector.proofs.Lists.{length_both, length_mapped, length_set}
 use Rattle.hir_def_collector.proofs.Meaning.{CallsMeant, IsAllMeant, call_meant, meant-Step, meant-begun}
@@ -252,6 +254,7 @@ record IsPoised (tables : TablesValue) (finished : Maps) (s : State) : Type 0 wh
   inside : IsInRange s
   fated : length s.core.fates ≡ length s.core.calls
   meant : IsAllMeant tables s
+  in_order : IsInOrder s.core.map
 
 poised-Step : {tables : TablesValue} {w : Workspace} {finished : Maps} {old new : State} → Step (environment tables w) finished old new → IsPoised tables finished old → IsPoised tables finished new
 poised-Step {tables = tables} {finished = finished} {old = old} step p = record {
@@ -259,6 +262,7 @@ poised-Step {tables = tables} {finished = finished} {old = old} step p = record 
   inside = in_range-Step step p.inside;
   fated = fates_paired (Steps-one step) p.fated;
   meant = meant-Step tables step p.meant;
+  in_order = in_order_Step step p.inside p.in_order;
 }
 
 poised-Steps : {tables : TablesValue} {w : Workspace} {finished : Maps} {from to : State} → Steps (environment tables w) finished from to → IsPoised tables finished from → IsPoised tables finished to
@@ -286,6 +290,7 @@ module _ (tables : TablesValue) (finished : Maps) (c : Core) where
     inside = record { visits = tt; imports = imports_below (length c.map.modules) c.reached r.imports; calls = calls_below (length c.map.modules) c.calls r.calls };
     fated = r.fated;
     meant = record { visits = tt; calls = calls_meant tables c.calls r.meant };
+    in_order = r.in_order;
   }
 
   ready_at : IsPoised tables finished (at_rest c) → IsReady tables finished c
@@ -296,6 +301,7 @@ module _ (tables : TablesValue) (finished : Maps) (c : Core) where
     fated = p.fated;
     calls = λ i d at. call_below (length c.map.modules) c.calls i d p.inside.calls at;
     meant = λ i d at. call_meant tables c.calls i d p.meant.calls at;
+    in_order = p.in_order;
   }
 
 -- a part of a run that is ready leaves one that is
@@ -313,6 +319,7 @@ ready_grown {tables = tables} {grown = grown} kept r = record {
   meant = λ i d at.
       let meant : IsMeantCall tables d = r.meant i d at in
       record { site = site_kept tables grown kept d.site meant.site; node = source_kept tables grown kept (node_tree d.ast_id) meant.node; item = meant.item };
+  in_order = r.in_order;
 }
 
 -- and so is one that began with a tree whose number means something
@@ -333,4 +340,5 @@ ready_start tables w finished transitive start id c there steps = ready_at table
       inside = in_range-begun tables w finished transitive start id;
       fated = refl;
       meant = meant-begun tables w finished transitive start id there;
+      in_order = root_in_order (began tables w finished transitive start id).core.map (new_module (origin_of start) visibilities.Public None) refl refl;
     }

@@ -6,6 +6,7 @@ use Rattle.hir_tables.specs.SourcePlaces.{SourcePlaceValue}
 use Rattle.hir_tables.specs.Tables.{KeepsTables, TablesValue, source_of}
 use Rattle.hir_tables.proofs.Growth.{source_of-kept}
 use Rattle.hir_def_map.specs.Overlay.{Maps}
+use Rattle.hir_def_map.specs.State.{IsInOrder}
 use Rattle.hir_glob_imports.specs.declared.edge.Brought.{Brought}
 use Rattle.hir_def_collector.specs.CallMoves.{ComesToRest, IsReady, rested}
 use Rattle.hir_def_collector.specs.Keys.{Environment}
@@ -17,8 +18,9 @@ nothing_at xs i x e h = let gone : slice_get [] i ≡ Some x = subst (λ (ys : L
 nothing_brought_there : (o : Option Brought) (by : Brought) → o ≡ None → o ≡ Some by → ⊥
 nothing_brought_there o by e h = let no : ⊥ = cc in no
 
-pub ready_empty : (tables : TablesValue) (finished : Maps) (c : Core) → c.globs ≡ no_recorded_globs → c.reached ≡ [] → c.taken ≡ [] → c.calls ≡ [] → c.fates ≡ [] → IsReady tables finished c
-ready_empty tables finished c globs reached taken calls fates = record {
+pub ready_empty : (tables : TablesValue) (finished : Maps) (c : Core) → c.globs ≡ no_recorded_globs → c.reached ≡ [] → c.taken ≡ [] → c.calls ≡ [] → c.fates ≡ [] → IsInOrder c.map
+    → IsReady tables finished c
+ready_empty tables finished c globs reached taken calls fates in_order = record {
   sound = record {
     there = λ j e h. absurd (nothing_at c.globs.edges j e (ap (λ (g : RecordedGlobs). g.edges) globs) h);
     stands = λ slot by h. absurd (nothing_brought_there (c.globs.brought slot) by (ap (λ (g : RecordedGlobs). g.brought slot) globs) h);
@@ -29,6 +31,7 @@ ready_empty tables finished c globs reached taken calls fates = record {
   fated = ap length fates ∙ sym (ap length calls);
   calls = λ i d h. absurd (nothing_at c.calls i d calls h);
   meant = λ i d h. absurd (nothing_at c.calls i d calls h);
+  in_order = in_order;
 }
 
 -- nothing is left to be done in it

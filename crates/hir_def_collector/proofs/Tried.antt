@@ -242,6 +242,9 @@ module _ {env : Environment} {finished : Maps} {from to : State} (steps : Steps 
   pub call_stays : (i : ℕ) (d : MacroDirective) → slice_get from.core.calls i ≡ Some d → slice_get to.core.calls i ≡ Some d
   call_stays = (keeps_calls steps).calls
 
+  pub calls_longer : length from.core.calls ≤ length to.core.calls
+  calls_longer = (keeps_calls steps).longer
+
   -- as many may be expanded, or more
   pub settled_more : from.core.settled ≤ length from.core.calls → from.core.settled ≤ to.core.settled
   settled_more = (keeps_calls steps).settled

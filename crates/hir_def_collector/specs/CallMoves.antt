@@ -4,6 +4,7 @@ use Rattle.hir_base.specs.declared.macro_kind.MacroId.{MacroId}
 use Rattle.hir_item_tree.specs.SourceTree.{SourceTreeValue}
 use Rattle.hir_tables.specs.Tables.{TablesValue}
 use Rattle.hir_def_map.specs.Overlay.{Maps}
+use Rattle.hir_def_map.specs.State.{IsInOrder}
 use Rattle.hir_import_resolution.specs.Rest.{BroughtStands, IsAtRest, IsClosed, IsSound}
 use Rattle.hir_import_resolution.specs.declared.directive.ImportDirective.{ImportDirective}
 use Rattle.hir_def_collector.specs.declared.collector.calls.Due.{Due}
@@ -29,6 +30,7 @@ pub record IsReady (tables : TablesValue) (finished : Maps) (c : Core) : Type 0 
   pub fated : length c.fates ≡ length c.calls
   pub calls : (i : ℕ) (d : MacroDirective) → slice_get c.calls i ≡ Some d → d.site.home < length c.map.modules
   pub meant : (i : ℕ) (d : MacroDirective) → slice_get c.calls i ≡ Some d → IsMeantCall tables d
+  pub in_order : IsInOrder c.map
 
 -- what there is of a call that reaches a macro was asked for: its number, why it didn't expand well, and what its expansion has
 pub record SeesCall (tables : TablesValue) (w : Workspace) (finished : Maps) (d : MacroDirective) (makro : MacroId) (old new : Core) (x : Expanding) (source : SourceTreeValue) : Type 0 where

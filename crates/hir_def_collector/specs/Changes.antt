@@ -39,7 +39,7 @@ pub data Change : Type 0 where
   reaches : List ImportDirective → Change
   -- macro calls, paths of derives or attributes are come upon, all of which wait
   awaits : List MacroDirective → Change
-  -- this becomes of the call at a place
+  -- this is what becomes of the call at a place
   ends : (i : ℕ) → Fate → Change
   -- the calls that there are may be expanded
   settles : Change

@@ -89,14 +89,14 @@ pub record Ends (tables : TablesValue) (w : Workspace) (finished : Maps) (from :
   -- unless something else does; and what a glob brought stands there still
   pub closed : IsClosed (read_by w finished from.start) (import_state last)
   pub stands : BroughtStands (read_by w finished from.start) (import_state last)
-  -- unless rounds of calls were cut off, no step is left: what each import reaches it was taken for
+  -- unless rounds of calls were cut off, what each import reaches it was taken for
   pub settled : answer.round_limit_met ≡ false → (i : ℕ) → IsSettled (read_by w finished from.start) (import_state last) i
   pub binds : answer.round_limit_met ≡ false → (i : ℕ) → BindsWhatItReaches (read_by w finished from.start) last i
   pub linked : answer.round_limit_met ≡ false → (i : ℕ) → IsLinked (read_by w finished from.start) last i
-  -- no call and no path of a derive that waits reaches a macro, and no attribute waits
+  -- no call that waits is too deep; no call and no path of a derive that waits reaches a macro, and no attribute waits
   pub nowhere : answer.round_limit_met ≡ false → (i : ℕ) → LeadsNowhere (read_by w finished from.start) last i
   pub unwaiting : answer.round_limit_met ≡ false → (i : ℕ) (d : MacroDirective) → IsWaiting last i d → waiting_item d ≡ None
-  -- they are cut off where there were more than may be
+  -- they are cut off only where there were more than may be
   pub limited : answer.round_limit_met ≡ true → HasManyRounds (environment tables w) (read_by w finished from.start) (begin_of tables w finished from) last
   -- it is the map of the start
   pub own : answer.map.id ≡ id_of from.start

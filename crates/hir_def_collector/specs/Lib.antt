@@ -33,6 +33,7 @@ pub mod Sources
 -- ---- words of private code
 pub mod Moves
 pub mod CallMoves
+pub mod Waiting
 pub mod TreeReads
 pub mod Codes
 pub mod CollectedCodes

@@ -78,7 +78,7 @@ pub record LookedAt : Type 0 where
   pub id : FileId
   pub there : TreeLook
 
--- a candidate, and the file that it names; none where it leads past the root, or is of a tree that is no file's
+-- a candidate, and the file that it names; none where it leads past the root, or is declared in a block
 pub record Tried : Type 0 where
   pub candidate : Candidate
   pub file : Option LookedAt

@@ -31,7 +31,6 @@ use Rattle.hir_def_map.specs.declared.nameres.origin.ModuleOrigin.{ModuleOrigin}
 use Rattle.hir_def_collector.specs.declared.collector.site.Site.{Site}
 use Rattle.hir_def_map.specs.declared.nameres.AddModuleError.{AddModuleError}
 use Rattle.hir_def_map.specs.declared.nameres.AddModuleError.TheVariants as refusals
-use Rattle.hir_import_resolution.specs.Directives.{TakenValue, nothing_taken}
 use Rattle.hir_import_resolution.specs.declared.resolve.ImportError.{ImportError}
 use Rattle.hir_import_resolution.specs.declared.resolve.ImportError.TheVariants as imports
 use Rattle.hir_def_collector.specs.declared.collector.CollectError.{CollectError}
@@ -60,10 +59,6 @@ use Rattle.hir_def_collector.specs.Derivation.{IsSpent}
 -- it holds over the tables as they are, and over each that they grow to
 abbrev pub OnceGrown : TablesValue → Workspace → (Environment → Type 0) → Type 0
 OnceGrown tables w P = (grown : TablesValue) → KeepsTables tables grown → P (environment grown w)
-
--- no import is taken
-abbrev pub AreUntaken : List TakenValue → Type 0
-AreUntaken taken = (i : ℕ) (t : TakenValue) → slice_get taken i ≡ Some t → t ≡ nothing_taken
 
 -- this is what a tree's source has under a crate, and its number means something
 pub record IsHeld (tables : TablesValue) (w : Workspace) (krate : Crate) (tree : TreeId) (source : SourceTreeValue) : Type 0 where

@@ -31,7 +31,7 @@ pub data Rounds (env : Environment) (finished : Maps) (from : State) : State →
   none : (to : State) → Steps env finished from to → Rounds env finished from to 0
   more : (a b to : State) (n : ℕ) → Rounds env finished from a n → Steps env finished a b → IsRound env finished b to → Rounds env finished from to (suc n)
 
--- more of them than 8,192, and behind them no name is left to go along a glob
+-- more of them than may be, and behind them only other steps
 pub record HasManyRounds (env : Environment) (finished : Maps) (from to : State) : Type 0 where
   pub count : ℕ
   pub last : State

@@ -9,6 +9,7 @@ use Rattle.hir_glob_imports.specs.Rules.{BroughtBy}
 use Rattle.hir_glob_imports.specs.Waves.{GlobsValue, brought_of}
 use Rattle.hir_glob_imports.specs.declared.edge.Edge.{Edge}
 use Rattle.hir_import_resolution.specs.Changes.{forgotten}
+use Rattle.hir_call_queue.specs.Changes.{ChangedValue}
 use Rattle.hir_import_resolution.specs.declared.directive.ImportDirective.{ImportDirective}
 use Rattle.hir_import_resolution.specs.Directives.{TakenValue, not_taken}
 use Rattle.hir_import_resolution.specs.State.{ImportState, nothing_brought}
@@ -84,7 +85,7 @@ pub record Core : Type 0 where
   -- how many steps were taken
   pub count : ℕ
 
--- what a run keeps of where it stands
+-- a core as data, which the value of a type has to be: what globs brought is a list here
 pub record Run : Type 0 where
   pub map : Map
   pub local : Local
@@ -102,8 +103,10 @@ pub record Run : Type 0 where
   pub exported : List ExportedFunction
   pub asked : List Key
   pub count : ℕ
+  -- the slots of paths that may have changed since it was last looked at
+  pub changed : ChangedValue
 
--- where that is
+-- the core that this keeps
 unfoldable pub core_in : Run → Core
 core_in r = record {
   map = r.map;

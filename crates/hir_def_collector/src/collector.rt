@@ -16,15 +16,17 @@
 //! other attribute the item waits.
 //!
 //! A macro call waits, as do paths of derives and attributes, in the order in which they were found, until the path reaches a
-//! macro. Once imports rest each that waits is tried, one after another: where it reaches a macro, that macro's text and
-//! the input of the call or the item are asked for, and with them the expansion, whose items are handled as those of a file
-//! are, in the module of the call; those of an attribute come in place of its item. A builtin derive stands for an impl
-//! instead, and the item of a builtin attribute goes on behind it. Then imports are taken up again, and so on, round by
-//! round, until a round handles nothing. Then the first attribute that waits is given up, and its item goes on behind it.
+//! macro. Once imports rest those are tried, one after another, that are new or have read something that has changed since
+//! they were tried (`hir_call_queue`): where one reaches a macro, that macro's text and the input of the call or the item are
+//! asked for, and with them the expansion, whose items are handled as those of a file are, in the module of the call; those
+//! of an attribute come in place of its item. A builtin derive stands for an impl instead, and the item of a builtin
+//! attribute goes on behind it. Then imports are taken up again, and so on, round by round, until a round handles nothing.
+//! Then the first attribute that waits is given up, and its item goes on behind it. More rounds than `ROUND_LIMIT` end a run.
 //!
 //! When no import waits, none would bind anything, no name is left to go along an edge, nothing that waits reaches a macro,
-//! and no attribute waits. That isn't told by these loops but by the rules in `specs/Steps`: each function below makes one
-//! step by a rule, and the whole is a derivation to which no step can be added.
+//! and no attribute waits, a run ends. That isn't told by these loops but by the rules in `specs/Steps`: each function below
+//! makes one step by a rule, and the whole is a derivation at whose end this holds (`specs/Derivation`), unless rounds were
+//! cut off.
 //!
 //! In the root of a procedural-macro crate functions export macros by their attributes. At the end other crates see those
 //! macros there, and nothing else.

@@ -17,6 +17,7 @@ ghost use Rattle.hir_def_collector.specs.Moves.{HandlesAttribute, IsVisited, Pas
 ghost use Rattle.hir_def_collector.specs.State.{core_in, visit, with_calls};
 ghost use Rattle.hir_def_collector.specs.Steps.{attribute_at, derive_at, derives_from};
 ghost use Rattle.hir_def_collector.specs.TreeReads.{head_of};
+ghost use Rattle.hir_def_collector.specs.Waiting.{IsNoted};
 
 use crate::builtin_attr::is_inert_by_name;
 use crate::collector::crate_attrs::is_keyed;
@@ -157,6 +158,7 @@ fn await_derive(
 ) -> Result<(), AllocError>
     ensures ok { OnOk result (core_in run.new ≡ with_calls (core_in run.old)
         (derive_at site.now node attr adt index path.now ∷ [])) }
+    ensures noted { OnOk result (IsNoted run.old run.new) }
 {
     run.await_call(MacroDirective {
         site: site.clone()?,
@@ -180,6 +182,7 @@ fn await_derives(
     paths: &[ModPath],
 ) -> Result<(), AllocError>
     ensures ok { OnOk result (core_in run.new ≡ with_calls (core_in run.old) (derives_from site.now node attr adt 0 paths.now)) }
+    ensures noted { OnOk result (IsNoted run.old run.new) }
 {
     let mut index: u32 = 0;
     for path in paths {
@@ -198,6 +201,7 @@ fn take_derive(
     adt: Option<AdtId>,
 ) -> Result<(), AllocError>
     ensures ok { OnOk result (TakesDerive site.now node (numbered attr.now) adt (core_in run.old) (core_in run.new)) }
+    ensures noted { OnOk result (IsNoted run.old run.new) }
 {
     let at = run.module_id(site.home);
     let Some(adt) = adt else {
@@ -219,6 +223,7 @@ fn await_attribute(
 ) -> Result<(), AllocError>
     ensures ok { OnOk result (core_in run.new ≡ with_calls (core_in run.old)
         (attribute_at site.now node attr.now.id attr.now.meta.path item ∷ [])) }
+    ensures noted { OnOk result (IsNoted run.old run.new) }
 {
     run.await_call(MacroDirective {
         site: site.clone()?,
@@ -254,6 +259,7 @@ fn handle_attribute(
     ensures ok { IfOk result (λ goes_on. (env : Environment) (finished : Maps) (item : KeptItem) (from : _) (a : Attr) → IsVisited (core_in run.old).map visited.entry item
         → slice_get visited.entry.attrs.now at ≡ Some a → next_attribute (core_in run.old).map visited.entry.site.now item from ≡ Some (at, numbered a)
         → HandlesAttribute env finished (core_in run.old) (core_in run.new) (visit visited.entry.site.now item) from (goes_behind (visit visited.entry.site.now item) at goes_on)) }
+    ensures noted { OnOk result (IsNoted run.old run.new) }
     ensures many { result ≡ Err CollectError.TooMany → STEP_LIMIT ≤ (core_in run.old).count }
 {
     let attr = &visited.attrs[at];
@@ -283,6 +289,7 @@ pub fn pass_attributes(
 ) -> Result<Option<usize>, CollectError>
     ensures ok { IfOk result (λ done. (env : Environment) (finished : Maps) (item : KeptItem) → IsVisited (core_in run.old).map visited.entry item
         → Passes env finished (core_in run.old) (core_in run.new) (visit visited.entry.site.now item) from done) }
+    ensures noted { OnOk result (IsNoted run.old run.new) }
     ensures many { result ≡ Err CollectError.TooMany → (env : Environment) (finished : Maps) (item : KeptItem) → IsVisited (core_in run.old).map visited.entry item
         → PassesTooFar env finished (core_in run.old) (visit visited.entry.site.now item) from }
 {

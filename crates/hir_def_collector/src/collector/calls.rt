@@ -1,23 +1,27 @@
 //! Macro calls, derives and attributes: what each expands to, and rounds in which they are tried.
-ghost use Rattle.std.specs.Prelude.{◌≡◌, ◌<◌, ℕ, cond, true, [], IfOk, OnOk, Some, length, option_map, slice_get, unwrap_or};
+ghost use Rattle.std.specs.Prelude.{◌≡◌, ◌<◌, ℕ, cond, true, [], IfOk, None, OnOk, Some, length, option_map, slice_get, unwrap_or};
 ghost use Rattle.hir_item_tree.specs.SyntaxIds.{node_id};
 ghost use Rattle.hir_tables.specs.SourcePlaces.{expansion_value};
 ghost use Rattle.hir_tables.specs.Tables.{KeepsTables};
-ghost use Rattle.hir_def_map.specs.State.{Local};
+ghost use Rattle.hir_def_map.specs.State.{IsInOrder, Local};
 ghost use Rattle.hir_def_map.specs.WorldParts.{part_of};
 ghost use Rattle.hir_import_resolution.specs.Inner.State.{IsApart};
 ghost use Rattle.hir_import_resolution.specs.Rest.{IsAtRest, IsSound};
 ghost use Rattle.hir_import_resolution.specs.declared.directive.ImportDirective.{ImportDirective};
+ghost use Rattle.hir_worklist.specs.Queue.{count_of};
+ghost use Rattle.hir_call_queue.specs.Waking.{GoesOn, IsWoken, is_apart, worklist_of};
 ghost use Rattle.hir_def_collector.specs.CallMoves.{ComesToRest, IsDueOf, IsReady, NoneWaitsBefore, SeesCall, TakesTurn, TriesCall, TriesCalls};
-ghost use Rattle.hir_def_collector.specs.Calls.{AreCallsPlaced, Expanding, IsMeantCall, call_site, called_text, error_of, expansion_of_call, text_readings, waiting_item};
+ghost use Rattle.hir_def_collector.specs.Calls.{AreCallsPlaced, Expanding, IsMeantCall, LeadsNowhere, call_site, called_text, error_of, expansion_of_call, text_readings, waiting_item};
 ghost use Rattle.hir_def_collector.specs.declared.collector.macro_directive.WaitingItem.{WaitingItem};
 ghost use Rattle.hir_def_collector.specs.Derivation.{IsNumberedOut, IsSpent};
 ghost use Rattle.hir_def_collector.specs.ItemIds.{module_id};
+ghost use Rattle.hir_def_collector.specs.declared.collector.macro_directive.MacroDirective.{MacroDirective};
 ghost use Rattle.hir_def_collector.specs.Keys.{Environment, IsMeant, input_at, macro_key, macro_tree, source_in, text_at, text_of};
 ghost use Rattle.hir_def_collector.specs.Moves.{Makes, OnceGrown};
 ghost use Rattle.hir_def_collector.specs.State.{at_rest, core_in, import_state};
 ghost use Rattle.hir_def_collector.specs.Steps.{CallsMacro, IsDue, Steps, failing, keys_read, with_keys};
 ghost use Rattle.hir_def_collector.specs.Workspace.{entry_look};
+ghost use Rattle.hir_def_collector.specs.Waiting.{IsBetweenPasses, IsNoted, IsStale, IsUpToDate, LiesApart};
 
 use crate::collector::def_collector::DefCollector;
 use crate::collector::derives::{
@@ -35,6 +39,7 @@ use hir_base::ast_id::{AstId, AstKind, HirFileId, MacroCallId};
 use hir_base::ids::{Crate, HasModule};
 use hir_base::macro_kind::{CallStyle, ExpansionKey, MacroCallLoc, MacroId, MacroLoc, MacroText};
 use hir_base::text::Text;
+use hir_call_queue::CallQueue;
 use hir_def_map::nameres::diagnostics::DefDiagnostic;
 use hir_def_map::world::part::WorldPart;
 use hir_item_tree::check::NodeId;
@@ -57,7 +62,7 @@ fn copied(alloc: Global, text: Option<&str>) -> Result<Option<Text>, AllocError>
     }
 }
 
-/// Whether the number of the source means something that writes a macro.
+/// Whether the source that writes a macro has a number; a procedural macro is in no source.
 fn is_meant(locations: &Tables, makro: MacroId) -> bool
     ensures meant { result ≡ true → IsMeant locations.now makro }
 {
@@ -175,7 +180,7 @@ fn called_text<D: SourceDatabase>(
     }
 }
 
-/// What the expansion of a call depends on.
+/// The key of a call's expansion.
 fn expansion_key(
     alloc: Global,
     caller: Crate,
@@ -198,7 +203,7 @@ fn expansion_key(
     })
 }
 
-/// Why a call didn't expand, or not well.
+/// The error that a call is told with: that of its expansion, or that there is none.
 fn error_of(alloc: Global, look: ExpansionLook<'_>) -> Result<Option<Text>, AllocError>
     ensures value { IfOk result (λ error. error ≡ error_of (entry_look look.entry)) }
 {
@@ -223,6 +228,7 @@ struct Expansion {
 /// Notes the text of a macro as asked for, where a source writes it.
 fn ask_text(run: &mut DefCollector, makro: MacroId) -> Result<(), AllocError>
     ensures ok { OnOk result ((text : _) → core_in run.new ≡ record (core_in run.old) { asked = with_keys (core_in run.old).asked (keys_read (text_readings makro text)) }) }
+    ensures noted { OnOk result (IsNoted run.old run.new) }
 {
     match makro {
         MacroId::Macro2Id(_) | MacroId::MacroRulesId(_) => run.ask(Key::Text(makro)),
@@ -245,6 +251,7 @@ fn look_at_call<D: SourceDatabase>(
     ensures placed { AreCallsPlaced locations.old → AreCallsPlaced locations.new }
     ensures ok { IfOk result (λ e. (x : Expanding) × SeesCall locations.new (D.workspace db.old) (part_of world.entry) call.now makro (core_in run.old) (core_in run.new) x e.source.value
         × (e.id ≡ x.id) × (e.error ≡ error_of x.there)) }
+    ensures noted { OnOk result (IsNoted run.old run.new) }
     ensures many { result ≡ Err CollectError.TooMany → IsNumberedOut locations.new }
 {
     if !is_meant(locations, makro) {
@@ -301,6 +308,7 @@ fn report_failed(
     error: Option<Text>,
 ) -> Result<(), AllocError>
     ensures ok { OnOk result (Makes (failing (module_id (core_in run.old).map call.now.site.home) call.now error) (core_in run.old) (core_in run.new)) }
+    ensures noted { OnOk result (IsNoted run.old run.new) }
 {
     let Some(error) = error else {
         return Ok(());
@@ -327,6 +335,7 @@ fn expand<D: SourceDatabase>(
     ensures same { D.workspace db.new ≡ D.workspace db.old }
     ensures placed { AreCallsPlaced locations.old → AreCallsPlaced locations.new }
     ensures ok { OnOk result (OnceGrown locations.new (D.workspace db.old) (λ env. Steps env (part_of world.entry) (at_rest (core_in run.old)) (at_rest (core_in run.new)))) }
+    ensures noted { OnOk result (IsNoted run.old run.new) }
     ensures handled { OnOk result (slice_get (core_in run.new).fates i ≡ Some Fate.Handled) }
     ensures many { result ≡ Err CollectError.TooMany → OnceGrown locations.new (D.workspace db.old) (λ env. IsSpent env (part_of world.entry) (at_rest (core_in run.old))) }
 {
@@ -411,6 +420,7 @@ fn do_due<D: SourceDatabase>(
     ensures placed { AreCallsPlaced locations.old → AreCallsPlaced locations.new }
     ensures ok { OnOk result (OnceGrown locations.new (D.workspace db.old) (λ env. Steps env (part_of world.entry) (at_rest (core_in run.old)) (at_rest (core_in run.new)))) }
     ensures tried { IfOk result (λ done. TriesCall (part_of world.entry) (core_in run.old) (core_in run.new) i done) }
+    ensures noted { OnOk result (IsNoted run.old run.new) }
     ensures many { result ≡ Err CollectError.TooMany → OnceGrown locations.new (D.workspace db.old) (λ env. IsSpent env (part_of world.entry) (at_rest (core_in run.old))) }
 {
     match due {
@@ -448,6 +458,7 @@ fn try_call<D: SourceDatabase>(
     ensures same { D.workspace db.new ≡ D.workspace db.old }
     ensures placed { AreCallsPlaced locations.old → AreCallsPlaced locations.new }
     ensures ok { OnOk result (OnceGrown locations.new (D.workspace db.old) (λ env. Steps env (part_of world.entry) (at_rest (core_in run.old)) (at_rest (core_in run.new)))) }
+    ensures noted { OnOk result (IsNoted run.old run.new) }
     ensures tried { IfOk result (λ done. TriesCall (part_of world.entry) (core_in run.old) (core_in run.new) i done) }
     ensures many { result ≡ Err CollectError.TooMany → OnceGrown locations.new (D.workspace db.old) (λ env. IsSpent env (part_of world.entry) (at_rest (core_in run.old))) }
 {
@@ -462,6 +473,69 @@ fn try_call<D: SourceDatabase>(
     do_due(run, db, world, locations, i, &call, due)
 }
 
+/// Has the call at the place, if it waits, watch the slots that its path reads.
+fn watch(
+    run: &DefCollector,
+    world: WorldPart<'_>,
+    queue: &mut CallQueue,
+    i: usize,
+) -> Result<(), AllocError>
+    requires low { (d : MacroDirective) → slice_get (core_in run.now).calls i ≡ Some d → d.site.home < length (core_in run.now).map.modules }
+    requires in_order { IsInOrder (core_in run.now).map }
+    requires up_to_date { IsUpToDate (part_of world) queue.old (core_in run.now) (Some i) }
+    requires nowhere { LeadsNowhere (part_of world) (at_rest (core_in run.now)) i }
+    ensures up_to_date { OnOk result (IsUpToDate (part_of world.entry) queue.new (core_in run.now) None) }
+    ensures stays { OnOk result (GoesOn queue.old queue.new) }
+{
+    let Some(call) = run.waiting(i) else {
+        return Ok(());
+    };
+    queue.watch(i, run.call_slots(world, call), run.map().module_count())?;
+    Ok(())
+}
+
+/// Queues the calls that have read what has changed.
+fn wake(run: &mut DefCollector, queue: &mut CallQueue) -> Result<(), AllocError>
+    ensures woken { OnOk result (IsWoken run.old.changed queue.old queue.new) }
+    ensures same { core_in run.new ≡ core_in run.old }
+{
+    queue.wake(run.changed())?;
+    run.forget_changes();
+    Ok(())
+}
+
+/// Tries the call at the place, which was taken off the queue: whether it was handled. Where it was, what has read what
+/// has changed by that is queued; where it wasn't, it watches what it has read.
+fn try_queued<D: SourceDatabase>(
+    run: &mut DefCollector,
+    db: &mut D,
+    world: WorldPart<'_>,
+    locations: &mut Tables,
+    queue: &mut CallQueue,
+    i: usize,
+) -> Result<bool, CollectError>
+    requires ready { IsReady locations.old (part_of world) (core_in run.old) }
+    requires settled { i < (core_in run.old).settled }
+    requires apart { LiesApart (part_of world) queue.old (core_in run.old) }
+    requires up_to_date { IsUpToDate (part_of world) queue.old (core_in run.old) (Some i) }
+    ensures kept { KeepsTables locations.old locations.new }
+    ensures same { D.workspace db.new ≡ D.workspace db.old }
+    ensures placed { AreCallsPlaced locations.old → AreCallsPlaced locations.new }
+    ensures ok { OnOk result (OnceGrown locations.new (D.workspace db.old) (λ env. Steps env (part_of world.entry) (at_rest (core_in run.old)) (at_rest (core_in run.new)))) }
+    ensures tried { IfOk result (λ done. TriesCall (part_of world.entry) (core_in run.old) (core_in run.new) i done) }
+    ensures up_to_date { OnOk result (IsUpToDate (part_of world.entry) queue.new (core_in run.new) None) }
+    ensures stays { OnOk result (GoesOn queue.old queue.new) }
+    ensures many { result ≡ Err CollectError.TooMany → OnceGrown locations.new (D.workspace db.old) (λ env. IsSpent env (part_of world.entry) (at_rest (core_in run.old))) }
+{
+    let done = try_call(run, db, world, locations, i)?;
+    if !done {
+        watch(run, world, queue, i)?;
+        return Ok(false);
+    }
+    wake(run, queue)?;
+    Ok(true)
+}
+
 /// Whether one of two holds.
 fn either(first: bool, second: bool) -> bool
     ensures value { result ≡ cond first true second }
@@ -469,27 +543,36 @@ fn either(first: bool, second: bool) -> bool
     first || second
 }
 
-/// Tries each call that waits, one after another: whether one was handled. A call sees what those before it have
-/// expanded to; those that are come upon meanwhile wait for the next round.
+/// Tries each call that is queued, one after another: whether one was handled. A call sees what those before it have
+/// expanded to; those that are come upon meanwhile wait for the next round. A call that isn't queued would be tried in
+/// vain.
 fn try_calls<D: SourceDatabase>(
     run: &mut DefCollector,
     db: &mut D,
     world: WorldPart<'_>,
     locations: &mut Tables,
+    queue: &mut CallQueue,
 ) -> Result<bool, CollectError>
     requires ready { IsReady locations.old (part_of world) (core_in run.old) }
     requires settled { (core_in run.old).settled ≡ length (core_in run.old).calls }
+    requires apart { LiesApart (part_of world) queue.old (core_in run.old) }
+    requires up_to_date { IsUpToDate (part_of world) queue.old (core_in run.old) None }
+    requires between { IsBetweenPasses queue.old }
+    requires all { count_of (worklist_of queue.old) ≡ length (core_in run.old).calls }
     ensures kept { KeepsTables locations.old locations.new }
     ensures same { D.workspace db.new ≡ D.workspace db.old }
     ensures placed { AreCallsPlaced locations.old → AreCallsPlaced locations.new }
     ensures ok { OnOk result (OnceGrown locations.new (D.workspace db.old) (λ env. Steps env (part_of world.entry) (at_rest (core_in run.old)) (at_rest (core_in run.new)))) }
     ensures tried { IfOk result (λ progress. OnceGrown locations.new (D.workspace db.old) (λ env. TriesCalls env (part_of world.entry) (core_in run.old) (core_in run.new) progress)) }
+    ensures up_to_date { OnOk result (IsUpToDate (part_of world.entry) queue.new (core_in run.new) None) }
+    ensures between { OnOk result (IsBetweenPasses queue.new) }
+    ensures queue { OnOk result (is_apart queue.new ≡ is_apart queue.old) }
     ensures many { result ≡ Err CollectError.TooMany → OnceGrown locations.new (D.workspace db.old) (λ env. IsSpent env (part_of world.entry) (at_rest (core_in run.old))) }
 {
     let mut progress = false;
-    let end = run.settled();
-    for i in 0..end {
-        let done = try_call(run, db, world, locations, i)?;
+    queue.open();
+    'tries: while let Some(i) = queue.take() {
+        let done = try_queued(run, db, world, locations, queue, i)?;
         progress = either(done, progress);
     }
     Ok(progress)
@@ -508,11 +591,33 @@ fn settle(
     ensures rests { IfOk result (λ run'. IsAtRest (part_of world.entry) (import_state (at_rest (core_in run')))) }
     ensures settled { IfOk result (λ run'. (core_in run').settled ≡ length (core_in run').calls) }
     ensures counts { IfOk result (λ run'. ((core_in run).count < (core_in run').count) × ((core_in run).count < STEP_LIMIT)) }
+    ensures noted { IfOk result (λ run'. IsNoted run run') }
     ensures many { result ≡ Err CollectError.TooMany → (env : Environment) → IsSpent env (part_of world.entry) (at_rest (core_in run)) }
 {
     let mut run = run.settle(world, apart)?;
     run.rest()?;
     Ok(run)
+}
+
+/// Queues the calls that have read what has changed, and those that came besides.
+fn requeue(
+    run: &mut DefCollector,
+    world: WorldPart<'_>,
+    queue: &mut CallQueue,
+) -> Result<(), AllocError>
+    requires apart { LiesApart (part_of world) queue.old (core_in run.old) }
+    requires stale { IsStale (part_of world) queue.old run.old }
+    requires between { IsBetweenPasses queue.old }
+    requires settled { (core_in run.old).settled ≡ length (core_in run.old).calls }
+    ensures same { core_in run.new ≡ core_in run.old }
+    ensures up_to_date { OnOk result (IsUpToDate (part_of world.entry) queue.new (core_in run.new) None) }
+    ensures between { OnOk result (IsBetweenPasses queue.new) }
+    ensures all { OnOk result (count_of (worklist_of queue.new) ≡ length (core_in run.new).calls) }
+    ensures queue { OnOk result (is_apart queue.new ≡ is_apart queue.old) }
+{
+    wake(run, queue)?;
+    queue.append(run.settled())?;
+    Ok(())
 }
 
 /// What a turn came to.
@@ -533,22 +638,30 @@ fn take_turn<D: SourceDatabase>(
     db: &mut D,
     world: WorldPart<'_>,
     locations: &mut Tables,
+    queue: &mut CallQueue,
     apart: bool,
     first: usize,
 ) -> Result<(DefCollector, Turn), CollectError>
     requires apart { apart ≡ true → (local : Local) → IsApart (part_of world) (core_in run).map.id local }
+    requires queue { is_apart queue.old ≡ apart }
+    requires stale { IsStale (part_of world) queue.old run }
+    requires between { IsBetweenPasses queue.old }
     requires ready { IsReady locations.old (part_of world) (core_in run) }
     requires first { NoneWaitsBefore (core_in run) first }
     ensures kept { KeepsTables locations.old locations.new }
     ensures same { D.workspace db.new ≡ D.workspace db.old }
     ensures placed { AreCallsPlaced locations.old → AreCallsPlaced locations.new }
     ensures ok { IfOk result (λ r. OnceGrown locations.new (D.workspace db.old) (λ env. Steps env (part_of world.entry) (at_rest (core_in run)) (at_rest (core_in r.0)))) }
+    ensures queue { OnOk result (is_apart queue.new ≡ is_apart queue.old) }
+    ensures stale { IfOk result (λ r. IsStale (part_of world.entry) queue.new r.0) }
+    ensures between { OnOk result (IsBetweenPasses queue.new) }
     ensures counts { IfOk result (λ r. ((core_in run).count < (core_in r.0).count) × ((core_in run).count < STEP_LIMIT)) }
     ensures turned { IfOk result (λ r. OnceGrown locations.new (D.workspace db.old) (λ env. TakesTurn env (part_of world.entry) (core_in run) (core_in r.0) first r.1)) }
     ensures many { result ≡ Err CollectError.TooMany → OnceGrown locations.new (D.workspace db.old) (λ env. IsSpent env (part_of world.entry) (at_rest (core_in run))) }
 {
     let mut run = settle(run, world, apart)?;
-    if try_calls(&mut run, db, world, locations)? {
+    requeue(&mut run, world, queue)?;
+    if try_calls(&mut run, db, world, locations, queue)? {
         return Ok((run, Turn::Round));
     }
     match give_up(&mut run, db, world, locations, first)? {
@@ -560,9 +673,10 @@ fn take_turn<D: SourceDatabase>(
 /// Takes imports, expands calls, derives and attributes, round by round, until no more comes of them, and whether rounds
 /// were cut off.
 ///
-/// A round tries each call, path of a derive and attribute that waits once imports rest. Where nothing that waits reaches
-/// anything, the first attribute that waits is given up, which isn't counted as a round. More rounds than `ROUND_LIMIT`
-/// end the run, with imports and calls that would go on; names go along globs all the same.
+/// A round tries each call, path of a derive and attribute that waits once imports rest, those aside that would be tried in
+/// vain. Where nothing that waits reaches anything, the first attribute that waits is given up, which isn't counted as a
+/// round. More rounds than `ROUND_LIMIT` end the run, with imports and calls that would go on; names go along globs all the
+/// same.
 pub fn resolve_rounds<D: SourceDatabase>(
     run: DefCollector,
     db: &mut D,
@@ -580,10 +694,11 @@ pub fn resolve_rounds<D: SourceDatabase>(
     ensures many { result ≡ Err CollectError.TooMany → OnceGrown locations.new (D.workspace db.old) (λ env. IsSpent env (part_of world.entry) (at_rest (core_in run))) }
 {
     let mut run = run;
+    let mut queue = CallQueue::new(run.allocator(), apart);
     let mut rounds: u32 = 0;
     let mut first: usize = 0;
     'rounds: while rounds <= ROUND_LIMIT {
-        let (next, turn) = take_turn(run, db, world, locations, apart, first)?;
+        let (next, turn) = take_turn(run, db, world, locations, &mut queue, apart, first)?;
         run = next;
         match turn {
             Turn::Round => rounds += 1,

@@ -23,7 +23,7 @@ pub struct Collected {
     pub local: LocalDefMap,
     /// The imports that reached nothing, in the order in which they were come upon.
     pub leftover: Vec<ImportOrExternCrate>,
-    /// Whether rounds of calls were cut off: `false` as long as nothing is called.
+    /// Whether rounds of calls were cut off: more than `ROUND_LIMIT` of them handled a call.
     pub round_limit_met: bool,
     /// What was asked for.
     pub asked: Asked,

@@ -11,6 +11,7 @@ ghost use Rattle.hir_import_resolution.specs.Visibilities.{visibility_in};
 ghost use Rattle.hir_def_collector.specs.TreeReads.{head_of};
 ghost use Rattle.hir_def_collector.specs.Steps.{visit, with_declaration};
 ghost use Rattle.hir_def_collector.specs.Moves.{Handles};
+ghost use Rattle.hir_def_collector.specs.Waiting.{IsNoted};
 
 use crate::collector::declaration::Declaration;
 use crate::collector::def_collector::DefCollector;
@@ -34,6 +35,7 @@ use std::alloc::AllocError;
 /// Lists a definition in a module, and binds its name there.
 pub fn bind(run: &mut DefCollector, home: u32, declaration: Declaration) -> Result<(), AllocError>
     ensures ok { OnOk result (core_in run.new ≡ with_declaration (core_in run.old) home declaration) }
+    ensures noted { OnOk result (IsNoted run.old run.new) }
 {
     let Declaration { name, def, items } = declaration;
     run.declare(home, def)?;
@@ -48,6 +50,7 @@ pub fn declare(
     declaration: Declaration,
 ) -> Result<(), CollectError>
     ensures ok { OnOk result (core_in run.new ≡ counted (with_declaration (core_in run.old) home declaration)) }
+    ensures noted { OnOk result (IsNoted run.old run.new) }
     ensures many { result ≡ Err CollectError.TooMany → STEP_LIMIT ≤ (core_in run.old).count }
 {
     bind(run, home, declaration)?;
@@ -66,6 +69,7 @@ fn declare_type(
 ) -> Result<(), CollectError>
     ensures ok { OnOk result (core_in run.new ≡ counted (with_declaration (core_in run.old) site.now.home
         (type_declaration name.now def (own_visibility (part_of world.entry) (core_in run.old).local (core_in run.old).map site.now (head_of head.entry))))) }
+    ensures noted { OnOk result (IsNoted run.old run.new) }
     ensures many { result ≡ Err CollectError.TooMany → STEP_LIMIT ≤ (core_in run.old).count }
 {
     let vis = run.visibility(world, site, head);
@@ -89,6 +93,7 @@ fn declare_value(
 ) -> Result<(), CollectError>
     ensures ok { OnOk result (core_in run.new ≡ counted (with_declaration (core_in run.old) site.now.home
         (value_declaration name.now def (own_visibility (part_of world.entry) (core_in run.old).local (core_in run.old).map site.now (head_of head.entry))))) }
+    ensures noted { OnOk result (IsNoted run.old run.new) }
     ensures many { result ≡ Err CollectError.TooMany → STEP_LIMIT ≤ (core_in run.old).count }
 {
     let vis = run.visibility(world, site, head);
@@ -111,6 +116,7 @@ pub fn declare_function(
 ) -> Result<(), CollectError>
     requires enabled { is_enabled (head_of head).attributes ≡ true }
     ensures ok { OnOk result ((env : Environment) → Handles env (part_of world.entry) (core_in run.old) (core_in run.new) (visit site.now (leaf (head_of head.entry) (function name.now))) []) }
+    ensures noted { OnOk result (IsNoted run.old run.new) }
     ensures many { result ≡ Err CollectError.TooMany → STEP_LIMIT ≤ (core_in run.old).count }
 {
     let id = FunctionId {
@@ -140,6 +146,7 @@ pub fn declare_const(
 ) -> Result<(), CollectError>
     requires enabled { is_enabled (head_of head).attributes ≡ true }
     ensures ok { OnOk result ((env : Environment) → Handles env (part_of world.entry) (core_in run.old) (core_in run.new) (visit site.now (leaf (head_of head.entry) (constant (Some name.now)))) []) }
+    ensures noted { OnOk result (IsNoted run.old run.new) }
     ensures many { result ≡ Err CollectError.TooMany → STEP_LIMIT ≤ (core_in run.old).count }
 {
     let def = ModuleDefId::ConstId(ConstId {
@@ -164,6 +171,7 @@ pub fn declare_static(
 ) -> Result<(), CollectError>
     requires enabled { is_enabled (head_of head).attributes ≡ true }
     ensures ok { OnOk result ((env : Environment) → Handles env (part_of world.entry) (core_in run.old) (core_in run.new) (visit site.now (leaf (head_of head.entry) (static_item name.now))) []) }
+    ensures noted { OnOk result (IsNoted run.old run.new) }
     ensures many { result ≡ Err CollectError.TooMany → STEP_LIMIT ≤ (core_in run.old).count }
 {
     let def = ModuleDefId::StaticId(StaticId {
@@ -188,6 +196,7 @@ pub fn declare_type_alias(
 ) -> Result<(), CollectError>
     requires enabled { is_enabled (head_of head).attributes ≡ true }
     ensures ok { OnOk result ((env : Environment) → Handles env (part_of world.entry) (core_in run.old) (core_in run.new) (visit site.now (leaf (head_of head.entry) (type_alias name.now))) []) }
+    ensures noted { OnOk result (IsNoted run.old run.new) }
     ensures many { result ≡ Err CollectError.TooMany → STEP_LIMIT ≤ (core_in run.old).count }
 {
     let def = ModuleDefId::TypeAliasId(TypeAliasId {
@@ -212,6 +221,7 @@ pub fn declare_trait(
 ) -> Result<(), CollectError>
     requires enabled { is_enabled (head_of head).attributes ≡ true }
     ensures ok { OnOk result ((env : Environment) → Handles env (part_of world.entry) (core_in run.old) (core_in run.new) (visit site.now (leaf (head_of head.entry) (trait_item name.now))) []) }
+    ensures noted { OnOk result (IsNoted run.old run.new) }
     ensures many { result ≡ Err CollectError.TooMany → STEP_LIMIT ≤ (core_in run.old).count }
 {
     let def = ModuleDefId::TraitId(TraitId {
@@ -236,6 +246,7 @@ pub fn declare_union(
 ) -> Result<(), CollectError>
     requires enabled { is_enabled (head_of head).attributes ≡ true }
     ensures ok { OnOk result ((env : Environment) (fields : _) → Handles env (part_of world.entry) (core_in run.old) (core_in run.new) (visit site.now (leaf (head_of head.entry) (union_structure name.now fields))) []) }
+    ensures noted { OnOk result (IsNoted run.old run.new) }
     ensures many { result ≡ Err CollectError.TooMany → STEP_LIMIT ≤ (core_in run.old).count }
 {
     let def = ModuleDefId::AdtId(AdtId::UnionId(UnionId {
@@ -324,6 +335,7 @@ pub fn declare_struct(
 ) -> Result<(), CollectError>
     requires enabled { is_enabled (head_of head).attributes ≡ true }
     ensures ok { OnOk result ((env : Environment) → Handles env (part_of world.entry) (core_in run.old) (core_in run.new) (visit site.now (leaf (head_of head.entry) (structure item.entry.name.now item.entry.shape item.entry.fields.now))) []) }
+    ensures noted { OnOk result (IsNoted run.old run.new) }
     ensures many { result ≡ Err CollectError.TooMany → STEP_LIMIT ≤ (core_in run.old).count }
 {
     let at = run.module_id(site.home);

@@ -1,13 +1,14 @@
 //! Where a run stands, and what each change leaves.
 #![tactic(auto, unfolding(crate::specs::State::core_in))]
 
-ghost use Rattle.std.specs.Prelude.{◌≡◌, ◌<◌, ◌≤◌, ℕ, true, false, ◌∷◌, [], Some, length, option_map, slice_get, slice_set, IfNone, IfOk, IfSome, OnOk};
+ghost use Rattle.std.specs.Prelude.{◌≡◌, ◌≢◌, ◌<◌, ◌≤◌, ℕ, true, false, ◌∷◌, [], Some, length, option_map, slice_get, slice_set, IfNone, IfOk, IfSome, OnOk};
 ghost use Rattle.hir_def_map.specs.State.{with_enum, with_module, new_id, new_module, with_declared, with_use, with_impl, with_extern_block, with_extern_crate, with_unnamed_const};
 ghost use Rattle.hir_def_map.specs.WorldParts.{part_of};
 ghost use Rattle.hir_def_map.specs.Macros.{with_derive_helper, with_diagnostic, with_exported, with_macro_data, with_macro_def};
 ghost use Rattle.hir_import_resolution.specs.Inner.State.{IsApart};
 ghost use Rattle.hir_import_resolution.specs.Rest.{IsAtRest, IsClosed, IsSound};
 ghost use Rattle.hir_import_resolution.specs.Visibilities.{visibility_in};
+ghost use Rattle.hir_call_queue.specs.Changes.{everything, nothing};
 ghost use Rattle.hir_def_collector.specs.Keys.{Environment};
 ghost use Rattle.hir_def_collector.specs.State.{at_rest, core_in, core_with_imports, counted, import_state, with_asked, with_bound, with_calls, with_exported_function, with_fate, with_imports, with_local, with_map, with_settled};
 ghost use Rattle.hir_def_collector.specs.ItemIds.{container_of, module_id};
@@ -25,6 +26,7 @@ ghost use Rattle.hir_def_collector.specs.ModuleFiles.{file_key};
 ghost use Rattle.hir_def_collector.specs.Steps.{Steps};
 ghost use Rattle.hir_def_collector.specs.Derivation.{IsSpent, collected_view, finished_run};
 ghost use Rattle.hir_def_collector.specs.Moves.{begun};
+ghost use Rattle.hir_def_collector.specs.Waiting.{IsNoted, call_reads};
 
 use crate::collector::attributes::is_helper;
 use crate::collector::collected::{Asked, Collected};
@@ -45,6 +47,7 @@ use hir_base::ids::{
 };
 use hir_base::macro_kind::{BuiltinDeriveImplId, MacroId, ProcMacroId};
 use hir_base::name::Name;
+use hir_call_queue::Changed;
 use hir_crate_graph::crate_set::CrateSet;
 use hir_def_map::def_maps::DefMaps;
 use hir_def_map::nameres::DefMap;
@@ -57,6 +60,7 @@ use hir_def_map::nameres::macro_data::MacroData;
 use hir_def_map::nameres::module_data::ModuleData;
 use hir_def_map::nameres::origin::ModuleOrigin;
 use hir_def_map::nameres::path_resolution::query::Query;
+use hir_def_map::nameres::path_resolution::slots::PathSlots;
 use hir_def_map::nameres::path_resolution::{BuiltinShadowMode, ResolveMode};
 use hir_def_map::world::part::WorldPart;
 use hir_glob_imports::GlobImports;
@@ -93,6 +97,8 @@ pub struct DefCollector {
     exported: Vec<ExportedFunction>,
     asked: Vec<Key>,
     count: u32,
+    /// The slots of paths that may have changed since calls were tried.
+    changed: Changed,
 }
 
 impl Model for DefCollector {
@@ -121,6 +127,7 @@ impl Model for DefCollector {
       exported = r.exported.items;
       asked = r.asked.items;
       count = r.count;
+      changed = r.changed;
     } };
 
     ghost invariant = { λ r. r.count ≤ STEP_LIMIT };
@@ -165,6 +172,19 @@ fn suited(call: &MacroDirective, found: Option<MacroId>) -> Option<MacroId>
     if call.suits(makro) { Some(makro) } else { None }
 }
 
+/// What may have changed once steps were counted: anything, where any was.
+fn changed_by(changed: Changed, before: u32, count: u32) -> Changed
+    ensures still { count ≡ before → result ≡ changed }
+    ensures moves { count ≢ before → result ≡ everything }
+{
+    if count == before {
+        return changed;
+    }
+    let mut changed = changed;
+    changed.add_everything();
+    changed
+}
+
 impl DefCollector {
     /// The root module alone, beside what all modules find, its tree asked for.
     pub fn start(
@@ -204,6 +224,7 @@ impl DefCollector {
             exported: Vec::new(alloc),
             asked,
             count: 0,
+            changed: Changed::everything(alloc),
         })
     }
 
@@ -270,6 +291,7 @@ impl DefCollector {
     pub fn tick(&mut self) -> Result<(), CollectError>
         ensures ok { OnOk result (core_in self.new ≡ counted (core_in self.old)) }
         ensures below { OnOk result ((core_in self.old).count < STEP_LIMIT) }
+        ensures noted { OnOk result (IsNoted self.old self.new) }
         ensures many { result ≡ Err CollectError.TooMany → STEP_LIMIT ≤ (core_in self.old).count }
     {
         if self.count >= STEP_LIMIT {
@@ -284,7 +306,9 @@ impl DefCollector {
     /// After rust-analyzer's `DefCollector::update`.
     pub fn bind(&mut self, home: u32, name: Name, items: PerNs) -> Result<(), AllocError>
         ensures ok { OnOk result (core_in self.new ≡ with_bound (core_in self.old) home name items) }
+        ensures noted { OnOk result (IsNoted self.old self.new) }
     {
+        self.changed.add(home, &name)?;
         forget(&mut self.globs, home, &name, items)?;
         self.map
             .push(&mut self.from_glob_import, home, name, items, None)?;
@@ -300,7 +324,9 @@ impl DefCollector {
     ) -> Result<(), AllocError>
         requires in_range { home < length (core_in self.old).map.modules }
         ensures ok { OnOk result (core_in self.new ≡ with_map (core_in self.old) (with_textual_macro (core_in self.old).map home name makro)) }
+        ensures noted { OnOk result (IsNoted self.old self.new) }
     {
+        self.changed.add(home, &name)?;
         textual::define(&mut self.map, home, name, makro)?;
         Ok(())
     }
@@ -309,7 +335,9 @@ impl DefCollector {
     pub fn take_textual(&mut self, home: u32, from: u32) -> Result<(), AllocError>
         requires in_range { home < length (core_in self.old).map.modules }
         ensures ok { OnOk result (core_in self.new ≡ with_map (core_in self.old) (with_textual_scope (core_in self.old).map home (textual_at (core_in self.old).map from))) }
+        ensures noted { OnOk result (IsNoted self.old self.new) }
     {
+        self.changed.add_everything();
         textual::take(self.allocator(), &mut self.map, home, from)?;
         Ok(())
     }
@@ -317,6 +345,7 @@ impl DefCollector {
     /// Notes the macro that an item defines.
     pub fn define_macro(&mut self, node: AstId, makro: MacroId) -> Result<(), AllocError>
         ensures ok { OnOk result (core_in self.new ≡ with_map (core_in self.old) (with_macro_def (core_in self.old).map node makro)) }
+        ensures noted { OnOk result (IsNoted self.old self.new) }
     {
         self.map.add_macro_def(node, makro)?;
         Ok(())
@@ -325,6 +354,7 @@ impl DefCollector {
     /// Keeps the name of a macro, and the attributes that deriving with it brings into scope.
     pub fn describe_macro(&mut self, makro: MacroId, what: MacroData) -> Result<(), AllocError>
         ensures ok { OnOk result (core_in self.new ≡ with_map (core_in self.old) (with_macro_data (core_in self.old).map makro what)) }
+        ensures noted { OnOk result (IsNoted self.old self.new) }
     {
         self.map.add_macro_data(makro, what)?;
         Ok(())
@@ -344,6 +374,7 @@ impl DefCollector {
         makro: ProcMacroId,
     ) -> Result<(), AllocError>
         ensures ok { OnOk result (core_in self.new ≡ with_exported_function (with_map (core_in self.old) (with_exported (core_in self.old).map function.id makro)) function) }
+        ensures noted { OnOk result (IsNoted self.old self.new) }
     {
         self.map.export_proc_macro(function.id, makro)?;
         self.exported.push(function)?;
@@ -353,8 +384,10 @@ impl DefCollector {
     /// Brings a helper of a derive into scope on an item.
     pub fn help(&mut self, node: AstId, helper: DeriveHelper) -> Result<(), AllocError>
         ensures ok { OnOk result (core_in self.new ≡ with_map (core_in self.old) (with_derive_helper (core_in self.old).map node helper)) }
+        ensures noted { OnOk result (IsNoted self.old self.new) }
     {
         self.map.add_derive_helper(node, helper)?;
+        self.changed.add_everything();
         Ok(())
     }
 
@@ -362,6 +395,7 @@ impl DefCollector {
     pub fn list_derived(&mut self, home: u32, imp: BuiltinDeriveImplId) -> Result<(), AllocError>
         requires in_range { home < length (core_in self.old).map.modules }
         ensures ok { OnOk result (core_in self.new ≡ with_map (core_in self.old) (with_derived (core_in self.old).map home imp)) }
+        ensures noted { OnOk result (IsNoted self.old self.new) }
     {
         self.map.scope_mut(home).define_builtin_derive_impl(imp)?;
         Ok(())
@@ -378,18 +412,21 @@ impl DefCollector {
         requires in_range { home < length (core_in self.old).map.modules }
         ensures made { IfOk result (λ id. id ≡ new_id (core_in self.old).map) }
         ensures ok { OnOk result (core_in self.new ≡ with_map (core_in self.old) (begun (core_in self.old).map home name (new_module origin visibility (Some (module_id (core_in self.old).map home))))) }
+        ensures noted { OnOk result (IsNoted self.old self.new) }
         ensures many { result ≡ Err CollectError.TooMany → STEP_LIMIT ≤ length (core_in self.old).map.modules }
     {
+        let alloc = self.allocator();
         let parent = self.module_id(home);
-        let module = ModuleData::new(self.allocator(), origin, visibility, Some(parent));
+        let module = ModuleData::new(alloc, origin, visibility, Some(parent));
         let id = self.map.add_module(home, name, module)?;
-        self.take_textual(id.index, home)?;
+        textual::take(alloc, &mut self.map, id.index, home)?;
         Ok(id)
     }
 
     /// Lists a definition in a module.
     pub fn declare(&mut self, home: u32, def: ModuleDefId) -> Result<(), AllocError>
         ensures ok { OnOk result (core_in self.new ≡ with_map (core_in self.old) (with_declared (core_in self.old).map home def)) }
+        ensures noted { OnOk result (IsNoted self.old self.new) }
     {
         self.map.declare(home, def)?;
         Ok(())
@@ -398,6 +435,7 @@ impl DefCollector {
     /// Keeps the variants of an enum, which were asked for.
     pub fn add_enum(&mut self, id: EnumId, variants: EnumVariants) -> Result<(), AllocError>
         ensures ok { OnOk result (core_in self.new ≡ with_asked (with_map (core_in self.old) (with_enum (core_in self.old).map id variants)) (Key.Variants id)) }
+        ensures noted { OnOk result (IsNoted self.old self.new) }
     {
         self.asked.push(Key::Variants(id))?;
         self.map.add_enum(id, variants)?;
@@ -423,6 +461,7 @@ impl DefCollector {
     /// Notes a key that was asked for.
     pub fn ask(&mut self, key: Key) -> Result<(), AllocError>
         ensures ok { OnOk result (core_in self.new ≡ with_asked (core_in self.old) key) }
+        ensures noted { OnOk result (IsNoted self.old self.new) }
     {
         self.asked.push(key)?;
         Ok(())
@@ -431,6 +470,7 @@ impl DefCollector {
     /// Adds a diagnostic.
     pub fn tell(&mut self, report: DefDiagnostic) -> Result<(), AllocError>
         ensures ok { OnOk result (core_in self.new ≡ with_map (core_in self.old) (with_diagnostic (core_in self.old).map report)) }
+        ensures noted { OnOk result (IsNoted self.old self.new) }
     {
         self.map.add_diagnostic(report)?;
         Ok(())
@@ -446,6 +486,7 @@ impl DefCollector {
     /// Lists a `use` item in a module.
     pub fn list_use(&mut self, home: u32, use_: UseId) -> Result<(), AllocError>
         ensures ok { OnOk result (core_in self.new ≡ with_map (core_in self.old) (with_use (core_in self.old).map home use_)) }
+        ensures noted { OnOk result (IsNoted self.old self.new) }
     {
         self.map.define_use(home, use_)?;
         Ok(())
@@ -454,6 +495,7 @@ impl DefCollector {
     /// Lists an `extern crate` in a module.
     pub fn list_extern_crate(&mut self, home: u32, id: ExternCrateId) -> Result<(), AllocError>
         ensures ok { OnOk result (core_in self.new ≡ with_map (core_in self.old) (with_extern_crate (core_in self.old).map home id)) }
+        ensures noted { OnOk result (IsNoted self.old self.new) }
     {
         self.map.define_extern_crate_decl(home, id)?;
         Ok(())
@@ -462,6 +504,7 @@ impl DefCollector {
     /// Lists an impl in a module.
     pub fn list_impl(&mut self, home: u32, id: ImplId, of_trait: bool) -> Result<(), AllocError>
         ensures ok { OnOk result (core_in self.new ≡ with_map (core_in self.old) (with_impl (core_in self.old).map home id of_trait)) }
+        ensures noted { OnOk result (IsNoted self.old self.new) }
     {
         self.map.define_impl(home, id, of_trait)?;
         Ok(())
@@ -470,6 +513,7 @@ impl DefCollector {
     /// Lists an extern block in a module.
     pub fn list_extern_block(&mut self, home: u32, id: ExternBlockId) -> Result<(), AllocError>
         ensures ok { OnOk result (core_in self.new ≡ with_map (core_in self.old) (with_extern_block (core_in self.old).map home id)) }
+        ensures noted { OnOk result (IsNoted self.old self.new) }
     {
         self.map.define_extern_block(home, id)?;
         Ok(())
@@ -478,6 +522,7 @@ impl DefCollector {
     /// Lists a constant without a name in a module.
     pub fn list_unnamed_const(&mut self, home: u32, id: ConstId) -> Result<(), AllocError>
         ensures ok { OnOk result (core_in self.new ≡ with_map (core_in self.old) (with_unnamed_const (core_in self.old).map home id)) }
+        ensures noted { OnOk result (IsNoted self.old self.new) }
     {
         self.map.define_unnamed_const(home, id)?;
         Ok(())
@@ -507,6 +552,7 @@ impl DefCollector {
     }
 
     /// Uses the macros that an `extern crate` brings into the macro-use prelude of a crate's map.
+    #[tactic(auto, using(crate::proofs::Noted::noted_still), unfolding(crate::specs::State::core_in))]
     pub fn use_macros(
         &mut self,
         world: WorldPart<'_>,
@@ -516,6 +562,7 @@ impl DefCollector {
     ) -> Result<(), AllocError>
         ensures ok { OnOk result (core_in self.new ≡ with_map (core_in self.old) (with_macros_used (core_in self.old).map
             (macros_brought (part_of world.entry) (core_in self.old).map (core_in self.old).dependencies (head_of head.entry) name.now) (Some by))) }
+        ensures noted { OnOk result (IsNoted self.old self.new) }
     {
         if self.map.id().block.is_some() {
             return Ok(());
@@ -523,14 +570,17 @@ impl DefCollector {
         let Some(scope) = self.other_scope(world, name) else {
             return Ok(());
         };
+        self.changed.add_everything();
         let attrs = head.attrs.attrs.as_slice();
         use_wanted(self.allocator(), &mut self.map, scope, attrs, by)?;
         Ok(())
     }
 
     /// Lets paths begin with the name of an `extern crate` of the crate's root module.
+    #[tactic(auto, using(crate::proofs::Noted::noted_still), unfolding(crate::specs::State::core_in))]
     pub fn add_extern(&mut self, import: &ImportDirective) -> Result<(), AllocError>
         ensures ok { OnOk result (core_in self.new ≡ with_local (core_in self.old) (extern_after (core_in self.old).map (core_in self.old).local import.now)) }
+        ensures noted { OnOk result (IsNoted self.old self.new) }
     {
         if import.home != 0 || self.map.id().block.is_some() {
             return Ok(());
@@ -549,6 +599,7 @@ impl DefCollector {
             map: MapId { krate, block: None },
             index: 0,
         };
+        self.changed.add_everything();
         self.local.add_extern(name, root, Some(id))?;
         Ok(())
     }
@@ -556,6 +607,7 @@ impl DefCollector {
     /// Notes an import that was come upon.
     pub fn reach(&mut self, import: ImportDirective) -> Result<(), AllocError>
         ensures ok { OnOk result (core_in self.new ≡ with_imports (core_in self.old) (import ∷ [])) }
+        ensures noted { OnOk result (IsNoted self.old self.new) }
     {
         let taken = Taken::nothing(self.allocator());
         self.reached.push(import)?;
@@ -566,13 +618,14 @@ impl DefCollector {
     /// Notes a macro call, a path of a derive or an attribute that was come upon.
     pub fn await_call(&mut self, call: MacroDirective) -> Result<(), AllocError>
         ensures ok { OnOk result (core_in self.new ≡ with_calls (core_in self.old) (call ∷ [])) }
+        ensures noted { OnOk result (IsNoted self.old self.new) }
     {
         self.calls.push(call)?;
         self.fates.push(Fate::Waits)?;
         Ok(())
     }
 
-    /// How many calls may be expanded.
+    /// How many calls there were when imports rested last: these may be tried.
     pub fn settled(&self) -> usize
         ensures value { result ≡ (core_in self.now).settled }
     {
@@ -645,6 +698,35 @@ impl DefCollector {
         }
     }
 
+    /// The slots that the path of a call reads.
+    pub fn call_slots<'a>(&'a self, world: WorldPart<'a>, call: &'a MacroDirective) -> PathSlots<'a>
+        ensures value { result ≡ call_reads (part_of world.entry) (core_in self.now).local (core_in self.now).map call.now }
+    {
+        DefMaps::new(world, &self.map).path_slots(
+            Some(&self.local),
+            ResolveMode::Other,
+            self.module_id(call.site.home),
+            call.path(),
+            BuiltinShadowMode::Module,
+            Some(call.sub_ns()),
+        )
+    }
+
+    /// What may have changed since calls were tried.
+    pub fn changed(&self) -> &Changed
+        ensures value { result.now ≡ self.now.changed }
+    {
+        &self.changed
+    }
+
+    /// What has changed was looked at.
+    pub fn forget_changes(&mut self)
+        ensures value { core_in self.new ≡ core_in self.old }
+        ensures none { self.new.changed ≡ nothing }
+    {
+        self.changed.clear();
+    }
+
     /// Whether a call is deeper than calls may be.
     pub fn is_too_deep(&self, call: &MacroDirective) -> bool
         ensures deep { result ≡ true → (core_in self.now).map.crate_data.recursion_limit ≤ call.now.site.level }
@@ -657,14 +739,16 @@ impl DefCollector {
     /// This becomes of the call at the place.
     pub fn end_call(&mut self, i: usize, fate: Fate)
         ensures value { core_in self.new ≡ with_fate (core_in self.old) i fate }
+        ensures noted { IsNoted self.old self.new }
     {
         end(&mut self.fates, i, fate);
     }
 
-    /// All calls that there are may be expanded.
+    /// Imports rest: all calls that there are may be tried from now on.
     pub fn rest(&mut self) -> Result<(), CollectError>
         ensures ok { OnOk result (core_in self.new ≡ counted (with_settled (core_in self.old))) }
         ensures below { OnOk result ((core_in self.old).count < STEP_LIMIT) }
+        ensures noted { OnOk result (IsNoted self.old self.new) }
         ensures many { result ≡ Err CollectError.TooMany → STEP_LIMIT ≤ (core_in self.old).count }
     {
         self.settled = self.calls.len();
@@ -677,12 +761,14 @@ impl DefCollector {
         requires there { (i : ℕ) (r : ImportDirective) → slice_get (core_in self).reached i ≡ Some r → r.home < length (core_in self).map.modules }
         requires sound { IsSound (part_of world) (import_state (at_rest (core_in self))) }
         ensures ok { IfOk result (λ run. (env : Environment) → Steps env (part_of world.entry) (at_rest (core_in self)) (at_rest (core_in run))) }
+        ensures noted { IfOk result (λ run. IsNoted self run) }
         ensures rests { IfOk result (λ run. IsAtRest (part_of world.entry) (import_state (at_rest (core_in run)))) }
         ensures sound { IfOk result (λ run. IsSound (part_of world.entry) (import_state (at_rest (core_in run)))) }
         ensures others { IfOk result (λ run. core_in run ≡ core_with_imports (core_in self) (import_state (at_rest (core_in run)))) }
         ensures many { result ≡ Err CollectError.TooMany → (env : Environment) → IsSpent env (part_of world.entry) (at_rest (core_in self)) }
     {
         let alloc = self.allocator();
+        let before = self.count;
         let imports = restart_imports(
             alloc,
             world,
@@ -713,6 +799,7 @@ impl DefCollector {
             exported: self.exported,
             asked: self.asked,
             count: imports.count,
+            changed: changed_by(self.changed, before, imports.count),
         })
     }
 
@@ -720,12 +807,14 @@ impl DefCollector {
     pub fn spread(self, world: WorldPart<'_>) -> Result<DefCollector, CollectError>
         requires sound { IsSound (part_of world) (import_state (at_rest (core_in self))) }
         ensures ok { IfOk result (λ run. (env : Environment) → Steps env (part_of world.entry) (at_rest (core_in self)) (at_rest (core_in run))) }
+        ensures noted { IfOk result (λ run. IsNoted self run) }
         ensures closed { IfOk result (λ run. IsClosed (part_of world.entry) (import_state (at_rest (core_in run)))) }
         ensures sound { IfOk result (λ run. IsSound (part_of world.entry) (import_state (at_rest (core_in run)))) }
         ensures others { IfOk result (λ run. core_in run ≡ core_with_imports (core_in self) (import_state (at_rest (core_in run)))) }
         ensures many { result ≡ Err CollectError.TooMany → (env : Environment) → IsSpent env (part_of world.entry) (at_rest (core_in self)) }
     {
         let alloc = self.allocator();
+        let before = self.count;
         let imports = spread_globs(
             alloc,
             world,
@@ -755,6 +844,7 @@ impl DefCollector {
             exported: self.exported,
             asked: self.asked,
             count: imports.count,
+            changed: changed_by(self.changed, before, imports.count),
         })
     }
 

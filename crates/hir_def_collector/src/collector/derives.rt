@@ -7,6 +7,7 @@ ghost use Rattle.hir_def_collector.specs.Keys.{Environment};
 ghost use Rattle.hir_def_collector.specs.Moves.{Makes};
 ghost use Rattle.hir_def_collector.specs.State.{at_rest, core_in, counted, with_fate};
 ghost use Rattle.hir_def_collector.specs.Steps.{DerivesBuiltin, IsReachedDeep, Steps, bringing};
+ghost use Rattle.hir_def_collector.specs.Waiting.{IsNoted};
 
 use crate::collector::def_collector::DefCollector;
 use crate::collector::exports::cloned;
@@ -48,6 +49,7 @@ fn help_all(
     names: &[Name],
 ) -> Result<(), AllocError>
     ensures ok { OnOk result (Makes (bringing node (map (helper_by makro became) names.now)) (core_in run.old) (core_in run.new)) }
+    ensures noted { OnOk result (IsNoted run.old run.new) }
 {
     for name in names {
         run.help(
@@ -71,6 +73,7 @@ pub fn bring_helpers(
     became: Option<Either<MacroCallId, BuiltinDeriveImplId>>,
 ) -> Result<(), AllocError>
     ensures ok { OnOk result (Makes (bringing call.now.ast_id (helpers_brought (part_of world.entry) (core_in run.old).map call.now makro became)) (core_in run.old) (core_in run.new)) }
+    ensures noted { OnOk result (IsNoted run.old run.new) }
 {
     let names = helper_names(run, world, call, makro)?;
     help_all(run, call.ast_id, makro, became, names.as_slice())
@@ -79,6 +82,7 @@ pub fn bring_helpers(
 /// Drops what waits at the place: a call that is too deep.
 pub fn drop_call(run: &mut DefCollector, i: usize) -> Result<(), CollectError>
     ensures ok { OnOk result (core_in run.new ≡ counted (with_fate (core_in run.old) i Fate.Handled)) }
+    ensures noted { OnOk result (IsNoted run.old run.new) }
     ensures many { result ≡ Err CollectError.TooMany → STEP_LIMIT ≤ (core_in run.old).count }
 {
     run.end_call(i, Fate::Handled);
@@ -98,6 +102,7 @@ pub fn drop_reached(
     requires deep { IsReachedDeep (part_of world) (at_rest (core_in run.old)) i call.now makro }
     ensures ok { OnOk result ((env : Environment) → Steps env (part_of world.entry) (at_rest (core_in run.old)) (at_rest (core_in run.new))) }
     ensures handled { OnOk result (slice_get (core_in run.new).fates i ≡ Some Fate.Handled) }
+    ensures noted { OnOk result (IsNoted run.old run.new) }
     ensures many { result ≡ Err CollectError.TooMany → (env : Environment) → IsSpent env (part_of world.entry) (at_rest (core_in run.old)) }
 {
     run.end_call(i, Fate::Handled);
@@ -139,6 +144,7 @@ pub fn derive_builtin(
     requires builtin { DerivesBuiltin (part_of world) (at_rest (core_in run.old)) i call.now makro imp }
     ensures ok { OnOk result ((env : Environment) → Steps env (part_of world.entry) (at_rest (core_in run.old)) (at_rest (core_in run.new))) }
     ensures handled { OnOk result (slice_get (core_in run.new).fates i ≡ Some Fate.Handled) }
+    ensures noted { OnOk result (IsNoted run.old run.new) }
     ensures many { result ≡ Err CollectError.TooMany → (env : Environment) → IsSpent env (part_of world.entry) (at_rest (core_in run.old)) }
 {
     let names = helper_names(run, world, call, makro)?;

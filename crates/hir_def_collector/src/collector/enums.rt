@@ -9,6 +9,7 @@ ghost use Rattle.hir_def_collector.specs.Enums.{variant_of, variants_by_name, va
 ghost use Rattle.hir_def_collector.specs.TreeReads.{head_of};
 ghost use Rattle.hir_def_collector.specs.Steps.{visit};
 ghost use Rattle.hir_def_collector.specs.Moves.{Handles, OnceGrown};
+ghost use Rattle.hir_def_collector.specs.Waiting.{IsNoted};
 
 use crate::collector::declaration::Declaration;
 use crate::collector::declare::declare;
@@ -82,6 +83,7 @@ pub fn declare_enum<D: SourceDatabase>(
     ensures same { D.workspace db.new ≡ D.workspace db.old }
     ensures ok { OnOk result (OnceGrown locations.now (D.workspace db.old)
         (λ env. Handles env (part_of world.entry) (core_in run.old) (core_in run.new) (visit site.now (leaf (head_of head.entry) (enumeration name.now))) [])) }
+    ensures noted { OnOk result (IsNoted run.old run.new) }
     ensures many { result ≡ Err CollectError.TooMany → STEP_LIMIT ≤ (core_in run.old).count }
 {
     let id = EnumId {

@@ -11,6 +11,7 @@ ghost use Rattle.hir_def_collector.specs.Items.{value_declaration};
 ghost use Rattle.hir_def_collector.specs.Moves.{with_export};
 ghost use Rattle.hir_def_collector.specs.State.{core_in, counted};
 ghost use Rattle.hir_def_collector.specs.TreeReads.{head_of};
+ghost use Rattle.hir_def_collector.specs.Waiting.{IsNoted};
 
 use crate::collector::crate_attrs::{is_keyed, says};
 use crate::collector::declaration::Declaration;
@@ -150,6 +151,7 @@ pub fn declare_exporting(
     requires is_function { id ≡ function_id (core_in run.old).map site.now head.id }
     ensures ok { OnOk result (core_in run.new ≡ counted (with_export (core_in run.old) site.now (head_of head.entry) name.now
         (value_declaration name.now (ModuleDefId.FunctionId id) vis) export)) }
+    ensures noted { OnOk result (IsNoted run.old run.new) }
     ensures many { result ≡ Err CollectError.TooMany → STEP_LIMIT ≤ (core_in run.old).count }
 {
     let exported = ProcMacroId {

@@ -13,6 +13,7 @@ ghost use Rattle.hir_def_collector.specs.ItemIds.{extern_crate_id};
 ghost use Rattle.hir_def_collector.specs.TreeReads.{head_of};
 ghost use Rattle.hir_def_collector.specs.Steps.{visit};
 ghost use Rattle.hir_def_collector.specs.Moves.{Handles};
+ghost use Rattle.hir_def_collector.specs.Waiting.{IsNoted};
 
 use crate::collector::def_collector::DefCollector;
 use crate::collector::site::{ItemHead, Site};
@@ -65,6 +66,7 @@ fn reach_all(
     mut imports: VecDeque<Import>,
 ) -> Result<(), AllocError>
     ensures ok { OnOk result (core_in run.new ≡ with_imports (core_in run.old) (map (reached_import home use_ visibility.now) imports.items)) }
+    ensures noted { OnOk result (IsNoted run.old run.new) }
 {
     while let Some(import) = imports.pop_front() {
         let Import {
@@ -96,6 +98,7 @@ pub fn reach_use(
 ) -> Result<(), CollectError>
     requires enabled { is_enabled (head_of head).attributes ≡ true }
     ensures ok { OnOk result ((env : Environment) (finished : Maps) → Handles env finished (core_in run.old) (core_in run.new) (visit site.now (leaf (head_of head.entry) (import (use_tree_view tree.now)))) []) }
+    ensures noted { OnOk result (IsNoted run.old run.new) }
     ensures many { result ≡ Err CollectError.TooMany → STEP_LIMIT ≤ (core_in run.old).count }
 {
     let use_ = UseId {
@@ -176,6 +179,7 @@ pub fn reach_extern_crate(
 ) -> Result<(), CollectError>
     requires enabled { is_enabled (head_of head).attributes ≡ true }
     ensures ok { OnOk result ((env : Environment) → Handles env (part_of world.entry) (core_in run.old) (core_in run.new) (visit site.now (leaf (head_of head.entry) (extern_crate name.now alias.now))) []) }
+    ensures noted { OnOk result (IsNoted run.old run.new) }
     ensures many { result ≡ Err CollectError.TooMany → STEP_LIMIT ≤ (core_in run.old).count }
 {
     let id = ExternCrateId {

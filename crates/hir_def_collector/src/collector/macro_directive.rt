@@ -61,7 +61,7 @@ pub struct MacroDirective {
 /// What became of what waits for a macro.
 #[derive(Clone, Copy, Debug, PartialEq, Eq)]
 pub enum Fate {
-    /// It has reached no macro so far.
+    /// It was neither expanded nor dropped.
     Waits,
     /// It was expanded, dropped or passed over.
     Handled,

@@ -13,6 +13,7 @@ ghost use Rattle.hir_def_collector.specs.Reports.{is_unimplemented};
 ghost use Rattle.hir_def_collector.specs.Moves.{Handles, Makes, Walks, WalksTooFar};
 ghost use Rattle.hir_def_collector.specs.Steps.{closing, exporting, macro_data_of, reporting, visit};
 ghost use Rattle.hir_def_collector.specs.TreeReads.{head_of};
+ghost use Rattle.hir_def_collector.specs.Waiting.{IsNoted};
 
 use crate::collector::crate_attrs::says;
 use crate::collector::declaration::Declaration;
@@ -96,11 +97,12 @@ fn report(
     expander: MacroExpander,
 ) -> Result<(), AllocError>
     ensures ok { OnOk result (Makes (reporting at node expander) (core_in run.old) (core_in run.new)) }
+    ensures noted { OnOk result (IsNoted run.old run.new) }
 {
-    if is_unimplemented(expander) {
-        run.tell(DefDiagnostic::unimplemented_builtin_macro(at, node))?;
+    if !is_unimplemented(expander) {
+        return Ok(());
     }
-    Ok(())
+    run.tell(DefDiagnostic::unimplemented_builtin_macro(at, node))
 }
 
 /// Keeps the name of a macro, and the attributes that deriving with it brings into scope.
@@ -111,6 +113,7 @@ fn describe(
     helpers: &[Name],
 ) -> Result<(), AllocError>
     ensures ok { OnOk result (core_in run.new ≡ with_map (core_in run.old) (with_macro_data (core_in run.old).map makro (macro_data_of name.now helpers.now))) }
+    ensures noted { OnOk result (IsNoted run.old run.new) }
 {
     let what = MacroData {
         name: name.clone()?,
@@ -127,6 +130,7 @@ fn export(
     makro: MacroId,
 ) -> Result<(), AllocError>
     ensures ok { OnOk result (Makes (exporting (head_of head.entry) name.now makro) (core_in run.old) (core_in run.new)) }
+    ensures noted { OnOk result (IsNoted run.old run.new) }
 {
     if !is_exported(head.attrs) {
         return Ok(());
@@ -148,6 +152,7 @@ pub fn define_rules(
     requires enabled { is_enabled (head_of head).attributes ≡ true }
     ensures ok { OnOk result ((env : Environment) (finished : Maps) → Handles env finished (core_in run.old) (core_in run.new)
         (visit site.now (leaf (head_of head.entry) (macro_rules item.entry.name.now item.entry.expander item.entry.helpers.now))) []) }
+    ensures noted { OnOk result (IsNoted run.old run.new) }
     ensures many { result ≡ Err CollectError.TooMany → STEP_LIMIT ≤ (core_in run.old).count }
 {
     let loc = macro_loc(run, site, head.id, item.expander);
@@ -175,6 +180,7 @@ pub fn define_macro(
     requires enabled { is_enabled (head_of head).attributes ≡ true }
     ensures ok { OnOk result ((env : Environment) → Handles env (part_of world.entry) (core_in run.old) (core_in run.new)
         (visit site.now (leaf (head_of head.entry) (macro_def item.entry.name.now item.entry.expander item.entry.helpers.now))) []) }
+    ensures noted { OnOk result (IsNoted run.old run.new) }
     ensures many { result ≡ Err CollectError.TooMany → STEP_LIMIT ≤ (core_in run.old).count }
 {
     let vis = run.visibility(world, site, head);
@@ -206,6 +212,7 @@ pub fn close(
 ) -> Result<(), CollectError>
     requires in_range { parent < length (core_in run.old).map.modules }
     ensures ok { OnOk result ((env : Environment) (finished : Maps) → Walks env finished (core_in run.old) (core_in run.new) (closing macro_use parent child)) }
+    ensures noted { OnOk result (IsNoted run.old run.new) }
     ensures many { result ≡ Err CollectError.TooMany → (env : Environment) (finished : Maps) → WalksTooFar env finished (core_in run.old) (closing macro_use parent child) }
 {
     if !macro_use {

@@ -21,6 +21,7 @@ ghost use Rattle.hir_def_collector.specs.Steps.{inside_file, visit};
 ghost use Rattle.hir_def_collector.specs.TreeReads.{head_of, visits_at, visits_behind};
 ghost use Rattle.hir_def_collector.specs.Derivation.{IsFull};
 ghost use Rattle.hir_def_collector.specs.Moves.{Drops, GoesInside, Handles, HandlesTooFar, MayTake, OnceGrown, Passes, PassesTooFar, TakesFile, Tells, Walks, WalksTooFar, found_view, is_single, opened, tasks_of};
+ghost use Rattle.hir_def_collector.specs.Waiting.{IsNoted};
 
 use crate::collector::attributes::{Visited, adt_of, pass_attributes};
 use crate::collector::declaration::Declaration;
@@ -76,6 +77,7 @@ pub enum Inside<'a> {
 fn list_const(run: &mut DefCollector, site: &Site, head: ItemHead<'_>) -> Result<(), CollectError>
     requires enabled { is_enabled (head_of head).attributes ≡ true }
     ensures ok { OnOk result ((env : Environment) (finished : Maps) → Handles env finished (core_in run.old) (core_in run.new) (visit site.now (leaf (head_of head.entry) (constant None))) []) }
+    ensures noted { OnOk result (IsNoted run.old run.new) }
     ensures many { result ≡ Err CollectError.TooMany → STEP_LIMIT ≤ (core_in run.old).count }
 {
     let id = ConstId {
@@ -101,6 +103,7 @@ fn visit_const(
 ) -> Result<(), CollectError>
     requires enabled { is_enabled (head_of head).attributes ≡ true }
     ensures ok { OnOk result ((env : Environment) → Handles env (part_of world.entry) (core_in run.old) (core_in run.new) (visit site.now (leaf (head_of head.entry) (constant name.now))) []) }
+    ensures noted { OnOk result (IsNoted run.old run.new) }
     ensures many { result ≡ Err CollectError.TooMany → STEP_LIMIT ≤ (core_in run.old).count }
 {
     match name {
@@ -119,6 +122,7 @@ fn list_impl(
 ) -> Result<(), CollectError>
     requires enabled { is_enabled (head_of head).attributes ≡ true }
     ensures ok { OnOk result ((env : Environment) (finished : Maps) → Handles env finished (core_in run.old) (core_in run.new) (visit site.now (leaf (head_of head.entry) (implementation of_trait))) []) }
+    ensures noted { OnOk result (IsNoted run.old run.new) }
     ensures many { result ≡ Err CollectError.TooMany → STEP_LIMIT ≤ (core_in run.old).count }
 {
     let id = ImplId {
@@ -158,6 +162,7 @@ fn open(
     requires in_range { site.now.home < length (core_in run.old).map.modules }
     ensures made { IfOk result (λ home. home ≡ length (core_in run.old).map.modules) }
     ensures ok { OnOk result (core_in run.new ≡ opened (part_of world.entry) (core_in run.old) site.now (head_of head.entry) name.now origin) }
+    ensures noted { OnOk result (IsNoted run.old run.new) }
     ensures many { result ≡ Err CollectError.TooMany → IsFull (core_in run.old).count (core_in run.old).map }
 {
     let vis = run.visibility(world, site, head);
@@ -185,6 +190,7 @@ fn visit_inline<'a>(
     requires enabled { is_enabled (head_of head).attributes ≡ true }
     ensures ok { IfOk result (λ inside. (env : Environment) (items : List KeptItem) → Handles env (part_of world.entry) (core_in run.old) (core_in run.new)
         (visit site.now (holder (head_of head.entry) (inline_module name.now) (items_at items (numbers_of ids.entry.now)))) (tasks_of site.now.home items inside)) }
+    ensures noted { OnOk result (IsNoted run.old run.new) }
     ensures within { IfOk result (λ inside. (tables : TablesValue) → GoesInside tables (length (core_in run.new).map.modules) site.now (numbers_of ids.entry.now) inside) }
     ensures many { result ≡ Err CollectError.TooMany → IsFull (core_in run.old).count (core_in run.old).map }
 {
@@ -228,6 +234,7 @@ fn open_file(
     ensures inside { IfOk result (λ inside. inside ≡ inside_file (core_in run.old).map (found_view file.now)) }
     ensures ok { OnOk result (core_in run.new ≡ opened (part_of world.entry) (core_in run.old) site.now (head_of head.entry) name.now
         (file_origin site.now.tree head.entry.id (core_in run.old).map.crate_data.edition (found_view file.now))) }
+    ensures noted { OnOk result (IsNoted run.old run.new) }
     ensures many { result ≡ Err CollectError.TooMany → IsFull (core_in run.old).count (core_in run.old).map }
 {
     let definition = EditionedFileId {
@@ -263,6 +270,7 @@ fn drop_file(
     cfg: &CfgExpr,
 ) -> Result<(), CollectError>
     ensures ok { OnOk result (Drops (IsUnconfigured (module_id (core_in run.old).map site.now.home) (node_of site.now.tree AstKind.Module head.entry.id) (cfg_view cfg.now) (core_in run.old).options) (core_in run.old) (core_in run.new)) }
+    ensures noted { OnOk result (IsNoted run.old run.new) }
     ensures many { result ≡ Err CollectError.TooMany → STEP_LIMIT ≤ (core_in run.old).count }
 {
     let at = run.module_id(site.home);
@@ -285,6 +293,7 @@ fn miss_file(
     requires in_range { site.now.home < length (core_in run.old).map.modules }
     ensures ok { OnOk result (Tells (IsUnresolvedModule (module_id (core_in run.old).map site.now.home) (node_of site.now.tree AstKind.Module head.entry.id) (map (λ c. c.text) candidates.now))
         (opened (part_of world.entry) (core_in run.old) site.now (head_of head.entry) name.now (inline_origin site.now.tree head.entry.id)) (core_in run.new)) }
+    ensures noted { OnOk result (IsNoted run.old run.new) }
     ensures many { result ≡ Err CollectError.TooMany → IsFull (core_in run.old).count (core_in run.old).map
         × ((d : DefDiagnostic) × IsUnresolvedModule (module_id (core_in run.old).map site.now.home) (node_of site.now.tree AstKind.Module head.entry.id) (map (λ c. c.text) candidates.now) d) }
 {
@@ -312,6 +321,7 @@ fn take_file<'a>(
 ) -> Result<Inside<'a>, CollectError>
     requires in_range { site.now.home < length (core_in run.old).map.modules }
     ensures ok { IfOk result (λ inside. TakesFile (part_of world.entry) site.now (head_of head.entry) name.now (found_view file) file.source.value (core_in run.old) (core_in run.new) inside) }
+    ensures noted { OnOk result (IsNoted run.old run.new) }
     ensures many { result ≡ Err CollectError.TooMany → IsFull (core_in run.old).count (core_in run.old).map × MayTake site.now (head_of head.entry) (found_view file) (core_in run.old) }
 {
     if let Some(cfg) = &file.source.tree().top_level_attrs().disabled {
@@ -345,6 +355,7 @@ fn visit_outline<'a, D: SourceDatabase>(
     ensures same { D.workspace db.new ≡ D.workspace db.old }
     ensures ok { IfOk result (λ inside. OnceGrown locations.new (D.workspace db.old) (λ env. (items : List KeptItem) → Handles env (part_of world.entry) (core_in run.old) (core_in run.new)
         (visit site.now (leaf (head_of head.entry) (outline_module name.now))) (tasks_of site.now.home items inside))) }
+    ensures noted { OnOk result (IsNoted run.old run.new) }
     ensures within { IfOk result (λ inside. GoesInside locations.new (length (core_in run.new).map.modules) site.now [] inside) }
     ensures many { result ≡ Err CollectError.TooMany → OnceGrown locations.new (D.workspace db.old)
         (λ env. HandlesTooFar env (part_of world.entry) (core_in run.old) (visit site.now (leaf (head_of head.entry) (outline_module name.now)))) }
@@ -378,6 +389,7 @@ fn enter<'a>(
     requires enabled { is_enabled (head_of head).attributes ≡ true }
     ensures ok { IfOk result (λ inside. (env : Environment) (finished : Maps) (items : List KeptItem) → Handles env finished (core_in run.old) (core_in run.new)
         (visit site.now (holder (head_of head.entry) extern_block (items_at items (numbers_of ids.entry.now)))) (tasks_of site.now.home items inside)) }
+    ensures noted { OnOk result (IsNoted run.old run.new) }
     ensures within { IfOk result (λ inside. (tables : TablesValue) → GoesInside tables (length (core_in run.new).map.modules) site.now (numbers_of ids.entry.now) inside) }
     ensures many { result ≡ Err CollectError.TooMany → STEP_LIMIT ≤ (core_in run.old).count }
 {
@@ -415,6 +427,7 @@ fn reach_call(
 ) -> Result<(), CollectError>
     requires enabled { is_enabled (head_of head).attributes ≡ true }
     ensures ok { OnOk result ((env : Environment) (finished : Maps) → Handles env finished (core_in run.old) (core_in run.new) (visit site.now (leaf (head_of head.entry) (macro_call path.now))) []) }
+    ensures noted { OnOk result (IsNoted run.old run.new) }
     ensures many { result ≡ Err CollectError.TooMany → STEP_LIMIT ≤ (core_in run.old).count }
 {
     let call = MacroDirective {
@@ -451,6 +464,7 @@ fn visit_leaf<D: SourceDatabase>(
     ensures same { D.workspace db.new ≡ D.workspace db.old }
     ensures ok { OnOk result (OnceGrown locations.now (D.workspace db.old) (λ env. (items : List KeptItem)
         → Handles env (part_of world.entry) (core_in run.old) (core_in run.new) (visit site.now (item_of items (head_of head.entry) (kind_content item.entry))) [])) }
+    ensures noted { OnOk result (IsNoted run.old run.new) }
     ensures many { result ≡ Err CollectError.TooMany → STEP_LIMIT ≤ (core_in run.old).count }
 {
     match item {
@@ -516,6 +530,7 @@ fn visit_item<'a, D: SourceDatabase>(
     ensures same { D.workspace db.new ≡ D.workspace db.old }
     ensures ok { IfOk result (λ inside. OnceGrown locations.new (D.workspace db.old) (λ env. (items : List KeptItem) → Handles env (part_of world.entry) (core_in run.old) (core_in run.new)
         (visit site.now (item_of items (head_of head.entry) (kind_content item.entry))) (tasks_of site.now.home items inside))) }
+    ensures noted { OnOk result (IsNoted run.old run.new) }
     ensures within { IfOk result (λ inside. GoesInside locations.new (length (core_in run.new).map.modules) site.now (held_numbers (kind_content item.entry)) inside) }
     ensures many { result ≡ Err CollectError.TooMany → OnceGrown locations.new (D.workspace db.old) (λ env. (items : List KeptItem) →
         HandlesTooFar env (part_of world.entry) (core_in run.old) (visit site.now (item_of items (head_of head.entry) (kind_content item.entry)))) }
@@ -542,6 +557,7 @@ fn drop_item(
     cfg: &CfgExpr,
 ) -> Result<(), CollectError>
     ensures ok { OnOk result (Drops (IsUnconfigured (module_id (core_in run.old).map site.now.home) (node_of site.now.tree (kind_of item.entry) id) (cfg_view cfg.now) (core_in run.old).options) (core_in run.old) (core_in run.new)) }
+    ensures noted { OnOk result (IsNoted run.old run.new) }
     ensures many { result ≡ Err CollectError.TooMany → STEP_LIMIT ≤ (core_in run.old).count }
 {
     let node = AstId {
@@ -578,6 +594,7 @@ fn pass(
     requires enabled { IfSome (slice_get (all_items source.now.value.tree.items) id.0) (λ i. is_enabled (item_head i).attributes ≡ true) }
     ensures ok { IfOk result (λ passed. (env : Environment) (finished : Maps) → IfSome (slice_get (all_items source.now.value.tree.items) id.0)
         (λ i. Passes env finished (core_in run.old) (core_in run.new) (visit site.now i) done passed)) }
+    ensures noted { OnOk result (IsNoted run.old run.new) }
     ensures many { result ≡ Err CollectError.TooMany → (env : Environment) (finished : Maps) → IfSome (slice_get (all_items source.now.value.tree.items) id.0)
         (λ i. PassesTooFar env finished (core_in run.old) (visit site.now i) done) }
 {
@@ -619,6 +636,7 @@ pub fn walk_item<D: SourceDatabase>(
     ensures same { D.workspace db.new ≡ D.workspace db.old }
     ensures ok { OnOk result (OnceGrown locations.new (D.workspace db.old)
         (λ env. Walks env (part_of world.entry) (core_in run.old) (core_in run.new) (visits_behind source.now.value.tree site.now id.0 done))) }
+    ensures noted { OnOk result (IsNoted run.old run.new) }
     ensures many { result ≡ Err CollectError.TooMany → OnceGrown locations.new (D.workspace db.old)
         (λ env. WalksTooFar env (part_of world.entry) (core_in run.old) (visits_behind source.now.value.tree site.now id.0 done)) }
 {
@@ -675,6 +693,7 @@ pub fn walk_all<D: SourceDatabase>(
     ensures same { D.workspace db.new ≡ D.workspace db.old }
     ensures ok { OnOk result (OnceGrown locations.new (D.workspace db.old)
         (λ env. Walks env (part_of world.entry) (core_in run.old) (core_in run.new) (visits_at source.now.value.tree site.now (numbers_of ids.now)))) }
+    ensures noted { OnOk result (IsNoted run.old run.new) }
     ensures many { result ≡ Err CollectError.TooMany → OnceGrown locations.new (D.workspace db.old)
         (λ env. WalksTooFar env (part_of world.entry) (core_in run.old) (visits_at source.now.value.tree site.now (numbers_of ids.now))) }
 {

@@ -1,5 +1,5 @@
 //! The files of outline modules.
-ghost use Rattle.std.specs.Prelude.{◌≡◌, ◌≤◌, length, false, map, option_map, IfOk, IfSome};
+ghost use Rattle.std.specs.Prelude.{◌≡◌, ◌≤◌, length, false, map, option_map, IfOk, IfSome, OnOk};
 ghost use Rattle.std.specs.Option.{option_map_or};
 ghost use Rattle.hir_base.specs.Locations.{max_locations};
 ghost use Rattle.hir_item_tree.specs.Collected.{numbered};
@@ -8,6 +8,7 @@ ghost use Rattle.hir_def_collector.specs.State.{core_in};
 ghost use Rattle.hir_def_collector.specs.Calls.{AreCallsPlaced};
 ghost use Rattle.hir_def_collector.specs.ModuleFiles.{IsFileMeant, IsNumberOf, file_of_tree, file_tree, named_by, path_attribute, path_in, taken_by};
 ghost use Rattle.hir_def_collector.specs.Moves.{Finds, IsHeld, LooksAt, found_view, looked_view};
+ghost use Rattle.hir_def_collector.specs.Waiting.{IsNoted};
 
 use crate::collector::CollectError;
 use crate::collector::crate_attrs::is_keyed;
@@ -120,6 +121,7 @@ fn look_at<D: SourceDatabase>(
     ensures placed { AreCallsPlaced locations.old → AreCallsPlaced locations.new }
     ensures same { D.workspace db.new ≡ D.workspace db.old }
     ensures ok { IfOk result (λ file. LooksAt locations.new (D.workspace db.old) (option_map (λ p. p.now) declaring.entry) candidate.now (core_in run.old) (core_in run.new) (option_map looked_view file)) }
+    ensures noted { OnOk result (IsNoted run.old run.new) }
     ensures held { IfOk result (λ file. IfSome file (λ f. IsHeld locations.new (D.workspace db.old) (core_in run.old).map.id.krate (file_tree (core_in run.old).map.crate_data.edition f.id) f.source.value)) }
     ensures many { result ≡ Err CollectError.TooMany → max_locations ≤ length locations.new.files }
 {
@@ -174,6 +176,7 @@ pub fn find_file<D: SourceDatabase>(
     ensures placed { AreCallsPlaced locations.old → AreCallsPlaced locations.new }
     ensures same { D.workspace db.new ≡ D.workspace db.old }
     ensures ok { IfOk result (λ file. Finds locations.new (D.workspace db.old) (option_map (λ p. p.now) declaring.entry) candidates.now (core_in run.old) (core_in run.new) (option_map found_view file)) }
+    ensures noted { OnOk result (IsNoted run.old run.new) }
     ensures held { IfOk result (λ file. IfSome file (λ f. IsHeld locations.new (D.workspace db.old) (core_in run.old).map.id.krate (file_tree (core_in run.old).map.crate_data.edition f.id) f.source.value)) }
     ensures many { result ≡ Err CollectError.TooMany → max_locations ≤ length locations.new.files }
 {

@@ -22,7 +22,7 @@ pub struct Site {
     pub home: u32,
     /// The source that it is written in.
     pub tree: TreeId,
-    /// The file that it is written in, or of what it comes from by expansion the file of the outermost call; none of a
+    /// The file that it is written in; of what an expansion brought, that of the outermost call around it; none in a
     /// block.
     pub file: Option<FileId>,
     /// The extern block that holds it, if one does.

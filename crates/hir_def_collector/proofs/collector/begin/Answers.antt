@@ -1,4 +1,4 @@
-use Rattle.std.proofs.Common.{rules, ◌≡◌, ◌∙◌, Option, None, sym, ap, subst}
+use Rattle.std.proofs.Common.{rules, ◌≡◌, ◌∙◌, Option, None, refl, sym, ap, subst}
 use Rattle.std.specs.Prelude.{IsSome, option_map}
 use Rattle.hir_base.specs.declared.ids.Crate.{Crate}
 use Rattle.hir_item_tree.specs.ItemTree.{Tree}
@@ -6,14 +6,17 @@ use Rattle.hir_item_tree.specs.SourceTree.{SourceTreeValue}
 use Rattle.hir_tables.specs.SourcePlaces.{source_value}
 use Rattle.hir_tables.specs.Tables.{source_of}
 use Rattle.hir_tables.proofs.Growth.{KeepsTables-trans}
+use Rattle.hir_scope.specs.declared.visibility.Visibility.TheVariants as visibilities
+use Rattle.hir_def_map.specs.State.{IsInOrder, new_module}
 use Rattle.hir_def_map.specs.WorldParts.{part_of}
 use Rattle.hir_def_collector.specs.Workspace.{ConfigValue, Workspace, config_view}
 use Rattle.hir_def_collector.specs.Keys.{environment, source_in}
 use Rattle.hir_def_collector.specs.Moves.{IsHeld}
-use Rattle.hir_def_collector.specs.Start.{core_of, krate_of, root_site, tree_key, tree_visits}
+use Rattle.hir_def_collector.specs.Start.{core_of, krate_of, origin_of, root_site, tree_key, tree_visits}
 use Rattle.hir_def_collector.specs.State.{Core, State, at_rest, core_in, joined}
 use Rattle.hir_def_collector.specs.Steps.{Steps, none}
 use Rattle.hir_def_collector.specs.Derivation.{IsSpent}
+use Rattle.hir_def_collector.proofs.InOrder.{root_in_order}
 use Rattle.hir_def_collector.proofs.Begun.{begun_absent, begun_grown, held_root, none_there, nothing_there, some_there}
 use Rattle.hir_def_collector.proofs.Numbers.{tables_stay}
 use Rattle.hir_def_collector.proofs.Ready.{ready_start}
@@ -51,6 +54,8 @@ returns-then-is_none-clause-ready g c =
     c.in_ok-run.ensures.value ∙ ap (λ (o : Option ConfigValue). core_of part c.tree-tree.result.now o transitive c.args.start c.args.id) config
     ∙ ap (λ (t : Tree). core_of part t (w.config (krate_of c.args.start)) transitive c.args.start c.args.id) tree in
     ready_empty tables part (core_in c.in_ok-run.run') (ap (λ (r : Core). r.globs) is) (ap (λ (r : Core). r.reached) is) (ap (λ (r : Core). r.taken) is) (ap (λ (r : Core). r.calls) is) (ap (λ (r : Core). r.fates) is)
+    (subst (λ (r : Core). IsInOrder r.map) (sym is)
+    (root_in_order (core_of part source.tree (w.config (krate_of c.args.start)) transitive c.args.start c.args.id).map (new_module (origin_of c.args.start) visibilities.Public None) refl refl))
 
 pub returns-then-is_none-clause-idle : goal.returns-then-is_none-clause-idle
 returns-then-is_none-clause-idle g c = λ gone env.

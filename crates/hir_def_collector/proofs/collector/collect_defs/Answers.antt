@@ -111,7 +111,7 @@ returns-clause-ends g c = λ v finished agrees.
     let from = beginning c.args.start c.args.tree (option_map (λ l. l.now) c.args._local) in
     let part = part_of c.among-part.result in
     let run = core_in c.in_ok-run.run' in
-    let last = core_in c.in_ok-run-2.run'' in
+    let last = core_in c.in_ok-run-2.run' in
     let depends : c.in_ok-transitive.transitive.value ≡ transitive_dependencies_in w (krate_of c.args.start) =
     c.in_ok-transitive.ensures.value ∙ depends_on w c.krate.result _ c.transitive_dependencies.ensures.value ∙ ap (transitive_dependencies_in w) c.krate.ensures.value in
     let reads : part ≡ among c.in_ok-transitive.transitive.value [] all =

@@ -8,7 +8,7 @@ use Rattle.hir_def_collector.specs.State.{Core, at_rest, core_in}
 use Rattle.hir_def_collector.specs.Steps.{IsDeep, drops_call, none}
 use Rattle.hir_def_collector.proofs.CallSteps.{dropped, past_rule}
 use Rattle.hir_def_collector.proofs.Lists.{get_inside, get_set_same}
-use Rattle.hir_def_collector.proofs.Trying.{nothing_due}
+use Rattle.hir_def_collector.proofs.GivingUp.{nothing_due}
 use Rattle.hir_def_collector.proofs.collector.calls.do_due.Goals as goal
 
 -- nothing is

@@ -13,10 +13,11 @@ use Rattle.hir_def_collector.specs.Moves.{OnceGrown, Walks, WalksTooFar}
 use Rattle.hir_def_collector.specs.State.{core_in}
 use Rattle.hir_def_collector.specs.TreeReads.{visits_at}
 use Rattle.hir_def_collector.proofs.CallSteps.{expanded_and_walked, expanded_too_far, handled_at_last, past_reported, site_inside, site_meant, spent_by_numbers}
+use Rattle.hir_def_collector.proofs.Noted.{noted_follow}
 use Rattle.hir_def_collector.proofs.collector.calls.expand.Goals as goal
 
-pub look_at_call-requires-clause-meant : goal.look_at_call-requires-clause-meant
-look_at_call-requires-clause-meant g c = c.requires.ready.meant c.args.i c.args.call.now c.requires.called.due.waiting.call
+pub look_at_call-requires : goal.look_at_call-requires
+look_at_call-requires g c = record { meant = c.requires.ready.meant c.args.i c.args.call.now c.requires.called.due.waiting.call }
 
 pub returns-in_err-id-clause-many : goal.returns-in_err-id-clause-many
 returns-in_err-id-clause-many g c = λ h.
@@ -33,8 +34,8 @@ returns-in_err-tick-clause-many g c = λ h.
     let brought = core_in c.bring_helpers.new.run in
     let reported = core_in c.report_failed.new.run in
     let seen = c.in_ok-id.ensures.ok in
-    let source : SourceTreeValue = c.in_ok-id.source.value in
-    past_reported tables w part old asked c.args.i c.args.call.now c.args.makro seen.0 source seen.1 c.requires.called c.requires.shallow ended brought reported c.in_ok-id.id c.in_ok-id.error c.end_call.ensures.value seen.2 seen.3 c.in_ok-bring_helpers.ensures.ok c.in_ok-report_failed.ensures.ok
+    let source : SourceTreeValue = c.in_ok-id.field-0.source.value in
+    past_reported tables w part old asked c.args.i c.args.call.now c.args.makro seen.0 source seen.1 c.requires.called c.requires.shallow ended brought reported c.in_ok-id.field-0.id c.in_ok-id.field-0.error c.end_call.ensures.value seen.2 seen.3 c.in_ok-bring_helpers.ensures.ok c.in_ok-report_failed.ensures.ok
     (c.in_err-tick.ensures.many (search rules))
 
 -- ---- the items of its expansion
@@ -50,12 +51,12 @@ walk_all-requires-clause-in_range g c =
     let brought = core_in c.bring_helpers.new.run in
     let reported = core_in c.report_failed.new.run in
     let seen = c.in_ok-id.ensures.ok in
-    let source : SourceTreeValue = c.in_ok-id.source.value in
+    let source : SourceTreeValue = c.in_ok-id.field-0.source.value in
     let new = core_in c.tick.new.self in
     let ids = c.top_level_items-ids.result.now in
     let all : items_at (all_items source.tree.items) (numbers_of ids) ≡ source.tree.items =
     subst (λ (t : Tree). items_at (all_items t.items) (numbers_of ids) ≡ t.items) (c.tree.ensures.value ∙ ap (λ (s : SourceTreeValue). s.tree) c.deref.ensures) c.top_level_items-ids.ensures.value in
-    site_inside tables w part old asked c.args.i c.args.call.now c.args.makro seen.0 source seen.1 c.requires.called c.requires.shallow ended brought reported c.in_ok-id.id c.in_ok-id.error c.end_call.ensures.value seen.2 seen.3 c.in_ok-bring_helpers.ensures.ok c.in_ok-report_failed.ensures.ok
+    site_inside tables w part old asked c.args.i c.args.call.now c.args.makro seen.0 source seen.1 c.requires.called c.requires.shallow ended brought reported c.in_ok-id.field-0.id c.in_ok-id.field-0.error c.end_call.ensures.value seen.2 seen.3 c.in_ok-bring_helpers.ensures.ok c.in_ok-report_failed.ensures.ok
     new c.in_ok-tick.ensures.ok c.in_ok-site.site ids c.in_ok-site.ensures.value all
     (c.requires.ready.calls c.args.i c.args.call.now c.requires.called.due.waiting.call)
 
@@ -70,17 +71,17 @@ walk_all-requires-clause-meant g c =
     let brought = core_in c.bring_helpers.new.run in
     let reported = core_in c.report_failed.new.run in
     let seen = c.in_ok-id.ensures.ok in
-    let source : SourceTreeValue = c.in_ok-id.source.value in
+    let source : SourceTreeValue = c.in_ok-id.field-0.source.value in
     let new = core_in c.tick.new.self in
     let ids = c.top_level_items-ids.result.now in
     let all : items_at (all_items source.tree.items) (numbers_of ids) ≡ source.tree.items =
     subst (λ (t : Tree). items_at (all_items t.items) (numbers_of ids) ≡ t.items) (c.tree.ensures.value ∙ ap (λ (s : SourceTreeValue). s.tree) c.deref.ensures) c.top_level_items-ids.ensures.value in
-    site_meant tables w part old asked c.args.i c.args.call.now c.args.makro seen.0 source seen.1 c.requires.called c.requires.shallow ended brought reported c.in_ok-id.id c.in_ok-id.error c.end_call.ensures.value seen.2 seen.3 c.in_ok-bring_helpers.ensures.ok c.in_ok-report_failed.ensures.ok
+    site_meant tables w part old asked c.args.i c.args.call.now c.args.makro seen.0 source seen.1 c.requires.called c.requires.shallow ended brought reported c.in_ok-id.field-0.id c.in_ok-id.field-0.error c.end_call.ensures.value seen.2 seen.3 c.in_ok-bring_helpers.ensures.ok c.in_ok-report_failed.ensures.ok
     new c.in_ok-tick.ensures.ok c.in_ok-site.site ids c.in_ok-site.ensures.value all
 
 pub walk_all-requires-clause-there : goal.walk_all-requires-clause-there
 walk_all-requires-clause-there g c =
-    let source : SourceTreeValue = c.in_ok-id.source.value in
+    let source : SourceTreeValue = c.in_ok-id.field-0.source.value in
     let ids = c.top_level_items-ids.result.now in
     All-map (λ n. n < length (all_items source.tree.items)) (λ (id : ModItemId). id.0) ids
     (subst (λ (t : Tree). All (λ (id : ModItemId). id.0 < length (all_items t.items)) ids) (c.tree.ensures.value ∙ ap (λ (s : SourceTreeValue). s.tree) c.deref.ensures) c.top_level_items-ids.ensures.there)
@@ -100,7 +101,7 @@ returns-in_err-walk_all-clause-many g c = λ h.
     let brought = core_in c.bring_helpers.new.run in
     let reported = core_in c.report_failed.new.run in
     let seen = c.in_ok-id.ensures.ok in
-    let source : SourceTreeValue = c.in_ok-id.source.value in
+    let source : SourceTreeValue = c.in_ok-id.field-0.source.value in
     let new = core_in c.tick.new.self in
     let ids = c.top_level_items-ids.result.now in
     let all : items_at (all_items source.tree.items) (numbers_of ids) ≡ source.tree.items =
@@ -108,7 +109,7 @@ returns-in_err-walk_all-clause-many g c = λ h.
     let later = c.walk_all.new.locations in
     let v = g.D.SourceDatabase.workspace c.look_at_call.new.db in
     let far : OnceGrown later v (λ env. WalksTooFar env part new (visits_at source.tree c.in_ok-site.site (numbers_of ids))) = c.in_err-walk_all.ensures.many (search rules) in
-    expanded_too_far tables w part old asked c.args.i c.args.call.now c.args.makro seen.0 source seen.1 c.requires.called c.requires.shallow ended brought reported c.in_ok-id.id c.in_ok-id.error c.end_call.ensures.value seen.2 seen.3 c.in_ok-bring_helpers.ensures.ok c.in_ok-report_failed.ensures.ok
+    expanded_too_far tables w part old asked c.args.i c.args.call.now c.args.makro seen.0 source seen.1 c.requires.called c.requires.shallow ended brought reported c.in_ok-id.field-0.id c.in_ok-id.field-0.error c.end_call.ensures.value seen.2 seen.3 c.in_ok-bring_helpers.ensures.ok c.in_ok-report_failed.ensures.ok
     new c.in_ok-tick.ensures.ok c.in_ok-site.site ids c.in_ok-site.ensures.value all
     later c.in_err-walk_all.ensures.kept v c.in_ok-id.ensures.same far
 
@@ -127,7 +128,7 @@ returns-clause-ok g c =
     let brought = core_in c.bring_helpers.new.run in
     let reported = core_in c.report_failed.new.run in
     let seen = c.in_ok-id.ensures.ok in
-    let source : SourceTreeValue = c.in_ok-id.source.value in
+    let source : SourceTreeValue = c.in_ok-id.field-0.source.value in
     let new = core_in c.tick.new.self in
     let ids = c.top_level_items-ids.result.now in
     let all : items_at (all_items source.tree.items) (numbers_of ids) ≡ source.tree.items =
@@ -136,7 +137,7 @@ returns-clause-ok g c =
     let v = g.D.SourceDatabase.workspace c.look_at_call.new.db in
     let last = core_in c.walk_all.new.run in
     let walks : OnceGrown later v (λ env. Walks env part new last (visits_at source.tree c.in_ok-site.site (numbers_of ids))) = c.in_ok-walk_all.ensures.ok in
-    expanded_and_walked tables w part old asked c.args.i c.args.call.now c.args.makro seen.0 source seen.1 c.requires.called c.requires.shallow ended brought reported c.in_ok-id.id c.in_ok-id.error c.end_call.ensures.value seen.2 seen.3 c.in_ok-bring_helpers.ensures.ok c.in_ok-report_failed.ensures.ok
+    expanded_and_walked tables w part old asked c.args.i c.args.call.now c.args.makro seen.0 source seen.1 c.requires.called c.requires.shallow ended brought reported c.in_ok-id.field-0.id c.in_ok-id.field-0.error c.end_call.ensures.value seen.2 seen.3 c.in_ok-bring_helpers.ensures.ok c.in_ok-report_failed.ensures.ok
     new c.in_ok-tick.ensures.ok c.in_ok-site.site ids c.in_ok-site.ensures.value all
     later c.in_ok-walk_all.ensures.kept v c.in_ok-id.ensures.same last walks
 
@@ -151,7 +152,7 @@ returns-clause-handled g c =
     let brought = core_in c.bring_helpers.new.run in
     let reported = core_in c.report_failed.new.run in
     let seen = c.in_ok-id.ensures.ok in
-    let source : SourceTreeValue = c.in_ok-id.source.value in
+    let source : SourceTreeValue = c.in_ok-id.field-0.source.value in
     let new = core_in c.tick.new.self in
     let ids = c.top_level_items-ids.result.now in
     let all : items_at (all_items source.tree.items) (numbers_of ids) ≡ source.tree.items =
@@ -160,6 +161,9 @@ returns-clause-handled g c =
     let v = g.D.SourceDatabase.workspace c.look_at_call.new.db in
     let last = core_in c.walk_all.new.run in
     let walks : OnceGrown later v (λ env. Walks env part new last (visits_at source.tree c.in_ok-site.site (numbers_of ids))) = c.in_ok-walk_all.ensures.ok in
-    handled_at_last tables w part old asked c.args.i c.args.call.now c.args.makro seen.0 source seen.1 c.requires.called c.requires.shallow ended brought reported c.in_ok-id.id c.in_ok-id.error c.end_call.ensures.value seen.2 seen.3 c.in_ok-bring_helpers.ensures.ok c.in_ok-report_failed.ensures.ok
+    handled_at_last tables w part old asked c.args.i c.args.call.now c.args.makro seen.0 source seen.1 c.requires.called c.requires.shallow ended brought reported c.in_ok-id.field-0.id c.in_ok-id.field-0.error c.end_call.ensures.value seen.2 seen.3 c.in_ok-bring_helpers.ensures.ok c.in_ok-report_failed.ensures.ok
     new c.in_ok-tick.ensures.ok c.in_ok-site.site ids c.in_ok-site.ensures.value all
     later c.in_ok-walk_all.ensures.kept v c.in_ok-id.ensures.same last walks
+
+pub returns-clause-noted : goal.returns-clause-noted
+returns-clause-noted g c = noted_follow c.in_ok-id.ensures.noted (noted_follow c.end_call.ensures.noted (noted_follow c.in_ok-bring_helpers.ensures.noted (noted_follow c.in_ok-report_failed.ensures.noted (noted_follow c.in_ok-tick.ensures.noted c.in_ok-walk_all.ensures.noted))))

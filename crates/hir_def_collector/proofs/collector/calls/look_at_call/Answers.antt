@@ -1,12 +1,12 @@
 -- All that the expansion of a call depends on is asked for, and the expansion.
-use Rattle.std.proofs.Common.{rules, ◌≡◌, ◌∙◌, List, Option, Some, ap, refl, subst, sym}
+use Rattle.std.proofs.Common.{◌≡◌, ◌∙◌, Some, ap, refl, subst, sym}
 use Rattle.hir_base.specs.declared.ast_id.AstId.{AstId}
 use Rattle.hir_base.specs.declared.ids.MapId.{MapId}
 use Rattle.hir_base.specs.declared.macro_kind.CallStyle.{CallStyle}
 use Rattle.hir_base.specs.declared.macro_kind.MacroCallKind.{MacroCallKind}
 use Rattle.hir_tables.specs.Interning.{Interns}
 use Rattle.hir_tables.specs.SourcePlaces.{expansion_value}
-use Rattle.hir_tables.specs.Tables.{KeepsTables, TablesValue}
+use Rattle.hir_tables.specs.Tables.{TablesValue}
 use Rattle.hir_tables.proofs.Growth.{KeepsTables-trans}
 use Rattle.hir_def_map.specs.State.{Map}
 use Rattle.hir_def_map.specs.WorldParts.{part_of}
@@ -17,6 +17,7 @@ use Rattle.hir_def_collector.specs.State.{Core, core_in, with_asked}
 use Rattle.hir_def_collector.specs.Workspace.{Workspace, entry_look, seen_of}
 use Rattle.hir_def_collector.proofs.CallPlaces.{placed_grown}
 use Rattle.hir_def_collector.proofs.Looking.{asked_all, placed_call, sees_call}
+use Rattle.hir_def_collector.proofs.Noted.{noted_follow}
 use Rattle.hir_def_collector.proofs.collector.calls.look_at_call.Goals as goal
 
 pub returns-in_err-id-clause-placed : goal.returns-in_err-id-clause-placed
@@ -98,7 +99,7 @@ returns-clause-ok g c =
     ∙ ap (λ (i : MapId). expansion_of_call i.krate (call_style c.args.call.now) c.args.makro x.text x.input) own in (
       x,
       sees_call c.args.locations.now c.intern_entry.new.self c.intern_call.new.self w (part_of c.args.world) old (core_in c.ask-3.new.self) c.args.call.now c.args.makro x c.in_ok-source.source.value
-          c.intern_entry.ensures.kept c.intern_call.ensures.kept c.requires.meant (c.is_meant.ensures.meant c.if-is_meant.false)
+          c.intern_entry.ensures.kept c.intern_call.ensures.kept c.requires.meant (c.is_meant.ensures.meant c.if-not-is_meant.false)
           (c.in_ok-entry.ensures.found ∙ ap Some key)
           (c.in_ok-id.ensures.found ∙ ap (λ (k : MacroCallKind). Some (record { kind = k; entry = x.entry })) c.call_kind.ensures.value)
           c.in_ok-text.ensures.value
@@ -113,3 +114,6 @@ returns-clause-ok g c =
       refl,
       c.in_ok-error.ensures.value,
     )
+
+pub returns-clause-noted : goal.returns-clause-noted
+returns-clause-noted g c = noted_follow c.in_ok-ask_text.ensures.noted (noted_follow c.in_ok-ask.ensures.noted (noted_follow c.in_ok-ask-2.ensures.noted c.in_ok-ask-3.ensures.noted))

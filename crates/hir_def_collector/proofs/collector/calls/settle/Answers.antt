@@ -7,6 +7,7 @@ use Rattle.hir_def_collector.specs.State.{Core, at_rest, core_in, import_state}
 use Rattle.hir_def_collector.proofs.Changes.{count-Steps}
 use Rattle.hir_def_collector.proofs.CallSteps.{rest_counted, rested, rested_past}
 use Rattle.hir_def_collector.proofs.Moves.{Steps-append, spent_after}
+use Rattle.hir_def_collector.proofs.Noted.{noted_follow}
 use Rattle.hir_def_collector.proofs.Walked.{nowhere}
 use Rattle.hir_def_collector.proofs.collector.calls.settle.Goals as goal
 
@@ -34,3 +35,6 @@ returns-clause-counts c =
     let one : (core_in c.rest.new.self).count ≡ (core_in c.in_ok-run.run').count + 1 = ap (λ (n : Core). n.count) c.in_ok-rest.ensures.ok in
     let below : (core_in c.in_ok-run.run').count < STEP_LIMIT = c.in_ok-rest.ensures.below in
     (omega (arith, before, one), omega (arith, before, below))
+
+pub returns-clause-noted : goal.returns-clause-noted
+returns-clause-noted c = noted_follow c.in_ok-run.ensures.noted c.in_ok-rest.ensures.noted

@@ -7,7 +7,8 @@ use Rattle.hir_def_collector.specs.declared.collector.macro_directive.MacroDirec
 use Rattle.hir_def_collector.specs.CallMoves.{IsDueOf, left}
 use Rattle.hir_def_collector.specs.State.{Core, core_in}
 use Rattle.hir_def_collector.specs.Steps.{none}
-use Rattle.hir_def_collector.proofs.Trying.{nothing_due, nothing_waits}
+use Rattle.hir_def_collector.proofs.GivingUp.{nothing_due, nothing_waits}
+use Rattle.hir_def_collector.proofs.Noted.{noted_itself}
 use Rattle.hir_def_collector.proofs.collector.calls.try_call.Goals as goal
 
 -- nothing waits at the place
@@ -25,3 +26,9 @@ pub returns-then-matches-clause-tried : goal.returns-then-matches-clause-tried
 returns-then-matches-clause-tried g c =
     left refl (nothing_due (part_of c.args.world) (core_in c.args.run.now) c.args.i c.in-Some.call.now c.in-Some.ensures.waits
     (subst (IsDueOf (part_of c.args.world) (core_in c.args.run.now) c.in-Some.call.now) c.if-matches.true c.due_of-due.ensures.value))
+
+pub returns-in_default-clause-noted : goal.returns-in_default-clause-noted
+returns-in_default-clause-noted g c = noted_itself c.args.run.now
+
+pub returns-then-matches-clause-noted : goal.returns-then-matches-clause-noted
+returns-then-matches-clause-noted g c = noted_itself c.args.run.now

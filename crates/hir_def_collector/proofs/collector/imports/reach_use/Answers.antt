@@ -3,6 +3,7 @@ use Rattle.hir_item_tree.specs.UseTree.{use_tree_view}
 use Rattle.hir_def_collector.specs.TreeReads.{head_of}
 use Rattle.hir_def_collector.specs.Steps.{reaches_imports}
 use Rattle.hir_def_collector.proofs.Made.{made}
+use Rattle.hir_def_collector.proofs.Noted.{noted_follow}
 use Rattle.hir_def_collector.proofs.collector.imports.reach_use.Goals as goal
 
 pub returns-clause-ok : goal.returns-clause-ok
@@ -11,3 +12,6 @@ returns-clause-ok c = λ env finished. record {
       made (reaches_imports c.args.site.now (head_of c.args.head) (use_tree_view c.args.tree.now) rest) (record { done = done; next = refl; enabled = c.requires.enabled; passed = passed }) tt tt
       (rw (c.in_ok-tick.ensures.ok, c.in_ok-reach_all.ensures.ok, c.in_ok-list_use.ensures.ok, c.in_ok-imports.ensures.value, c.module_id.ensures.value) refl);
 }
+
+pub returns-clause-noted : goal.returns-clause-noted
+returns-clause-noted c = noted_follow c.in_ok-list_use.ensures.noted (noted_follow c.in_ok-reach_all.ensures.noted c.in_ok-tick.ensures.noted)

@@ -2,6 +2,7 @@ use Rattle.std.proofs.Common.{Bool, inl, rules, subst, sym, refl}
 use Rattle.hir_def_collector.specs.Moves.{Walks, WalksTooFar}
 use Rattle.hir_def_collector.specs.Steps.{closing, none}
 use Rattle.hir_def_collector.proofs.Walked.{closed, closed_far}
+use Rattle.hir_def_collector.proofs.Noted.{noted_follow, noted_itself}
 use Rattle.hir_def_collector.proofs.collector.macros.close.Goals as goal
 use Rattle.hir_def_collector.specs.State.{core_in}
 
@@ -17,3 +18,9 @@ pub returns-clause-ok : goal.returns-clause-ok
 returns-clause-ok c = λ env finished.
     subst (λ (b : Bool). Walks env finished (core_in c.args.run.now) (core_in c.tick.new.self) (closing b c.args.parent c.args.child)) (sym c.if-not-macro_use.false)
     (closed c.args.parent c.args.child (core_in c.args.run.now) (core_in c.tick.new.self) (rw (c.in_ok-tick.ensures.ok, c.in_ok-take_textual.ensures.ok) refl))
+
+pub returns-clause-noted : goal.returns-clause-noted
+returns-clause-noted c = noted_follow c.in_ok-take_textual.ensures.noted c.in_ok-tick.ensures.noted
+
+pub returns-then-not-macro_use-clause-noted : goal.returns-then-not-macro_use-clause-noted
+returns-then-not-macro_use-clause-noted c = noted_itself c.args.run.now

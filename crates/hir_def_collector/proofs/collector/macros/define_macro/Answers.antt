@@ -2,6 +2,7 @@ use Rattle.std.proofs.Common.{◌≡◌, refl, rules}
 use Rattle.hir_base.specs.declared.macro_kind.MacroId.TheVariants as macros
 use Rattle.hir_def_collector.specs.TreeReads.{head_of}
 use Rattle.hir_def_collector.proofs.Made.{count_kept, defined_macro}
+use Rattle.hir_def_collector.proofs.Noted.{noted_follow}
 use Rattle.hir_def_collector.proofs.collector.macros.define_macro.Goals as goal
 use Rattle.hir_def_collector.specs.State.{core_in}
 
@@ -18,3 +19,6 @@ returns-clause-ok c = λ env. record {
       (rw (c.in_ok-bind.ensures.ok, c.in_ok-describe.ensures.ok, c.in_ok-define_macro.ensures.ok, c.macros.ensures.value, c.visibility-vis.ensures.value, c.in_ok-clone.ensures.value) refl)
       c.in_ok-report.ensures.ok c.in_ok-tick.ensures.ok;
 }
+
+pub returns-clause-noted : goal.returns-clause-noted
+returns-clause-noted c = noted_follow c.in_ok-define_macro.ensures.noted (noted_follow c.in_ok-bind.ensures.noted (noted_follow c.in_ok-report.ensures.noted c.in_ok-tick.ensures.noted))

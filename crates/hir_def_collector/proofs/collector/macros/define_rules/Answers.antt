@@ -1,6 +1,7 @@
 use Rattle.std.proofs.Common.{◌≡◌, ◌∙◌, refl, rules}
 use Rattle.hir_def_collector.specs.TreeReads.{head_of}
 use Rattle.hir_def_collector.proofs.Made.{count_kept, defined_rules}
+use Rattle.hir_def_collector.proofs.Noted.{noted_follow}
 use Rattle.hir_def_collector.proofs.collector.macros.define_rules.Goals as goal
 use Rattle.hir_def_collector.specs.State.{core_in}
 
@@ -17,3 +18,6 @@ returns-clause-ok c = λ env finished. record {
       (rw (c.in_ok-define_textual.ensures.ok, c.in_ok-describe.ensures.ok, c.in_ok-define_macro.ensures.ok, c.in_ok-clone.ensures.value) refl)
       c.in_ok-export.ensures.ok c.in_ok-report.ensures.ok c.in_ok-tick.ensures.ok;
 }
+
+pub returns-clause-noted : goal.returns-clause-noted
+returns-clause-noted c = noted_follow c.in_ok-define_macro.ensures.noted (noted_follow c.in_ok-define_textual.ensures.noted (noted_follow c.in_ok-export.ensures.noted (noted_follow c.in_ok-report.ensures.noted c.in_ok-tick.ensures.noted)))

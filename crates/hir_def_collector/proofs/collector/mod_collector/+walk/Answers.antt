@@ -28,6 +28,7 @@ use Rattle.hir_def_collector.proofs.Numbers.{tables_stay}
 use Rattle.hir_def_collector.proofs.Finding.{falls_inside, falls_to_file, falls_to_item}
 use Rattle.hir_def_collector.proofs.Outline.{written_grown, written_inside}
 use Rattle.hir_def_collector.proofs.Walked.{All-below, All-same_numbers, Walks-all, Walks-append, Walks-first, WalksTo-next, WalksTo-none, WalksTooFar-behind, WalksTooFar-first, WalksTooFar-inside, WalksTooFar-next, above_each, above_least, at_each, at_index, dropped_at, far_at, longer_after, still_there, visits_one}
+use Rattle.hir_def_collector.proofs.Noted.{noted_follow, noted_itself}
 use Rattle.hir_def_collector.proofs.collector.mod_collector.+walk.Goals as goal
 
 pub walk_all-loop-id-init : goal.walk_all-loop-id-init
@@ -38,6 +39,7 @@ walk_all-loop-id-init g t c = record {
   walked = λ grown k. WalksTo-none c.args.source.now.tree c.args.site.now (environment grown (g.D.SourceDatabase.workspace c.args.db.now)) (part_of c.args.world) c.args.ids.now (core_in c.args.run.now);
   in_range = c.requires.in_range;
   own = refl;
+  noted = noted_itself c.args.run.now;
 }
 
 pub walk_all-walk_item-requires : goal.walk_all-walk_item-requires
@@ -84,6 +86,7 @@ walk_all-loop-id-preserved g t c =
           (c.loop-id.invariant.walked grown (KeepsTables-trans c.loop-id.locations c.walk_item.new.locations grown c.in_ok-walk_item.ensures.kept k)) (step grown k);
       in_range = omega (arith, longer, c.loop-id.invariant.in_range);
       own = own ∙ c.loop-id.invariant.own;
+      noted = noted_follow c.loop-id.invariant.noted c.in_ok-walk_item.ensures.noted;
     }
 
 pub walk_all-returns-in_err-walk_item-clause-kept : goal.walk_all-returns-in_err-walk_item-clause-kept
@@ -545,3 +548,9 @@ walk_item-returns-in-Nothing-clause-ok g t c = λ grown k.
     subst (λ (o : Inside). Handles (environment grown w) part (core_in c.args.run.now) (core_in c.visit_item.new.run) (visit site (item_of (all_items tree.items) h (kind_content item))) (tasks_of site.home (all_items tree.items) o)) c.in-Nothing.is
     (c.in_ok-inside.ensures.ok grown k (all_items tree.items)) in
     Walks-first (core_in c.args.run.now) (core_in c.visit_item.new.run) (core_in c.visit_item.new.run) _ (visits_at tree site (n ∷ [])) [] is first (record { steps = λ rest. none })
+
+pub walk_item-returns-in_ok-close-in-Held-clause-noted : goal.walk_item-returns-in_ok-close-in-Held-clause-noted
+walk_item-returns-in_ok-close-in-Held-clause-noted g t c = noted_follow c.in_ok-inside.ensures.noted (noted_follow c.in_ok-walk_all-in-Held.ensures.noted c.in_ok-close-in-Held.ensures.noted)
+
+pub walk_item-returns-in_ok-close-in-File-clause-noted : goal.walk_item-returns-in_ok-close-in-File-clause-noted
+walk_item-returns-in_ok-close-in-File-clause-noted g t c = noted_follow c.in_ok-inside.ensures.noted (noted_follow c.in_ok-walk_all-in-File.ensures.noted c.in_ok-close-in-File.ensures.noted)

@@ -6,6 +6,7 @@ use Rattle.hir_def_collector.specs.TreeReads.{head_of}
 use Rattle.hir_def_collector.specs.Steps.{enters_block}
 use Rattle.hir_def_collector.proofs.Made.{made}
 use Rattle.hir_def_collector.proofs.Grows.{longer_by_block}
+use Rattle.hir_def_collector.proofs.Noted.{noted_follow}
 use Rattle.hir_def_collector.proofs.collector.mod_collector.enter.Goals as goal
 
 pub returns-clause-ok : goal.returns-clause-ok
@@ -27,3 +28,6 @@ returns-clause-within c = λ tables w.
       },
       refl,
     )
+
+pub returns-clause-noted : goal.returns-clause-noted
+returns-clause-noted c = noted_follow c.in_ok-list_extern_block.ensures.noted c.in_ok-tick.ensures.noted

@@ -15,6 +15,7 @@ returns-in_err-visit_leaf-in_default g c = record {
   placed = λ h. h;
   same = refl;
   ok = search rules;
+  noted = search rules;
   within = search rules;
   many = λ h grown k items.
       let single : is_single c.args.item ≡ true = search rules in
@@ -42,6 +43,7 @@ returns-in_ok-visit_leaf-in_default g c = record {
       let krate = (core_in c.args.run.now).map.id.krate in
       let held = held_grown c.args.locations.now grown w krate c.args.site.now.tree c.args.source.now k c.requires.held.held in
       c.in_ok-visit_leaf-in_default.ensures.ok (environment grown w) (held_source grown w krate c.args.site.now.tree c.args.source.now held) items;
+  noted = c.in_ok-visit_leaf-in_default.ensures.noted;
   within = tt;
   many = λ h. absurd (let no : ⊥ = cc in no);
 }

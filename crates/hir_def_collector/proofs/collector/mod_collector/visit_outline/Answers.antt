@@ -13,6 +13,7 @@ use Rattle.hir_def_collector.specs.Moves.{Finds, IsHeld, found_view}
 use Rattle.hir_def_collector.specs.Steps.{path_of}
 use Rattle.hir_def_collector.specs.TreeReads.{head_of}
 use Rattle.hir_def_collector.proofs.Outline.{file_far, file_missed, missed_far, numbers_far, taken_ok, taken_within}
+use Rattle.hir_def_collector.proofs.Noted.{noted_follow}
 use Rattle.hir_def_collector.proofs.collector.mod_collector.visit_outline.Goals as goal
 use Rattle.hir_def_collector.specs.State.{core_in}
 
@@ -106,3 +107,9 @@ returns-clause-within g c =
     subst (λ (o : Option FoundFile). IfSome o (λ f. IsHeld tables w (core_in c.args.run.now).map.id.krate (file_tree (core_in c.args.run.now).map.crate_data.edition f.id) f.source.value)) c.in-Some.is c.in_ok-found.ensures.held in
     taken_within tables w (part_of c.args.world) c.args.site.now (head_of c.args.head) c.args.name.now declaring candidates (core_in c.args.run.now) (core_in c.find_file.new.run) (core_in c.take_file.new.run) tried written c.requires.enabled (found_view c.in-Some.file) c.in-Some.file.source.value refl finds
     held c.in_ok-inside.inside c.in_ok-inside.ensures.ok
+
+pub returns-in_default-clause-noted : goal.returns-in_default-clause-noted
+returns-in_default-clause-noted g c = noted_follow c.in_ok-found.ensures.noted c.in_ok-miss_file.ensures.noted
+
+pub returns-clause-noted : goal.returns-clause-noted
+returns-clause-noted g c = noted_follow c.in_ok-found.ensures.noted c.in_ok-inside.ensures.noted

@@ -7,6 +7,7 @@ use Rattle.hir_def_collector.specs.Workspace.{Workspace}
 use Rattle.hir_def_collector.specs.ModuleFiles.{LookedAt, ModuleFile, taken_by}
 use Rattle.hir_def_collector.specs.Moves.{Finds, found_view, looked_view}
 use Rattle.hir_def_collector.proofs.Finding.{finds_here, finds_later, finds_none, looked_there, none_left, one_first}
+use Rattle.hir_def_collector.proofs.Noted.{noted_follow, noted_itself}
 use Rattle.hir_def_collector.proofs.collector.mod_resolution.+find_file.Goals as goal
 use Rattle.hir_def_collector.specs.State.{core_in}
 
@@ -52,3 +53,9 @@ returns-clause-ok g t c =
     subst (λ (xs : List Candidate). Finds c.find_file.new.locations w declaring xs (core_in c.args.run.now) (core_in c.find_file.new.run) (option_map found_view c.in_ok-later.later)) (sym (one_first cs c.candidate-item.result _ c.in-len1-up.len_at_least c.candidate-item.is))
     (finds_later c.look_at.new.locations c.find_file.new.locations w declaring _ _ (core_in c.args.run.now) (core_in c.look_at.new.run) (core_in c.find_file.new.run) _ _ c.find_file.ensures.kept c.in_ok-file.ensures.ok gone
     (subst (λ (v : Workspace). Finds c.find_file.new.locations v declaring (take (length cs - 1) (drop 1 cs)) (core_in c.look_at.new.run) (core_in c.find_file.new.run) (option_map found_view c.in_ok-later.later)) c.in_ok-file.ensures.same c.in_ok-later.ensures.ok))
+
+pub returns-in_default-clause-noted : goal.returns-in_default-clause-noted
+returns-in_default-clause-noted g t c = noted_itself c.args.run.now
+
+pub returns-clause-noted : goal.returns-clause-noted
+returns-clause-noted g t c = noted_follow c.in_ok-file.ensures.noted c.in_ok-later.ensures.noted

@@ -1,5 +1,6 @@
 -- Calls stay placed where a file gets a number.
 use Rattle.hir_def_collector.proofs.CallPlaces.{placed_file}
+use Rattle.hir_def_collector.proofs.Noted.{noted_itself}
 use Rattle.hir_def_collector.proofs.collector.mod_resolution.look_at.Goals as goal
 
 pub returns-in_err-source-clause-placed : goal.returns-in_err-source-clause-placed
@@ -10,3 +11,6 @@ returns-in_err-ask-clause-placed g c = placed_file c.args.locations.now c.intern
 
 pub returns-clause-placed : goal.returns-clause-placed
 returns-clause-placed g c = placed_file c.args.locations.now c.intern_file.new.self c.intern_file.ensures.kept c.intern_file.ensures.others
+
+pub returns-in_default-clause-noted : goal.returns-in_default-clause-noted
+returns-in_default-clause-noted g c = noted_itself c.args.run.now

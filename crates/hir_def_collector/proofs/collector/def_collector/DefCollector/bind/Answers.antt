@@ -1,18 +1,22 @@
--- What is bound explicitly no glob has brought.
-use Rattle.std.proofs.Common.{◌≡◌, ◌∙◌, ℕ, List, None, ap}
+-- What is bound explicitly no glob has brought, and its slot is noted.
+use Rattle.std.proofs.Common.{◌≡◌, ◌∙◌, ℕ, List, None, ap, refl, subst}
 use Rattle.hir_scope.specs.Globs.{GlobNames}
 use Rattle.hir_scope.specs.declared.per_ns.PerNs.{PerNs}
+use Rattle.hir_call_queue.specs.Changes.{ChangedValue}
 use Rattle.hir_def_map.specs.State.{Map, globs_after, pushed}
 use Rattle.hir_glob_imports.specs.Waves.{GlobsValue, brought_of}
 use Rattle.hir_import_resolution.specs.Changes.{forgotten}
+use Rattle.hir_def_collector.specs.contracts.collector.def_collector.DefCollector.{the_view}
 use Rattle.hir_def_collector.specs.State.{Run, core_in, with_bound}
+use Rattle.hir_def_collector.specs.Waiting.{IsNoted}
+use Rattle.hir_def_collector.proofs.Noted.{noted_push}
 use Rattle.hir_def_collector.proofs.collector.def_collector.DefCollector.bind.Goals as goal
 
-bound_after : (r : Run) (map : Map) (names : GlobNames) (globs : GlobsValue) (home : ℕ) (name : List ℕ) (items : PerNs)
+bound_after : (r : Run) (map : Map) (names : GlobNames) (globs : GlobsValue) (changed : ChangedValue) (home : ℕ) (name : List ℕ) (items : PerNs)
     → map ≡ pushed r.map r.names home name items None → names ≡ globs_after r.map r.names home name items None → globs.edges ≡ r.globs.edges
-    → brought_of globs ≡ forgotten home name items (brought_of r.globs) → core_in (record r { map = map; names = names; globs = globs }) ≡ with_bound (core_in r) home name items
+    → brought_of globs ≡ forgotten home name items (brought_of r.globs) → core_in (record r { map = map; names = names; globs = globs; changed = changed }) ≡ with_bound (core_in r) home name items
 unfolding core_in
-bound_after r map names globs home name items in_map in_names edges brought = λ i. record {
+bound_after r map names globs changed home name items in_map in_names edges brought = λ i. record {
   map = in_map i;
   local = r.local;
   dependencies = r.dependencies;
@@ -31,26 +35,14 @@ bound_after r map names globs home name items in_map in_names edges brought = λ
 
 pub returns : goal.returns
 returns c =
-    let inside : Run = record {
-      map = c.self.inside.map;
-      local = c.self.inside.local;
-      dependencies = c.self.inside.dependencies.items;
-      options = c.self.inside.options;
-      names = c.self.inside.from_glob_import;
-      globs = c.self.inside.globs;
-      reached = c.self.inside.reached.items;
-      taken = c.self.inside.taken.items;
-      calls = c.self.inside.calls.items;
-      fates = c.self.inside.fates.items;
-      settled = c.self.inside.settled;
-      is_proc_macro = c.self.inside.is_proc_macro;
-      exported = c.self.inside.exported.items;
-      asked = c.self.inside.asked.items;
-      count = c.self.inside.count;
-    } in
+    let before : Run = the_view c.self.inside in
+    let after : Run = record before { map = c.push.new.self; names = c.push.new.glob_imports; globs = c.forget.new.globs; changed = c.add.new.self } in
     record {
       ok =
-          bound_after inside c.push.new.self c.push.new.glob_imports c.forget.new.globs c.args.home c.args.name c.args.items c.in_ok-push.ensures.ok c.in_ok-push.ensures.globs c.in_ok-forget.ensures.edges
-          c.in_ok-forget.ensures.brought
+          bound_after before c.push.new.self c.push.new.glob_imports c.forget.new.globs c.add.new.self c.args.home c.args.name c.args.items c.in_ok-push.ensures.ok c.in_ok-push.ensures.globs
+          c.in_ok-forget.ensures.edges c.in_ok-forget.ensures.brought
           ∙ ap (λ (r : Run). with_bound (core_in r) c.args.home c.args.name c.args.items) c.self.view_is;
+      noted =
+          subst (λ (r : Run). IsNoted r after) c.self.view_is
+          (noted_push before after c.self.inside.from_glob_import c.args.home c.args.name c.args.items c.in_ok-push.ensures.ok refl c.in_ok-add.ensures.ok);
     }

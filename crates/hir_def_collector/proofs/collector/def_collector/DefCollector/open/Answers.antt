@@ -1,13 +1,31 @@
-use Rattle.std.proofs.Common.{◌≡◌, ◌+◌, ◌∙◌, ap, arith, length, rules}
-use Rattle.hir_def_map.specs.State.{Map}
+-- No slot changes of a module that was there.
+use Rattle.std.proofs.Common.{◌≡◌, ◌+◌, ◌∙◌, Option, Some, ap, arith, length, refl, rules, subst}
+use Rattle.hir_base.specs.declared.ids.ModuleId.{ModuleId}
+use Rattle.hir_def_map.specs.State.{Map, new_module}
 use Rattle.hir_def_map.proofs.StaysWellFormed.{length-made}
-use Rattle.hir_def_collector.specs.State.{core_in}
+use Rattle.hir_def_collector.specs.contracts.collector.def_collector.DefCollector.{the_view}
+use Rattle.hir_def_collector.specs.ItemIds.{module_id}
+use Rattle.hir_def_collector.specs.Moves.{begun}
+use Rattle.hir_def_collector.specs.State.{Run, core_in}
+use Rattle.hir_def_collector.specs.Waiting.{IsNoted}
+use Rattle.hir_def_collector.proofs.Noted.{noted_module}
 use Rattle.hir_def_collector.proofs.collector.def_collector.DefCollector.open.Goals as goal
 
-pub take_textual-requires : goal.take_textual-requires
+pub take-requires : goal.take-requires
 unfolding core_in
-take_textual-requires c =
+take-requires c =
     let longer : length c.add_module.new.self.modules ≡ length c.self.inside.map.modules + 1 =
     ap (λ (m : Map). length m.modules) c.in_ok-id.ensures.ok ∙ length-made c.self.inside.map c.args.home c.args.name _ in
     let last : c.in_ok-id.id.index ≡ length c.self.inside.map.modules = search (rules, c.in_ok-id.ensures.answer) in
     record { in_range = omega (arith, last, longer) }
+
+pub returns-clause-noted : goal.returns-clause-noted
+unfolding core_in
+returns-clause-noted c =
+    let before : Run = the_view c.self.inside in
+    let after : Run = record before { map = c.take.new.map } in
+    let parent : Option ModuleId = Some (module_id before.map c.args.home) in
+    let last : c.in_ok-id.id.index ≡ length before.map.modules = search (rules, c.in_ok-id.ensures.answer) in
+    let map : after.map ≡ begun before.map c.args.home c.args.name (new_module c.args.origin c.args.visibility parent) =
+    search (rules, last, c.in_ok-take.ensures.ok, c.in_ok-id.ensures.ok, c.new-module.ensures.value, c.module_id-parent.ensures.value) in
+    subst (λ (r : Run). IsNoted r after) c.self.view_is (noted_module before after c.args.home c.args.name c.args.origin c.args.visibility parent map refl refl)

@@ -7,7 +7,9 @@ use Rattle.hir_def_collector.specs.Derivation.{IsSpent}
 use Rattle.hir_def_collector.specs.contracts.collector.def_collector.DefCollector.{the_view}
 use Rattle.hir_def_collector.specs.State.{Run, State, at_rest, core_in, import_state, with_import_state}
 use Rattle.hir_def_collector.specs.Steps.{Steps}
+use Rattle.hir_def_collector.specs.Waiting.{IsNoted}
 use Rattle.hir_def_collector.proofs.ImportSteps.{spent_from, steps_from}
+use Rattle.hir_def_collector.proofs.NotedImports.{noted_imports}
 use Rattle.hir_def_collector.proofs.collector.def_collector.DefCollector.settle.Goals as goal
 
 pub restart_imports-requires-clause-there : goal.restart_imports-requires-clause-there
@@ -27,3 +29,20 @@ returns-clause-ok c = λ env.
     let before : State = at_rest (core_in (the_view c.self.inside)) in
     subst (λ (r : Run). Steps env (part_of c.args.world) (at_rest (core_in r)) (with_import_state before (state_in c.in_ok-imports.imports))) c.self.view_is
     (steps_from before (import_state before) refl c.in_ok-imports.ensures.derived)
+
+pub returns-clause-noted : goal.returns-clause-noted
+unfolding core_in
+returns-clause-noted c =
+    let before : Run = the_view c.self.inside in
+    let after : Run = record before {
+      map = c.in_ok-imports.imports.map;
+      local = c.in_ok-imports.imports.local;
+      names = c.in_ok-imports.imports.from_glob_import;
+      globs = c.in_ok-imports.imports.globs;
+      reached = c.in_ok-imports.imports.imports.items;
+      taken = c.in_ok-imports.imports.taken.items;
+      count = c.in_ok-imports.imports.count;
+      changed = c.changed_by.result;
+    } in
+    subst (λ (r : Run). IsNoted r after) c.self.view_is
+    (noted_imports (part_of c.args.world) before after c.in_ok-imports.ensures.derived c.changed_by.ensures.still c.changed_by.ensures.moves)

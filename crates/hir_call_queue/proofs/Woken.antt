@@ -1,0 +1,120 @@
+-- What is idle once slots are woken, and what it watches.
+use Rattle.std.proofs.Common.{◌≡◌, ◌∙◌, ap, sym, subst, ℕ, ◌==◌, Bool, true, false, ◌||◌, List, None, refl, arith}
+use Rattle.std.proofs.lemmas.Bool.Decides.{nat_tests}
+use Rattle.std.specs.List.{All}
+use Rattle.hir_def_map.specs.contracts.nameres.path_resolution.slots.SlotOrd.TheImpl.Laws.{total-law as slot_total}
+use Rattle.hir_def_map.specs.declared.nameres.path_resolution.slots.Slot.{Slot as PathSlot}
+use Rattle.hir_worklist.proofs.Idle.{idle-woken}
+use Rattle.hir_worklist.proofs.Settled.{IsUnread}
+use Rattle.hir_worklist.specs.Moves.{Wakes}
+use Rattle.hir_worklist.specs.Queue.{IsIdle, Queue, is_among}
+use Rattle.hir_worklist.specs.Settling.{AreSettled, WatchesEach}
+use Rattle.hir_worklist.specs.declared.watchers.Watchers.{Watchers}
+use Rattle.hir_import_resolution.specs.Inner.Queue.{IsSamePass, KeepsWatched, WakesEach, more, none, slot_cmp}
+use Rattle.hir_import_resolution.proofs.Waking.{pass_woken, same_pass, woken_settled}
+use Rattle.hir_call_queue.specs.Changes.{ChangedValue, IsThere}
+use Rattle.hir_call_queue.specs.Waking.{AreWatching, GoesOn, IsWatching, IsWoken, KeepsQueued, is_apart, watchers_of, worklist_of}
+use Rattle.hir_call_queue.specs.declared.queue.CallQueue.{CallQueue}
+
+either_true : (a b : Bool) → a ≡ true → (a || b) ≡ true
+either_true a b e = ap (λ (x : Bool). x || b) e
+
+-- ---- what is to be taken in the pass
+
+pub queued_still : (q : Queue) → KeepsQueued q q
+queued_still q = record { still = λ p e. e }
+
+pub queued_join : (p q r : Queue) → KeepsQueued p q → KeepsQueued q r → KeepsQueued p r
+queued_join p q r first then = record { still = λ k e. then.still k (first.still k e) }
+
+pub queued_woken : (q r : Queue) (chosen : ℕ → Bool) → Wakes q r chosen → KeepsQueued q r
+queued_woken q r chosen w = record { still = λ p e. w.current p ∙ either_true (is_among p q.current) _ e }
+
+pub goes_on_itself : (q : CallQueue) → GoesOn q q
+goes_on_itself q = record { apart = refl; pass = same_pass (worklist_of q); queued = queued_still (worklist_of q) }
+
+-- ---- what is idle
+
+-- what is idle once slots are woken, one after another, was idle
+idle_each : (r : Queue) (after : Watchers PathSlot) (q : Queue) (watchers : Watchers PathSlot) (slots : List PathSlot) → WakesEach r after q watchers slots → (p : ℕ) → IsIdle r p → IsIdle q p
+idle_each r after _ _ _ none p idle = idle
+idle_each r after _ _ _ (more q b watchers forgot slot slots wakes forgets rest) p idle = (idle-woken q b _ p wakes (idle_each r after b forgot slots rest p idle)).0
+
+module _ (changed : ChangedValue) (old new : CallQueue) (on : GoesOn old new) where
+  -- those that watch one of the slots are queued
+  pub woken_some : changed.all ≡ false → is_apart old ≡ true → WakesEach (worklist_of new) (watchers_of new) (worklist_of old) (watchers_of old) changed.slots → IsWoken changed old new
+  woken_some some apart each = record {
+    on = on;
+    idle = λ p idle. idle_each (worklist_of new) (watchers_of new) (worklist_of old) (watchers_of old) changed.slots each p idle;
+    watching = λ a seen watched. (settled seen watched).watched;
+    some = λ a p idle. some;
+    untouched = λ a seen watched p idle slot has. record {
+      some = some;
+      other = λ among. ((settled seen watched).settled p idle (λ e. absurd cc)).unread slot among has;
+    };
+    alone = λ a p idle. absurd (let no : ⊥ = cc in no);
+  }
+    where
+      settled : (seen : ℕ → List PathSlot) → AreWatching seen old
+          → AreSettled slot_cmp seen (IsUnread slot_cmp slot_total seen (λ (p : ℕ). Unit {0}) changed.slots) None (worklist_of new) (watchers_of new)
+      settled seen watched =
+          woken_settled seen (λ (p : ℕ). Unit {0}) None (worklist_of new) (watchers_of new) (worklist_of old) (watchers_of old) changed.slots each
+          (record { watched = watched; settled = λ p idle other. tt })
+
+  -- all are
+  pub woken_all : ((p : ℕ) → ¬ IsIdle (worklist_of new) p) → IsWoken changed old new
+  woken_all no_idle = record {
+    on = on;
+    idle = λ p idle. absurd (no_idle p idle);
+    watching = λ a seen watched. record { each = λ p idle other. absurd (no_idle p idle) };
+    some = λ a p idle. absurd (no_idle p idle);
+    untouched = λ a seen watched p idle slot has. absurd (no_idle p idle);
+    alone = λ a p idle. no_idle p idle;
+  }
+
+-- ---- what a call watches
+
+pub itself : (n : ℕ) → (n == n) ≡ true
+itself n = grind (arith, nat_tests)
+
+module _ (modules : ℕ) (slots : List PathSlot) (i : ℕ) where
+  -- where nothing is watched
+  pub watching_nothing : (q : CallQueue) → is_apart q ≡ false → IsWatching modules slots i q q
+  watching_nothing q alone = record {
+    on = goes_on_itself q;
+    idle = λ p idle. idle;
+    others = λ slot p e. e;
+    each = λ a idle. absurd (let no : ⊥ = cc in no);
+    there = λ a idle. absurd (let no : ⊥ = cc in no);
+  }
+
+  module _ (old new : CallQueue) (same : is_apart new ≡ is_apart old) (others : KeepsWatched (watchers_of old) (watchers_of new)) where
+    -- where all are there
+    pub watching_each : worklist_of new ≡ worklist_of old → WatchesEach slot_cmp (watchers_of new) i slots → All (IsThere modules) slots → IsWatching modules slots i old new
+    watching_each stays each there = record {
+      on = record {
+        apart = same;
+        pass = subst (IsSamePass (worklist_of old)) (sym stays) (same_pass (worklist_of old));
+        queued = subst (KeepsQueued (worklist_of old)) (sym stays) (queued_still (worklist_of old));
+      };
+      idle = λ p idle. subst (λ (q : Queue). IsIdle q p) stays idle;
+      others = others;
+      each = λ a idle. each;
+      there = λ a idle. there;
+    }
+
+    -- where one isn't, the call is queued
+    pub watching_queued : Wakes (worklist_of old) (worklist_of new) (λ (p : ℕ). i == p) → IsWatching modules slots i old new
+    watching_queued wakes = record {
+      on = record { apart = same; pass = pass_woken (worklist_of old) (worklist_of new) _ wakes; queued = queued_woken (worklist_of old) (worklist_of new) _ wakes };
+      idle = λ p idle. (idle-woken (worklist_of old) (worklist_of new) _ p wakes idle).0;
+      others = others;
+      each = λ a idle. absurd (not_idle idle);
+      there = λ a idle. absurd (not_idle idle);
+    }
+      where
+        not_idle : IsIdle (worklist_of new) i → ⊥
+        not_idle idle =
+            let other : (i == i) ≡ false = (idle-woken (worklist_of old) (worklist_of new) _ i wakes idle).1 in
+            let here : (i == i) ≡ true = itself i in
+            cc

@@ -1,0 +1,32 @@
+-- Which slots stand for what they stood for?
+use Rattle.std.specs.Prelude.{◌≡◌, ℕ, ◌<◌, Bool, true, false, List, [], ◌∷◌, ◌++◌, Contains, cond}
+use Rattle.hir_def_map.specs.declared.nameres.path_resolution.slots.Slot.{Slot as PathSlot}
+use Rattle.hir_def_map.specs.declared.nameres.path_resolution.slots.Slot.TheVariants.{Module as of_module, Preludes as of_preludes}
+
+-- slots that may stand for something else
+pub record ChangedValue : Type 0 where
+  -- whether any slot may
+  pub all : Bool
+  -- those that may, where not any may
+  pub slots : List PathSlot
+
+-- any slot, and none
+abbrev pub everything : ChangedValue
+everything = record { all = true; slots = [] }
+
+abbrev pub nothing : ChangedValue
+nothing = record { all = false; slots = [] }
+
+-- the slot of a name in a module besides
+abbrev pub with_slot : ℕ → List ℕ → ChangedValue → ChangedValue
+with_slot at name c = cond c.all c (record c { slots = c.slots ++ of_module at name ∷ [] })
+
+-- a slot isn't among them
+pub record IsUntouched (changed : ChangedValue) (slot : PathSlot) : Type 0 where
+  pub some : changed.all ≡ false
+  pub other : ¬ Contains changed.slots slot
+
+-- a slot is one of a module that is there, or of the preludes
+abbrev pub IsThere : ℕ → PathSlot → Type 0
+IsThere modules (of_module at name) = at < modules
+IsThere modules (of_preludes name) = Unit {0}

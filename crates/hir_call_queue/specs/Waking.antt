@@ -1,0 +1,58 @@
+-- What is queued, and what is watched?
+use Rattle.std.specs.Prelude.{◌≡◌, ℕ, Bool, true, false, List, None, Contains}
+use Rattle.std.specs.List.{All}
+use Rattle.hir_def_map.specs.declared.nameres.path_resolution.slots.Slot.{Slot as PathSlot}
+use Rattle.hir_worklist.specs.Queue.{IsIdle, Queue, is_among}
+use Rattle.hir_worklist.specs.Settling.{AreWatched, WatchesEach}
+use Rattle.hir_worklist.specs.declared.watchers.Watchers.{Watchers}
+use Rattle.hir_import_resolution.specs.Inner.Queue.{IsSamePass, KeepsWatched, slot_cmp}
+use Rattle.hir_call_queue.specs.declared.queue.CallQueue.{CallQueue}
+use Rattle.hir_call_queue.specs.Changes.{ChangedValue, IsThere, IsUntouched}
+
+-- the parts of a queue
+abbrev pub is_apart : CallQueue → Bool
+is_apart q = q.apart
+
+abbrev pub worklist_of : CallQueue → Queue
+worklist_of q = q.worklist
+
+abbrev pub watchers_of : CallQueue → Watchers PathSlot
+watchers_of q = q.watchers
+
+abbrev pub with_worklist : CallQueue → Queue → CallQueue
+with_worklist q worklist = record q { worklist = worklist }
+
+-- each call that is idle watches what it has seen
+abbrev pub AreWatching : (ℕ → List PathSlot) → CallQueue → Type 0
+AreWatching seen q = AreWatched slot_cmp seen None (worklist_of q) (watchers_of q)
+
+-- what was to be taken in a pass is so still
+pub record KeepsQueued (old new : Queue) : Type 0 where
+  pub still : (p : ℕ) → is_among p old.current ≡ true → is_among p new.current ≡ true
+
+-- a pass goes on where it was: what was to be taken in it is so still
+pub record GoesOn (old new : CallQueue) : Type 0 where
+  pub apart : is_apart new ≡ is_apart old
+  pub pass : IsSamePass (worklist_of old) (worklist_of new)
+  pub queued : KeepsQueued (worklist_of old) (worklist_of new)
+
+-- the calls that have seen what may have changed are queued; all where they watch nothing
+pub record IsWoken (changed : ChangedValue) (old new : CallQueue) : Type 0 where
+  pub on : GoesOn old new
+  -- what is idle was idle
+  pub idle : (p : ℕ) → IsIdle (worklist_of new) p → IsIdle (worklist_of old) p
+  -- it watches what it watched, and has seen nothing that may have changed
+  pub watching : is_apart old ≡ true → (seen : ℕ → List PathSlot) → AreWatching seen old → AreWatching seen new
+  pub some : is_apart old ≡ true → (p : ℕ) → IsIdle (worklist_of new) p → changed.all ≡ false
+  pub untouched : is_apart old ≡ true → (seen : ℕ → List PathSlot) → AreWatching seen old → (p : ℕ) → IsIdle (worklist_of new) p → (slot : PathSlot) → Contains (seen p) slot
+      → IsUntouched changed slot
+  pub alone : is_apart old ≡ false → (p : ℕ) → ¬ IsIdle (worklist_of new) p
+
+-- a call watches slots, all of modules that are there, unless it is queued
+pub record IsWatching (modules : ℕ) (slots : List PathSlot) (i : ℕ) (old new : CallQueue) : Type 0 where
+  pub on : GoesOn old new
+  pub idle : (p : ℕ) → IsIdle (worklist_of new) p → IsIdle (worklist_of old) p
+  -- what was watched is watched still
+  pub others : KeepsWatched (watchers_of old) (watchers_of new)
+  pub each : is_apart old ≡ true → IsIdle (worklist_of new) i → WatchesEach slot_cmp (watchers_of new) i slots
+  pub there : is_apart old ≡ true → IsIdle (worklist_of new) i → All (IsThere modules) slots

@@ -1,0 +1,76 @@
+//! Which slots may have changed.
+ghost use Rattle.std.specs.Prelude.{◌≡◌, OnOk};
+ghost use Rattle.hir_call_queue.specs.Changes.{everything, nothing, with_slot};
+
+use hir_base::name::Name;
+use hir_def_map::nameres::path_resolution::slots::Slot;
+use std::alloc::{AllocError, Global};
+use std::marker::Model;
+
+/// The slots of paths that may stand for something else than they did.
+#[derive(Drop)]
+pub struct Changed {
+    all: bool,
+    slots: Vec<Slot>,
+}
+
+impl Model for Changed {
+    ghost use Rattle.hir_call_queue.specs.Changes.{ChangedValue};
+
+    ghost Value = { ChangedValue };
+
+    ghost view = { λ c. record { all = c.all; slots = c.slots.items } };
+}
+
+impl Changed {
+    /// Any slot.
+    pub fn everything(alloc: Global) -> Changed
+        ensures value { result ≡ everything }
+    {
+        Changed {
+            all: true,
+            slots: Vec::new(alloc),
+        }
+    }
+
+    /// Whether any slot may stand for something else.
+    pub fn is_everything(&self) -> bool
+        ensures value { result ≡ self.now.all }
+    {
+        self.all
+    }
+
+    /// The slots that may, where not any may.
+    pub fn slots(&self) -> &[Slot]
+        ensures value { result.now ≡ self.now.slots }
+    {
+        self.slots.as_slice()
+    }
+
+    /// Adds the slot of a name in a module.
+    pub fn add(&mut self, at: u32, name: &Name) -> Result<(), AllocError>
+        ensures ok { OnOk result (self.new ≡ with_slot at name.now self.old) }
+    {
+        if self.all {
+            return Ok(());
+        }
+        self.slots.push(Slot::Module(at, name.clone()?))?;
+        Ok(())
+    }
+
+    /// Adds all slots.
+    pub fn add_everything(&mut self)
+        ensures value { self.new ≡ everything }
+    {
+        self.all = true;
+        self.slots.clear();
+    }
+
+    /// Leaves none.
+    pub fn clear(&mut self)
+        ensures value { self.new ≡ nothing }
+    {
+        self.all = false;
+        self.slots.clear();
+    }
+}

@@ -1,0 +1,119 @@
+-- What waits and whose slots stand for what they stood for reaches the same macro, while the map grows.
+use Rattle.std.proofs.Common.{◌≡◌, ◌∙◌, ap, sym, subst, refl, ℕ, ◌<◌, ◌&&◌, Bool, true, false, length, List, Option, None, Some, arith}
+use Rattle.std.specs.List.{All}
+use Rattle.std.specs.Option.{option_map}
+use Rattle.hir_base.specs.ModPath.{Path}
+use Rattle.hir_base.specs.contracts.ids.MapIdPartialEq.TheImpl as map_id
+use Rattle.hir_base.specs.declared.ids.MapId.{MapId}
+use Rattle.hir_base.specs.declared.ids.ModuleId.{ModuleId}
+use Rattle.hir_base.specs.declared.macro_kind.MacroId.{MacroId}
+use Rattle.hir_scope.specs.PerNs.{Item}
+use Rattle.hir_scope.specs.declared.imports.ImportOrExternCrate.{ImportOrExternCrate}
+use Rattle.hir_def_map.proofs.Fails.{Fails-nowhere}
+use Rattle.hir_def_map.specs.Overlay.{Maps, overlay}
+use Rattle.hir_def_map.specs.Scoping.{resolution_of}
+use Rattle.hir_def_map.specs.Scoping.Asking.{Asking}
+use Rattle.hir_def_map.specs.State.{IsBefore, IsInOrder, Local, Map, entry_at, numbered, parent_at, parent_of}
+use Rattle.hir_def_map.specs.declared.nameres.path_resolution.slots.Slot.{Slot as PathSlot}
+use Rattle.hir_def_map.specs.declared.nameres.path_resolution.slots.Slot.TheVariants.{Module as of_module, Preludes as of_preludes}
+use Rattle.hir_def_map.specs.declared.world.reference.Reference.{Reference}
+use Rattle.hir_def_map.specs.declared.world.reference.Reference.TheVariants as named
+use Rattle.hir_def_map_laws.proofs.Changed.{Change, has_others}
+use Rattle.hir_def_map_laws.proofs.ReadLaw.{reads_alike}
+use Rattle.hir_def_map_laws.proofs.SameAbove.{before_at, same_numbers_above, same_parent_at}
+use Rattle.hir_def_map_laws.specs.ReadLaw.{AgreeAt, BeginsOutside, Grows, IsReadAlike, KeepApart}
+use Rattle.hir_def_collector.specs.declared.collector.macro_directive.MacroDirective.{MacroDirective}
+use Rattle.hir_def_collector.specs.Calls.{by_style, called_macro, path_of_call, style_of, suited}
+use Rattle.hir_def_collector.specs.Waiting.{KeepsModules, StandsStill, call_reads}
+use Rattle.hir_def_collector.specs.State.{Core}
+use Rattle.hir_def_collector.proofs.EnumMacros.{enums_bring_no_macro, macros_of}
+
+-- ---- what a slot stands for, at two times
+
+pub agree_itself : (map : Map) (local : Local) (slot : PathSlot) → AgreeAt map local map local slot
+agree_itself map local (of_module at name) = record { entries = refl; legacy = refl }
+agree_itself map local (of_preludes name) = record { crates = refl; macro_uses = refl }
+
+pub agree_later : (a b c : Map) (k l m : Local) (slot : PathSlot) → AgreeAt a k b l slot → AgreeAt b l c m slot → AgreeAt a k c m slot
+agree_later a b c k l m (of_module at name) first then = record { entries = then.entries ∙ first.entries; legacy = then.legacy ∙ first.legacy }
+agree_later a b c k l m (of_preludes name) first then = record { crates = then.crates ∙ first.crates; macro_uses = then.macro_uses ∙ first.macro_uses }
+
+-- ---- maps that keep their modules
+
+pub modules_kept_itself : (m : Map) → KeepsModules m m
+modules_kept_itself m = record { id = refl; holder = refl; crate_data = refl; prelude = refl; parents = λ at v e. ap parent_of e; count = omega arith }
+
+module _ (finished : Maps) (one other : Map) (apart : KeepApart finished one.id) (in_order : IsInOrder one) (keeps : KeepsModules one other) where
+  -- the map as it is now, with the variants that its enums had
+  abbrev bare : Map
+  bare = record other { enums = one.enums }
+
+  grows : Grows one bare
+  grows = record { id = keeps.id; holder = keeps.holder; crate_data = keeps.crate_data; prelude = keeps.prelude; parents = keeps.parents; enums = λ id variants e. e }
+
+  parent_below : (at : ℕ) (p : ModuleId) → at < length one.modules → parent_at one at ≡ Some p → p.index < length one.modules
+  parent_below at p low e = go (parent_at one at) (before_at one bare grows in_order at low) e
+    where
+      go : (o : Option ModuleId) → IsBefore one.id at o → o ≡ Some p → p.index < length one.modules
+      go None f g = absurd cc
+      go (Some q) f g = let same : q ≡ p = cc in let less : q.index < at = f.1 in subst (λ (x : ModuleId). x.index < length one.modules) same (omega arith)
+
+  and_no : (b : Bool) → (b && false) ≡ false
+  and_no true = refl
+  and_no false = refl
+
+  none_changes : (n : Reference) → has_others one.id (λ id. false) n ≡ false
+  none_changes (named.Module m) = refl
+  none_changes (named.Enum id) = and_no (map_id.ghosts.eq id.loc.container.map one.id)
+  none_changes (named.Map id) = refl
+
+  abbrev change : Change
+  change = record {
+    finished = finished;
+    one = one;
+    other = bare;
+    apart = apart;
+    id = keeps.id;
+    holder = keeps.holder;
+    crate_data = keeps.crate_data;
+    prelude = keeps.prelude;
+    bound = Some (length one.modules);
+    parents = same_parent_at one bare grows in_order;
+    parents_below = parent_below;
+    above = same_numbers_above one bare grows in_order finished;
+    changes = λ id. false;
+    names = λ at name. Fails-nowhere (has_others one.id (λ id. false)) none_changes (entry_at one at name);
+    variants = λ id e. refl;
+  }
+
+  module _ (local other_local : Local) (outside : BeginsOutside one.id local) (d : MacroDirective) (low : d.site.home < length one.modules) where
+    abbrev asked_by : Local → Asking
+    asked_by l = by_style (style_of d.kind) l
+
+    abbrev path : Path
+    path = path_of_call d
+
+    -- the slots agree also with the map as it is now but for its enums
+    agree_bare : (slot : PathSlot) → AgreeAt one local other other_local slot → AgreeAt one local bare other_local slot
+    agree_bare (of_module at name) a = record { entries = a.entries; legacy = a.legacy }
+    agree_bare (of_preludes name) a = record { crates = a.crates; macro_uses = a.macro_uses }
+
+    alike : All (AgreeAt one local other other_local) (call_reads finished local one d) → IsReadAlike finished one (asked_by local) bare other_local (numbered one.id d.site.home) path
+    alike agree = reads_alike change (asked_by local) other_local outside d.site.home low path (λ n x l. agree_bare _ (agree n x l))
+
+    -- a call reaches the macro that it reached
+    pub same_macro : All (AgreeAt one local other other_local) (call_reads finished local one d) → called_macro finished other_local other d ≡ called_macro finished local one d
+    same_macro agree =
+        ap (λ (o : Option (Item MacroId ImportOrExternCrate)). suited d.kind (option_map (λ (i : Item MacroId ImportOrExternCrate). i.def) o))
+        ((λ i. macros_of (resolution_of (overlay finished other) (asked_by other_local) (numbered (keeps.id i) d.site.home) path))
+        ∙ sym (enums_bring_no_macro finished other one.enums (asked_by other_local) path.kind path.segments (numbered one.id d.site.home))
+        ∙ ap macros_of (alike agree).answers)
+
+-- a call that stands still reaches no macro
+pub stands_nowhere : (finished : Maps) (c : Core) (d : MacroDirective) (seen : List PathSlot) (s : StandsStill finished c d seen) → KeepApart finished c.map.id → ((local : Local) → BeginsOutside c.map.id local)
+    → called_macro finished c.local c.map d ≡ None
+stands_nowhere finished c d seen s apart outside =
+    same_macro finished s.map c.map (subst (λ (id : MapId). KeepApart finished id) s.keeps.id apart) s.in_order s.keeps s.local c.local
+    (subst (λ (id : MapId). BeginsOutside id s.local) s.keeps.id (outside s.local)) d s.low
+    (subst (All (AgreeAt s.map s.local c.map c.local)) s.read s.agree)
+    ∙ s.nowhere

@@ -1,0 +1,14 @@
+-- What is listed isn't read by paths.
+use Rattle.std.proofs.Common.{refl, subst}
+use Rattle.hir_def_map.specs.declared.nameres.declaration.Declaration.TheVariants as declaration
+use Rattle.hir_def_collector.specs.contracts.collector.def_collector.DefCollector.{the_view}
+use Rattle.hir_def_collector.specs.State.{Run}
+use Rattle.hir_def_collector.specs.Waiting.{IsNoted}
+use Rattle.hir_def_collector.proofs.Noted.{noted_list}
+use Rattle.hir_def_collector.proofs.collector.def_collector.DefCollector.list_extern_block.Goals as goal
+
+pub returns-clause-noted : goal.returns-clause-noted
+returns-clause-noted c =
+    let before : Run = the_view c.self.inside in
+    let after : Run = record before { map = c.define_extern_block.new.self } in
+    subst (λ (r : Run). IsNoted r after) c.self.view_is (noted_list before after c.args.home (declaration.ExternBlock c.args.id) c.in_ok-define_extern_block.ensures.ok refl refl)

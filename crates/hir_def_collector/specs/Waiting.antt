@@ -1,0 +1,89 @@
+-- Which calls wait, and when is it in vain to try them?
+use Rattle.std.specs.Prelude.{◌≡◌, ◌≢◌, ℕ, ◌<◌, ◌≤◌, true, false, [], List, Option, None, Some, length, option_map}
+use Rattle.std.specs.List.{All}
+use Rattle.hir_def_map.specs.Overlay.{Maps}
+use Rattle.hir_def_map.specs.Scoping.Slots.{reads}
+use Rattle.hir_def_map.specs.State.{IsInOrder, Local, Map, ModuleValue, module_at, numbered, parent_at}
+use Rattle.hir_def_map.specs.declared.nameres.path_resolution.slots.Slot.{Slot as PathSlot}
+use Rattle.hir_def_map_laws.specs.ReadLaw.{AgreeAt}
+use Rattle.hir_worklist.specs.Queue.{IsIdle, count_of, is_unfinished}
+use Rattle.hir_worklist.specs.Settling.{AreWatched}
+use Rattle.hir_import_resolution.specs.Inner.Queue.{slot_cmp}
+use Rattle.hir_import_resolution.specs.Inner.State.{IsApart}
+use Rattle.hir_call_queue.specs.Changes.{IsThere, IsUntouched}
+use Rattle.hir_call_queue.specs.Waking.{is_apart, watchers_of, worklist_of}
+use Rattle.hir_call_queue.specs.declared.queue.CallQueue.{CallQueue}
+use Rattle.hir_def_collector.specs.declared.collector.macro_directive.MacroDirective.{MacroDirective}
+use Rattle.hir_def_collector.specs.Calls.{IsWaiting, by_style, called_macro, is_call, is_inert_now, path_of_call, style_of}
+use Rattle.hir_def_collector.specs.State.{Core, Run, at_rest, core_in}
+
+-- ---- what may have changed
+
+-- a map has the modules that it had, each in that in which it was, and may have more
+pub record KeepsModules (old new : Map) : Type 0 where
+  pub id : new.id ≡ old.id
+  pub holder : new.holder ≡ old.holder
+  pub crate_data : new.crate_data ≡ old.crate_data
+  pub prelude : option_map (λ p. p.0) new.prelude ≡ option_map (λ p. p.0) old.prelude
+  pub parents : (at : ℕ) (m : ModuleValue) → module_at old at ≡ Some m → parent_at new at ≡ m.parent
+  pub count : length old.modules ≤ length new.modules
+
+-- what has changed of a run is noted: any other slot of a module that was there stands for what it stood for, and helpers are noted by everything
+pub record IsNoted (old new : Run) : Type 0 where
+  -- what was noted is noted still
+  pub some : new.changed.all ≡ false → old.changed.all ≡ false
+  pub noted : (slot : PathSlot) → IsUntouched new.changed slot → IsUntouched old.changed slot
+  pub keeps : new.changed.all ≡ false → KeepsModules old.map new.map
+  pub others : (slot : PathSlot) → IsUntouched new.changed slot → IsThere (length old.map.modules) slot → AgreeAt old.map old.local new.map new.local slot
+  pub helpers : new.changed.all ≡ false → new.map.derive_helpers ≡ old.map.derive_helpers
+
+-- ---- what waits
+
+-- the slots that the path of a call, of a derive or of an attribute reads
+abbrev pub call_reads : Maps → Local → Map → MacroDirective → List PathSlot
+call_reads finished local m d = reads finished (by_style (style_of d.kind) local) m (numbered m.id d.site.home) (path_of_call d)
+
+-- a call once reached no macro, and read these slots, of modules that were there; each stands for what it stood for then
+pub record StandsStill (finished : Maps) (c : Core) (d : MacroDirective) (seen : List PathSlot) : Type 0 where
+  pub map : Map
+  pub local : Local
+  pub nowhere : called_macro finished local map d ≡ None
+  pub read : seen ≡ call_reads finished local map d
+  pub low : d.site.home < length map.modules
+  pub in_order : IsInOrder map
+  pub there : All (IsThere (length map.modules)) seen
+  pub keeps : KeepsModules map c.map
+  pub agree : All (AgreeAt map local c.map c.local) seen
+
+-- a queue is up to date with where a run stands: what isn't queued is no call that is too deep, reaches no macro, isn't inert, and watches what it has seen; one that is being tried aside
+pub record IsUpToDate (finished : Maps) (q : CallQueue) (c : Core) (tried : Option ℕ) : Type 0 where
+  pub seen : ℕ → List PathSlot
+  pub watched : is_apart q ≡ true → AreWatched slot_cmp seen tried (worklist_of q) (watchers_of q)
+  pub stands : is_apart q ≡ true → (p : ℕ) (d : MacroDirective) → IsIdle (worklist_of q) p → tried ≢ Some p → IsWaiting (at_rest c) p d → StandsStill finished c d (seen p)
+  pub shallow : (p : ℕ) (d : MacroDirective) → IsIdle (worklist_of q) p → tried ≢ Some p → IsWaiting (at_rest c) p d → is_call d ≡ true → d.site.level < c.map.crate_data.recursion_limit
+  pub nowhere : (p : ℕ) (d : MacroDirective) → IsIdle (worklist_of q) p → tried ≢ Some p → IsWaiting (at_rest c) p d → called_macro finished c.local c.map d ≡ None
+  pub active : (p : ℕ) (d : MacroDirective) → IsIdle (worklist_of q) p → tried ≢ Some p → IsWaiting (at_rest c) p d → is_inert_now c.map d ≡ false
+  -- it has calls of the run, and none is finished
+  pub unfinished : (p : ℕ) → p < count_of (worklist_of q) → is_unfinished (worklist_of q) p ≡ true
+  pub count : count_of (worklist_of q) ≤ length c.calls
+
+-- no pass is under way
+pub record IsBetweenPasses (q : CallQueue) : Type 0 where
+  pub over : (worklist_of q).current ≡ []
+  pub outside : (worklist_of q).end ≡ 0
+
+-- calls stay, and one that waits waited before
+pub record KeepsWaiting (old new : Core) : Type 0 where
+  pub longer : length old.calls ≤ length new.calls
+  pub before : (p : ℕ) (d : MacroDirective) → p < length old.calls → IsWaiting (at_rest new) p d → IsWaiting (at_rest old) p d
+
+-- a queue was up to date with a run, and what has changed of it since is noted
+pub record IsStale (finished : Maps) (q : CallQueue) (now : Run) : Type 0 where
+  pub before : Run
+  pub up_to_date : IsUpToDate finished q (core_in before) None
+  pub noted : IsNoted before now
+  pub waits : KeepsWaiting (core_in before) (core_in now)
+
+-- where calls watch what they read, finished maps don't refer to the map of the run
+abbrev pub LiesApart : Maps → CallQueue → Core → Type 0
+LiesApart finished q c = is_apart q ≡ true → (local : Local) → IsApart finished c.map.id local
