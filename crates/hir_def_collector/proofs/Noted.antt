@@ -5,13 +5,14 @@ use Rattle.hir_base.specs.declared.ast_id.AstId.{AstId}
 use Rattle.hir_base.specs.declared.ids.EnumId.{EnumId}
 use Rattle.hir_base.specs.declared.ids.FunctionId.{FunctionId}
 use Rattle.hir_base.specs.declared.ids.ModuleId.{ModuleId}
+use Rattle.hir_base.specs.declared.macro_kind.BuiltinDeriveImplId.{BuiltinDeriveImplId}
 use Rattle.hir_base.specs.declared.macro_kind.MacroId.{MacroId}
 use Rattle.hir_base.specs.declared.macro_kind.ProcMacroId.{ProcMacroId}
 use Rattle.hir_scope.specs.Globs.{GlobNames}
 use Rattle.hir_scope.specs.Scope.{ScopeValue}
 use Rattle.hir_scope.specs.declared.per_ns.PerNs.{PerNs}
 use Rattle.hir_scope.specs.declared.visibility.Visibility.{Visibility}
-use Rattle.hir_def_map.proofs.Grown.{length-changed}
+use Rattle.hir_def_map.proofs.Grown.{kept, length-changed}
 use Rattle.hir_def_map.proofs.StaysWellFormed.{length-made}
 use Rattle.hir_def_map.specs.Declaration.{listed}
 use Rattle.hir_def_map.specs.Macros.{MacroDataValue, with_diagnostic, with_exported, with_macro_data, with_macro_def}
@@ -29,6 +30,7 @@ use Rattle.hir_def_map_laws.specs.ReadLaw.{AgreeAt, Grows}
 use Rattle.hir_def_map_laws.specs.SlotChanges.{ChangesOnly}
 use Rattle.hir_textual_scope.specs.Macros.{with_macro}
 use Rattle.hir_call_queue.specs.Changes.{ChangedValue, IsThere, IsUntouched, everything, with_slot}
+use Rattle.hir_def_collector.specs.Changes.{with_builtin_derive, with_derived}
 use Rattle.hir_def_collector.specs.Macros.{textual_at, with_textual_macro}
 use Rattle.hir_def_collector.specs.Moves.{begun}
 use Rattle.hir_def_collector.specs.State.{Run}
@@ -197,6 +199,20 @@ noted_list a b home d map local changed =
     (grown_kept a.map b.map changes.grows
     (subst (λ (m : Map). length a.map.modules ≤ length m.modules) (sym map) (let same = length-changed a.map.modules home (with_module_scope (listed d)) in omega (arith, same))))
     (λ slot there. changes.others slot (λ e. absurd cc))
+
+-- an impl for which a builtin derive stands
+pub noted_derived : (a b : Run) → b.local ≡ a.local → b.changed ≡ a.changed → (home : ℕ) (imp : BuiltinDeriveImplId) → b.map ≡ with_derived a.map home imp → IsNoted a b
+noted_derived a b local changed home imp map =
+    noted_around a b local changed (ap (λ (m : Map). m.derive_helpers) map)
+    (subst (KeepsModules a.map) (sym map) (scope_kept a.map home (with_builtin_derive imp)))
+    (λ slot there. subst (λ (m : Map). AgreeAt a.map a.local m a.local slot) (sym map) (same slot))
+  where
+    same : (slot : PathSlot) → AgreeAt a.map a.local (with_derived a.map home imp) a.local slot
+    same (of_module at name) = record {
+      entries = kept (λ (o : Option ModuleValue). entry_of o name) a.map.modules home (with_module_scope (with_builtin_derive imp)) (λ m. refl) at;
+      legacy = kept (λ (o : Option ModuleValue). legacy_of o name) a.map.modules home (with_module_scope (with_builtin_derive imp)) (λ m. refl) at;
+    }
+    same (of_preludes name) = record { crates = refl; macro_uses = refl }
 
 -- the scope of a module that wasn't there
 other_scope_agrees : (map : Map) (local : Local) (bound home : ℕ) (change : ScopeValue → ScopeValue) → bound ≤ home → (slot : PathSlot) → IsThere bound slot → AgreeAt map local (with_scope map home change) local slot

@@ -11,6 +11,7 @@ use Rattle.hir_def_collector.specs.State.{Core, core_in}
 use Rattle.hir_def_collector.specs.Steps.{bringing, derives_builtin}
 use Rattle.hir_def_collector.proofs.CallSteps.{derived, fate_helped, past_rule}
 use Rattle.hir_def_collector.proofs.Made.{count_kept}
+use Rattle.hir_def_collector.proofs.Noted.{noted_follow}
 use Rattle.hir_def_collector.proofs.collector.derives.derive_builtin.Goals as goal
 
 pub list_derived-requires-clause-in_range : goal.list_derived-requires-clause-in_range
@@ -48,3 +49,6 @@ returns-in_err-tick-clause-many c = λ h env.
     let same : helped.count ≡ old.count =
     count_kept (bringing d.ast_id names) listed helped c.in_ok-help_all.ensures.ok ∙ ap (λ (l : Core). l.count) c.in_ok-list_derived.ensures.ok ∙ ap (λ (e : Core). e.count) c.end_call.ensures.value in
     past_rule env (part_of c.args.world) old (derives_builtin c.args.i d c.args.makro c.args.imp) c.requires.builtin tt tt (subst (λ n. STEP_LIMIT ≤ n) same (c.in_err-tick.ensures.many (search rules)))
+
+pub returns-clause-noted : goal.returns-clause-noted
+returns-clause-noted c = noted_follow c.end_call.ensures.noted (noted_follow c.in_ok-list_derived.ensures.noted (noted_follow c.in_ok-help_all.ensures.noted c.in_ok-tick.ensures.noted))

@@ -8,6 +8,7 @@ use Rattle.hir_def_collector.specs.State.{Core, core_in}
 use Rattle.hir_def_collector.specs.Steps.{bringing, drops_reached}
 use Rattle.hir_def_collector.proofs.CallSteps.{dropped_reached, fate_helped, past_rule}
 use Rattle.hir_def_collector.proofs.Made.{count_kept}
+use Rattle.hir_def_collector.proofs.Noted.{noted_follow}
 use Rattle.hir_def_collector.proofs.collector.derives.drop_reached.Goals as goal
 
 pub returns-clause-ok : goal.returns-clause-ok
@@ -32,3 +33,6 @@ returns-in_err-tick-clause-many c = λ h env.
     let same : helped.count ≡ old.count =
     count_kept (bringing d.ast_id (helpers_brought part ended.map d c.args.makro None)) ended helped c.in_ok-bring_helpers.ensures.ok ∙ ap (λ (e : Core). e.count) c.end_call.ensures.value in
     past_rule env part old (drops_reached c.args.i d c.args.makro) c.requires.deep tt tt (subst (λ n. STEP_LIMIT ≤ n) same (c.in_err-tick.ensures.many (search rules)))
+
+pub returns-clause-noted : goal.returns-clause-noted
+returns-clause-noted c = noted_follow c.end_call.ensures.noted (noted_follow c.in_ok-bring_helpers.ensures.noted c.in_ok-tick.ensures.noted)

@@ -20,4 +20,4 @@ returns-clause-ok c = λ env finished. record {
 }
 
 pub returns-clause-noted : goal.returns-clause-noted
-returns-clause-noted c = noted_follow c.in_ok-define_macro.ensures.noted (noted_follow c.in_ok-define_textual.ensures.noted (noted_follow c.in_ok-export.ensures.noted (noted_follow c.in_ok-report.ensures.noted c.in_ok-tick.ensures.noted)))
+returns-clause-noted c = noted_follow c.in_ok-define_macro.ensures.noted (noted_follow c.in_ok-describe.ensures.noted (noted_follow c.in_ok-define_textual.ensures.noted (noted_follow c.in_ok-export.ensures.noted (noted_follow c.in_ok-report.ensures.noted c.in_ok-tick.ensures.noted))))
