@@ -279,7 +279,7 @@ module _ (env : Environment) (finished : Maps) (c : Core) where
     of = record { waits = of_item; kept = kept };
     quiet = quiet rest;
     nowhere = nowhere;
-    first = λ j e other there is. first j (record { call = e; waits = there; item = other; is_item = is });
+    first = λ j e other there is. first.none j (record { call = e; waits = there; item = other; is_item = is });
   }
 
 -- the item is visited as the program does it

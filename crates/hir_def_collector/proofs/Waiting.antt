@@ -29,9 +29,9 @@ use Rattle.hir_def_collector.specs.Calls.{IsWaiting, LeadsNowhere, called_macro,
 use Rattle.hir_def_collector.specs.Keys.{Environment}
 use Rattle.hir_def_collector.specs.State.{Core, Run, at_rest, core_in}
 use Rattle.hir_def_collector.specs.Steps.{Steps}
-use Rattle.hir_def_collector.specs.Waiting.{IsNoted, IsUpToDate, KeepsWaiting, LiesApart, StandsStill, call_reads}
+use Rattle.hir_def_collector.specs.Waiting.{IsNoted, IsStale, IsUpToDate, KeepsWaiting, LiesApart, StandsStill, call_reads}
 use Rattle.hir_def_collector.proofs.CallReads.{agree_itself, agree_later, modules_kept_itself, stands_nowhere}
-use Rattle.hir_def_collector.proofs.Noted.{modules_kept_later, there_later}
+use Rattle.hir_def_collector.proofs.Noted.{modules_kept_later, noted_follow, noted_itself, there_later}
 use Rattle.hir_def_collector.proofs.Tried.{calls_longer, waiting_before}
 
 -- ---- what a call has seen
@@ -356,6 +356,22 @@ up_to_date_first finished q c none = record {
 -- calls stay while steps are taken, and one that waits waited before
 pub keeps_waiting : {env : Environment} {finished : Maps} (c d : Core) → Steps env finished (at_rest c) (at_rest d) → length c.fates ≡ length c.calls → KeepsWaiting c d
 keeps_waiting c d steps fated = record { longer = calls_longer steps; before = λ p x low waiting. waiting_before steps fated waiting low }
+
+-- a queue that was up to date is so but for what is noted
+pub stale_now : (finished : Maps) (q : CallQueue) (a : Run) → IsUpToDate finished q (core_in a) None → IsStale finished q a
+stale_now finished q a up = record { before = a; up_to_date = up; noted = noted_itself a; waits = record { longer = omega arith; before = λ p d low waiting. waiting } }
+
+-- and later too
+pub stale_later : (finished : Maps) (q : CallQueue) (a b : Run) → IsStale finished q a → IsNoted a b → KeepsWaiting (core_in a) (core_in b) → IsStale finished q b
+stale_later finished q a b stale noted waits = record {
+  before = stale.before;
+  up_to_date = stale.up_to_date;
+  noted = noted_follow stale.noted noted;
+  waits = record {
+    longer = omega (arith, stale.waits.longer, waits.longer);
+    before = λ p d low waiting. stale.waits.before p d low (waits.before p d (omega (arith, low, stale.waits.longer)) waiting);
+  };
+}
 
 -- a call that was handled doesn't wait
 pub waits_no_more : (c : Core) (i : ℕ) → slice_get c.fates i ≡ Some Handled → (d : MacroDirective) → ¬ IsWaiting (at_rest c) i d

@@ -79,9 +79,10 @@ pub record IsAttributeWaiting (c : Core) (i : ℕ) : Type 0 where
   pub item : WaitingItem
   pub is_item : waiting_item call ≡ Some item
 
--- none does before this place
-abbrev pub NoneWaitsBefore : Core → ℕ → Type 0
-NoneWaitsBefore c first = (j : ℕ) → IsAttributeWaiting c j → first ≤ j
+-- none does before this place, which is one of the run or the next
+pub record NoneWaitsBefore (c : Core) (first : ℕ) : Type 0 where
+  pub inside : first ≤ length c.calls
+  pub none : (j : ℕ) → IsAttributeWaiting c j → first ≤ j
 
 -- none does at all
 abbrev pub NoneWaits : Core → Type 0

@@ -6,9 +6,9 @@ use Rattle.hir_def_collector.specs.CallMoves.{IsReady, NoneWaitsBefore}
 use Rattle.hir_def_collector.specs.declared.collector.TheConstants.{STEP_LIMIT}
 use Rattle.hir_def_collector.specs.Calls.{AreCallsPlaced}
 use Rattle.hir_def_collector.specs.Moves.{OnceGrown}
-use Rattle.hir_def_collector.specs.Rounds.{Rounds}
 use Rattle.hir_def_collector.specs.State.{at_rest, core_in}
 use Rattle.hir_def_collector.specs.Waiting.{IsBetweenPasses, IsStale}
+use Rattle.hir_def_collector.proofs.Queued.{HasRounds}
 use Rattle.hir_def_collector.proofs.collector.calls.resolve_rounds.Given as goal
 
 abbrev pub invariant-rounds : goal.invariant-rounds
@@ -21,7 +21,7 @@ invariant-rounds g l = record {
   apart : is_apart l.queue ≡ l.apart;
   stale : IsStale (part_of l.world) l.queue l.run;
   between : IsBetweenPasses l.queue;
-  rounds : OnceGrown l.locations (g.D.SourceDatabase.workspace l.initial.db) (λ env. Rounds env (part_of l.world) (at_rest (core_in l.initial.run)) (at_rest (core_in l.run)) l.rounds);
+  rounds : OnceGrown l.locations (g.D.SourceDatabase.workspace l.initial.db) (λ env. HasRounds env (part_of l.world) (at_rest (core_in l.initial.run)) (at_rest (core_in l.run)) l.rounds);
   first : NoneWaitsBefore (core_in l.run) l.first;
 }
 
