@@ -19,9 +19,9 @@ loop-name-preserved c =
     let by = map (helper_by c.args.makro c.args.became) in
     let left : MakesWithLeft c.args.node (by (drop c.loop-name.name-index c.args.names.now)) (by c.args.names.now) (core_in c.args.run.now) (core_in c.loop-name.run) = c.loop-name.invariant.brought in record {
       brought =
-    one_brought c.args.node (helper_by c.args.makro c.args.became c.loop-name-test.name.now) (by (drop (c.loop-name.name-index + 1) c.args.names.now)) (by c.args.names.now)
-    (core_in c.args.run.now) (core_in c.loop-name.run) (core_in c.help.new.self) c.in_ok-help.ensures.ok
-    (subst (λ (names : List _). MakesWithLeft c.args.node (by names) (by c.args.names.now) (core_in c.args.run.now) (core_in c.loop-name.run)) (drop-step c.args.names.now c.loop-name.name-index cc) left);
+          one_brought c.args.node (helper_by c.args.makro c.args.became c.loop-name-test.name.now) (by (drop (c.loop-name.name-index + 1) c.args.names.now)) (by c.args.names.now)
+          (core_in c.args.run.now) (core_in c.loop-name.run) (core_in c.help.new.self) c.in_ok-help.ensures.ok
+          (subst (λ (names : List _). MakesWithLeft c.args.node (by names) (by c.args.names.now) (core_in c.args.run.now) (core_in c.loop-name.run)) (drop-step c.args.names.now c.loop-name.name-index cc) left);
       noted = noted_follow c.loop-name.invariant.noted c.in_ok-help.ensures.noted;
     }
 
