@@ -47,6 +47,7 @@ pub mod Numbers
 pub mod Meaning
 pub mod CallSteps
 pub mod Helping
+pub mod Deriving
 pub mod EnumMacros
 pub mod CallReads
 pub mod Noted
