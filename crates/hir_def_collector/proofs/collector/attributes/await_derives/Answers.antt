@@ -30,7 +30,7 @@ returns-clause-ok c =
     let from = derives_from c.args.site.now c.args.node c.args.attr c.args.adt in
     sym (no_more_calls (core_in c.loop-path.run))
     ∙ subst (λ (paths : List Path). with_calls (core_in c.loop-path.run) (from c.loop-path.index paths) ≡ with_calls (core_in c.args.run.now) (from 0 c.args.paths.now)) (drop-all c.args.paths.now c.loop-path.path-index cc)
-      c.loop-path.invariant.all
+    c.loop-path.invariant.all
 
 pub returns-clause-noted : goal.returns-clause-noted
 returns-clause-noted c = c.loop-path.invariant.noted

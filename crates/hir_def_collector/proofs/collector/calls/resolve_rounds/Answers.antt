@@ -1,16 +1,17 @@
 -- Turns, one after another, until nothing that waits leads anywhere and no attribute waits, or there were too many rounds.
-use Rattle.std.proofs.Common.{rules, ◌≡◌, ◌∙◌, ◌<◌, ap, length, refl, subst, sym, arith}
+use Rattle.std.proofs.Common.{rules, ◌≡◌, ◌∙◌, ◌<◌, ap, length, refl, subst, sym, false, arith}
 use Rattle.hir_base.specs.declared.ids.MapId.{MapId}
 use Rattle.hir_tables.proofs.Growth.{KeepsTables-trans}
+use Rattle.hir_def_map.specs.Overlay.{Maps}
 use Rattle.hir_def_map.specs.WorldParts.{part_of}
 use Rattle.hir_worklist.specs.Queue.{Queue}
 use Rattle.hir_import_resolution.specs.Inner.State.{IsApart}
-use Rattle.hir_def_collector.specs.CallMoves.{TakesTurn, cut_off}
+use Rattle.hir_def_collector.specs.CallMoves.{ComesToRest, TakesTurn, cut_off, rested}
 use Rattle.hir_def_collector.specs.Derivation.{IsSpent}
-use Rattle.hir_def_collector.specs.Keys.{environment}
+use Rattle.hir_def_collector.specs.Keys.{Environment, environment}
 use Rattle.hir_def_collector.specs.Moves.{OnceGrown}
 use Rattle.hir_def_collector.specs.Rounds as rounds
-use Rattle.hir_def_collector.specs.State.{at_rest, core_in}
+use Rattle.hir_def_collector.specs.State.{Core, at_rest, core_in}
 use Rattle.hir_def_collector.specs.Steps as steps
 use Rattle.hir_def_collector.specs.Steps.{Steps}
 use Rattle.hir_def_collector.specs.Workspace.{Workspace}
@@ -52,8 +53,97 @@ returns-in_err-take_turn-clause-many g c = λ h grown k.
     subst (λ (v : Workspace). OnceGrown later v (λ env. IsSpent env (part_of c.args.world) (at_rest (core_in c.rounds.run)))) c.rounds.invariant.same (c.in_err-take_turn.ensures.many (search rules)) in
     spent_after (has_rounds_steps (environment grown w) (part_of c.args.world) (core_in c.args.run) (at_rest (core_in c.rounds.run)) c.rounds.rounds (c.rounds.invariant.rounds grown (KeepsTables-trans c.rounds.locations later grown c.in_err-take_turn.ensures.kept k))) (far grown k)
 
--- what is left: the invariant behind a turn. With `turn` = c.in_ok-take_turn.field-1: of Round the rounds are one more (`rounds_next` of EndsInRound.before and .round) and `first` is EndsInRound.none;
--- of GaveUp the rounds are as many (`rounds_then`), and `first` is the clause; of Rests the answer is the clause `turned`, moved to where the run began. The measure: STEP_LIMIT - count falls by the clause `counts`
+-- ---- behind a turn (the names of the goals of the arms, and of what is known in them, are guessed)
+
+pub rounds-preserved-in-Round : goal.rounds-preserved-in-Round
+rounds-preserved-in-Round g c =
+    let w = g.D.SourceDatabase.workspace c.args.db.now in
+    let part = part_of c.args.world in
+    let old = core_in c.args.run in
+    let now = core_in c.rounds.run in
+    let new = core_in c.in_ok-take_turn.next in
+    let later = c.take_turn.new.locations in
+    let kept = c.in_ok-take_turn.ensures.kept in
+    let step : OnceGrown later w (λ env. Steps env part (at_rest now) (at_rest new)) =
+    subst (λ (v : Workspace). OnceGrown later v (λ env. Steps env part (at_rest now) (at_rest new))) c.rounds.invariant.same c.in_ok-take_turn.ensures.ok in
+    let turned : OnceGrown later w (λ env. TakesTurn env part now new c.rounds.first c.in_ok-take_turn.turn) =
+    subst (λ (v : Workspace). OnceGrown later v (λ env. TakesTurn env part now new c.rounds.first c.in_ok-take_turn.turn)) c.rounds.invariant.same c.in_ok-take_turn.ensures.turned in
+    let here : Steps (environment later w) part (at_rest now) (at_rest new) = step later (tables_stay later) in
+    record {
+      kept = KeepsTables-trans c.args.locations.now c.rounds.locations later c.rounds.invariant.kept kept;
+      same = c.in_ok-take_turn.ensures.same ∙ c.rounds.invariant.same;
+      placed = λ placed. c.in_ok-take_turn.ensures.placed (c.rounds.invariant.placed placed);
+      ready = ready_after here (ready_grown kept c.rounds.invariant.ready);
+      own = id-Steps here ∙ c.rounds.invariant.own;
+      apart = c.in_ok-take_turn.ensures.queue ∙ c.rounds.invariant.apart;
+      stale = c.in_ok-take_turn.ensures.stale;
+      between = c.in_ok-take_turn.ensures.between;
+      rounds = λ grown k.
+          let before = c.rounds.invariant.rounds grown (KeepsTables-trans c.rounds.locations later grown kept k) in
+          let t = turned grown k in rounds_next (environment grown w) part old (at_rest now) t.begun new c.rounds.rounds before t.before t.round;
+      first = (turned later (tables_stay later)).none;
+    }
+
+pub rounds-preserved-in-GaveUp : goal.rounds-preserved-in-GaveUp
+rounds-preserved-in-GaveUp g c =
+    let w = g.D.SourceDatabase.workspace c.args.db.now in
+    let part = part_of c.args.world in
+    let old = core_in c.args.run in
+    let now = core_in c.rounds.run in
+    let new = core_in c.in_ok-take_turn.next in
+    let later = c.take_turn.new.locations in
+    let kept = c.in_ok-take_turn.ensures.kept in
+    let step : OnceGrown later w (λ env. Steps env part (at_rest now) (at_rest new)) =
+    subst (λ (v : Workspace). OnceGrown later v (λ env. Steps env part (at_rest now) (at_rest new))) c.rounds.invariant.same c.in_ok-take_turn.ensures.ok in
+    let turned : OnceGrown later w (λ env. TakesTurn env part now new c.rounds.first c.in_ok-take_turn.turn) =
+    subst (λ (v : Workspace). OnceGrown later v (λ env. TakesTurn env part now new c.rounds.first c.in_ok-take_turn.turn)) c.rounds.invariant.same c.in_ok-take_turn.ensures.turned in
+    let here : Steps (environment later w) part (at_rest now) (at_rest new) = step later (tables_stay later) in
+    record {
+      kept = KeepsTables-trans c.args.locations.now c.rounds.locations later c.rounds.invariant.kept kept;
+      same = c.in_ok-take_turn.ensures.same ∙ c.rounds.invariant.same;
+      placed = λ placed. c.in_ok-take_turn.ensures.placed (c.rounds.invariant.placed placed);
+      ready = ready_after here (ready_grown kept c.rounds.invariant.ready);
+      own = id-Steps here ∙ c.rounds.invariant.own;
+      apart = c.in_ok-take_turn.ensures.queue ∙ c.rounds.invariant.apart;
+      stale = c.in_ok-take_turn.ensures.stale;
+      between = c.in_ok-take_turn.ensures.between;
+      rounds = λ grown k.
+          let before = c.rounds.invariant.rounds grown (KeepsTables-trans c.rounds.locations later grown kept k) in
+          rounds_then (environment grown w) part old (at_rest now) (at_rest new) c.rounds.rounds before (step grown k);
+      first = turned later (tables_stay later);
+    }
+
+-- the measure: steps are counted in each turn, and there were fewer than may be
+pub rounds-smaller : goal.rounds-smaller
+rounds-smaller g c = omega (arith, c.in_ok-take_turn.ensures.counts.0, c.in_ok-take_turn.ensures.counts.1)
+
+-- ---- nothing leads anywhere
+
+pub returns-in-Rests-clause-kept : goal.returns-in-Rests-clause-kept
+returns-in-Rests-clause-kept g c =
+    KeepsTables-trans c.args.locations.now c.rounds.locations c.take_turn.new.locations c.rounds.invariant.kept c.in_ok-take_turn.ensures.kept
+
+pub returns-in-Rests-clause-ok : goal.returns-in-Rests-clause-ok
+returns-in-Rests-clause-ok g c = λ grown k.
+    let w = g.D.SourceDatabase.workspace c.args.db.now in
+    let part = part_of c.args.world in
+    let later = c.take_turn.new.locations in
+    let step : OnceGrown later w (λ env. Steps env part (at_rest (core_in c.rounds.run)) (at_rest (core_in c.in_ok-take_turn.next))) =
+    subst (λ (v : Workspace). OnceGrown later v (λ env. Steps env part (at_rest (core_in c.rounds.run)) (at_rest (core_in c.in_ok-take_turn.next)))) c.rounds.invariant.same c.in_ok-take_turn.ensures.ok in
+    Steps-append (has_rounds_steps (environment grown w) part (core_in c.args.run) (at_rest (core_in c.rounds.run)) c.rounds.rounds (c.rounds.invariant.rounds grown (KeepsTables-trans c.rounds.locations later grown c.in_ok-take_turn.ensures.kept k))) (step grown k)
+
+-- where a run rests doesn't say where it began
+rests_from : (env : Environment) (finished : Maps) (began old new : Core) → ComesToRest env finished old new false → ComesToRest env finished began new false
+rests_from env finished began old new (rested imports nowhere none) = rested imports nowhere none
+
+pub returns-in-Rests-clause-rests : goal.returns-in-Rests-clause-rests
+returns-in-Rests-clause-rests g c = λ grown k.
+    let w = g.D.SourceDatabase.workspace c.args.db.now in
+    let part = part_of c.args.world in
+    let later = c.take_turn.new.locations in
+    let turned : OnceGrown later w (λ env. ComesToRest env part (core_in c.rounds.run) (core_in c.in_ok-take_turn.next) false) =
+    subst (λ (v : Workspace). OnceGrown later v (λ env. ComesToRest env part (core_in c.rounds.run) (core_in c.in_ok-take_turn.next) false)) c.rounds.invariant.same c.in-Rests.ensures.turned in
+    rests_from (environment grown w) part (core_in c.args.run) (core_in c.rounds.run) (core_in c.in_ok-take_turn.next) (turned grown k)
 
 -- ---- there were too many rounds
 
