@@ -1,6 +1,6 @@
 -- Steps by which what waits is expanded, dropped, derived or given up, and by which imports rest.
 use Rattle.std.specs.Prelude.{IsSome}
-use Rattle.std.proofs.Common.{◌≡◌, ◌∙◌, ℕ, ◌<◌, ◌≤◌, List, [], ◌++◌, length, slice_get, slice_set, Option, None, Some, inl, inr, refl, sym, ap, subst, arith, append-nil}
+use Rattle.std.proofs.Common.{◌≡◌, ◌∙◌, ℕ, ◌<◌, ◌≤◌, List, [], ◌∷◌, ◌++◌, length, slice_get, slice_set, Option, None, Some, inl, inr, refl, sym, ap, subst, arith, append-nil}
 use Rattle.hir_base.specs.Locations.{KeepsNumbers, max_locations}
 use Rattle.either.specs.declared.Either.TheVariants as either
 use Rattle.hir_base.specs.declared.ast_id.AstId.{AstId}

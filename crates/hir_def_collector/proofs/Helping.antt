@@ -1,6 +1,5 @@
 -- Helpers that are brought one after another.
 use Rattle.std.proofs.Common.{◌≡◌, ◌∙◌, ◌<◌, ◌+◌, ℕ, zero, suc, List, [], ◌∷◌, drop, length, map, refl, sym, ap, arith}
-use Rattle.std.specs.Prelude.{slice_at}
 use Rattle.hir_base.specs.declared.ast_id.AstId.{AstId}
 use Rattle.hir_def_map.specs.Macros.{with_derive_helper}
 use Rattle.hir_def_map.specs.declared.nameres.derive_helpers.DeriveHelper.{DeriveHelper}

@@ -277,8 +277,8 @@ takes_what_is_bound finished s (expands_call i d makro x) may p h = (tt, (tt, fi
 takes_what_is_bound finished s (drops_call i d) may p h = (tt, tt)
 takes_what_is_bound finished s (drops_reached i d makro) may p h = (tt, fine_bringing TakesWhatIsBound _ (λ t helper. tt) _ _)
 takes_what_is_bound finished s (derives_builtin i d makro imp) may p h = (tt, (tt, fine_bringing TakesWhatIsBound _ (λ t helper. tt) _ _))
-takes_what_is_bound finished s (skips_attribute i d k item) may p h = (tt, (tt, tt))
-takes_what_is_bound finished s (falls_back i d k item) may p h = (tt, (tt, (tt, tt)))
+takes_what_is_bound finished s (skips_attribute i d k kept_item) may p h = (tt, (tt, tt))
+takes_what_is_bound finished s (falls_back i d k kept_item) may p h = (tt, (tt, (tt, tt)))
 takes_what_is_bound finished s (resolves_imports rule) may p h = imports_take finished s rule may p h
 
 -- ---- steps

@@ -258,8 +258,8 @@ stays_in_range finished s (expands_call i d makro x) may p =
 stays_in_range finished s (drops_call i d) may p = (tt, tt)
 stays_in_range finished s (drops_reached i d makro) may p = (tt, fine_bringing StaysInRange _ (λ t helper. tt) _ _)
 stays_in_range finished s (derives_builtin i d makro imp) may p = (tt, (tt, fine_bringing StaysInRange _ (λ t helper. tt) _ _))
-stays_in_range finished s (skips_attribute i d k item) may p = (tt, ((call_below (length s.core.map.modules) s.core.calls i d p.calls may.due.waiting.call, tt), tt))
-stays_in_range finished s (falls_back i d k item) may p = (tt, (tt, ((call_below (length s.core.map.modules) s.core.calls i d p.calls may.waiting.call, tt), tt)))
+stays_in_range finished s (skips_attribute i d k kept_item) may p = (tt, ((call_below (length s.core.map.modules) s.core.calls i d p.calls may.due.waiting.call, tt), tt))
+stays_in_range finished s (falls_back i d k kept_item) may p = (tt, (tt, ((call_below (length s.core.map.modules) s.core.calls i d p.calls may.waiting.call, tt), tt)))
 stays_in_range finished s (resolves_imports rule) may p = all_fine StaysInRange (λ t c. tt) (import_acts finished (import_state s) rule) s
 
 pub in_range-Step : {env : Environment} {finished : Maps} {old new : State} → Step env finished old new → IsInRange old → IsInRange new

@@ -176,7 +176,7 @@ module _ (tables : TablesValue) where
       subst (λ (w : WaitingItem). IsSome (item_kept w)) same (subst (λ (o : Option KeptItem). IsSome o) (sym kept) refl)
 
   none_meant : (d : MacroDirective) → waiting_item d ≡ None → (k : WaitingItem) → waiting_item d ≡ Some k → IsSome (item_kept k)
-  none_meant d none k e = absurd (let no : ⊥ = cc in no)
+  none_meant d without k e = absurd (let no : ⊥ = cc in no)
 
   derives_meant : (site : Site) (node : AstId) (attr : AttrId) (adt : AdtId) → IsMeantAt tables site → IsSome (source_of tables (node_tree node)) → (index : ℕ) (paths : List Path)
       → CallsMeant tables (derives_from site node attr adt index paths)
@@ -235,7 +235,7 @@ module _ (tables : TablesValue) where
 
   goes_on_meant : (finished : Maps) (s : State) (r : Rule) → May finished s r → Numbered tables s r → IsAllMeant tables s → AllFine GoesOnMeant (asking s r) (acts finished s r)
   goes_on_meant finished s (drops_item v report rest) may numbered p = (left s p v rest may.next, (tt, tt))
-  goes_on_meant finished s (declares_item v d rest) may numbered p = (left s p v rest may.here.next, (tt, (tt, tt)))
+  goes_on_meant finished s (declares_item v d rest) may numbered p = (left s p _ rest may.here.next, (tt, (tt, tt)))
   goes_on_meant finished s (declares_enum site head name found rest) may numbered p = (left s p _ rest may.next, (tt, (tt, (tt, tt))))
   goes_on_meant finished s (lists_constant site head rest) may numbered p = (left s p _ rest may.next, (tt, tt))
   goes_on_meant finished s (lists_impl site head of_trait rest) may numbered p = (left s p _ rest may.next, (tt, tt))
@@ -276,10 +276,10 @@ module _ (tables : TablesValue) where
   goes_on_meant finished s (drops_call i d) may numbered p = (tt, tt)
   goes_on_meant finished s (drops_reached i d makro) may numbered p = (tt, fine_bringing GoesOnMeant _ (λ t helper. tt) _ _)
   goes_on_meant finished s (derives_builtin i d makro imp) may numbered p = (tt, (tt, fine_bringing GoesOnMeant _ (λ t helper. tt) _ _))
-  goes_on_meant finished s (skips_attribute i d k item) may numbered p =
+  goes_on_meant finished s (skips_attribute i d k waited) may numbered p =
       let call : IsMeantCall tables d = call_meant s.core.calls i d p.calls may.due.waiting.call in
       (tt, ((record { tree = call.site.tree; file = call.site.file }, tt), tt))
-  goes_on_meant finished s (falls_back i d k item) may numbered p =
+  goes_on_meant finished s (falls_back i d k waited) may numbered p =
       let call : IsMeantCall tables d = call_meant s.core.calls i d p.calls may.waiting.call in
       (tt, (tt, ((record { tree = call.site.tree; file = call.site.file }, tt), tt)))
   goes_on_meant finished s (resolves_imports rule) may numbered p = all_fine GoesOnMeant (λ t c. tt) (import_acts finished (import_state s) rule) s
@@ -341,8 +341,8 @@ module _ (tables : TablesValue) where
   read_meant finished s (drops_call i d) may numbered p key h = absurd (no_key key h)
   read_meant finished s (drops_reached i d makro) may numbered p key h = absurd (no_key key h)
   read_meant finished s (derives_builtin i d makro imp) may numbered p key h = absurd (no_key key h)
-  read_meant finished s (skips_attribute i d k item) may numbered p key h = absurd (no_key key h)
-  read_meant finished s (falls_back i d k item) may numbered p key h = absurd (no_key key h)
+  read_meant finished s (skips_attribute i d k waited) may numbered p key h = absurd (no_key key h)
+  read_meant finished s (falls_back i d k waited) may numbered p key h = absurd (no_key key h)
   read_meant finished s (declares_item v d rest) may numbered p key h = absurd (no_key key h)
   read_meant finished s (declares_enum site head name found rest) may numbered p key h = subst (HasMeaning tables) (only _ key h) (next_meant tables s p _ rest may.next).tree
   read_meant finished s (lists_constant site head rest) may numbered p key h = absurd (no_key key h)
@@ -391,6 +391,7 @@ answers_stand tables grown w finished from answer kept there e =
     (record {
       kept = kept;
       config = λ krate. refl;
+      crates = refl;
       same = λ key h. looks_stand tables grown w finished key kept (asked_keys_have_meaning tables w finished from answer there e key h);
     })
     e.visited

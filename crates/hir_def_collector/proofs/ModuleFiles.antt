@@ -22,7 +22,7 @@ use Rattle.hir_def_collector.specs.Workspace.{TreeLook, Workspace, seen_of}
 use Rattle.hir_def_collector.specs.Keys.{HasMeaning, IsMeant, Look, absent_source, environment, look, macro_tree, of_tree, source_under}
 use Rattle.hir_def_collector.specs.Calls.{Expanding, IsMeantAt, IsNumberedCall, call_loc, call_style, expansion_of_call}
 use Rattle.hir_def_collector.specs.ModuleFiles.{AreAbsent, AreNumbered, AreTried, IsNumberOf, IsNumbered, LookedAt, ModuleFile, Search, Tried, file_key, file_reading, file_readings, file_tree, is_there, module_file, named_by, taken_by, tried_in}
-use Rattle.hir_def_collector.specs.Steps.{Numbered, Rule, Sees, drops_item, reaches_call, rests, expands_call, drops_call, defines_rules, defines_macro, closes_module, declares_item, declares_enum, lists_constant, lists_impl, opens_module, opens_file, drops_file, misses_file, enters_block, reaches_imports, reaches_crate, resolves_imports, keys_read}
+use Rattle.hir_def_collector.specs.Steps.{Numbered, Rule, Sees, drops_item, awaits_attribute, lists_derives, faults_derive, exports_macro, reaches_call, rests, expands_call, drops_call, drops_reached, derives_builtin, skips_attribute, falls_back, defines_rules, defines_macro, closes_module, declares_item, declares_enum, lists_constant, lists_impl, opens_module, opens_file, drops_file, misses_file, enters_block, reaches_imports, reaches_crate, resolves_imports, keys_read}
 use Rattle.hir_def_collector.specs.State.{State}
 use Rattle.hir_def_collector.proofs.Asked.{seen_tree}
 

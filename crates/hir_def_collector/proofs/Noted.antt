@@ -15,8 +15,8 @@ use Rattle.hir_scope.specs.declared.visibility.Visibility.{Visibility}
 use Rattle.hir_def_map.proofs.Grown.{kept, length-changed}
 use Rattle.hir_def_map.proofs.StaysWellFormed.{length-made}
 use Rattle.hir_def_map.specs.Declaration.{listed}
-use Rattle.hir_def_map.specs.Macros.{MacroDataValue, with_diagnostic, with_exported, with_macro_data, with_macro_def}
-use Rattle.hir_def_map.specs.State.{Local, Map, ModuleValue, changed_at, entry_of, module_at, new_module, parent_at, parent_of, pushed, pushed_module, place_at, Variants, with_enum, with_module, with_module_scope, with_scope}
+use Rattle.hir_def_map.specs.Macros.{with_diagnostic, with_exported, with_macro_data, with_macro_def}
+use Rattle.hir_def_map.specs.State.{Local, MacroDataValue, Map, ModuleValue, changed_at, entry_of, module_at, new_module, parent_at, parent_of, pushed, pushed_module, place_at, Variants, with_enum, with_module, with_module_scope, with_scope}
 use Rattle.hir_def_map.specs.declared.nameres.declaration.Declaration.{Declaration as Listing}
 use Rattle.hir_def_map.specs.declared.nameres.diagnostics.DefDiagnostic.{DefDiagnostic}
 use Rattle.hir_def_map.specs.declared.nameres.origin.ModuleOrigin.{ModuleOrigin}

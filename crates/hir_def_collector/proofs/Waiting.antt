@@ -256,6 +256,7 @@ module _ (finished : Maps) (q r : CallQueue) (c : Core) (i : ℕ) (up : IsUpToDa
     stands = λ a p e idle other waiting. stands a p e (i == p) refl idle waiting;
     shallow = λ p e idle other waiting. shallow p e (i == p) refl idle waiting;
     nowhere = λ p e idle other waiting. nowhere p e (i == p) refl idle waiting;
+    active = λ p e idle other waiting. active p e (i == p) refl idle waiting;
     unfinished = λ p below.
         ap (λ (f : List Bool). not (slice_index_or f p true)) watching.on.pass.finished
         ∙ up.unfinished p (subst (λ (f : List Bool). p < length f) watching.on.pass.finished below);

@@ -2,22 +2,18 @@
 #![tactic(auto, unfolding(crate::specs::State::core_in))]
 
 ghost use Rattle.std.specs.Prelude.{◌≡◌, ◌≢◌, ◌<◌, ◌≤◌, ℕ, true, false, ◌∷◌, [], Some, length, option_map, slice_get, slice_set, IfNone, IfOk, IfSome, OnOk};
-ghost use Rattle.hir_def_map.specs.State.{with_enum, with_module, new_id, new_module, with_declared, with_use, with_impl, with_extern_block, with_extern_crate, with_unnamed_const};
+ghost use Rattle.hir_def_map.specs.State.{with_enum, new_id, new_module, with_declared, with_use, with_impl, with_extern_block, with_extern_crate, with_unnamed_const};
 ghost use Rattle.hir_def_map.specs.WorldParts.{part_of};
-ghost use Rattle.hir_def_map.specs.Macros.{with_derive_helper, with_diagnostic, with_exported, with_macro_data, with_macro_def};
+ghost use Rattle.hir_def_map.specs.Macros.{with_diagnostic, with_macro_def};
 ghost use Rattle.hir_import_resolution.specs.Inner.State.{IsApart};
 ghost use Rattle.hir_import_resolution.specs.Rest.{IsAtRest, IsClosed, IsSound};
 ghost use Rattle.hir_import_resolution.specs.Visibilities.{visibility_in};
 ghost use Rattle.hir_call_queue.specs.Changes.{everything, nothing};
 ghost use Rattle.hir_def_collector.specs.Keys.{Environment};
-ghost use Rattle.hir_def_collector.specs.State.{at_rest, core_in, core_with_imports, counted, import_state, with_asked, with_bound, with_calls, with_exported_function, with_fate, with_imports, with_local, with_map, with_settled};
+ghost use Rattle.hir_def_collector.specs.State.{at_rest, core_in, core_with_imports, counted, import_state, with_asked, with_bound, with_calls, with_fate, with_imports, with_local, with_map, with_settled};
 ghost use Rattle.hir_def_collector.specs.ItemIds.{container_of, module_id};
 ghost use Rattle.hir_def_collector.specs.Items.{own_visibility};
-ghost use Rattle.hir_def_collector.specs.Attributes.{exports_from};
-ghost use Rattle.hir_def_collector.specs.Calls.{IsWaiting, called_macro, helpers_brought, helpers_of, is_inert_now, kept_of, macro_among, suited};
-ghost use Rattle.hir_def_collector.specs.CallMoves.{IsAttributeWaiting};
-ghost use Rattle.hir_def_collector.specs.Changes.{with_derived};
-ghost use Rattle.hir_def_collector.specs.Ended.{ended};
+ghost use Rattle.hir_def_collector.specs.Calls.{IsWaiting};
 ghost use Rattle.hir_def_collector.specs.TreeReads.{head_of};
 ghost use Rattle.hir_def_collector.specs.Imports.{crate_named, dependency_named, extern_after};
 ghost use Rattle.hir_def_collector.specs.Macros.{macros_brought, other_scope, textual_at, with_macros_used, with_textual_macro, with_textual_scope};
@@ -26,14 +22,13 @@ ghost use Rattle.hir_def_collector.specs.ModuleFiles.{file_key};
 ghost use Rattle.hir_def_collector.specs.Steps.{Steps};
 ghost use Rattle.hir_def_collector.specs.Derivation.{IsSpent, collected_view, finished_run};
 ghost use Rattle.hir_def_collector.specs.Moves.{begun};
-ghost use Rattle.hir_def_collector.specs.Waiting.{IsNoted, call_reads};
+ghost use Rattle.hir_def_collector.specs.Waiting.{IsNoted};
 
-use crate::collector::attributes::is_helper;
 use crate::collector::collected::{Asked, Collected};
 use crate::collector::diagnostics::{report_calls, report_unresolved, unresolved_crates};
 use crate::collector::exports::{ExportedFunction, censor_root};
 use crate::collector::leftovers::untaken;
-use crate::collector::macro_directive::{Fate, MacroDirective, MacroDirectiveKind};
+use crate::collector::macro_directive::{Fate, MacroDirective};
 use crate::collector::macro_use::{root_scope, use_prelude_macros, use_wanted};
 use crate::collector::preludes::prelude;
 use crate::collector::site::{ItemHead, Site};
@@ -42,26 +37,20 @@ use crate::source_database::{Dependency, Key};
 use hir_base::ast_id::{AstId, EditionedFileId, FileId, HirFileId};
 use hir_base::cfg_options::CfgOptions;
 use hir_base::ids::{
-    ConstId, Crate, EnumId, ExternBlockId, ExternCrateId, HasModule, ImplId, ItemContainerId,
-    MapId, ModuleDefId, ModuleId, UseId,
+    ConstId, Crate, EnumId, ExternBlockId, ExternCrateId, ImplId, ItemContainerId, MapId,
+    ModuleDefId, ModuleId, UseId,
 };
-use hir_base::macro_kind::{BuiltinDeriveImplId, MacroId, ProcMacroId};
+use hir_base::macro_kind::MacroId;
 use hir_base::name::Name;
 use hir_call_queue::Changed;
 use hir_crate_graph::crate_set::CrateSet;
-use hir_def_map::def_maps::DefMaps;
 use hir_def_map::nameres::DefMap;
 use hir_def_map::nameres::crate_data::DefMapCrateData;
-use hir_def_map::nameres::derive_helpers::DeriveHelper;
 use hir_def_map::nameres::diagnostics::DefDiagnostic;
 use hir_def_map::nameres::enum_variants::EnumVariants;
 use hir_def_map::nameres::local_def_map::LocalDefMap;
-use hir_def_map::nameres::macro_data::MacroData;
 use hir_def_map::nameres::module_data::ModuleData;
 use hir_def_map::nameres::origin::ModuleOrigin;
-use hir_def_map::nameres::path_resolution::query::Query;
-use hir_def_map::nameres::path_resolution::slots::PathSlots;
-use hir_def_map::nameres::path_resolution::{BuiltinShadowMode, ResolveMode};
 use hir_def_map::world::part::WorldPart;
 use hir_glob_imports::GlobImports;
 use hir_import_resolution::answers::visibility;
@@ -78,6 +67,8 @@ use hir_scope::visibility::Visibility;
 use std::alloc::{AllocError, Global};
 use std::marker::Model;
 use std::rc::Rc;
+
+mod waiting;
 
 /// Where a run stands, what it has still to visit aside.
 #[derive(Drop)]
@@ -145,16 +136,6 @@ fn dependency_named(dependencies: &[Dependency], name: &Name) -> Option<Crate>
     None
 }
 
-/// The macro among what a path reaches.
-fn macro_among(items: PerNs) -> Option<MacroId>
-    ensures value { result ≡ macro_among items }
-{
-    match items.macros {
-        Some(item) => Some(item.def),
-        None => None,
-    }
-}
-
 /// This becomes of the call at the place.
 fn end(fates: &mut Vec<Fate>, i: usize, fate: Fate)
     ensures value { fates.new.items ≡ slice_set fates.old.items i fate }
@@ -162,14 +143,6 @@ fn end(fates: &mut Vec<Fate>, i: usize, fate: Fate)
     if i < fates.len() {
         fates[i] = fate;
     }
-}
-
-/// A macro, if it will do for what asks for one.
-fn suited(call: &MacroDirective, found: Option<MacroId>) -> Option<MacroId>
-    ensures value { result ≡ suited call.now.kind found }
-{
-    let makro = found?;
-    if call.suits(makro) { Some(makro) } else { None }
 }
 
 /// What may have changed once steps were counted: anything, where any was.
@@ -348,56 +321,6 @@ impl DefCollector {
         ensures noted { OnOk result (IsNoted self.old self.new) }
     {
         self.map.add_macro_def(node, makro)?;
-        Ok(())
-    }
-
-    /// Keeps the name of a macro, and the attributes that deriving with it brings into scope.
-    pub fn describe_macro(&mut self, makro: MacroId, what: MacroData) -> Result<(), AllocError>
-        ensures ok { OnOk result (core_in self.new ≡ with_map (core_in self.old) (with_macro_data (core_in self.old).map makro what)) }
-        ensures noted { OnOk result (IsNoted self.old self.new) }
-    {
-        self.map.add_macro_data(makro, what)?;
-        Ok(())
-    }
-
-    /// Whether functions of a module export macros: those of the root of a procedural-macro crate.
-    pub fn exports_from(&self, home: u32) -> bool
-        ensures value { result ≡ exports_from (core_in self.now).is_proc_macro (core_in self.now).map home }
-    {
-        self.is_proc_macro && self.map.id().block.is_none() && home == 0
-    }
-
-    /// Notes a function that exports a macro.
-    pub fn export(
-        &mut self,
-        function: ExportedFunction,
-        makro: ProcMacroId,
-    ) -> Result<(), AllocError>
-        ensures ok { OnOk result (core_in self.new ≡ with_exported_function (with_map (core_in self.old) (with_exported (core_in self.old).map function.id makro)) function) }
-        ensures noted { OnOk result (IsNoted self.old self.new) }
-    {
-        self.map.export_proc_macro(function.id, makro)?;
-        self.exported.push(function)?;
-        Ok(())
-    }
-
-    /// Brings a helper of a derive into scope on an item.
-    pub fn help(&mut self, node: AstId, helper: DeriveHelper) -> Result<(), AllocError>
-        ensures ok { OnOk result (core_in self.new ≡ with_map (core_in self.old) (with_derive_helper (core_in self.old).map node helper)) }
-        ensures noted { OnOk result (IsNoted self.old self.new) }
-    {
-        self.map.add_derive_helper(node, helper)?;
-        self.changed.add_everything();
-        Ok(())
-    }
-
-    /// Lists the impl that a builtin derive macro stands for in a module.
-    pub fn list_derived(&mut self, home: u32, imp: BuiltinDeriveImplId) -> Result<(), AllocError>
-        requires in_range { home < length (core_in self.old).map.modules }
-        ensures ok { OnOk result (core_in self.new ≡ with_map (core_in self.old) (with_derived (core_in self.old).map home imp)) }
-        ensures noted { OnOk result (IsNoted self.old self.new) }
-    {
-        self.map.scope_mut(home).define_builtin_derive_impl(imp)?;
         Ok(())
     }
 
@@ -648,68 +571,6 @@ impl DefCollector {
         ensures value { result ≡ length (core_in self.now).calls }
     {
         self.calls.len()
-    }
-
-    /// Whether what waits at the place is an attribute.
-    pub fn is_attribute_waiting(&self, i: usize) -> bool
-        ensures waits { result ≡ true → IsAttributeWaiting (core_in self.now) i }
-        ensures none { result ≡ false → ¬ IsAttributeWaiting (core_in self.now) i }
-    {
-        match self.waiting(i) {
-            Some(call) => call.waiting_item().is_some(),
-            None => false,
-        }
-    }
-
-    /// The macro that a call, a path of a derive or an attribute reaches.
-    pub fn called_macro(&self, world: WorldPart<'_>, call: &MacroDirective) -> Option<MacroId>
-        ensures value { result ≡ called_macro (part_of world.entry) (core_in self.now).local (core_in self.now).map call.now }
-    {
-        let query = Query {
-            maps: DefMaps::new(world, &self.map),
-            local: Some(&self.local),
-            mode: ResolveMode::Other,
-            shadow: BuiltinShadowMode::Module,
-            sub_ns: Some(call.sub_ns()),
-        };
-        let path = call.path();
-        let answer = query.resolve(self.module_id(call.site.home), path.kind(), path.segments());
-        suited(call, macro_among(answer.resolved_def))
-    }
-
-    /// Whether what waits is an attribute, and inert by now: a helper.
-    pub fn is_inert_now(&self, call: &MacroDirective) -> bool
-        ensures value { result ≡ is_inert_now (core_in self.now).map call.now }
-    {
-        match &call.kind {
-            MacroDirectiveKind::Attr { path, .. } => is_helper(&self.map, call.ast_id, path),
-            MacroDirectiveKind::FnLike { .. } | MacroDirectiveKind::Derive { .. } => false,
-        }
-    }
-
-    /// What is kept of a macro in its map.
-    pub fn kept_of<'a>(&'a self, world: WorldPart<'a>, makro: MacroId) -> Option<&'a MacroData>
-        ensures value { option_map (λ what. what.now) result ≡ kept_of (part_of world.entry) (core_in self.now).map makro }
-    {
-        let maps = DefMaps::new(world, &self.map);
-        match maps.map(makro.module().map) {
-            Some(map) => map.macro_data(makro),
-            None => None,
-        }
-    }
-
-    /// The slots that the path of a call reads.
-    pub fn call_slots<'a>(&'a self, world: WorldPart<'a>, call: &'a MacroDirective) -> PathSlots<'a>
-        ensures value { result ≡ call_reads (part_of world.entry) (core_in self.now).local (core_in self.now).map call.now }
-    {
-        DefMaps::new(world, &self.map).path_slots(
-            Some(&self.local),
-            ResolveMode::Other,
-            self.module_id(call.site.home),
-            call.path(),
-            BuiltinShadowMode::Module,
-            Some(call.sub_ns()),
-        )
     }
 
     /// What may have changed since calls were tried.
