@@ -180,6 +180,13 @@ module _ (tables : TablesValue) (v : Workspace) (before : Maps) (from : Beginnin
   keys_are : answer.asked ≡ c.asked ++ map_keys transitive
   keys_are = ap (λ (a : CollectedValue). a.asked) is
 
+  ended_id : (core : Core) → (ended core).id ≡ core.map.id
+  ended_id core = go core.is_proc_macro
+    where
+      go : (b : Bool) → (cond b (with_scope core.map 0 (exporting_scope core.map.id.krate core.exported)) core.map).id ≡ core.map.id
+      go true = refl
+      go false = refl
+
   ended_data : (core : Core) → (ended core).crate_data ≡ core.map.crate_data
   ended_data core = go core.is_proc_macro
     where
@@ -287,7 +294,7 @@ module _ (tables : TablesValue) (v : Workspace) (before : Maps) (from : Beginnin
           nowhere = λ whole i. subst (λ (maps : Maps). LeadsNowhere maps last i) (sym reads_same) (rests.nowhere (sym limited_is ∙ whole) i);
           unwaiting = λ whole. rests.unwaiting (sym limited_is ∙ whole);
           limited = λ cut. many_over (rests.many (sym limited_is ∙ cut));
-          own = ap (λ (a : CollectedValue). a.map.id) is ∙ id-Steps steps;
+          own = ap (λ (a : CollectedValue). a.map.id) is ∙ ended_id c ∙ id-Steps steps;
           map_is = ap (λ (a : CollectedValue). a.map) is;
           local_is = ap (λ (a : CollectedValue). a.local) is;
           leftover_is = ap (λ (a : CollectedValue). a.leftover) is;

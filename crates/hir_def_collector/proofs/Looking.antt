@@ -22,7 +22,9 @@ use Rattle.hir_def_collector.specs.declared.collector.macro_directive.MacroDirec
 use Rattle.hir_def_collector.specs.declared.source_database.Key.{Key}
 use Rattle.hir_def_collector.specs.declared.source_database.Key.TheVariants as keys
 use Rattle.hir_def_collector.specs.CallMoves.{SeesCall}
-use Rattle.hir_def_collector.specs.Calls.{AreCallsPlaced, Expanding, IsMeantCall, IsPlacedBelow, IsNumberedCall, IsTextOf, call_key, call_loc, call_style, call_tree, called_text, expansion_of_call, expansion_readings, text_readings}
+use Rattle.hir_def_collector.specs.declared.collector.macro_directive.MacroDirectiveKind.{MacroDirectiveKind}
+use Rattle.hir_def_collector.specs.declared.collector.macro_directive.MacroDirectiveKind.TheVariants.{Attr, Derive, FnLike}
+use Rattle.hir_def_collector.specs.Calls.{AreCallsPlaced, Expanding, IsMeantCall, IsPlacedBelow, IsNumberedCall, IsTextOf, call_key, call_loc, call_style, call_tree, called_text, expansion_of_call, expansion_readings, kind_by, text_readings}
 use Rattle.hir_def_collector.specs.Keys.{Environment, IsMeant, entry_under, environment, input_at, node_tree, of_entry, of_input, of_text, of_tree, source_in, text_at}
 use Rattle.hir_def_collector.specs.ModuleFiles.{Reading}
 use Rattle.hir_def_collector.specs.Moves.{OnceGrown}
@@ -147,6 +149,12 @@ within_calls tables node c there file block =
     (subst (λ (o : Option SourcePlaceValue). IsSome o) (ap (λ (id : HirFileId). source_under_file tables id node.block) file ∙ ap (λ (b : Option BlockId). source_under_file tables (Macro c) b) block) there)
 
 -- where an expansion gets a number, and then a call in a source that has one, each call is placed still
+-- the node of a call, of a derive or of an attribute is that on which it is
+node_by_kind : (node : AstId) (kind : MacroDirectiveKind) → call_node (kind_by node kind) ≡ node
+node_by_kind node (FnLike path) = refl
+node_by_kind node (Derive path attr index adt) = refl
+node_by_kind node (Attr path attr item) = refl
+
 pub placed_call : (first second tables : TablesValue) (d : MacroDirective) (entry : EntryId) → KeepsTables first second → KeepsTables second tables → second ≡ record first { entries = second.entries }
     → tables ≡ record second { calls = tables.calls } → Interns second.calls tables.calls (call_loc d entry) → IsSome (source_of first (node_tree d.ast_id)) → AreCallsPlaced first → AreCallsPlaced tables
 placed_call first second tables d entry before after entries calls interns there placed = record {
@@ -174,6 +182,6 @@ placed_call first second tables d entry before after entries calls interns there
     go : Interns second.calls tables.calls (call_loc d entry) → (n : ℕ) (loc : MacroCallLoc) → slice_get tables.calls n ≡ Some loc → IsPlacedBelow tables n (call_node loc.kind)
     go (had_number known same) n loc e = earlier n loc (ap (λ (ls : List MacroCallLoc). slice_get ls n) (sym same) ∙ e)
     go (gets_next fresh same) n loc e = elim (last_or_before n loc (ap (λ (ls : List MacroCallLoc). slice_get ls n) (sym same) ∙ e)) [
-      | inl p ↦ subst (λ (l : MacroCallLoc). IsPlacedBelow tables n (call_node l.kind)) p.1 (here n p.0)
+      | inl p ↦ subst (λ (l : MacroCallLoc). IsPlacedBelow tables n (call_node l.kind)) p.1 (subst (λ (node : AstId). IsPlacedBelow tables n node) (sym (node_by_kind d.ast_id d.kind)) (here n p.0))
       | inr old ↦ earlier n loc old
     ]

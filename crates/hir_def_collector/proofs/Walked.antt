@@ -336,13 +336,13 @@ pub block_here : (items : List KeptItem) (h : Head) (item : ModItemKind) (b : Ex
 block_here items h item b e = subst (λ (it : ModItemKind). is_outline (item_of items h (kind_content it)) ≡ false) (sym e) refl
 
 pub far_item : (env : Environment) (finished : Maps) (site : Site) (items : List KeptItem) (h : Head) (item : ModItemKind) (old : Core) → is_enabled h.attributes ≡ true
-    → is_outline (item_of items h (kind_content item)) ≡ false → IsFull old.count old.map → WalksTooFar env finished old (visits (visit site (item_of items h (kind_content item))) ∷ [])
+    → is_outline (item_of items h (kind_content item)) ≡ false → IsFull old.count old.map → HandlesTooFar env finished old (visit site (item_of items h (kind_content item)))
 far_item env finished site items h item old on here full =
     far_here site (item_of items h (kind_content item)) old (ap (λ (g : Head). is_enabled g.attributes) (head_same items h (kind_content item)) ∙ on) here full
 
 -- an item of a tree that is disabled
-module _ (site : Site) (tree : Tree) (n : ℕ) (h : Head) (item : ModItemKind) (condition : Cfg)
-    (is : visits_at tree site (n ∷ []) ≡ visits (visit site (item_of (all_items tree.items) h (kind_content item))) ∷ []) (off : h.attributes.disabled ≡ Some condition) where
+module _ (site : Site) (tree : Tree) (n done : ℕ) (h : Head) (item : ModItemKind) (condition : Cfg)
+    (is : visits_behind tree site n done ≡ visits (behind (visit site (item_of (all_items tree.items) h (kind_content item))) done) ∷ []) (off : h.attributes.disabled ≡ Some condition) where
   abbrev i : KeptItem
   i = item_of (all_items tree.items) h (kind_content item)
 
@@ -356,15 +356,15 @@ module _ (site : Site) (tree : Tree) (n : ℕ) (h : Head) (item : ModItemKind) (
       (subst (λ (g : Head). IsUnconfigured (module_id old.map site.home) (node_of site.tree (kind_of item) g.id) condition old.options d) (sym (head_same (all_items tree.items) h (kind_content item))) r)
 
   pub dropped_at : (env : Environment) (finished : Maps) (old new : Core) → Drops (IsUnconfigured (module_id old.map site.home) (node_of site.tree (kind_of item) h.id) condition old.options) old new
-      → Walks env finished old new (visits_at tree site (n ∷ []))
+      → Walks env finished old new (visits_behind tree site n done)
   dropped_at env finished old new drops =
       subst (λ (vs : List Task). Walks env finished old new vs) (sym is)
-      (dropped site i condition old new off_there (record { report = drops.report; is_such = reported_there old drops.report drops.is_such; is = drops.is }))
+      (dropped site i done condition old new off_there (record { report = drops.report; is_such = reported_there old drops.report drops.is_such; is = drops.is }))
 
   pub far_at : (env : Environment) (finished : Maps) (old : Core) (d : DefDiagnostic) → IsUnconfigured (module_id old.map site.home) (node_of site.tree (kind_of item) h.id) condition old.options d
-      → IsFull old.count old.map → WalksTooFar env finished old (visits_at tree site (n ∷ []))
+      → IsFull old.count old.map → WalksTooFar env finished old (visits_behind tree site n done)
   far_at env finished old d r full =
-      subst (λ (vs : List Task). WalksTooFar env finished old vs) (sym is) (far_off site i condition d old off_there (reported_there old d r) full)
+      subst (λ (vs : List Task). WalksTooFar env finished old vs) (sym is) (far_off site i done condition d old off_there (reported_there old d r) full)
 
 -- ---- the start
 
