@@ -148,13 +148,13 @@ within_calls tables node c there file block =
     no_call c (call_at tables c) tables refl
     (subst (λ (o : Option SourcePlaceValue). IsSome o) (ap (λ (id : HirFileId). source_under_file tables id node.block) file ∙ ap (λ (b : Option BlockId). source_under_file tables (Macro c) b) block) there)
 
--- where an expansion gets a number, and then a call in a source that has one, each call is placed still
 -- the node of a call, of a derive or of an attribute is that on which it is
 node_by_kind : (node : AstId) (kind : MacroDirectiveKind) → call_node (kind_by node kind) ≡ node
 node_by_kind node (FnLike path) = refl
 node_by_kind node (Derive path attr index adt) = refl
 node_by_kind node (Attr path attr item) = refl
 
+-- where an expansion gets a number, and then a call in a source that has one, each call is placed still
 pub placed_call : (first second tables : TablesValue) (d : MacroDirective) (entry : EntryId) → KeepsTables first second → KeepsTables second tables → second ≡ record first { entries = second.entries }
     → tables ≡ record second { calls = tables.calls } → Interns second.calls tables.calls (call_loc d entry) → IsSome (source_of first (node_tree d.ast_id)) → AreCallsPlaced first → AreCallsPlaced tables
 placed_call first second tables d entry before after entries calls interns there placed = record {

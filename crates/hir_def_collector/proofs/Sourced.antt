@@ -3,7 +3,7 @@ use Rattle.std.specs.Prelude.{◌≡◌, ◌==◌, ◌&&◌, ◌||◌, ℕ, ◌<
 use Rattle.std.specs.List.{list_any}
 use Rattle.std.specs.Cmp.Lexicographic.{pointwise}
 use Rattle.std.specs.Prelude.{nat_eq}
-use Rattle.std.proofs.Common.{Contains, suc, refl, subst, sym, arith}
+use Rattle.std.proofs.Common.{◌+◌, Contains, suc, refl, subst, sym, arith}
 use Rattle.std.proofs.lemmas.List.Elements.{Contains-append_left, Contains-append_right}
 use mathlib.Core.Bool.{true≢false}
 use Rattle.hir_base.specs.ModPath.{Path}
@@ -94,7 +94,7 @@ use Rattle.hir_def_collector.specs.Ended.{ended}
 use Rattle.hir_def_collector.specs.Calls.{Expanding, call_key, call_site, error_of, expansion_readings, text_readings}
 use Rattle.hir_def_collector.specs.Sources.{IsClearOf}
 use Rattle.hir_def_collector.specs.Start.{Beginning, begin_of, krate_of, origin_of, read_by, root_key, root_map, root_site, root_tree, start_data, start_of, tree_key}
-use Rattle.hir_def_collector.specs.State.{State, Task, Visit, visits, import_state, visits_over}
+use Rattle.hir_def_collector.specs.State.{State, Task, Visit, visits, import_state, visits_over, behind}
 use Rattle.hir_def_collector.specs.Changes.{Change, lists, makes, gives_variants, begins_paths, reaches, awaits, ends, settles, changes_imports, adds_textual, takes_textual, defines, describes, helps, lists_derive, exports, uses_macros, tells, goes_on, act, on_map}
 use Rattle.hir_def_collector.specs.Steps.{Rule, drops_item, awaits_attribute, lists_derives, faults_derive, exports_macro, reaches_call, rests, expands_call, drops_call, drops_reached, derives_builtin, skips_attribute, falls_back, defines_rules, defines_macro, closes_module, visits_in_file, declares_item, declares_enum, lists_constant, lists_impl, opens_module, opens_file, drops_file, misses_file, enters_block, reaches_imports, reaches_crate, resolves_imports, May, behind, derives_from, visit, acts, asking, keys_read, making, path_of, reads, visits_inside, Step, Steps, none, more, inside_block, inside_file, inside_module}
 use Rattle.hir_def_collector.specs.Whole.{StandsOnWhole}
@@ -514,7 +514,7 @@ module _ (t : SourceTest) where
           → AllFine BringsNone (asking s r) (acts finished s r)
       brings_none (drops_item v report rest) may read = (left v rest may.next, (tt, tt))
       brings_none (declares_item v d rest) may read =
-          (left v rest may.here.next, (tt, (((declares v d (low v rest may.here.next) (file v rest may.here.next) may.declares, refl), tt), tt)))
+          (left (behind v may.here.done) rest may.here.next, (tt, (((declares v d (low (behind v may.here.done) rest may.here.next) (file (behind v may.here.done) rest may.here.next) may.declares, refl), tt), tt)))
       brings_none (declares_enum site head name found rest) may read =
           let id : EnumId = enum_id s.core.map site head.id in
           let bare = bare_type (definitions.AdtId (adts.EnumId id)) (own_visibility finished s.core.local s.core.map site head) (file _ rest may.next) (written site.home (low _ rest may.next) head.visibility) in

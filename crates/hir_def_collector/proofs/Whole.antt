@@ -76,7 +76,7 @@ use Rattle.hir_def_collector.specs.declared.source_database.Dependency.{Dependen
 use Rattle.hir_def_collector.specs.Workspace.{Workspace, dependencies_in, transitive_dependencies_in}
 use Rattle.hir_tables.specs.Tables.{TablesValue}
 use Rattle.hir_def_collector.specs.Keys.{Environment, environment}
-use Rattle.hir_def_collector.specs.State.{State, Visit, import_state, Task, visits}
+use Rattle.hir_def_collector.specs.State.{State, Visit, import_state, Task, visits, behind}
 use Rattle.hir_def_collector.specs.ItemIds.{enum_id, extern_crate_id, function_id, macro_rules_id, module_id, use_id, macro_def_id, node_of}
 use Rattle.hir_def_collector.specs.Items.{declaration_of, declared_module, declared_type, file_origin, inline_origin, own_visibility}
 use Rattle.hir_import_resolution.specs.Visibilities.{visibility_in, greater_in}
@@ -454,7 +454,7 @@ module _ (paths : PathsLeadToWhatIsThere) (finished : Maps) (whole : AreWellForm
     brings_what_is_there : (r : Rule) → May finished s r → AllFine (BringsWhatIsThere finished) (asking s r) (acts finished s r)
     brings_what_is_there (drops_item v report rest) may = (tt, (tt, tt))
     brings_what_is_there (declares_item v d rest) may =
-        (tt, (tt, ((item_there v d (low_next v rest may.here.next) may.declares, tt), tt)))
+        (tt, (tt, ((item_there v d (low_next (behind v may.here.done) rest may.here.next) may.declares, tt), tt)))
     brings_what_is_there (declares_enum site head name found rest) may =
         (tt, (own_variants (enum_id here site head.id) found, (tt, ((enumeration_there site head (variants_of (enum_id here site head.id) found) (low_next _ rest may.next), tt), tt))))
     brings_what_is_there (lists_constant site head rest) may = (tt, (tt, tt))
