@@ -575,9 +575,8 @@ module _ (t : SourceTest) where
       brings_none (exports_macro site head name d e rest) may read =
           let next = may.here.next in
           let own : t.holder site.tree.file site.tree.block ≡ false = file _ rest next in
-          let bare_one = ((declares (visit site (leaf head (function name))) d (low _ rest next) own may.declares, refl), tt) in
           let bare_two = bare_macro (macros.ProcMacroId (proc_macro_id s.core.map site head.id e.style)) visibilities.Public own refl in
-          (left _ rest next, (tt, (tt, (tt, (bare_one, (tt, (bare_two, tt)))))))
+          (left _ rest next, (tt, (tt, (tt, (((declares (visit site (leaf head (function name))) d (low _ rest next) own may.declares, refl), tt), (tt, (bare_two, tt)))))))
       brings_none (reaches_call site head path rest) may read = (left _ rest may.next, (neither (t.holder site.tree.file site.tree.block) false (file _ rest may.next) refl, tt))
       brings_none rests may read = (tt, tt)
       brings_none (expands_call i d makro x) may read =
