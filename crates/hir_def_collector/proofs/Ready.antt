@@ -10,7 +10,7 @@ use Rattle.hir_scope.specs.Scope.{ScopeValue}
 use Rattle.hir_scope.specs.declared.visibility.Visibility.TheVariants as visibilities
 use Rattle.hir_def_map.specs.Macros.{with_derive_helper, with_diagnostic, with_exported, with_macro_data, with_macro_def}
 use Rattle.hir_def_map.specs.Overlay.{Maps}
-use Rattle.hir_def_map.specs.State.{IsBefore, IsInOrder, Map, ModuleValue, entry_at, module_at, new_module, with_enum}
+use Rattle.hir_def_map.specs.State.{IsInOrder, Map, entry_at, module_at, new_module, with_enum}
 use Rattle.hir_glob_imports.specs.Waves.{Stands}
 use Rattle.hir_glob_imports.specs.declared.edge.Brought.{Brought}
 use Rattle.hir_glob_imports.specs.declared.edge.Key.{Key as SlotKey}

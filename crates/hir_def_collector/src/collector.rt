@@ -205,9 +205,9 @@ impl From<ImportError> for CollectError {
 
 /// Finds what the names of a crate's modules stand for, beside the finished maps of the crates on which it depends.
 ///
-/// `tree` is the tree of the crate's root file, and `local` is of no use to a crate. A file that is looked for, found or
-/// not, gets a number in `locations`, and so does a macro call that reaches a macro, with its expansion. After
-/// rust-analyzer's `collect_defs`.
+/// `tree` is the tree of the crate's root file; where its number means nothing, nothing is declared. `local` is of no use
+/// to a crate. A file that is looked for, found or not, gets a number in `locations`, and so does a macro call that reaches
+/// a macro, with its expansion. After rust-analyzer's `collect_defs`.
 pub fn collect_defs<D: SourceDatabase>(
     alloc: Global,
     db: &mut D,

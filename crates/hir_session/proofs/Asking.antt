@@ -1,5 +1,5 @@
 -- For which sources the runs of places asked.
-use Rattle.std.proofs.Common.{◌≡◌, ◌≢◌, ◌⊎◌, ◌∙◌, ap, sym, subst, refl, ℕ, zero, suc, ◌<◌, true, false, Option, Some, None, List, [], ◌∷◌, inl, inr, arith, Contains}
+use Rattle.std.proofs.Common.{◌≡◌, ◌≢◌, ◌⊎◌, ◌∙◌, ap, sym, subst, zero, suc, ◌<◌, true, false, Option, Some, None, List, [], ◌∷◌, inl, inr, arith, Contains}
 use Rattle.std.specs.Prelude.{is_none}
 use Rattle.std.proofs.lemmas.List.Elements.{Contains-append_cases}
 use Rattle.hir_base.specs.declared.ids.Crate.{Crate}
@@ -10,8 +10,8 @@ use Rattle.hir_def_collector.specs.Growth.{AskedKeysHaveMeaning}
 use Rattle.hir_def_collector.specs.Keys.{HasMeaning, map_keys}
 use Rattle.hir_def_collector.specs.declared.source_database.Key.{Key}
 use Rattle.hir_session.specs.Askers.{is_asker, AreNoted, KeepsAskers}
-use Rattle.hir_session.specs.Kept.{Resolutions, kept_in, AreForgotten}
-use Rattle.hir_session.specs.SessionState.{SessionState, Resolution, IsSound, workspace_of, finished_of, beginning_of, is_marked, kept_of}
+use Rattle.hir_session.specs.Kept.{Resolutions, kept_in}
+use Rattle.hir_session.specs.SessionState.{SessionState, Resolution, IsSound, workspace_of, finished_of, beginning_of, is_marked}
 use Rattle.hir_session.specs.SourceNumbers.{asked_number}
 use Rattle.hir_session.specs.declared.askers.Askers.{Askers}
 use Rattle.hir_session.specs.declared.source_number.SourceNumber.{SourceNumber}

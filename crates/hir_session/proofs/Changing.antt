@@ -1,7 +1,7 @@
 -- How one source changes, and what is kept of it then.
-use Rattle.std.proofs.Common.{◌≡◌, ◌∙◌, ap, sym, nat_eq, Bool, true, cond, List, Option, Some, None, option_map}
+use Rattle.std.proofs.Common.{◌≡◌, ◌∙◌, ap, sym, nat_eq, Bool, true, cond, List, Option, Some, option_map}
 use Rattle.std.proofs.lemmas.Bool.{eqb-true}
-use Rattle.std.specs.BTreeMap.{BTreeMap, get, is_at, IsEmpty}
+use Rattle.std.specs.BTreeMap.{get, is_at, IsEmpty}
 use Rattle.std.specs.Map.{lookup}
 use Rattle.std.specs.declared.alloc.Global.{Global}
 use Rattle.std.specs.declared.rc.Rc.{Rc}
@@ -14,7 +14,7 @@ use Rattle.hir_tables.specs.SourcePlaces.{SourcePlaceValue}
 use Rattle.std.specs.Cmp.{unsigned_Decides}
 use Rattle.hir_session.specs.Crates.{CrateValue}
 use Rattle.hir_session.specs.SourceTable.{tree_under}
-use Rattle.hir_session.specs.SourceTrees.{CrateTrees, tree_by, AreTreesOf}
+use Rattle.hir_session.specs.SourceTrees.{CrateTrees, AreTreesOf}
 use Rattle.hir_session.proofs.Truth.{on_bool}
 
 -- ---- what is kept

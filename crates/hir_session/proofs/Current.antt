@@ -1,5 +1,5 @@
 -- What is kept of sources stays what they have.
-use Rattle.std.proofs.Common.{◌≡◌, ◌∙◌, ap, sym, subst, refl, nat_eq, Bool, true, false, ◌&&◌, cond, if◌then◌else◌, List, Option, Some, None}
+use Rattle.std.proofs.Common.{◌≡◌, ◌∙◌, ap, sym, subst, refl, nat_eq, Bool, true, false, ◌&&◌, if◌then◌else◌, List, Option, Some, None}
 use Rattle.std.specs.BTreeMap.{is_at}
 use Rattle.std.specs.Cmp.Lexicographic.{slice_cmp}
 use Rattle.std.specs.Cmp.{first_so, second_so}
@@ -14,7 +14,7 @@ use Rattle.hir_session.specs.declared.source_trees.SourceTrees.{SourceTrees}
 use Rattle.hir_session.specs.Crates.{CrateValue}
 use Rattle.hir_session.specs.Entries.{expansion_cmp}
 use Rattle.hir_session.specs.SourceEdits.{SourceEditValue, edited, place_of, source_by}
-use Rattle.hir_session.specs.SourceTable.{SourceTable, source_at, tree_under, workspace_in}
+use Rattle.hir_session.specs.SourceTable.{SourceTable, tree_under, workspace_in}
 use Rattle.hir_session.specs.SourceTrees.{CrateTrees, AreCurrent, AreTreesOf, is_kept_at, is_place, tree_by, tree_in}
 use Rattle.hir_session.proofs.Changing.{equal_crate, same_crate}
 use Rattle.hir_session.proofs.Expansions.{exact_expansions}

@@ -3,7 +3,6 @@ use Rattle.std.specs.Prelude.{is_none, is_some, if◌then◌else◌}
 use Rattle.std.proofs.Common.{◌≡◌, ◌⊎◌, inl, inr, ℕ, nat_lt, false, List, [], length, Option, None, Some, Result, Ok, option_map, refl, sym, subst, ap, ◌∙◌, Contains}
 use Rattle.hir_base.specs.ModPath.{Path}
 use Rattle.hir_base.specs.Place.{PlaceValue}
-use Rattle.hir_base.specs.declared.ids.Crate.{Crate}
 use Rattle.hir_base.specs.declared.ids.MapId.{MapId}
 use Rattle.hir_base.specs.declared.ids.ModuleId.{ModuleId}
 use Rattle.hir_tables.specs.Tables.{KeepsTables, TablesValue}
@@ -12,7 +11,7 @@ use Rattle.hir_def_map.specs.WorldParts.{among, unheld}
 use Rattle.hir_def_map.specs.Inner.PartLaws.{among_agrees}
 use Rattle.hir_def_map.specs.Closed.{PathsLeadToWhatIsThere}
 use Rattle.hir_def_map.specs.Sources.{PathsAnswerFromSources}
-use Rattle.hir_def_map.specs.Overlay.{Maps, Placed, overlay, no_maps}
+use Rattle.hir_def_map.specs.Overlay.{Maps, overlay, no_maps}
 use Rattle.hir_def_map.specs.State.{crate_map, root_of}
 use Rattle.hir_def_collector.specs.Workspace.{Workspace}
 use Rattle.hir_def_collector.specs.Keys.{look}

@@ -1,4 +1,4 @@
-use Rattle.std.proofs.Common.{append_assoc, append-nil, ◌≡◌, ◌≢◌, ℕ, zero, suc, ◌+◌, ◌<◌, ◌≤◌, Bool, true, false, ◌&&◌, not, nat_eq, eq-eqb, cond, filter, List, [], ◌∷◌, length, arith, below_more, refl, sym, subst, ◌∙◌, ap, ◌++◌, Option, Some, None, map, Result, Ok, Err, IsErrAnd}
+use Rattle.std.proofs.Common.{append_assoc, append-nil, ◌≡◌, ◌≢◌, ℕ, zero, suc, ◌+◌, ◌<◌, ◌≤◌, Bool, true, false, ◌&&◌, not, nat_eq, eq-eqb, cond, filter, List, [], ◌∷◌, length, arith, below_more, refl, sym, subst, ◌∙◌, ap, ◌++◌, Option, map, Result, Ok, Err, IsErrAnd}
 use Rattle.std.specs.Prelude.{is_none}
 use Rattle.std.proofs.lemmas.Bool.{eqb-true}
 use Rattle.hir_base.specs.Place.{PlaceValue}

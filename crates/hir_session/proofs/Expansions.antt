@@ -1,8 +1,8 @@
 -- What expansions depend on: the order of it is exact, and that of keys as they are stored.
-use Rattle.std.proofs.Common.{◌≡◌, ℕ, Bool, true, false, ◌&&◌, List, [], ◌∷◌, Ordering, Equal, refl, sym, ap, ap₂, ◌∙◌, subst}
+use Rattle.std.proofs.Common.{◌≡◌, true, false, ◌&&◌, List, [], ◌∷◌, Ordering, refl, sym, ap, ap₂, ◌∙◌}
 use Rattle.std.specs.Cmp.{IsTotalOrder, on_total, then_total, tied_itself, both_tied, first_so, second_so, unsigned_Decides}
 use Rattle.std.specs.Cmp.Lexicographic.{lists_ties, lists_total, nat_list_cmp_total, pointwise, slice_cmp, bytes_decides, texts_ties}
-use Rattle.std.specs.Ordering.{eq_by_cmp, is_eq, nat_cmp, on, then_cmp}
+use Rattle.std.specs.Ordering.{is_eq, nat_cmp, on, then_cmp}
 use Rattle.std.specs.BTreeMap.{is_at}
 use mathlib.Core.Bool.{true≢false}
 use Rattle.hir_base.specs.contracts.ids.CrateOrd.TheImpl as crate_order
@@ -14,7 +14,6 @@ use Rattle.hir_base.specs.contracts.macro_kind.ExpansionKeyOrd.TheImpl as key_or
 use Rattle.hir_base.specs.contracts.macro_kind.MacroTextOrd.TheImpl as text_order
 use Rattle.hir_base.specs.contracts.macro_kind.MacroTextOrd.TheImpl.Laws.{total-law as macros_total, matches_eq-law as macros_tie}
 use Rattle.hir_base.specs.contracts.macro_kind.MacroTextPartialEq.TheImpl as text_eq
-use Rattle.hir_base.specs.declared.ids.Crate.{Crate}
 use Rattle.hir_base.specs.declared.macro_kind.CallStyle.{CallStyle}
 use Rattle.hir_base.specs.declared.macro_kind.CallStyle.TheVariants as style
 use Rattle.hir_base.specs.declared.macro_kind.ExpansionKey.{ExpansionKey}

@@ -1,6 +1,6 @@
 -- The maps that a place follows are those of the crates on which its crate depends.
 use Rattle.std.specs.Prelude.{map}
-use Rattle.std.proofs.Common.{◌≡◌, ℕ, zero, suc, ◌<◌, false, List, [], ◌∷◌, length, arith, refl, ap, subst, sym, Contains}
+use Rattle.std.proofs.Common.{◌≡◌, ℕ, zero, suc, ◌<◌, false, List, [], ◌∷◌, length, arith, refl, ap, sym, Contains}
 use Rattle.hir_base.specs.declared.ids.Crate.{Crate}
 use Rattle.hir_base.specs.declared.ids.MapId.{MapId}
 use Rattle.hir_def_map.specs.State.{crate_map}
@@ -9,7 +9,7 @@ use Rattle.hir_session.specs.SessionState.{SessionState, dependencies_of, is_mar
 use Rattle.hir_crate_graph.specs.Dependencies.{DependsOn}
 use Rattle.hir_crate_graph.specs.Dependencies.DependsOn.{directly, through}
 use Rattle.hir_session.specs.Spread.{Spread}
-use Rattle.hir_session.specs.Spread.Spread.{here, depends}
+use Rattle.hir_session.specs.Spread.Spread.{depends}
 
 mapped : (cs : List Crate) (c : Crate) → Contains cs c → Contains (map crate_map cs) (crate_map c)
 mapped [] c h = absurd (let past : h.0 < 0 = h.1 in omega arith)

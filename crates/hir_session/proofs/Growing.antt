@@ -1,5 +1,5 @@
 -- An answer that leaves nothing out stays as tables grow.
-use Rattle.std.proofs.Common.{◌≡◌, ◌⊎◌, inl, inr, ℕ, zero, suc, true, is_some, List, Option, None, Some, option_map, slice_get, refl, sym, ap, ◌∙◌, subst}
+use Rattle.std.proofs.Common.{◌≡◌, ◌⊎◌, inl, inr, ℕ, zero, suc, is_some, List, Option, None, Some, option_map, slice_get, refl, sym, ap, ◌∙◌, subst}
 use Rattle.std.specs.Option.{option_and_then}
 use Rattle.hir_base.specs.ModPath.{Path}
 use Rattle.hir_base.specs.declared.ast_id.BlockId.{BlockId}
@@ -40,7 +40,7 @@ use Rattle.hir_wire.specs.declared.command.Shadow.{Shadow}
 use Rattle.hir_session.specs.Answers.{answer_in, asking_of}
 use Rattle.hir_session.specs.LeavesOut.{LeavesNothingOut}
 use Rattle.hir_session.specs.SourceCalls.{and_call, file_source, most_calls, source_call, source_of, source_within}
-use Rattle.hir_session.specs.SourceItems.{adt_definition, answered_macro, answered_type, answered_value, definition_of, import_source, item_in, item_of, macro_definition, maybe_source, module_by, module_definition, together, use_source, value_import_source, visibility_source}
+use Rattle.hir_session.specs.SourceItems.{adt_definition, answered_macro, answered_type, answered_value, definition_of, import_source, item_in, item_of, macro_definition, maybe_source, module_by, module_definition, together, value_import_source, visibility_source}
 use Rattle.hir_session.proofs.Truth.{clash}
 
 -- what was there stays

@@ -5,14 +5,12 @@ use Rattle.hir_base.specs.Place.{PlaceValue}
 use Rattle.hir_base.specs.declared.ids.Crate.{Crate}
 use Rattle.hir_base.specs.declared.ids.MapId.{MapId}
 use Rattle.hir_def_collector.specs.declared.source_database.Key.{Key}
-use Rattle.hir_wire.specs.CommandValue.{CommandValue, diagnostics, edit, resolve}
+use Rattle.hir_wire.specs.CommandValue.{CommandValue, diagnostics, resolve}
 use Rattle.hir_wire.specs.Commands.{reading_of}
 use Rattle.hir_wire.specs.declared.answer.Answer.{Answer}
 use Rattle.hir_wire.specs.declared.command.Shadow.{Shadow}
 use Rattle.hir_wire.specs.declared.command.MacroStyle.{MacroStyle}
 use Rattle.hir_wire.specs.declared.diagnostic.Diagnostic.{Diagnostic}
-use Rattle.hir_wire.specs.declared.read_error.ReadError.{ReadError}
-use Rattle.hir_wire.specs.declared.read_error.ReadError.TheVariants as read_error
 use Rattle.hir_wire.specs.declared.reply.Reply.{Reply}
 use Rattle.hir_wire.specs.declared.reply.Reply.TheVariants as reply
 use Rattle.hir_session.specs.declared.error.QueryError.{QueryError}
@@ -30,8 +28,8 @@ use Rattle.hir_session.specs.Machine.Moves.{applies, refuses, refreshes, refresh
 use Rattle.hir_session.specs.Machine.AnswersCommand.{finds_no_memory, begins, refuses_session, comes_too_soon, comes_too_late, calls}
 use Rattle.hir_session.specs.Machine.AnswersLine.{finds_no_memory_for_line, reads_no_command, carries_out}
 use Rattle.hir_session.specs.Lines.{AnswersWithin, AnswersInput, AnswersLines}
-use Rattle.hir_session.specs.Headline.{Query, Asks, AsksDiagnostics, Alters, IsAlteredBetween, Stands, AreAllTold, Headline, RepliesHoldTheHeadline, state_at}
-use Rattle.hir_session.proofs.Truth.{on_bool, clash}
+use Rattle.hir_session.specs.Headline.{Query, Asks, AsksDiagnostics, Alters, IsAlteredBetween, Stands, AreAllTold, RepliesHoldTheHeadline, state_at}
+use Rattle.hir_session.proofs.Truth.{on_bool}
 use Rattle.hir_session.proofs.Differ.{IsSame, same_after_edit, same_after_refresh, same_at_first, same_answer}
 use Rattle.hir_session.proofs.Histories.{after_input, begun_input, history_sound, one_value}
 use Rattle.hir_session.proofs.Stand.{stands}

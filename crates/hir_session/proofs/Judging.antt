@@ -1,5 +1,5 @@
 -- The places that were judged so far, and the keys of one.
-use Rattle.std.proofs.Common.{◌≡◌, ◌≢◌, Some, None, ◌⊎◌, inl, inr, ℕ, zero, suc, ◌+◌, ◌<◌, ◌≤◌, true, false, is_some, List, [], ◌∷◌, ◌++◌, length, slice_index_or, arith, Option, refl, sym, ap, ◌∙◌, subst, Contains, map}
+use Rattle.std.proofs.Common.{◌≡◌, ◌≢◌, Some, None, inl, inr, ℕ, zero, suc, ◌+◌, ◌<◌, ◌≤◌, true, false, List, [], ◌∷◌, ◌++◌, length, slice_index_or, arith, Option, refl, sym, ap, ◌∙◌, subst, Contains, map}
 use Rattle.std.specs.List.{list_any}
 use Rattle.std.proofs.lemmas.Map.Lookups.{CmpEqualImpliesEq}
 use Rattle.std.proofs.lemmas.Map.Views.{btree_set_contains_iff}

@@ -1,5 +1,5 @@
 -- What maps in a world, and what else is kept of each run, tell together.
-use Rattle.std.proofs.Common.{◌≡◌, ◌≢◌, ◌∙◌, ap, sym, subst, refl, ℕ, zero, suc, ◌<◌, ◌+◌, Bool, true, false, not, is_some, cond, Option, Some, None, List, [], ◌∷◌, ◌⊎◌, inl, inr, length, get_or, map, arith, Contains}
+use Rattle.std.proofs.Common.{◌≡◌, ◌≢◌, ◌∙◌, ap, sym, subst, refl, ℕ, zero, suc, ◌<◌, ◌+◌, Bool, true, false, not, is_some, cond, Option, Some, None, List, [], ◌∷◌, ◌⊎◌, inl, inr, length, get_or, map, arith}
 use Rattle.std.specs.Option.{option_map}
 use Rattle.std.specs.BTreeMap.{BTreeMap, get, is_at, IsUnchanged}
 use Rattle.std.specs.Map.{lookup}
@@ -19,7 +19,6 @@ use Rattle.hir_def_map.specs.State.{Local, Map}
 use Rattle.hir_def_map.specs.Overlay.{Maps, Placed, holders_or, holders_under, map_in, no_maps, placed_with, with_map}
 use Rattle.hir_def_map.specs.World.{finished_in, local_in, placed_of}
 use Rattle.hir_def_collector.specs.Derivation.{CollectedValue}
-use Rattle.hir_def_collector.specs.declared.source_database.Key.{Key}
 use Rattle.hir_session.specs.declared.runs.KeptRun.{KeptRun}
 use Rattle.hir_session.specs.Kept.{Resolutions, finished_by, kept_in, names_in, names_of, entry_with, resolution_at, resolution_from, resolutions_in, AreForgotten, AreUnheld}
 use Rattle.hir_session.proofs.Ids.{equal_id, on_id, other_id, own_id}

@@ -1,8 +1,7 @@
 -- Nothing is left out of an answer: what a path names in a current crate is written in files, or in what calls expand to.
-use Rattle.std.specs.Prelude.{◌≡◌, ℕ, zero, suc, ◌<◌, ◌≤◌, Bool, true, false, not, ◌||◌, is_some, IsSome, slice_get, Contains, List, [], ◌∷◌, length, Option, None, Some, option_map, option_and_then}
+use Rattle.std.specs.Prelude.{◌≡◌, ℕ, zero, suc, ◌<◌, ◌≤◌, Bool, true, false, not, ◌||◌, is_some, IsSome, slice_get, Contains, List, [], ◌∷◌, Option, None, Some, option_map, option_and_then}
 use Rattle.std.specs.BTreeMap.{is_at}
 use Rattle.std.specs.Cmp.Lexicographic.{slice_cmp}
-use Rattle.std.specs.List.{list_any}
 use Rattle.std.specs.Ordering.{nat_cmp}
 use Rattle.std.proofs.Common.{ap, arith, refl, subst, sym, ◌∙◌}
 use mathlib.Core.Bool.{true≢false}
@@ -34,7 +33,7 @@ use Rattle.hir_scope.specs.PerNs.{Item}
 use Rattle.hir_scope.specs.declared.visibility.Visibility.{Visibility}
 use Rattle.hir_scope.specs.declared.visibility.Visibility.TheVariants as vis
 use Rattle.hir_def_map.specs.Closed.{AreThere, IsThere, ModuleIsThere, PathsLeadToWhatIsThere}
-use Rattle.hir_def_map.specs.WellFormed.{AreWellFormed, HasNoDanglingReference}
+use Rattle.hir_def_map.specs.WellFormed.{HasNoDanglingReference}
 use Rattle.hir_def_map.specs.WorldParts.{unheld}
 use Rattle.hir_def_map.specs.References.{crate_map, is_missing, any_reference_in, reference_to, test_of, test_visibility, FailsAtItem}
 use Rattle.hir_def_map.proofs.Referred.{module_parts}
@@ -60,7 +59,6 @@ use Rattle.hir_def_collector.specs.Keys.{HasMeaning}
 use Rattle.hir_def_collector.specs.Sources.{IsClearOf, RunsBindFromSources}
 use Rattle.hir_def_collector.specs.Start.{root_key}
 use Rattle.hir_def_collector.specs.declared.source_database.Key.TheVariants as keys
-use Rattle.hir_def_collector.specs.Whole.{StandsOnWhole}
 use Rattle.hir_wire.specs.declared.answer.AnswerVisibility.{AnswerVisibility}
 use Rattle.hir_wire.specs.declared.answer.Definition.{Definition}
 use Rattle.hir_wire.specs.declared.answer.ImportSource.{ImportSource}

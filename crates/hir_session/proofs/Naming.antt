@@ -2,18 +2,17 @@
 use Rattle.std.specs.Prelude.{map}
 use Rattle.std.specs.BTreeMap.{is_at}
 use Rattle.std.specs.List.{list_any}
-use Rattle.std.proofs.Common.{◌≡◌, ℕ, zero, suc, ◌<◌, Bool, true, false, not, ◌&&◌, ◌||◌, List, [], ◌∷◌, length, Option, None, Some, option_map, arith, refl, sym, ap, ◌∙◌, subst, Contains}
+use Rattle.std.proofs.Common.{◌≡◌, ◌<◌, true, not, List, option_map, arith, sym, ap, ◌∙◌, subst, Contains}
 use Rattle.std.proofs.lemmas.List.Folds.{list_any_at}
 use Rattle.hir_base.specs.declared.ids.Crate.{Crate}
 use Rattle.hir_base.specs.declared.ids.MapId.{MapId}
 use Rattle.hir_base.specs.contracts.ids.MapIdOrd.TheImpl as map_order
-use Rattle.hir_def_map.specs.References.{crate_map, lies_in, map_of_reference, any_reference_in, refers_to, any_own_crate, any_reference, prelude_reference, test_crate, test_extern, test_of}
+use Rattle.hir_def_map.specs.References.{crate_map, lies_in, any_reference_in, refers_to, any_own_crate, any_reference, prelude_reference, test_crate, test_extern, test_of}
 use Rattle.hir_def_map.specs.State.{Local, Map}
-use Rattle.hir_def_map.specs.declared.world.reference.Reference.{Reference}
 use Rattle.hir_def_map.specs.declared.world.reference.Reference.TheVariants as named
 use Rattle.hir_def_collector.specs.Derivation.{Ends}
 use Rattle.hir_crate_graph.specs.CrateSet.{has_crate}
-use Rattle.hir_session.specs.Crates.{transitive_in, id_of}
+use Rattle.hir_session.specs.Crates.{transitive_in}
 use Rattle.hir_session.specs.SessionState.{SessionState, Resolution, workspace_of, finished_of, follows, beginning_of, IsResolutionOf, IsSound}
 use Rattle.hir_crate_graph.specs.Dependencies.DependsOn.{directly}
 use Rattle.hir_session.proofs.Depending.{depended, found-any}

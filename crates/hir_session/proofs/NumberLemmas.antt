@@ -1,21 +1,17 @@
 -- Numbers of sources: what they mean, and for which of them keys ask.
-use Rattle.std.proofs.Common.{◌≡◌, ◌≢◌, ℕ, Bool, true, false, Option, Some, None, option_map, option_and_then, refl, sym, ap, ◌∙◌, subst}
+use Rattle.std.proofs.Common.{◌≡◌, ◌≢◌, true, false, Option, Some, None, option_map, option_and_then, refl, sym, ap, ◌∙◌}
 use Rattle.std.specs.Cmp.{unsigned_Decides}
 use Rattle.std.specs.Prelude.{IsSome}
 use mathlib.Core.Bool.{true≢false}
 use Rattle.hir_base.specs.declared.ast_id.BlockId.{BlockId}
 use Rattle.hir_base.specs.declared.ast_id.HirFileId.{HirFileId}
 use Rattle.hir_base.specs.declared.ast_id.HirFileId.TheVariants as syntax
-use Rattle.hir_base.specs.declared.ast_id.MacroCallId.{MacroCallId}
 use Rattle.hir_base.specs.declared.macro_kind.MacroCallLoc.{MacroCallLoc}
-use Rattle.hir_base.specs.declared.macro_kind.MacroId.{MacroId}
 use Rattle.hir_base.specs.declared.macro_kind.MacroId.TheVariants as macros
-use Rattle.hir_base.specs.declared.place.BlockPlace.{BlockPlace}
-use Rattle.hir_item_tree.specs.declared.tree_id.TreeId.{TreeId}
 use Rattle.hir_item_tree.specs.declared.tree_id.TreeKey.{TreeKey}
-use Rattle.hir_tables.specs.SourcePlaces.{ExpansionValue, SourcePlaceValue, block, expansion, file}
-use Rattle.hir_tables.specs.Tables.{TablesValue, HasEachOnce, KeepsTables, block_at, call_at, entry_at, file_at, source_of, source_under}
-use Rattle.hir_def_collector.specs.Keys.{HasMeaning, IsMeant, enum_tree, macro_tree, node_tree}
+use Rattle.hir_tables.specs.SourcePlaces.{SourcePlaceValue, block, expansion, file}
+use Rattle.hir_tables.specs.Tables.{TablesValue, HasEachOnce, KeepsTables, block_at, call_at, entry_at, file_at, source_under}
+use Rattle.hir_def_collector.specs.Keys.{HasMeaning}
 use Rattle.hir_def_collector.specs.declared.source_database.Key.{Key}
 use Rattle.hir_def_collector.specs.declared.source_database.Key.TheVariants as keys
 use Rattle.hir_session.specs.contracts.source_number.SourceNumberPartialEq.TheImpl as number_eq
@@ -25,7 +21,7 @@ use Rattle.hir_session.specs.declared.source_number.SourceNumber.TheVariants.{Fi
 use Rattle.hir_session.specs.KeySources.{key_place, macro_source, tree_place}
 use Rattle.hir_session.specs.SourceNumbers.{IsNumberOf, asked_number, asks, is_number, number_of, number_under, place_at}
 use Rattle.hir_session.proofs.SourceLemmas.{no_value, one_value}
-use Rattle.hir_session.proofs.Truth.{clash, on_bool}
+use Rattle.hir_session.proofs.Truth.{clash}
 
 -- ---- two numbers
 

@@ -1,17 +1,15 @@
 -- What a run gives for a crate is its resolution, where all on which the crate stands is current.
-use Rattle.std.specs.Prelude.{is_none, is_some, map}
-use Rattle.std.specs.List.{list_any}
-use Rattle.std.proofs.Common.{◌≡◌, ℕ, zero, suc, ◌<◌, Bool, true, false, ◌&&◌, ◌||◌, List, [], ◌∷◌, length, arith, not, cond, Option, Some, None, option_map, slice_get, refl, sym, ap, ◌∙◌, subst, Contains}
-use Rattle.hir_base.specs.declared.ast_id.BlockId.{BlockId}
+use Rattle.std.specs.Prelude.{is_some, map}
+use Rattle.std.proofs.Common.{◌≡◌, ℕ, zero, suc, ◌<◌, Bool, true, false, ◌&&◌, List, [], ◌∷◌, length, arith, not, cond, Option, Some, None, option_map, refl, sym, ap, ◌∙◌, subst, Contains}
 use Rattle.hir_base.specs.declared.ids.Crate.{Crate}
 use Rattle.hir_base.specs.declared.ids.MapId.{MapId}
 use Rattle.hir_base.specs.declared.ids.ModuleId.{ModuleId}
 use Rattle.hir_base.specs.contracts.ids.MapIdPartialEq.TheImpl as map_id
 use Rattle.hir_scope.specs.ModuleTree.{same_crate}
 use Rattle.std.proofs.lemmas.Bool.{eqb-true}
-use Rattle.hir_tables.specs.Tables.{KeepsTables, TablesValue, file_at}
+use Rattle.hir_tables.specs.Tables.{KeepsTables, TablesValue}
 use Rattle.hir_def_map.specs.WorldParts.{among}
-use Rattle.hir_def_map.specs.WellFormed.{AreWellFormed, HasNoDanglingExtern, Extends, HasNoDanglingReference, is_held_outside}
+use Rattle.hir_def_map.specs.WellFormed.{AreWellFormed, Extends, HasNoDanglingReference, is_held_outside}
 use Rattle.hir_def_map.specs.References.{is_well_formed, is_holder_for, is_missing, test_crate}
 use Rattle.hir_def_map.specs.State.{Map, ModuleValue, crate_map, module_at}
 use Rattle.hir_def_map.specs.Overlay.{Maps, Placed, overlay, module_in, placed_in}
@@ -20,20 +18,19 @@ use Rattle.std.specs.Option.{IsSome, option_and_then}
 use Rattle.hir_def_collector.specs.Calls.{AreCallsPlaced}
 use Rattle.hir_def_collector.specs.Derivation.{Ends}
 use Rattle.hir_def_collector.specs.Growth.{AnswersStand, AskedKeysHaveMeaning, LooksStand}
-use Rattle.hir_def_collector.specs.Keys.{AgreeOn, HasMeaning, look}
+use Rattle.hir_def_collector.specs.Keys.{HasMeaning}
 use Rattle.hir_def_collector.specs.Start.{root_key}
 use Rattle.hir_def_collector.specs.Whole.{RunsNameWhatIsThere, StandsOnWhole}
-use Rattle.hir_def_collector.specs.Workspace.{ConfigValue, Workspace, dependencies_of as named_by}
+use Rattle.hir_def_collector.specs.Workspace.{dependencies_of as named_by}
 use Rattle.hir_def_collector.specs.declared.source_database.Dependency.{Dependency}
-use Rattle.hir_def_collector.specs.declared.source_database.Key.{Key}
 use Rattle.hir_crate_graph.specs.CrateSet.{has_crate}
 use Rattle.hir_session.specs.Crates.{CrateValue, config_in, transitive_in, crate_in, id_of}
 use Rattle.hir_session.specs.SessionState.{SessionState, Resolution, workspace_of, beginning_of, finished_of, read_of, is_marked, IsResolved, IsResolutionOf, IsCurrent, IsPlace, IsSound}
 use Rattle.hir_session.specs.Due.{Grows}
 use Rattle.hir_crate_graph.specs.Dependencies.DependsOn.{directly}
 use Rattle.hir_session.proofs.Depending.{depended, none_of}
-use Rattle.hir_session.proofs.Names.{Extends-behind, IsKeptWhole, among_at, among_there, joins, of_some, whole-among}
-use Rattle.hir_session.proofs.Truth.{clash, on_bool}
+use Rattle.hir_session.proofs.Names.{Extends-behind, IsKeptWhole, among_at, among_there, joins, whole-among}
+use Rattle.hir_session.proofs.Truth.{clash}
 use Rattle.hir_session.proofs.Worlds.{AgreeOn-refl, DependsOn-below, DependsOn-trans, has_listed}
 
 -- ---- what a session keeps

@@ -1,5 +1,5 @@
 -- An edit, and the resolution of a place, leave a sound session.
-use Rattle.std.proofs.Common.{◌≡◌, ◌≢◌, ◌⊎◌, inl, inr, ℕ, zero, suc, ◌<◌, ◌+◌, Bool, true, false, is_some, List, [], ◌∷◌, length, arith, Option, Some, None, refl, sym, ap, ◌∙◌, subst, Contains}
+use Rattle.std.proofs.Common.{◌≡◌, ◌≢◌, ◌⊎◌, inl, inr, ℕ, zero, suc, ◌<◌, true, false, is_some, List, [], ◌∷◌, length, arith, Option, Some, None, refl, sym, ap, ◌∙◌, subst, Contains}
 use Rattle.std.specs.Prelude.{is_none, map}
 use Rattle.hir_base.specs.declared.ids.Crate.{Crate}
 use Rattle.hir_base.specs.declared.ids.MapId.{MapId}
@@ -11,7 +11,7 @@ use Rattle.hir_def_map.specs.Overlay.{no_maps}
 use Rattle.hir_def_collector.specs.Keys.{AgreeOn}
 use Rattle.hir_def_collector.specs.Workspace.{Workspace}
 use Rattle.hir_crate_graph.specs.CrateSet.{has_crate}
-use Rattle.hir_session.specs.Crates.{CrateValue, transitive_in, dependencies_in, follows_in, id_of}
+use Rattle.hir_session.specs.Crates.{CrateValue, transitive_in, id_of}
 use Rattle.hir_session.specs.SourceEdits.{SourceEditValue, edited as made}
 use Rattle.hir_session.specs.SourceTable.{SourceTable, workspace_in}
 use Rattle.hir_session.specs.Kept.{Resolutions, kept_in, names_in, names_of, AreForgotten}
@@ -28,7 +28,7 @@ use Rattle.hir_session.proofs.Following.{dependency_behind, followed, follows_un
 use Rattle.hir_session.proofs.Ids.{of_number, on_id}
 use Rattle.hir_session.proofs.Names.{among-names}
 use Rattle.hir_session.proofs.Naming.{names-behind}
-use Rattle.hir_session.proofs.Truth.{clash, on_bool, on_same}
+use Rattle.hir_session.proofs.Truth.{clash, on_bool}
 use Rattle.hir_session.proofs.Worlds.{AgreeOn-refl, IsResolutionOf-stays, DependsOn-below, DependsOn-holds}
 
 -- ---- what is kept

@@ -1,13 +1,11 @@
 -- What an edit leaves of each source, and of what is seen at each key.
-use Rattle.std.proofs.Common.{◌≡◌, ◌≢◌, ℕ, Bool, true, false, cond, List, Option, Some, None, option_map, refl, sym, ap, ◌∙◌, subst, option_and_then}
+use Rattle.std.proofs.Common.{◌≡◌, ◌≢◌, ℕ, Bool, true, false, cond, List, Option, Some, None, option_map, refl, sym, ap, ◌∙◌, subst}
 use Rattle.std.specs.Ordering.{nat_cmp}
 use Rattle.std.specs.Cmp.Lexicographic.{slice_cmp, bytes_decides}
 use Rattle.std.specs.BTreeMap.{is_at}
 use Rattle.std.proofs.lemmas.Map.Text.{is_eq-slice_cmp}
 use Rattle.hir_base.specs.declared.ast_id.AstKind.TheVariants.{MacroDef, MacroRules}
 use Rattle.hir_base.specs.declared.ast_id.EntryId.{EntryId}
-use Rattle.hir_base.specs.declared.ids.Crate.{Crate}
-use Rattle.hir_base.specs.declared.macro_kind.MacroId.{MacroId}
 use Rattle.hir_base.specs.declared.macro_kind.MacroId.TheVariants as macros
 use Rattle.hir_item_tree.specs.Source.{SourceValue}
 use Rattle.hir_item_tree.specs.SourceTree.{SourceTreeValue, variants_of}
@@ -18,14 +16,14 @@ use Rattle.hir_tables.specs.Tables as numbers
 use Rattle.hir_tables.specs.Tables.{TablesValue, source_of}
 use Rattle.hir_def_map.specs.Overlay.{no_maps}
 use Rattle.hir_def_collector.specs.Workspace.{EntryLook, Workspace, seen_of}
-use Rattle.hir_def_collector.specs.Keys.{enum_key, entry_under, input_of, look, macro_key, node_key, of_entry, of_input, of_text, of_tree, of_variants, source_in, source_under, text_of}
+use Rattle.hir_def_collector.specs.Keys.{entry_under, input_of, look, of_entry, of_input, of_text, of_tree, of_variants, source_in, source_under, text_of}
 use Rattle.hir_def_collector.specs.declared.source_database.Key.{Key}
 use Rattle.hir_def_collector.specs.declared.source_database.Key.TheVariants as keys
 use Rattle.hir_wire.specs.Edits.{EntryValue}
 use Rattle.hir_session.specs.Crates.{CrateValue}
 use Rattle.hir_session.specs.Entries.{Entries, entries_with, entry_at, expansion_cmp, look_of, source_of as source_in_entry}
 use Rattle.hir_session.specs.Files.{Files, edited_at, file_at}
-use Rattle.hir_session.specs.KeySources.{key_place, key_tree, macro_source, tree_place}
+use Rattle.hir_session.specs.KeySources.{key_place, key_tree, tree_place}
 use Rattle.hir_session.specs.SourceEdits.{SourceEditValue, IsSeenAlike, edited, of_expansion, of_file, place_of, source_by}
 use Rattle.hir_session.specs.SourceTable.{SourceTable, source_at, tree_under, workspace_in}
 use Rattle.hir_session.specs.SourceTrees.{is_place}

@@ -1,10 +1,7 @@
-use Rattle.std.proofs.Common.{◌≡◌, ℕ, zero, suc, ◌+◌, ◌<◌, ◌≤◌, Bool, true, false, List, [], ◌∷◌, ◌++◌, length, map, is_none, is_some, slice_get, drop, get_or, drop-cons, add-one, append_assoc, append-nil, drop_of_length-le, Option, None, Some, refl, sym, ap, subst, ◌∙◌, Contains, arith, nat_le}
-use Rattle.std.proofs.lemmas.List.{length-map}
+use Rattle.std.proofs.Common.{◌≡◌, ℕ, zero, suc, ◌+◌, ◌<◌, ◌≤◌, true, false, List, [], ◌∷◌, ◌++◌, length, map, is_none, slice_get, drop, get_or, drop-cons, add-one, append_assoc, append-nil, drop_of_length-le, Option, None, Some, refl, sym, ap, subst, ◌∙◌, Contains, arith, nat_le}
 use Rattle.std.proofs.lemmas.List.Folds.{list_any_at}
-use Rattle.hir_base.specs.declared.ast_id.EditionedFileId.{EditionedFileId}
 use Rattle.hir_base.specs.declared.ids.Crate.{Crate}
 use Rattle.hir_base.specs.declared.ids.MapId.{MapId}
-use Rattle.hir_base.specs.declared.macro_kind.MacroCallLoc.{MacroCallLoc}
 use Rattle.hir_def_collector.specs.Calls.{AreCallsPlaced}
 use Rattle.hir_def_collector.specs.declared.source_database.Dependency.{Dependency}
 use Rattle.hir_wire.specs.CommandValue.{CrateInputValue, crate_input_view}

@@ -1,13 +1,11 @@
 -- Each diagnostic of a current crate is told: it is in a module of the crate's map, and about something that is written in a file, or in what a call expands to.
-use Rattle.std.specs.Prelude.{◌≡◌, ℕ, ◌<◌, Bool, true, false, not, is_none, is_some, Contains, List, [], ◌∷◌, length, map, nat_lt, Option, None, Some, option_map, Result, Ok}
+use Rattle.std.specs.Prelude.{◌≡◌, ℕ, Bool, true, false, not, is_none, is_some, List, [], ◌∷◌, length, map, nat_lt, Option, None, Some, option_map, Ok}
 use Rattle.std.specs.List.{cons_option}
 use Rattle.std.proofs.Common.{ap, refl, subst, sym, ◌∙◌}
 use mathlib.Core.Bool.{true≢false}
 use Rattle.hir_base.specs.declared.ast_id.BlockId.{BlockId}
 use Rattle.hir_base.specs.declared.ast_id.HirFileId.{HirFileId}
 use Rattle.hir_base.specs.declared.ids.Crate.{Crate}
-use Rattle.hir_base.specs.declared.ids.MapId.{MapId}
-use Rattle.hir_base.specs.declared.ids.ModuleId.{ModuleId}
 use Rattle.hir_def_map.proofs.StaysWellFormed.{module_there}
 use Rattle.hir_def_map.specs.Closed.{ModuleIsThere}
 use Rattle.hir_def_map.specs.Diagnostics.{KindValue, diagnostic_view}
@@ -15,7 +13,6 @@ use Rattle.hir_def_map.specs.Overlay.{Maps, overlay}
 use Rattle.hir_def_map.specs.State.{Map, numbered}
 use Rattle.hir_def_map.specs.declared.nameres.diagnostics.DefDiagnostic.{DefDiagnostic}
 use Rattle.hir_def_collector.specs.Derivation.{Ends}
-use Rattle.hir_def_collector.specs.Keys.{AgreeOn}
 use Rattle.hir_def_collector.specs.Sources.{RunsBindFromSources}
 use Rattle.hir_wire.specs.declared.answer.Definition.{Definition}
 use Rattle.hir_wire.specs.declared.answer.SourceItem.{SourceItem}

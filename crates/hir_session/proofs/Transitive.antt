@@ -1,8 +1,8 @@
 -- The lists that are kept are those of the transitive dependencies of the crates.
-use Rattle.std.proofs.Common.{◌≡◌, ◌⊎◌, inl, inr, ℕ, zero, suc, ◌+◌, ◌<◌, ◌≤◌, List, [], ◌∷◌, ◌++◌, length, map, Option, Some, None, option_map, slice_get, slice_index_or, refl, sym, ap, ◌∙◌, arith}
+use Rattle.std.proofs.Common.{◌≡◌, inl, inr, ℕ, zero, suc, ◌+◌, ◌<◌, ◌≤◌, List, [], ◌∷◌, ◌++◌, length, map, Option, Some, None, option_map, slice_get, slice_index_or, refl, sym, ap, ◌∙◌, arith}
 use Rattle.std.proofs.lemmas.Bool.{cases_lt}
 use Rattle.hir_base.specs.declared.ids.Crate.{Crate}
-use Rattle.hir_crate_graph.specs.Dependencies.{AreTransitive, transitive_below}
+use Rattle.hir_crate_graph.specs.Dependencies.{AreTransitive}
 use Rattle.hir_crate_graph.specs.Graph.{Adds}
 use Rattle.hir_crate_graph.proofs.Closure.{transitive_at}
 use Rattle.hir_def_collector.specs.Workspace.{ConfigValue, dependencies_of}

@@ -1,5 +1,5 @@
 -- The finished maps that a crate reads stay while what is kept of the crates on which it stands does.
-use Rattle.std.proofs.Common.{◌≡◌, ◌≢◌, ℕ, zero, suc, ◌<◌, List, [], ◌∷◌, ◌++◌, true, false, arith, Option, option_map, refl, sym, ap, ◌∙◌, subst, Contains, eq-eqb}
+use Rattle.std.proofs.Common.{◌≡◌, ◌≢◌, ℕ, zero, suc, ◌<◌, List, [], ◌∷◌, ◌++◌, true, arith, Option, option_map, refl, sym, ap, ◌∙◌, subst, Contains, eq-eqb}
 use Rattle.hir_base.specs.declared.ids.Crate.{Crate}
 use Rattle.hir_base.specs.declared.ids.MapId.{MapId}
 use Rattle.hir_base.specs.declared.macro_kind.MacroId.{MacroId}
@@ -23,7 +23,7 @@ use Rattle.hir_def_collector.specs.declared.collector.macro_directive.MacroDirec
 use Rattle.hir_def_collector.specs.declared.source_database.Key.{Key}
 use Rattle.hir_def_collector.specs.declared.source_database.Key.TheVariants as keys
 use Rattle.hir_crate_graph.specs.CrateSet.{has_crate}
-use Rattle.hir_session.specs.Crates.{CrateValue, transitive_in}
+use Rattle.hir_session.specs.Crates.{transitive_in}
 use Rattle.hir_session.specs.SourceTable.{SourceTable}
 use Rattle.hir_session.specs.Kept.{Resolutions, finished_by, kept_in}
 use Rattle.hir_session.specs.SessionState.{SessionState, Resolution, workspace_of, beginning_of, finished_of, read_of, kept_of, IsResolved, IsResolutionOf}

@@ -38,7 +38,8 @@ pub enum EditError {
 /// Why a refresh ended early.
 #[derive(Clone, Copy, Debug, PartialEq, Eq, Drop, Error)]
 pub enum RefreshError {
-    /// A run took more steps, or made more modules, than are counted.
+    /// A run took more steps, or made more modules, than are counted, or no number was left for a file, an expansion or a
+    /// macro call.
     #[error("a run took more steps, or made more modules, than are counted")]
     TooMany,
     #[error("out of memory")]
