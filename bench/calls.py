@@ -44,13 +44,17 @@ def of_one_entry(n):
     return nodes, made.entries, [0], f"m{n - 1}::S"
 
 
-def each_by_the_next(n):
-    """n calls, the macro of each defined by the expansion of the one behind it: each round expands one."""
-    made = Calls()
-    nodes = [made.call(f"m{k}") for k in range(n)] + [made.rules(f"m{n - 1}")]
+def chained(made, n):
+    """n calls, the macro of each defined by the expansion of the one behind it."""
     for k in range(n):
         made.expand(f"m{k}", "", made.rules(f"m{k - 1}") if k else made.struct("S"))
-    return nodes, made.entries, [0], "S"
+    return [made.call(f"m{k}") for k in range(n)] + [made.rules(f"m{n - 1}")]
+
+
+def each_by_the_next(n):
+    """n calls of which each waits for the next: each round expands one."""
+    made = Calls()
+    return chained(made, n), made.entries, [0], "S"
 
 
 def each_by_the_one_before(n):
@@ -72,10 +76,7 @@ def of_nothing_beside_a_chain(n):
     """n calls that nothing defines, beside n of which each waits for the next."""
     made = Calls()
     waiting = [made.call(f"no{k}") for k in range(n)]
-    nodes, entries, place, path = each_by_the_next(n)
-    for node in nodes:
-        node["id"] = made.make("Fn")["id"]
-    return waiting + nodes, entries, place, path
+    return waiting + chained(made, n), made.entries, [0], "S"
 
 
 def beside_imports(n):
@@ -83,10 +84,7 @@ def beside_imports(n):
     made = Calls()
     items = [made.module("a", *(made.struct(f"T{k}") for k in range(n))), made.glob("a")]
     items += [made.use(f"a::T{k}", f"U{k}") for k in range(n)]
-    nodes, entries, place, path = each_by_the_next(n)
-    for node in nodes:
-        node["id"] = made.make("Fn")["id"]
-    return items + nodes, entries, place, path
+    return items + chained(made, n), made.entries, [0], "S"
 
 
 def textual_scope(n):
