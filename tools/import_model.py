@@ -1,10 +1,11 @@
 #!/usr/bin/env python3
 """Random crates with imports, globs and macros, and what a plain model of the rules (tools/model) answers of their names.
 
-Usage, at the top of the repository: tools/import_model.py [--sessions N] [--seed S] [--macros | --calls | --edits]
+Usage, at the top of the repository: tools/import_model.py [--sessions N] [--seed S] [--macros | --calls | --attributes | --edits]
 [--program FILE] [--write FOLDER] [--rows].
 With --macros the crates define macros too, in textual scope and as items. With --calls they also call them, over a table of
-expansions that define, import and call further, modules are in files too, and files and expansions are edited. With --edits
+expansions that define, import and call further, modules are in files too, and files and expansions are edited. With
+--attributes items have attributes and derives besides, and some crates are procedural macros'. With --edits
 the sessions are those of tools/random_sessions.py.
 It runs the program, by default crates/hir_session_main/out/hir_session_main, over each session, and ends with 1 at the first
 whose answers aren't those of the model, which it writes to standard error. With --write it runs nothing, and writes the
@@ -85,7 +86,7 @@ class Session:
                 for text in TEXTS:
                     for given in INPUTS:
                         if self.chance(0.75):
-                            self.entries[caller, of, text, given] = self.draw_entry(caller)
+                            self.entries[caller, of, text, "bang", given] = self.draw_entry(caller)
 
     def draw_entry(self, caller):
         self.next_id = 0
@@ -256,8 +257,9 @@ class Session:
 
     @staticmethod
     def entry(key, entry):
-        caller, of, text, given = key
-        command = {"do": "set expansion", "key": {"call": "bang", "caller": caller, "crate": of, "input": given, "text": text}, "unit": entry[0]}
+        caller, of, text, call, given = key
+        call = list(call) if isinstance(call, tuple) else call
+        command = {"do": "set expansion", "key": {"call": call, "caller": caller, "crate": of, "input": given, "text": text}, "unit": entry[0]}
         if entry[1] is not None:
             command["error"] = entry[1]
         return command
@@ -321,6 +323,58 @@ class Session:
         yield place
         for name, child in module.children.items():
             yield from self.places(child, place + [name])
+
+
+class Attributes(Session):
+    """Draws a session with calls, and attributes of its items."""
+
+    def __init__(self, seed):
+        super().__init__(seed, True, True)
+        for number, nodes in enumerate(self.units):
+            self.decorate(nodes)
+            if self.chance(0.3):
+                self.inputs[number]["proc_macro"] = True
+                self.export(nodes)
+        for unit in [*self.files.values(), *(entry[0] for entry in self.entries.values())]:
+            if isinstance(unit, dict):
+                self.decorate(unit["nodes"])
+        bang = {key: entry for key, entry in self.entries.items()}
+        for caller, of, text, _, given in bang:
+            for call in ("derive", ("attr", 0), ("attr", 1), ("attr", 2)):
+                if self.chance(0.7):
+                    self.entries[caller, of, self.choose([text, text, "m", "x"]), call, given] = self.choose(list(bang.values()))
+        drawn = [(caller, of, name, call, given) for caller, of, _, _, given in bang for name in ("m", "x", "S") for call in ("bang", "derive", ("attr", 0))]
+        for key in drawn:
+            if self.chance(0.3):
+                self.entries[key] = self.choose(list(bang.values()))
+
+    def decorate(self, nodes):
+        for node in nodes:
+            self.decorate(node.get("nodes", []))
+            if node["kind"] in ("MacroDef", "MacroRules") and self.chance(0.6):
+                node["styles"] = self.choose([["attr"], ["derive"], ["attr", "derive"], ["bang", "attr", "derive"]])
+                node["helpers"] = self.choose([[], ["h"], ["h", "g"]])
+                if self.chance(0.2):
+                    node["expander"] = self.choose(["builtin_attr", "builtin_derive", "builtin_derive", "unimplemented"])
+            if self.chance(0.35):
+                node["attrs"] = node.get("attrs", []) + [self.attribute(node) for _ in range(self.random.randint(1, 3))]
+                node["input"] = self.choose(INPUTS)
+
+    def attribute(self, node):
+        roll = self.random.random()
+        if node["kind"] in ("Struct", "Enum") and roll < 0.5 or roll < 0.05:
+            paths = [self.choose(["self::", "crate::", ""]) + self.choose(ITEMS + ["m"]) for _ in range(self.random.randint(0, 2))]
+            return {"path": "derive", "paths": paths} if self.chance(0.95) else {"path": "derive"}
+        if roll < 0.7:
+            return {"path": self.choose(["self::", "crate::", "", "", ""]) + self.choose(ITEMS + ["m"])}
+        return {"path": self.choose(["h", "h", "g", "nope", "inline", "clippy::x", "crate::a::m", "d::m", "d::x"])}
+
+    def export(self, nodes):
+        for node in nodes:
+            if node["kind"] == "Fn" and self.chance(0.7):
+                node["attrs"] = node.get("attrs", []) + [self.choose([
+                    {"path": "proc_macro"}, {"path": "proc_macro_attribute"}, {"path": "proc_macro_derive"},
+                    {"path": "proc_macro_derive", "derive": self.choose(ITEMS + ["m"]), "helpers": ["h"]}])]
 
 
 class Edits:
@@ -389,6 +443,7 @@ def main():
     parser.add_argument("--seed", type=int, default=0)
     parser.add_argument("--macros", action="store_true")
     parser.add_argument("--calls", action="store_true")
+    parser.add_argument("--attributes", action="store_true")
     parser.add_argument("--edits", action="store_true")
     parser.add_argument("--rows", action="store_true")
     parser.add_argument("--program", default="crates/hir_session_main/out/hir_session_main")
@@ -399,7 +454,8 @@ def main():
         return compare_rows()
     written, left_open = [], 0
     for seed in range(options.seed, options.seed + options.sessions):
-        lines = lines_of(Edits(seed) if options.edits else Session(seed, options.macros, options.calls))
+        drawn = Edits(seed) if options.edits else Attributes(seed) if options.attributes else Session(seed, options.macros, options.calls)
+        lines = lines_of(drawn)
         if lines is None:
             left_open += 1
         elif options.write:
@@ -407,7 +463,7 @@ def main():
         elif not compare(options.program, seed, *lines):
             return 1
     if options.write:
-        label = "# drawn: calls of seed %d" if options.calls else "# drawn: seed %d"
+        label = "# drawn: attributes of seed %d" if options.attributes else "# drawn: calls of seed %d" if options.calls else "# drawn: seed %d"
         with open(options.write + "/stdin", "w") as commands_file, open(options.write + "/stdout", "w") as answers_file:
             for seed, commands, answers in written:
                 commands_file.write("\n".join([label % seed] + commands) + "\n")

@@ -8,6 +8,15 @@ KINDS = ("types", "values", "macros")
 BUILTINS = "char bool str isize i8 i16 i32 i64 i128 usize u8 u16 u32 u64 u128 f16 f32 f64 f128".split()
 STYLES = {"builtin": ["bang"], "builtin_eager": ["bang"], "builtin_attr": ["attr"], "builtin_derive": ["derive"], "unimplemented": ["bang", "attr", "derive"]}
 FOREIGN = ("Fn", "Static", "TypeAlias", "MacroCall")
+ADTS = ("Struct", "Union", "Enum")
+INERT = set(
+    "allow automatically_derived bench cold crate_name crate_type debugger_visualizer deny deprecated doc expect export_name feature"
+    " forbid global_allocator ignore inline instruction_set link link_name link_ordinal link_section macro_export macro_use must_use"
+    " naked no_builtins no_core no_implicit_prelude no_link no_main no_mangle no_std non_exhaustive panic_handler path prelude_import"
+    " proc_macro proc_macro_attribute proc_macro_derive recursion_limit register_tool repr should_panic target_feature test"
+    " track_caller type_length_limit used warn windows_subsystem".split()
+)
+TOOLS = ["clippy", "rustfmt", "diagnostic", "miri", "rust_analyzer"]
 # 8,192 rounds in which a call was handled may follow one another, and one more ends the run
 ROUNDS, DEEPEST = 8192, 32
 
@@ -21,7 +30,7 @@ class Source:
     def text(self):
         calls, at = [], self
         while at.outer is not None:
-            calls.append({"id": at.call, "kind": "MacroCall"})
+            calls.append(at.call)
             at = at.outer
         return [at.file] + calls[::-1]
 
@@ -86,9 +95,22 @@ class Import:
 
 
 class Call:
-    def __init__(self, at, node, source, depth):
-        self.at, self.node, self.source, self.depth, self.handled = at, node, source, depth, False
-        self.path = parse_path(node["path"])
+    """A macro call, a path of a `derive` or an attribute that waits. `place` is that of the attribute, behind which its item goes on."""
+
+    def __init__(self, style, path, at, node, source, depth, attr=None, index=None, attrs=None, place=None):
+        self.style, self.path, self.at, self.node, self.source, self.depth = style, parse_path(path), at, node, source, depth
+        self.attr, self.index, self.attrs, self.place, self.handled = attr, index, attrs, place, False
+
+    def kind(self):
+        """What a source says of it."""
+        more = {} if self.attr is None else {"attr": self.attr}
+        return {"id": self.node["id"], "kind": self.node["kind"], **more, **({} if self.index is None else {"derive": self.index})}
+
+    def text(self):
+        return {**self.kind(), "in": self.source.text()}
+
+    def item(self):
+        return self.source.key(), self.node["kind"], tuple(self.node["id"])
 
 
 class Crate:
@@ -102,6 +124,7 @@ class Crate:
         self.number, self.fields, self.workspace, self.below, self.copies = number, fields, workspace, below, copies
         self.options = {dump(option) for option in fields.get("cfg", [])}
         self.imports, self.calls, self.edges, self.diagnostics, self.asked = [], [], [], [], {}
+        self.helpers, self.derived, self.exported = {}, [], []
         self.late = None
         self.transitive = set()
         for dependency in fields.get("deps", []):
@@ -134,6 +157,7 @@ class Crate:
             digits = text[1:] if text.startswith("+") else text
             if digits.isascii() and digits.isdigit() and int(digits) < 2**32:
                 self.limit = int(digits)
+        self.tools = TOOLS + [name for attr in attrs if attr["path"] == "register_tool" for name in attr.get("paths", []) if "::" not in name]
         no_core = "no_core" in flags
         no_std = "no_std" in flags or no_core
         self.root = Module(self, None, None, ("", False, 0), self.fields["root"])
@@ -148,6 +172,7 @@ class Crate:
         if not false:
             self.walk(unit.get("nodes", []), self.root, Source(self.fields["root"]), 1)
             self.rounds()
+        self.finish()
         self.report()
 
     def find_prelude(self):
@@ -167,8 +192,11 @@ class Crate:
         self.settle()
         progressed = 0
         late = [] if self.copies != "push" else None
-        while self.round(late):
-            progressed += 1
+        while True:
+            if self.round(late):
+                progressed += 1
+            elif not self.fall_back(late):
+                return
             if self.copies == "after" and progressed <= ROUNDS:
                 self.settle()
             for at, ns, name in (late or [])[:: -1 if self.copies == "last" else 1]:
@@ -188,24 +216,68 @@ class Crate:
         return progress
 
     def fire(self, call):
-        if call.depth > self.limit:
+        deep = call.depth > self.limit
+        if call.style == "bang" and deep:
             call.handled = True
             return True
-        found, _, _ = self.resolve(call.at, call.path, style="bang")
-        if "macros" not in found:
+        if call.style == "attr" and self.is_helper(call.item(), call.path):
+            return self.go_on(call)
+        found, _, _ = self.resolve(call.at, call.path, style="bang" if call.style == "bang" else "attr")
+        if "macros" not in found or (call.style == "derive" and "derive" not in found["macros"].definition.styles):
             return False
-        call.handled = True
         macro = found["macros"].definition
-        text = self.ask(("text", macro.krate.number) + macro.source.key() + (macro.kind, tuple(macro.id)))
-        given = self.ask(("input", self.number) + call.source.key() + (tuple(call.node["id"]),))
-        key = (self.number, macro.krate.number, text, given)
+        if call.style == "attr" and macro.expander == "builtin_attr":
+            return self.go_on(call)
+        call.handled = True
+        if call.style == "derive":
+            self.helpers.setdefault(call.item(), []).extend(macro.helpers)
+            if macro.expander == "builtin_derive":
+                self.derived.append((call, macro))
+                return True
+        if deep:
+            return True
+        text = macro.exported
+        if text is None:
+            text = self.ask(("text", macro.krate.number) + macro.source.key() + (macro.kind, tuple(macro.id)))
+        given = self.ask(("input", self.number) + call.source.key() + (call.node["kind"], tuple(call.node["id"])))
+        style = call.style if call.style != "attr" else ["attr", call.attr]
+        key = (self.number, macro.krate.number, text, dump(style), given)
         there, error = self.ask(("entry", key))
         unit, _ = self.tree(("entry", key))
         if not there or error is not None:
-            item = {"id": call.node["id"], "in": call.source.text(), "kind": "MacroCall"}
+            item = {"id": call.node["id"], "in": call.source.text(), "kind": call.node["kind"]}
             self.tell("macro error", call.at, item=item, path=print_path(call.path), error=error if there else "absent")
-        self.walk(unit.get("nodes", []), call.at, Source(outer=call.source, call=call.node["id"], entry=key), call.depth + 1)
+        self.walk(unit.get("nodes", []), call.at, Source(outer=call.source, call=call.kind(), entry=key), call.depth + 1)
         return True
+
+    def go_on(self, call):
+        """The item of an attribute that waited goes on behind it, one level deeper."""
+        call.handled = True
+        self.visit(call.node, call.attrs, call.at, call.source, call.depth + 1, call.place + 1)
+        return True
+
+    def fall_back(self, late):
+        """Gives up the first attribute that waits; whether there was one."""
+        for call in self.calls:
+            if call.style == "attr" and not call.handled:
+                self.tell("unresolved macro call", call.at, call=call.text(), path=print_path(call.path))
+                self.late = late
+                self.go_on(call)
+                self.late = None
+                return True
+        return False
+
+    def finish(self):
+        """Of the root of a procedural-macro crate others see the macros alone that it exports."""
+        if not self.fields.get("proc_macro", False):
+            return
+        for name, function in self.exported:
+            if name in self.root.scope["values"] and self.root.scope["values"][name].definition is function:
+                del self.root.scope["values"][name]
+        for ns in KINDS:
+            for binding in self.root.scope[ns].values():
+                if not (ns == "macros" and binding.definition.kind == "ProcMacro" and binding.by is None):
+                    binding.vis = ("crate", self)
 
     def tell(self, kind, at, **fields):
         self.diagnostics.append({"kind": kind, "module": at.text(), **fields})
@@ -213,8 +285,7 @@ class Crate:
     def report(self):
         for call in self.calls:
             if not call.handled:
-                item = {"id": call.node["id"], "in": call.source.text(), "kind": "MacroCall"}
-                self.tell("unresolved macro call", call.at, call=item, path=print_path(call.path))
+                self.tell("unresolved macro call", call.at, call=call.text(), path=print_path(call.path))
         missing = {import_.crate for import_ in self.imports if import_.kind == "extern" and not import_.taken}
         for import_ in self.imports:
             item = {key: value for key, value in import_.item.text().items() if key != "crate"}
@@ -234,7 +305,38 @@ class Crate:
                 item = {"id": node["id"], "in": source.text(), "kind": node["kind"]}
                 self.tell("unconfigured code", at, item=item, cfg=print_condition(false[0]))
             else:
-                self.item(node, attrs, at, source, depth)
+                self.visit(node, attrs, at, source, depth, 0)
+
+    def is_helper(self, item, path):
+        return path[0] == "plain" and len(path[1]) == 1 and path[1][0] in self.helpers.get(item, [])
+
+    def is_passed(self, item, path):
+        kind, names = path
+        if kind != "plain" or not names:
+            return False
+        if len(names) > 1:
+            return names[0] in self.tools
+        return names[0] in INERT or names[0].startswith("rustc_") or self.is_helper(item, path)
+
+    def visit(self, node, attrs, at, source, depth, done):
+        """An item of whose attributes so many are done with: it is handled, unless it waits for one of the others."""
+        item = (source.key(), node["kind"], tuple(node["id"]))
+        for place in range(done, len(attrs)):
+            attr = attrs[place]
+            if self.is_passed(item, parse_path(attr["path"])):
+                continue
+            if attr["path"] != "derive":
+                self.calls.append(Call("attr", attr["path"], at, node, source, depth, attr["number"], attrs=attrs, place=place))
+                return
+            where = {"id": node["id"], "in": source.text(), "kind": node["kind"]}
+            if node["kind"] not in ADTS:
+                self.tell("invalid derive target", at, attr=attr["number"], item=where)
+            elif "paths" not in attr:
+                self.tell("malformed derive", at, attr=attr["number"], item=where)
+            else:
+                for index, path in enumerate(attr["paths"]):
+                    self.calls.append(Call("derive", path, at, node, source, depth, attr["number"], index))
+        self.item(node, attrs, at, source, depth)
 
     def item(self, node, attrs, at, source, depth):
         kind, name = node["kind"], node.get("name")
@@ -250,10 +352,11 @@ class Crate:
         elif kind == "Module":
             self.module(node, attrs, at, item, source, depth)
         elif kind == "MacroCall":
-            self.calls.append(Call(at, node, source, depth))
+            self.calls.append(Call("bang", node["path"], at, node, source, depth))
         elif kind in ("MacroRules", "MacroDef"):
             item.expander = node.get("expander", "declarative")
             item.styles = STYLES.get(item.expander, node.get("styles", ["bang"]))
+            item.helpers, item.exported = node.get("helpers", []), None
             if item.expander == "unimplemented":
                 self.tell("unimplemented builtin macro", at, item={key: v for key, v in item.text().items() if key != "crate"})
             if kind == "MacroDef":
@@ -263,9 +366,27 @@ class Crate:
                 if any(attr["path"] == "macro_export" for attr in attrs):
                     self.push(self.root, name, {"macros": Binding(item, "pub")}, None)
         elif name is not None:
-            self.definition(node, at, item)
+            self.definition(node, attrs, at, item)
 
-    def definition(self, node, at, item):
+    def export(self, node, attrs, at, item):
+        """Binds the macro that a function of the root of a procedural-macro crate exports."""
+        if not (self.fields.get("proc_macro", False) and at is self.root and node["kind"] == "Fn"):
+            return
+        by = lambda path: [attr for attr in attrs if attr["path"] == path]
+        derives = [attr for attr in by("proc_macro_derive") if "derive" in attr]
+        if by("proc_macro"):
+            style, name, helpers = "bang", node["name"], []
+        elif by("proc_macro_attribute"):
+            style, name, helpers = "attr", node["name"], []
+        elif derives:
+            style, name, helpers = "derive", derives[0]["derive"], derives[0].get("helpers", [])
+        else:
+            return
+        macro = Item(self, "ProcMacro", node["id"], item.source, expander="proc", styles=[style], helpers=helpers, exported=name)
+        self.exported.append((node["name"], item))
+        self.push(self.root, name, {"macros": Binding(macro, "pub")}, None)
+
+    def definition(self, node, attrs, at, item):
         own = self.written(node.get("vis"), at)
         bound = Binding(item, own)
         types, values = {"types": bound}, {"values": bound}
@@ -281,6 +402,7 @@ class Crate:
             self.push(at, node["name"], {**types, **values}, None)
         elif kind in ("Fn", "Const", "Static"):
             self.push(at, node["name"], values, None)
+            self.export(node, attrs, at, item)
         else:
             self.push(at, node["name"], types, None)
 

@@ -70,7 +70,7 @@ def count(attrs):
 
 
 def collect(attrs, options, number=0):
-    """The attributes that are kept, with their numbers, and the first condition that doesn't hold, as a list of it or of nothing."""
+    """The attributes that are kept, each with its number, and the first condition that doesn't hold, as a list of it or of nothing."""
     kept = []
     for attr in attrs:
         if "cfg" not in attr:

@@ -48,7 +48,7 @@ class Workspace:
             if tuple(node["id"]) == wanted:
                 if kind == "text" and node["kind"] == rest[0]:
                     return node.get("text", "")
-                if kind == "input" and node["kind"] == "MacroCall":
+                if kind == "input" and node["kind"] == rest[0]:
                     return node.get("input", "")
                 if kind == "variants" and node["kind"] == "Enum":
                     kept = [v for v in node["variants"] if not collect(v.get("attrs", []), options)[1]]
@@ -136,9 +136,7 @@ class Workspace:
             return {"ok": None}
         if do in ("set expansion", "remove expansion"):
             key = command["key"]
-            if key["call"] != "bang":
-                return None
-            name = (key["caller"], key["crate"], key["text"], key["input"])
+            name = (key["caller"], key["crate"], key["text"], dump(key["call"]), key["input"])
             if do == "remove expansion":
                 self.edit(lambda: self.entries.pop(name, None))
                 return {"ok": None}

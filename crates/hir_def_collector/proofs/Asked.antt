@@ -66,6 +66,7 @@ seen_map (of_map m) other = m
 pub record Alike (keys : List Key) (env : Environment) (before : Maps) (other : Environment) (finished : Maps) : Type 0 where
   pub kept : KeepsTables env.tables other.tables
   pub config : (krate : Crate) → other.workspace.config krate ≡ env.workspace.config krate
+  pub crates : other.workspace.crates ≡ env.workspace.crates
   pub same : (key : Key) → Contains keys key → look other.tables other.workspace finished key ≡ look env.tables env.workspace before key
 
 module _ (from : Beginning) {keys : List Key} {env other : Environment} {before finished : Maps} (alike : Alike keys env before other finished)

@@ -26,7 +26,7 @@ use Rattle.hir_def_collector.specs.ItemIds.{enum_id}
 use Rattle.hir_def_collector.specs.Items.{own_visibility}
 use Rattle.hir_def_collector.specs.Changes.{changes_imports, gives_variants, goes_on, lists, perform}
 use Rattle.hir_def_collector.specs.Enums.{variants_of}
-use Rattle.hir_def_collector.specs.Steps.{Rule, drops_item, reaches_call, rests, expands_call, drops_call, defines_rules, defines_macro, closes_module, declares_item, declares_enum, lists_constant, lists_impl, opens_module, opens_file, drops_file, misses_file, enters_block, reaches_imports, reaches_crate, resolves_imports, LooksFor, May, Numbered, Sees, after, asking, keys_read, path_of, reads, search_readings, Step, Steps, none, more, enum_declaration}
+use Rattle.hir_def_collector.specs.Steps.{Rule, drops_item, awaits_attribute, lists_derives, faults_derive, exports_macro, reaches_call, rests, expands_call, drops_call, drops_reached, derives_builtin, skips_attribute, falls_back, defines_rules, defines_macro, closes_module, declares_item, declares_enum, lists_constant, lists_impl, opens_module, opens_file, drops_file, misses_file, enters_block, reaches_imports, reaches_crate, resolves_imports, LooksFor, May, Numbered, Sees, after, asking, keys_read, path_of, reads, search_readings, Step, Steps, none, more, enum_declaration}
 use Rattle.hir_def_collector.proofs.Changes.{asked-Step}
 use Rattle.hir_def_collector.proofs.Declared.{Lists, Lists-now}
 use Rattle.hir_def_collector.proofs.Grows.{Grows, Grows-Step, Grows-act}
@@ -87,6 +87,7 @@ module _ (tables : TablesValue) (w : Workspace) (finished : Maps) (s : State) wh
         head = head;
         name = name;
         rest = rest;
+        done = looks.here.done;
         next = looks.here.next;
         enabled = looks.here.enabled;
         declaring = search.declaring;
@@ -106,11 +107,19 @@ module _ (tables : TablesValue) (w : Workspace) (finished : Maps) (s : State) wh
   caused (defines_rules site head name expander helpers rest) may sees numbered p key h = absurd (no_key key h)
   caused (defines_macro site head name expander helpers rest) may sees numbered p key h = absurd (no_key key h)
   caused (closes_module parent child rest) may sees numbered p key h = absurd (no_key key h)
+  caused (awaits_attribute v a k rest) may sees numbered p key h = absurd (no_key key h)
+  caused (lists_derives v at a adt paths rest) may sees numbered p key h = absurd (no_key key h)
+  caused (faults_derive v at report rest) may sees numbered p key h = absurd (no_key key h)
+  caused (exports_macro site head name d e rest) may sees numbered p key h = absurd (no_key key h)
   caused (reaches_call site head path rest) may sees numbered p key h = absurd (no_key key h)
   caused rests may sees numbered p key h = absurd (no_key key h)
   caused (expands_call i d makro x) may sees numbered p key h =
       call_read (record { place = i; call = d; makro = makro; expands = may; seen = x; numbered = numbered; sees = sees; among = h })
   caused (drops_call i d) may sees numbered p key h = absurd (no_key key h)
+  caused (drops_reached i d makro) may sees numbered p key h = absurd (no_key key h)
+  caused (derives_builtin i d makro imp) may sees numbered p key h = absurd (no_key key h)
+  caused (skips_attribute i d k item) may sees numbered p key h = absurd (no_key key h)
+  caused (falls_back i d k item) may sees numbered p key h = absurd (no_key key h)
   caused (declares_item v d rest) may sees numbered p key h = absurd (no_key key h)
   caused (declares_enum site head name found rest) may sees numbered p key h =
       let m : Map = s.core.map in

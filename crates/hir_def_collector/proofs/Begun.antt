@@ -8,9 +8,9 @@ use Rattle.hir_tables.specs.SourcePlaces.{SourcePlaceValue}
 use Rattle.hir_tables.specs.Tables.{KeepsTables, TablesValue, source_of}
 use Rattle.hir_def_map.specs.Overlay.{Maps}
 use Rattle.hir_def_collector.specs.declared.collector.Start.{Start}
-use Rattle.hir_def_collector.specs.Workspace.{Workspace}
+use Rattle.hir_def_collector.specs.Workspace.{Workspace, crate_in}
 use Rattle.hir_def_collector.specs.Keys.{source_in, source_under}
-use Rattle.hir_def_collector.specs.Start.{began, core_of, krate_of, root_site, start_by, tree_key, tree_visits}
+use Rattle.hir_def_collector.specs.Start.{began, core_of, krate_of, root_site, start_by, tree_key, tree_visits, is_proc_macro_by}
 use Rattle.hir_def_collector.specs.State.{Core, at_rest, joined}
 use Rattle.hir_def_collector.specs.Moves.{IsHeld}
 use Rattle.hir_def_collector.proofs.Outline.{held_grown, held_source}
@@ -31,7 +31,7 @@ nothing_there None e h = let no : ⊥ = cc in no
 nothing_there (Some x) e h = let no : ⊥ = cc in no
 
 module _ (tables : TablesValue) (w : Workspace) (finished : Maps) (transitive : List Crate) (start : Start) (id : TreeId) (run : Core) (source : SourceTreeValue)
-    (found : source ≡ source_in tables w (tree_key start id)) (is : run ≡ core_of finished source.tree (w.config (krate_of start)) transitive start id) where
+    (found : source ≡ source_in tables w (tree_key start id)) (is : run ≡ core_of finished source.tree (is_proc_macro_by (crate_in w (krate_of start))) (w.config (krate_of start)) transitive start id) where
   -- where its number means something, its source is held
   pub held_root : IsSome (source_of tables id) → IsHeld tables w run.map.id.krate id source
   held_root there = go (source_of tables id) refl there
@@ -46,7 +46,7 @@ module _ (tables : TablesValue) (w : Workspace) (finished : Maps) (transitive : 
   begun_as : (grown : TablesValue) → source ≡ source_in grown w (tree_key start id) → joined run (tree_visits (root_site id) source.tree) ≡ began grown w finished transitive start id
   begun_as grown same =
       ap (λ (c : Core). joined c (tree_visits (root_site id) source.tree)) is
-      ∙ ap (λ (s : SourceTreeValue). start_by finished s.tree (w.config (krate_of start)) transitive start id) same
+      ∙ ap (λ (s : SourceTreeValue). start_by finished s.tree (is_proc_macro_by (crate_in w (krate_of start))) (w.config (krate_of start)) transitive start id) same
 
   -- the start is the same over tables that have grown
   pub begun_grown : (grown : TablesValue) → KeepsTables tables grown → IsSome (source_of tables id) → joined run (tree_visits (root_site id) source.tree) ≡ began grown w finished transitive start id

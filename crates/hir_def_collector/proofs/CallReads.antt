@@ -1,4 +1,4 @@
--- A call whose slots stand for what they stood for reaches the same macro, while the map grows.
+-- What waits and whose slots stand for what they stood for reaches the same macro, while the map grows.
 use Rattle.std.proofs.Common.{◌≡◌, ◌∙◌, ap, sym, subst, refl, ℕ, ◌<◌, ◌&&◌, Bool, true, false, length, List, Option, None, Some, arith}
 use Rattle.std.specs.List.{All}
 use Rattle.std.specs.Option.{option_map}
@@ -12,6 +12,7 @@ use Rattle.hir_scope.specs.declared.imports.ImportOrExternCrate.{ImportOrExternC
 use Rattle.hir_def_map.proofs.Fails.{Fails-nowhere}
 use Rattle.hir_def_map.specs.Overlay.{Maps, overlay}
 use Rattle.hir_def_map.specs.Scoping.{resolution_of}
+use Rattle.hir_def_map.specs.Scoping.Asking.{Asking}
 use Rattle.hir_def_map.specs.State.{IsBefore, IsInOrder, Local, Map, entry_at, numbered, parent_at, parent_of}
 use Rattle.hir_def_map.specs.declared.nameres.path_resolution.slots.Slot.{Slot as PathSlot}
 use Rattle.hir_def_map.specs.declared.nameres.path_resolution.slots.Slot.TheVariants.{Module as of_module, Preludes as of_preludes}
@@ -22,7 +23,7 @@ use Rattle.hir_def_map_laws.proofs.ReadLaw.{reads_alike}
 use Rattle.hir_def_map_laws.proofs.SameAbove.{before_at, same_numbers_above, same_parent_at}
 use Rattle.hir_def_map_laws.specs.ReadLaw.{AgreeAt, BeginsOutside, Grows, IsReadAlike, KeepApart}
 use Rattle.hir_def_collector.specs.declared.collector.macro_directive.MacroDirective.{MacroDirective}
-use Rattle.hir_def_collector.specs.Calls.{by_call, called_macro, path_of_call}
+use Rattle.hir_def_collector.specs.Calls.{by_style, called_macro, path_of_call, style_of, suited}
 use Rattle.hir_def_collector.specs.Waiting.{KeepsModules, StandsStill, call_reads}
 use Rattle.hir_def_collector.specs.State.{Core}
 use Rattle.hir_def_collector.proofs.EnumMacros.{enums_bring_no_macro, macros_of}
@@ -86,6 +87,9 @@ module _ (finished : Maps) (one other : Map) (apart : KeepApart finished one.id)
   }
 
   module _ (local other_local : Local) (outside : BeginsOutside one.id local) (d : MacroDirective) (low : d.site.home < length one.modules) where
+    abbrev asked_by : Local → Asking
+    asked_by l = by_style (style_of d.kind) l
+
     abbrev path : Path
     path = path_of_call d
 
@@ -94,15 +98,15 @@ module _ (finished : Maps) (one other : Map) (apart : KeepApart finished one.id)
     agree_bare (of_module at name) a = record { entries = a.entries; legacy = a.legacy }
     agree_bare (of_preludes name) a = record { crates = a.crates; macro_uses = a.macro_uses }
 
-    alike : All (AgreeAt one local other other_local) (call_reads finished local one d) → IsReadAlike finished one (by_call local) bare other_local (numbered one.id d.site.home) path
-    alike agree = reads_alike change (by_call local) other_local outside d.site.home low path (λ n x l. agree_bare _ (agree n x l))
+    alike : All (AgreeAt one local other other_local) (call_reads finished local one d) → IsReadAlike finished one (asked_by local) bare other_local (numbered one.id d.site.home) path
+    alike agree = reads_alike change (asked_by local) other_local outside d.site.home low path (λ n x l. agree_bare _ (agree n x l))
 
     -- a call reaches the macro that it reached
     pub same_macro : All (AgreeAt one local other other_local) (call_reads finished local one d) → called_macro finished other_local other d ≡ called_macro finished local one d
     same_macro agree =
-        ap (option_map (λ (i : Item MacroId ImportOrExternCrate). i.def))
-        ((λ i. macros_of (resolution_of (overlay finished other) (by_call other_local) (numbered (keeps.id i) d.site.home) path))
-        ∙ sym (enums_bring_no_macro finished other one.enums (by_call other_local) path.kind path.segments (numbered one.id d.site.home))
+        ap (λ (o : Option (Item MacroId ImportOrExternCrate)). suited d.kind (option_map (λ (i : Item MacroId ImportOrExternCrate). i.def) o))
+        ((λ i. macros_of (resolution_of (overlay finished other) (asked_by other_local) (numbered (keeps.id i) d.site.home) path))
+        ∙ sym (enums_bring_no_macro finished other one.enums (asked_by other_local) path.kind path.segments (numbered one.id d.site.home))
         ∙ ap macros_of (alike agree).answers)
 
 -- a call that stands still reaches no macro

@@ -1,5 +1,5 @@
 -- What no change alters, and what changes keep that each of them keeps.
-use Rattle.std.proofs.Common.{◌≡◌, ◌∙◌, ◌+◌, ◌++◌, ℕ, Bool, true, false, cond, Option, Some, None, List, [], ◌∷◌, map as list_map, refl, sym, ap, append-nil, append_assoc}
+use Rattle.std.proofs.Common.{◌≡◌, ◌∙◌, ◌+◌, ◌++◌, ℕ, Bool, true, false, cond, Option, Some, None, List, [], ◌∷◌, map as list_map, refl, sym, ap, append-nil, append_assoc, ◌≤◌, arith}
 use Rattle.hir_base.specs.declared.ast_id.AstId.{AstId}
 use Rattle.hir_base.specs.declared.ids.ModuleId.{ModuleId}
 use Rattle.hir_base.specs.declared.macro_kind.MacroExpander.{MacroExpander}
@@ -9,17 +9,18 @@ use Rattle.hir_scope.specs.PerNs.{macros_only}
 use Rattle.hir_scope.specs.declared.visibility.Visibility.TheVariants as visibilities
 use Rattle.hir_def_map.specs.Overlay.{Maps}
 use Rattle.hir_def_map.specs.State.{Map}
+use Rattle.hir_def_map.specs.declared.nameres.derive_helpers.DeriveHelper.{DeriveHelper}
 use Rattle.hir_import_resolution.specs.Changes.{Change as ImportChange, pushes}
 use Rattle.hir_import_resolution.specs.State.{ImportState}
 use Rattle.hir_def_collector.specs.declared.collector.macro_directive.MacroDirective.{MacroDirective}
 use Rattle.hir_def_collector.specs.declared.source_database.Key.{Key}
 use Rattle.hir_def_collector.specs.Keys.{Environment}
 use Rattle.hir_def_collector.specs.State.{State, import_state}
-use Rattle.hir_def_collector.specs.Changes.{Change, lists, makes, gives_variants, begins_paths, reaches, awaits, ends, settles, changes_imports, adds_textual, takes_textual, defines, uses_macros, tells, goes_on, act, perform}
+use Rattle.hir_def_collector.specs.Changes.{Change, lists, makes, gives_variants, begins_paths, reaches, awaits, ends, settles, changes_imports, adds_textual, takes_textual, defines, describes, helps, lists_derive, exports, uses_macros, tells, goes_on, act, perform}
 use Rattle.hir_def_collector.specs.Calls.{path_of_call}
 use Rattle.hir_def_collector.specs.Macros.{is_exported}
 use Rattle.hir_def_collector.specs.Reports.{failed_call, is_unimplemented, unimplemented_macro}
-use Rattle.hir_def_collector.specs.Steps.{Step, Steps, none, more, acts, asking, exporting, failing, keys_read, reads, reporting, with_keys}
+use Rattle.hir_def_collector.specs.Steps.{Step, Steps, none, more, acts, asking, bringing, exporting, failing, keys_read, reads, reporting, with_keys}
 use Rattle.hir_def_collector.proofs.ImportEdits.{count_after, crate_data_edited, edit_of, id_edited, map_after}
 
 -- ---- what no change alters
@@ -61,6 +62,10 @@ Keeps-act s (changes_imports c) =
 Keeps-act s (adds_textual home name makro) = record { count = refl; id = refl; crate_data = refl; dependencies = refl; asked = refl }
 Keeps-act s (takes_textual home from) = record { count = refl; id = refl; crate_data = refl; dependencies = refl; asked = refl }
 Keeps-act s (defines node makro) = record { count = refl; id = refl; crate_data = refl; dependencies = refl; asked = refl }
+Keeps-act s (describes makro what) = record { count = refl; id = refl; crate_data = refl; dependencies = refl; asked = refl }
+Keeps-act s (helps node helper) = record { count = refl; id = refl; crate_data = refl; dependencies = refl; asked = refl }
+Keeps-act s (lists_derive home imp) = record { count = refl; id = refl; crate_data = refl; dependencies = refl; asked = refl }
+Keeps-act s (exports f makro) = record { count = refl; id = refl; crate_data = refl; dependencies = refl; asked = refl }
 Keeps-act s (uses_macros macros by) = record { count = refl; id = refl; crate_data = refl; dependencies = refl; asked = refl }
 Keeps-act s (tells d) = record { count = refl; id = refl; crate_data = refl; dependencies = refl; asked = refl }
 Keeps-act s (goes_on tasks) = record { count = refl; id = refl; crate_data = refl; dependencies = refl; asked = refl }
@@ -101,6 +106,19 @@ pub fine_failing : (Fine : State → Change → Type 0) (at : ModuleId) (d : Mac
     → ((s : State) (text : List ℕ) → Fine s (tells (failed_call at d.ast_id (path_of_call d) text))) → (s : State) → AllFine Fine s (failing at d error)
 fine_failing Fine at d None told s = tt
 fine_failing Fine at d (Some error) told s = (told s error, tt)
+
+-- helpers that a derive brings
+pub fine_bringing : (Fine : State → Change → Type 0) (node : AstId) → ((s : State) (helper : DeriveHelper) → Fine s (helps node helper)) → (helpers : List DeriveHelper) (s : State)
+    → AllFine Fine s (bringing node helpers)
+fine_bringing Fine node helped [] s = tt
+fine_bringing Fine node helped (helper ∷ helpers) s = (helped s helper, fine_bringing Fine node helped helpers (act s (helps node helper)))
+
+-- and what is reported behind them of a call
+pub fine_expanding : (Fine : State → Change → Type 0) (node : AstId) → ((s : State) (helper : DeriveHelper) → Fine s (helps node helper)) → (helpers : List DeriveHelper)
+    → (at : ModuleId) (d : MacroDirective) (error : Option (List ℕ)) → ((s : State) (text : List ℕ) → Fine s (tells (failed_call at d.ast_id (path_of_call d) text))) → (s : State)
+    → AllFine Fine s (bringing node helpers ++ failing at d error)
+fine_expanding Fine node helped helpers at d error told s =
+    fine-append Fine (bringing node helpers) (failing at d error) s (fine_bringing Fine node helped helpers s) (fine_failing Fine at d error told (perform s (bringing node helpers)))
 
 -- what is reported of a macro, and where it is bound besides
 module _ (Fine : State → Change → Type 0) (at : ModuleId) (node : AstId) (expander : MacroExpander) (told : (s : State) → Fine s (tells (unimplemented_macro at node))) where
@@ -148,6 +166,14 @@ module _ {env : Environment} {finished : Maps} {old new : State} (step : Step en
 pub data-Steps : {env : Environment} {finished : Maps} {from to : State} → Steps env finished from to → to.core.map.crate_data ≡ from.core.map.crate_data
 data-Steps none = refl
 data-Steps (more old new before step) = data-Step step ∙ data-Steps before
+
+-- steps count on
+pub count-Steps : {env : Environment} {finished : Maps} {from to : State} → Steps env finished from to → from.core.count ≤ to.core.count
+count-Steps none = omega arith
+count-Steps (more old new before step) =
+    let one : new.core.count ≡ old.core.count + 1 = count-Step step in
+    let so_far = count-Steps before in
+    omega (arith, one, so_far)
 
 pub id-Steps : {env : Environment} {finished : Maps} {from to : State} → Steps env finished from to → to.core.map.id ≡ from.core.map.id
 id-Steps none = refl

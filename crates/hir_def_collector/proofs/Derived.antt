@@ -1,5 +1,5 @@
 -- What a derivation comes to, over each workspace and beside finished maps that agree on what was asked for.
-use Rattle.std.proofs.Common.{◌≡◌, ◌∙◌, ◌==◌, ◌||◌, ℕ, zero, suc, ◌<◌, length, Bool, false, true, List, [], ◌∷◌, ◌++◌, map as list_map, Option, None, Some, inl, inr, refl, sym, ap, subst, arith, Contains, if◌then◌else◌}
+use Rattle.std.proofs.Common.{◌≡◌, ◌∙◌, ◌==◌, ◌||◌, ℕ, zero, suc, ◌<◌, length, Bool, false, true, List, [], ◌∷◌, ◌++◌, map as list_map, Option, None, Some, inl, inr, refl, sym, ap, subst, arith, Contains, if◌then◌else◌, cond, slice_get}
 use Rattle.std.specs.List.{list_any}
 use Rattle.std.specs.Prelude.{option_map, unwrap_or}
 use Rattle.hir_crate_graph.specs.CrateSet.{crate_of, crates_from}
@@ -10,20 +10,25 @@ use Rattle.hir_item_tree.specs.ItemTree.{Tree}
 use Rattle.hir_tables.specs.Tables.{KeepsTables, TablesValue}
 use Rattle.hir_def_map.specs.WorldParts.{among}
 use Rattle.hir_def_map.specs.Overlay.{Maps}
+use Rattle.hir_def_collector.specs.declared.collector.macro_directive.MacroDirective.{MacroDirective}
+use Rattle.hir_def_collector.specs.declared.collector.macro_directive.WaitingItem.{WaitingItem}
 use Rattle.hir_def_collector.specs.declared.source_database.Dependency.{Dependency}
 use Rattle.hir_def_collector.specs.declared.source_database.Key.{Key}
 use Rattle.hir_def_collector.specs.declared.source_database.Key.TheVariants as keys
-use Rattle.hir_def_collector.specs.Workspace.{ConfigValue, Workspace, dependencies_of, direct_in, transitive_dependencies_in}
+use Rattle.hir_def_collector.specs.Workspace.{ConfigValue, Workspace, crate_in, dependencies_of, direct_in, transitive_dependencies_in}
 use Rattle.hir_def_collector.specs.Keys.{AgreeOn, Environment, environment, look, map_key, map_keys}
-use Rattle.hir_def_collector.specs.Calls.{LeadsNowhere}
-use Rattle.hir_def_collector.specs.CallMoves.{ComesToRest, cut_off, rested}
+use Rattle.hir_def_collector.specs.Calls.{IsWaiting, LeadsNowhere, waiting_item}
+use Rattle.hir_def_collector.specs.CallMoves.{ComesToRest, NoneWaits, cut_off, rested}
 use Rattle.hir_def_collector.specs.Rounds as rounds
 use Rattle.hir_def_collector.specs.Rounds.{HasManyRounds, IsRound, Rounds, WasTried, handled, met}
 use Rattle.hir_def_collector.specs.State.{State, Core, at_rest, import_state}
 use Rattle.hir_import_resolution.specs.Directives.{kind_of, reached_by}
 use Rattle.hir_import_resolution.specs.Rest.{BroughtStands, IsClosed, IsRecorded, IsSettled}
 use Rattle.hir_def_collector.specs.ModuleFiles.{Reading}
-use Rattle.hir_def_collector.specs.Start.{Beginning, began, begin_of, krate_of, read_by, root_key, root_tree, start_by}
+use Rattle.hir_def_collector.specs.Ended.{ended, exporting_scope}
+use Rattle.hir_def_map.specs.State.{with_scope}
+use Rattle.hir_def_collector.specs.declared.source_database.CrateRoot.{CrateRoot}
+use Rattle.hir_def_collector.specs.Start.{Beginning, began, begin_of, krate_of, read_by, root_key, root_tree, is_proc_macro_by, start_by}
 use Rattle.hir_def_collector.specs.Steps.{Sees, Step, Steps, none, more, keys_read, reads}
 use Rattle.hir_def_collector.specs.Causes as causes
 use Rattle.hir_def_collector.specs.Derivation.{BindsWhatItReaches, CollectedValue, Ends, IsLinked, finished_run}
@@ -111,6 +116,7 @@ pub record Rests (env : Environment) (finished : Maps) (from s : State) (limited
   pub settled : limited ≡ false → (i : ℕ) → IsSettled finished (import_state s) i
   pub linked : limited ≡ false → (i : ℕ) → IsLinked finished s i
   pub nowhere : limited ≡ false → (i : ℕ) → LeadsNowhere finished s i
+  pub unwaiting : limited ≡ false → (i : ℕ) (d : MacroDirective) → IsWaiting s i d → waiting_item d ≡ None
   pub many : limited ≡ true → HasManyRounds env finished from s
 
 -- what the path of a glob reaches is among what the glob was taken for, and that is the source of a recorded one
@@ -122,15 +128,24 @@ linked_at finished s i h settled recorded = record {
       recorded.each r t.0 target at t.1 (settled.linked r t.0 by target at t.1 is_glob reaches);
 }
 
+-- what waits is no attribute where none waits
+pub unwaiting_where : (c : Core) → NoneWaits c → (i : ℕ) (d : MacroDirective) → IsWaiting (at_rest c) i d → waiting_item d ≡ None
+unwaiting_where c without i d waits = go (waiting_item d) refl
+  where
+    go : (o : Option WaitingItem) → waiting_item d ≡ o → waiting_item d ≡ None
+    go None e = e
+    go (Some k) e = absurd (without i (record { call = d; waits = waits; item = k; is_item = e }))
+
 -- so it is where a part of a run comes to rest
 pub rests_at : (env : Environment) (finished : Maps) (from : State) (old new : Core) (limited : Bool) → Holds (at_rest new) → Steps env finished from (at_rest old)
     → ComesToRest env finished old new limited → Rests env finished from (at_rest new) limited
-rests_at env finished from old new limited h before (rested rest nowhere) = record {
+rests_at env finished from old new limited h before (rested rest nowhere without) = record {
   closed = rest.closed;
   stands = rest.stands;
   settled = λ whole. rest.settled;
   linked = λ whole i. linked_at finished (at_rest new) i h (rest.settled i) (rest.recorded i);
   nowhere = λ whole. nowhere;
+  unwaiting = λ whole. unwaiting_where new without;
   many = λ cut. absurd (let no : ⊥ = cc in no);
 }
 rests_at env finished from old new limited h before (cut_off closed stands many) = record {
@@ -139,6 +154,7 @@ rests_at env finished from old new limited h before (cut_off closed stands many)
   settled = λ whole. absurd (let no : ⊥ = cc in no);
   linked = λ whole. absurd (let no : ⊥ = cc in no);
   nowhere = λ whole. absurd (let no : ⊥ = cc in no);
+  unwaiting = λ whole. absurd (let no : ⊥ = cc in no);
   many = λ cut. many_after before many;
 }
 
@@ -164,8 +180,22 @@ module _ (tables : TablesValue) (v : Workspace) (before : Maps) (from : Beginnin
   keys_are : answer.asked ≡ c.asked ++ map_keys transitive
   keys_are = ap (λ (a : CollectedValue). a.asked) is
 
+  ended_id : (core : Core) → (ended core).id ≡ core.map.id
+  ended_id core = go core.is_proc_macro
+    where
+      go : (b : Bool) → (cond b (with_scope core.map 0 (exporting_scope core.map.id.krate core.exported)) core.map).id ≡ core.map.id
+      go true = refl
+      go false = refl
+
+  ended_data : (core : Core) → (ended core).crate_data ≡ core.map.crate_data
+  ended_data core = go core.is_proc_macro
+    where
+      go : (b : Bool) → (cond b (with_scope core.map 0 (exporting_scope core.map.id.krate core.exported)) core.map).crate_data ≡ core.map.crate_data
+      go true = refl
+      go false = refl
+
   dependencies_are : answer.map.crate_data.dependencies ≡ transitive
-  dependencies_are = ap (λ (a : CollectedValue). a.map.crate_data.dependencies) is ∙ ap (λ (d : _). d.dependencies) (data-Steps steps)
+  dependencies_are = ap (λ (a : CollectedValue). a.map.crate_data.dependencies) is ∙ ap (λ (d : _). d.dependencies) (ended_data c ∙ data-Steps steps)
 
   begun_in_range : (tables' : TablesValue) (w : Workspace) (finished : Maps) → IsInRange (begin_of tables' w finished from)
   begun_in_range tables' w finished = in_range-start tables' w (read_by w finished from.start) from
@@ -195,10 +225,11 @@ module _ (tables : TablesValue) (v : Workspace) (before : Maps) (from : Beginnin
     -- the run over the other workspace begins alike
     begins_same : begin_of grown w finished from ≡ begin_of tables v before from
     begins_same =
-        ap (λ (maps : Maps). start_by maps (root_tree grown w from) (w.config (krate_of from.start)) (transitive_dependencies_in w (krate_of from.start)) from.start from.tree) reads_same
-        ∙ ap (λ (t : Tree). start_by (read_by v before from.start) t (w.config (krate_of from.start)) (transitive_dependencies_in w (krate_of from.start)) from.start from.tree) (same_tree from alike root_among map_among)
-        ∙ ap (λ (o : Option ConfigValue). start_by (read_by v before from.start) (root_tree tables v from) o (transitive_dependencies_in w (krate_of from.start)) from.start from.tree) (alike.config (krate_of from.start))
-        ∙ ap (λ (crates : List Crate). start_by (read_by v before from.start) (root_tree tables v from) (v.config (krate_of from.start)) crates from.start from.tree) transitive_same
+        ap (λ (maps : Maps). start_by maps (root_tree grown w from) (is_proc_macro_by (crate_in w (krate_of from.start))) (w.config (krate_of from.start)) (transitive_dependencies_in w (krate_of from.start)) from.start from.tree) reads_same
+        ∙ ap (λ (t : Tree). start_by (read_by v before from.start) t (is_proc_macro_by (crate_in w (krate_of from.start))) (w.config (krate_of from.start)) (transitive_dependencies_in w (krate_of from.start)) from.start from.tree) (same_tree from alike root_among map_among)
+        ∙ ap (λ (b : Bool). start_by (read_by v before from.start) (root_tree tables v from) b (w.config (krate_of from.start)) (transitive_dependencies_in w (krate_of from.start)) from.start from.tree) (ap (λ (cs : List CrateRoot). is_proc_macro_by (slice_get cs (krate_of from.start).0)) alike.crates)
+        ∙ ap (λ (o : Option ConfigValue). start_by (read_by v before from.start) (root_tree tables v from) (is_proc_macro_by (crate_in v (krate_of from.start))) o (transitive_dependencies_in w (krate_of from.start)) from.start from.tree) (alike.config (krate_of from.start))
+        ∙ ap (λ (crates : List Crate). start_by (read_by v before from.start) (root_tree tables v from) (is_proc_macro_by (crate_in v (krate_of from.start))) (v.config (krate_of from.start)) crates from.start from.tree) transitive_same
 
     -- what the steps asked for the other workspace has too
     looks_same : (key : Key) → Contains c.asked key → look grown w (read_by v before from.start) key ≡ look tables v (read_by v before from.start) key
@@ -261,8 +292,9 @@ module _ (tables : TablesValue) (v : Workspace) (before : Maps) (from : Beginnin
           binds = λ whole i. binds_end (read_by w finished from.start) last i holds (settles whole i);
           linked = λ whole i. subst (λ (maps : Maps). IsLinked maps last i) (sym reads_same) (rests.linked (sym limited_is ∙ whole) i);
           nowhere = λ whole i. subst (λ (maps : Maps). LeadsNowhere maps last i) (sym reads_same) (rests.nowhere (sym limited_is ∙ whole) i);
+          unwaiting = λ whole. rests.unwaiting (sym limited_is ∙ whole);
           limited = λ cut. many_over (rests.many (sym limited_is ∙ cut));
-          own = ap (λ (a : CollectedValue). a.map.id) is ∙ id-Steps steps;
+          own = ap (λ (a : CollectedValue). a.map.id) is ∙ ended_id c ∙ id-Steps steps;
           map_is = ap (λ (a : CollectedValue). a.map) is;
           local_is = ap (λ (a : CollectedValue). a.local) is;
           leftover_is = ap (λ (a : CollectedValue). a.leftover) is;
@@ -274,7 +306,7 @@ module _ (tables : TablesValue) (v : Workspace) (before : Maps) (from : Beginnin
   -- so it does over each that agrees on it
   pub ends_over : {w : Workspace} {finished : Maps} → AgreeOn tables answer.asked v before w finished → last.agenda ≡ []
       → Rests (environment tables v) (read_by v before from.start) (begin_of tables v before from) last limited → Ends tables w finished from answer
-  ends_over agrees visited rests = ends_alike (record { kept = tables_stay tables; config = agrees.config; same = agrees.same }) visited rests
+  ends_over agrees visited rests = ends_alike (record { kept = tables_stay tables; config = agrees.config; crates = agrees.crates; same = agrees.same }) visited rests
 
 -- a run beside the maps that it may read is one beside all finished maps
 module _ (tables : TablesValue) (w : Workspace) (finished : Maps) (from : Beginning) (part : Maps) (transitive : List Crate)

@@ -6,14 +6,17 @@ use Rattle.hir_base.specs.declared.ids.ExternBlockId.{ExternBlockId}
 use Rattle.hir_base.specs.declared.ids.ExternCrateId.{ExternCrateId}
 use Rattle.hir_base.specs.declared.ids.ModuleDefId.{ModuleDefId}
 use Rattle.hir_base.specs.declared.ids.ModuleId.{ModuleId}
+use Rattle.hir_base.specs.declared.ids.FunctionId.{FunctionId}
+use Rattle.hir_base.specs.declared.macro_kind.BuiltinDeriveImplId.{BuiltinDeriveImplId}
 use Rattle.hir_base.specs.declared.macro_kind.MacroId.{MacroId}
+use Rattle.hir_base.specs.declared.macro_kind.ProcMacroId.{ProcMacroId}
 use Rattle.hir_textual_scope.specs.Macros.{with_macro}
 use Rattle.hir_textual_scope.specs.declared.textual_scope.TextualMacro.{TextualMacro}
 use Rattle.hir_scope.specs.Globs.{GlobNames}
 use Rattle.hir_scope.specs.Scope.{ScopeValue, binding_of}
 use Rattle.hir_scope.specs.declared.per_ns.PerNs.{PerNs}
 use Rattle.hir_scope.specs.declared.visibility.Visibility.{Visibility}
-use Rattle.hir_def_map.specs.State.{Map, Variants, changed_at, entry_at, module_at, new_id, new_module, numbered, pushed, with_child, with_declared, with_enum, with_extern_block, with_module, with_module_scope, with_scope}
+use Rattle.hir_def_map.specs.State.{MacroDataValue, Map, Variants, changed_at, entry_at, module_at, new_id, new_module, numbered, pushed, with_child, with_declared, with_enum, with_extern_block, with_module, with_module_scope, with_scope}
 use Rattle.hir_def_map.specs.Overlay.{Maps}
 use Rattle.hir_def_map.specs.Declaration.{listed}
 use Rattle.hir_def_map.proofs.Grown.{entry_at-with_module, length-changed}
@@ -22,7 +25,8 @@ use Rattle.hir_def_map.proofs.Listed.{KeepsNames-listed}
 use Rattle.hir_def_map.proofs.StaysWellFormed.{length-made}
 use Rattle.hir_def_map.specs.declared.nameres.declaration.Declaration.{Declaration as Listing}
 use Rattle.hir_def_map.specs.declared.nameres.declaration.Declaration.TheVariants as declaration
-use Rattle.hir_def_map.specs.Macros.{with_diagnostic, with_macro_def}
+use Rattle.hir_def_map.specs.Macros.{with_derive_helper, with_diagnostic, with_exported, with_macro_data, with_macro_def}
+use Rattle.hir_def_map.specs.declared.nameres.derive_helpers.DeriveHelper.{DeriveHelper}
 use Rattle.hir_def_map.specs.declared.nameres.diagnostics.DefDiagnostic.{DefDiagnostic}
 use Rattle.hir_def_map.specs.declared.nameres.origin.ModuleOrigin.{ModuleOrigin}
 use Rattle.hir_def_collector.specs.declared.collector.declaration.Declaration.{Declaration}
@@ -32,7 +36,7 @@ use Rattle.hir_def_collector.specs.ItemIds.{module_id}
 use Rattle.hir_import_resolution.specs.Directives.{AreAmong, namespaces_of}
 use Rattle.hir_def_collector.specs.Macros.{textual_at, with_macros_used}
 use Rattle.hir_def_collector.specs.Moves.{begun}
-use Rattle.hir_def_collector.specs.Changes.{Change, lists, makes, gives_variants, begins_paths, reaches, awaits, ends, settles, changes_imports, adds_textual, takes_textual, defines, uses_macros, tells, goes_on, act, perform}
+use Rattle.hir_def_collector.specs.Changes.{Change, lists, makes, gives_variants, begins_paths, reaches, awaits, ends, settles, changes_imports, adds_textual, takes_textual, defines, describes, helps, lists_derive, exports, uses_macros, tells, goes_on, act, perform, with_builtin_derive, with_derived}
 use Rattle.hir_def_collector.specs.Steps.{Step, Steps, none, more, acts, asking, with_declaration}
 use Rattle.hir_def_collector.proofs.Declared.{Lists, Lists-changed, Lists-longer, Lists-listed}
 use Rattle.hir_def_collector.proofs.Bound.{AreAmong-same, AreAmong-trans, AreAmong-by, KeepsBindings, among-changed, keeps-edit}
@@ -120,6 +124,22 @@ Grows-defined m node makro = let same : Grows m m = Grows-same m in record { lon
 Grows-used : (m : Map) (macros : List (List ℕ × MacroId)) (by : Option ExternCrateId) → Grows m (with_macros_used m macros by)
 Grows-used m macros by = let same : Grows m m = Grows-same m in record { longer = same.longer; kept = same.kept; listed = same.listed }
 
+-- what is kept of a macro, a helper, a function that exports a macro, and the impl for which a builtin derive macro stands
+Grows-described : (m : Map) (makro : MacroId) (what : MacroDataValue) → Grows m (with_macro_data m makro what)
+Grows-described m makro what = let same : Grows m m = Grows-same m in record { longer = same.longer; kept = same.kept; listed = same.listed }
+
+Grows-helped : (m : Map) (node : AstId) (helper : DeriveHelper) → Grows m (with_derive_helper m node helper)
+Grows-helped m node helper = let same : Grows m m = Grows-same m in record { longer = same.longer; kept = same.kept; listed = same.listed }
+
+Grows-exported : (m : Map) (f : FunctionId) (makro : ProcMacroId) → Grows m (with_exported m f makro)
+Grows-exported m f makro = let same : Grows m m = Grows-same m in record { longer = same.longer; kept = same.kept; listed = same.listed }
+
+keeps-derived : (imp : BuiltinDeriveImplId) → KeepsBindings (with_builtin_derive imp)
+keeps-derived imp = record { bound = λ scope name. AreAmong-same (namespaces_of (binding_of scope name)); declared = λ scope. refl }
+
+Grows-derived : (m : Map) (home : ℕ) (imp : BuiltinDeriveImplId) → Grows m (with_derived m home imp)
+Grows-derived m home imp = Grows-scope m home (with_builtin_derive imp) (keeps-derived imp)
+
 -- ---- changes
 
 pub Grows-act : (s : State) (c : Change) → Grows s.core.map (act s c).core.map
@@ -136,6 +156,10 @@ Grows-act s (changes_imports c) =
 Grows-act s (adds_textual home name makro) = Grows-textual s.core.map home (λ macros. with_macro macros name makro)
 Grows-act s (takes_textual home from) = Grows-textual s.core.map home (λ _. textual_at s.core.map from)
 Grows-act s (defines node makro) = Grows-defined s.core.map node makro
+Grows-act s (describes makro what) = Grows-described s.core.map makro what
+Grows-act s (helps node helper) = Grows-helped s.core.map node helper
+Grows-act s (lists_derive home imp) = Grows-derived s.core.map home imp
+Grows-act s (exports f makro) = Grows-exported s.core.map f.id makro
 Grows-act s (uses_macros macros by) = Grows-used s.core.map macros by
 Grows-act s (tells d) = Grows-told s.core.map d
 Grows-act s (goes_on tasks) = Grows-same s.core.map

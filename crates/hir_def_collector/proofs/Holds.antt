@@ -28,12 +28,12 @@ use Rattle.hir_def_collector.specs.Calls.{error_of}
 use Rattle.hir_def_collector.specs.Keys.{Environment, tree_at}
 use Rattle.hir_def_collector.specs.State.{State, import_state, visits_over}
 use Rattle.hir_def_collector.specs.Start.{Beginning, began, krate_of, start_of, root_site, tree_key, tree_visits}
-use Rattle.hir_def_collector.specs.Changes.{Change, lists, makes, gives_variants, begins_paths, reaches, awaits, ends, settles, changes_imports, adds_textual, takes_textual, defines, uses_macros, tells, goes_on, act, on_map}
-use Rattle.hir_def_collector.specs.Steps.{Rule, drops_item, reaches_call, rests, expands_call, drops_call, defines_rules, defines_macro, closes_module, declares_item, declares_enum, lists_constant, lists_impl, opens_module, opens_file, drops_file, misses_file, enters_block, reaches_imports, reaches_crate, resolves_imports, May, acts, asking, Step, Steps, none, more}
+use Rattle.hir_def_collector.specs.Changes.{Change, lists, makes, gives_variants, begins_paths, reaches, awaits, ends, settles, changes_imports, adds_textual, takes_textual, defines, describes, helps, lists_derive, exports, uses_macros, tells, goes_on, act, on_map}
+use Rattle.hir_def_collector.specs.Steps.{Rule, drops_item, awaits_attribute, lists_derives, faults_derive, exports_macro, reaches_call, rests, expands_call, drops_call, drops_reached, derives_builtin, skips_attribute, falls_back, defines_rules, defines_macro, closes_module, declares_item, declares_enum, lists_constant, lists_impl, opens_module, opens_file, drops_file, misses_file, enters_block, reaches_imports, reaches_crate, resolves_imports, May, acts, asking, Step, Steps, none, more}
 use Rattle.hir_def_collector.proofs.Lists.{get_left, get_right, get_inside, get_set_same, get_set_other, length_set, length_both, length_mapped, get_same}
 use Rattle.hir_def_collector.proofs.Bound.{AreAmong-trans, AreAmong-both, AreAmong-nothing, among-pushed, namespaces_of-imported, number_same_or_not}
 use Rattle.hir_def_collector.proofs.Kept.{kept_namespaces, kept_namespaces-both, kept_namespaces-none, kept_of-own, namespaces_of-kept}
-use Rattle.hir_def_collector.proofs.Changes.{AllFine, fine_failing, fine_macro, fine_reporting, perform_keeps}
+use Rattle.hir_def_collector.proofs.Changes.{AllFine, fine_bringing, fine_expanding, fine_macro, fine_reporting, perform_keeps}
 use Rattle.hir_def_collector.proofs.Grows.{Grows, Grows-act}
 use Rattle.hir_def_collector.proofs.ImportEdits.{imports_after}
 use Rattle.hir_def_collector.proofs.InRange.{IsInRange, VisitsBelow, import_at, in_range-Steps}
@@ -71,6 +71,10 @@ TakesWhatIsBound s (changes_imports c) = TakesBound s c
 TakesWhatIsBound s (adds_textual home name makro) = Unit {0}
 TakesWhatIsBound s (takes_textual home from) = Unit {0}
 TakesWhatIsBound s (defines node makro) = Unit {0}
+TakesWhatIsBound s (describes makro what) = Unit {0}
+TakesWhatIsBound s (helps node helper) = Unit {0}
+TakesWhatIsBound s (lists_derive home imp) = Unit {0}
+TakesWhatIsBound s (exports f makro) = Unit {0}
 TakesWhatIsBound s (uses_macros macros by) = Unit {0}
 TakesWhatIsBound s (tells d) = Unit {0}
 TakesWhatIsBound s (goes_on vs) = Unit {0}
@@ -162,6 +166,10 @@ Holds-act s (changes_imports c) h fine = Holds-imports s c h fine
 Holds-act s (adds_textual home name makro) h fine = Holds-grown s _ (Grows-act s (adds_textual home name makro)) h
 Holds-act s (takes_textual home from) h fine = Holds-grown s _ (Grows-act s (takes_textual home from)) h
 Holds-act s (defines node makro) h fine = Holds-grown s _ (Grows-act s (defines node makro)) h
+Holds-act s (describes makro what) h fine = Holds-grown s _ (Grows-act s (describes makro what)) h
+Holds-act s (helps node helper) h fine = Holds-grown s _ (Grows-act s (helps node helper)) h
+Holds-act s (lists_derive home imp) h fine = Holds-grown s _ (Grows-act s (lists_derive home imp)) h
+Holds-act s (exports f makro) h fine = Holds-larger s (act s (exports f makro)) refl refl (Grows-act s (exports f makro)) h
 Holds-act s (uses_macros macros by) h fine = Holds-grown s _ (Grows-act s (uses_macros macros by)) h
 Holds-act s (tells d) h fine = Holds-grown s _ (Grows-act s (tells d)) h
 Holds-act s (goes_on vs) h fine = record { paired = h.paired; bound = λ i t at. same_bound s (act s (goes_on vs)) refl refl i t (h.bound i t at) }
@@ -256,13 +264,21 @@ takes_what_is_bound finished s (misses_file site head name search report rest) m
 takes_what_is_bound finished s (enters_block site head items rest) may p h = (tt, (tt, tt))
 takes_what_is_bound finished s (reaches_imports site head tree rest) may p h = (tt, (tt, (tt, tt)))
 takes_what_is_bound finished s (reaches_crate site head name alias rest) may p h = (tt, (tt, (tt, (tt, (tt, tt)))))
-takes_what_is_bound finished s (defines_rules site head name expander helpers rest) may p h = (tt, (tt, (tt, fine_macro TakesWhatIsBound _ _ expander (λ t. tt) head name _ (λ t. tt) _)))
-takes_what_is_bound finished s (defines_macro site head name expander helpers rest) may p h = (tt, (tt, (tt, (tt, fine_reporting TakesWhatIsBound _ _ expander (λ t. tt) _))))
+takes_what_is_bound finished s (defines_rules site head name expander helpers rest) may p h = (tt, (tt, (tt, (tt, fine_macro TakesWhatIsBound _ _ expander (λ t. tt) head name _ (λ t. tt) _))))
+takes_what_is_bound finished s (defines_macro site head name expander helpers rest) may p h = (tt, (tt, (tt, (tt, (tt, fine_reporting TakesWhatIsBound _ _ expander (λ t. tt) _)))))
 takes_what_is_bound finished s (closes_module parent child rest) may p h = (tt, (tt, tt))
+takes_what_is_bound finished s (awaits_attribute v a k rest) may p h = (tt, (tt, tt))
+takes_what_is_bound finished s (lists_derives v at a adt paths rest) may p h = (tt, (tt, tt))
+takes_what_is_bound finished s (faults_derive v at report rest) may p h = (tt, (tt, tt))
+takes_what_is_bound finished s (exports_macro site head name d e rest) may p h = (tt, (tt, (tt, (tt, (tt, (tt, (tt, tt)))))))
 takes_what_is_bound finished s (reaches_call site head path rest) may p h = (tt, (tt, tt))
 takes_what_is_bound finished s rests may p h = (tt, tt)
-takes_what_is_bound finished s (expands_call i d makro x) may p h = (tt, (tt, fine_failing TakesWhatIsBound _ d (error_of x.there) (λ t text. tt) _))
+takes_what_is_bound finished s (expands_call i d makro x) may p h = (tt, (tt, fine_expanding TakesWhatIsBound _ (λ t helper. tt) _ _ d (error_of x.there) (λ t text. tt) _))
 takes_what_is_bound finished s (drops_call i d) may p h = (tt, tt)
+takes_what_is_bound finished s (drops_reached i d makro) may p h = (tt, fine_bringing TakesWhatIsBound _ (λ t helper. tt) _ _)
+takes_what_is_bound finished s (derives_builtin i d makro imp) may p h = (tt, (tt, fine_bringing TakesWhatIsBound _ (λ t helper. tt) _ _))
+takes_what_is_bound finished s (skips_attribute i d k kept_item) may p h = (tt, (tt, tt))
+takes_what_is_bound finished s (falls_back i d k kept_item) may p h = (tt, (tt, (tt, tt)))
 takes_what_is_bound finished s (resolves_imports rule) may p h = imports_take finished s rule may p h
 
 -- ---- steps

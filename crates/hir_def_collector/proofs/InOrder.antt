@@ -9,9 +9,9 @@ use Rattle.hir_import_resolution.specs.Rules.{acts as import_acts}
 use Rattle.hir_def_collector.specs.Calls.{error_of}
 use Rattle.hir_def_collector.specs.Keys.{Environment}
 use Rattle.hir_def_collector.specs.State.{State, import_state}
-use Rattle.hir_def_collector.specs.Changes.{Change, lists, makes, gives_variants, begins_paths, reaches, awaits, ends, settles, changes_imports, adds_textual, takes_textual, defines, uses_macros, tells, goes_on, act}
-use Rattle.hir_def_collector.specs.Steps.{Rule, drops_item, reaches_call, rests, expands_call, drops_call, defines_rules, defines_macro, closes_module, declares_item, declares_enum, lists_constant, lists_impl, opens_module, opens_file, drops_file, misses_file, enters_block, reaches_imports, reaches_crate, resolves_imports, May, acts, asking, Step}
-use Rattle.hir_def_collector.proofs.Changes.{AllFine, all_fine, fine_failing, fine_macro, fine_reporting, perform_keeps}
+use Rattle.hir_def_collector.specs.Changes.{Change, lists, makes, gives_variants, begins_paths, reaches, awaits, ends, settles, changes_imports, adds_textual, takes_textual, defines, describes, helps, lists_derive, exports, uses_macros, tells, goes_on, act}
+use Rattle.hir_def_collector.specs.Steps.{Rule, drops_item, reaches_call, rests, expands_call, drops_call, defines_rules, defines_macro, closes_module, declares_item, declares_enum, lists_constant, lists_impl, opens_module, opens_file, drops_file, misses_file, enters_block, reaches_imports, reaches_crate, resolves_imports, May, acts, asking, Step, awaits_attribute, lists_derives, faults_derive, exports_macro, drops_reached, derives_builtin, skips_attribute, falls_back}
+use Rattle.hir_def_collector.proofs.Changes.{AllFine, all_fine, fine_bringing, fine_expanding, fine_macro, fine_reporting, perform_keeps}
 use Rattle.hir_def_collector.proofs.ImportEdits.{Edit, edit, edit_of, edited, map_after}
 use Rattle.hir_def_collector.proofs.InRange.{IsInRange, next_home}
 
@@ -82,6 +82,10 @@ MadeInside s (changes_imports c) = Unit {0}
 MadeInside s (adds_textual home name makro) = Unit {0}
 MadeInside s (takes_textual home from) = Unit {0}
 MadeInside s (defines node makro) = Unit {0}
+MadeInside s (describes makro what) = Unit {0}
+MadeInside s (helps item helper) = Unit {0}
+MadeInside s (lists_derive home imp) = Unit {0}
+MadeInside s (exports f makro) = Unit {0}
 MadeInside s (uses_macros macros by) = Unit {0}
 MadeInside s (tells d) = Unit {0}
 MadeInside s (goes_on tasks) = Unit {0}
@@ -103,6 +107,10 @@ in_order_act s (changes_imports c) p fine = subst IsInOrder (sym (map_after (imp
 in_order_act s (adds_textual home name makro) p fine = in_order_scope s.core.map p home _
 in_order_act s (takes_textual home from) p fine = in_order_scope s.core.map p home _
 in_order_act s (defines node makro) p fine = p
+in_order_act s (describes makro what) p fine = p
+in_order_act s (helps item helper) p fine = p
+in_order_act s (lists_derive home imp) p fine = in_order_scope s.core.map p home _
+in_order_act s (exports f makro) p fine = p
 in_order_act s (uses_macros macros by) p fine = p
 in_order_act s (tells d) p fine = p
 in_order_act s (goes_on tasks) p fine = p
@@ -122,13 +130,21 @@ made_inside finished s (misses_file site head name search report rest) may p = (
 made_inside finished s (enters_block site head items rest) may p = (tt, (tt, tt))
 made_inside finished s (reaches_imports site head tree rest) may p = (tt, (tt, (tt, tt)))
 made_inside finished s (reaches_crate site head name alias rest) may p = (tt, (tt, (tt, (tt, (tt, tt)))))
-made_inside finished s (defines_rules site head name expander helpers rest) may p = (tt, (tt, (tt, fine_macro MadeInside _ _ expander (λ t. tt) head name _ (λ t. tt) _)))
-made_inside finished s (defines_macro site head name expander helpers rest) may p = (tt, (tt, (tt, (tt, fine_reporting MadeInside _ _ expander (λ t. tt) _))))
+made_inside finished s (defines_rules site head name expander helpers rest) may p = (tt, (tt, (tt, (tt, fine_macro MadeInside _ _ expander (λ t. tt) head name _ (λ t. tt) _))))
+made_inside finished s (defines_macro site head name expander helpers rest) may p = (tt, (tt, (tt, (tt, (tt, fine_reporting MadeInside _ _ expander (λ t. tt) _)))))
 made_inside finished s (closes_module parent child rest) may p = (tt, (tt, tt))
+made_inside finished s (awaits_attribute v a k rest) may p = (tt, (tt, tt))
+made_inside finished s (lists_derives v at a adt paths rest) may p = (tt, (tt, tt))
+made_inside finished s (faults_derive v at report rest) may p = (tt, (tt, tt))
+made_inside finished s (exports_macro site head name d e rest) may p = (tt, (tt, (tt, (tt, (tt, (tt, (tt, tt)))))))
 made_inside finished s (reaches_call site head path rest) may p = (tt, (tt, tt))
 made_inside finished s rests may p = (tt, tt)
-made_inside finished s (expands_call i d makro x) may p = (tt, (tt, fine_failing MadeInside _ d (error_of x.there) (λ t text. tt) _))
+made_inside finished s (expands_call i d makro x) may p = (tt, (tt, fine_expanding MadeInside _ (λ t helper. tt) _ _ d (error_of x.there) (λ t text. tt) _))
 made_inside finished s (drops_call i d) may p = (tt, tt)
+made_inside finished s (drops_reached i d makro) may p = (tt, fine_bringing MadeInside _ (λ t helper. tt) _ _)
+made_inside finished s (derives_builtin i d makro imp) may p = (tt, (tt, fine_bringing MadeInside _ (λ t helper. tt) _ _))
+made_inside finished s (skips_attribute i d k kept_item) may p = (tt, (tt, tt))
+made_inside finished s (falls_back i d k kept_item) may p = (tt, (tt, (tt, tt)))
 made_inside finished s (resolves_imports rule) may p = all_fine MadeInside (λ t c. tt) (import_acts finished (import_state s) rule) s
 
 -- ---- steps

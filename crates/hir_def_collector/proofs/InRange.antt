@@ -18,14 +18,20 @@ use Rattle.hir_def_collector.specs.declared.collector.site.Site.{Site}
 use Rattle.hir_def_collector.specs.Calls.{call_site, error_of}
 use Rattle.hir_def_collector.specs.Keys.{Environment}
 use Rattle.hir_def_collector.specs.State.{State, Task, Visit, visits, closes, import_state, visits_over}
+use Rattle.hir_base.specs.ModPath.{Path}
+use Rattle.hir_base.specs.declared.ast_id.AstId.{AstId}
+use Rattle.hir_base.specs.declared.ast_id.AttrId.{AttrId}
+use Rattle.hir_base.specs.declared.ids.AdtId.{AdtId}
+use Rattle.hir_use_tree.specs.UseTree.{count_of}
+use Rattle.hir_def_collector.specs.Attributes.{attr_id, item_node}
 use Rattle.hir_def_collector.specs.ItemIds.{macro_rules_id, module_id, use_id}
 use Rattle.hir_def_collector.specs.Items.{file_origin, inline_origin, own_visibility}
 use Rattle.hir_def_collector.specs.Imports.{reached_import}
 use Rattle.hir_def_collector.specs.Macros.{is_macro_use}
 use Rattle.hir_def_collector.specs.Moves.{begun}
-use Rattle.hir_def_collector.specs.Changes.{Change, lists, makes, gives_variants, begins_paths, reaches, awaits, ends, settles, changes_imports, adds_textual, takes_textual, defines, uses_macros, tells, goes_on, act, on_map}
-use Rattle.hir_def_collector.specs.Steps.{Rule, drops_item, reaches_call, rests, expands_call, drops_call, defines_rules, defines_macro, closes_module, closing, declares_item, declares_enum, lists_constant, lists_impl, opens_module, opens_file, drops_file, misses_file, enters_block, reaches_imports, reaches_crate, resolves_imports, May, acts, asking, inside_block, inside_file, inside_module, path_of, visits_in_file, visits_inside, Step, Steps, none, more}
-use Rattle.hir_def_collector.proofs.Changes.{AllFine, all_fine, fine_failing, fine_macro, fine_reporting, perform_keeps}
+use Rattle.hir_def_collector.specs.Changes.{Change, lists, makes, gives_variants, begins_paths, reaches, awaits, ends, settles, changes_imports, adds_textual, takes_textual, defines, describes, helps, lists_derive, exports, uses_macros, tells, goes_on, act, on_map}
+use Rattle.hir_def_collector.specs.Steps.{Rule, drops_item, awaits_attribute, lists_derives, faults_derive, exports_macro, reaches_call, rests, expands_call, drops_call, drops_reached, derives_builtin, skips_attribute, falls_back, defines_rules, defines_macro, closes_module, closing, declares_item, declares_enum, lists_constant, lists_impl, opens_module, opens_file, drops_file, misses_file, enters_block, reaches_imports, reaches_crate, resolves_imports, May, acts, asking, derives_from, inside_block, inside_file, inside_module, path_of, visits_in_file, visits_inside, Step, Steps, none, more}
+use Rattle.hir_def_collector.proofs.Changes.{AllFine, all_fine, fine_bringing, fine_expanding, fine_macro, fine_reporting, perform_keeps}
 use Rattle.hir_def_collector.proofs.Grows.{Grows, Grows-act}
 use Rattle.hir_def_collector.proofs.ImportEdits.{imports_after}
 
@@ -128,6 +134,10 @@ StaysInRange s (changes_imports c) = Unit {0}
 StaysInRange s (adds_textual home name makro) = Unit {0}
 StaysInRange s (takes_textual home from) = Unit {0}
 StaysInRange s (defines node makro) = Unit {0}
+StaysInRange s (describes makro what) = Unit {0}
+StaysInRange s (helps node helper) = Unit {0}
+StaysInRange s (lists_derive home imp) = Unit {0}
+StaysInRange s (exports f makro) = Unit {0}
 StaysInRange s (uses_macros macros by) = Unit {0}
 StaysInRange s (tells d) = Unit {0}
 StaysInRange s (goes_on vs) = VisitsBelow (length s.core.map.modules) vs
@@ -158,6 +168,10 @@ in_range-act s (changes_imports c) p fine =
 in_range-act s (adds_textual home name makro) p fine = in_larger s _ (Grows-act s (adds_textual home name makro)) p
 in_range-act s (takes_textual home from) p fine = in_larger s _ (Grows-act s (takes_textual home from)) p
 in_range-act s (defines node makro) p fine = in_larger s _ (Grows-act s (defines node makro)) p
+in_range-act s (describes makro what) p fine = in_larger s _ (Grows-act s (describes makro what)) p
+in_range-act s (helps node helper) p fine = in_larger s _ (Grows-act s (helps node helper)) p
+in_range-act s (lists_derive home imp) p fine = in_larger s _ (Grows-act s (lists_derive home imp)) p
+in_range-act s (exports f makro) p fine = record { visits = p.visits; imports = p.imports; calls = p.calls }
 in_range-act s (uses_macros macros by) p fine = in_larger s _ (Grows-act s (uses_macros macros by)) p
 in_range-act s (tells d) p fine = in_larger s _ (Grows-act s (tells d)) p
 in_range-act s (goes_on vs) p fine = record { visits = fine; imports = p.imports; calls = p.calls }
@@ -184,6 +198,11 @@ below_made m home name new ts f =
 
 -- ---- rules
 
+-- the paths of a derive are called where it is written
+derives_below : (n : ℕ) (site : Site) (node : AstId) (attr : AttrId) (adt : AdtId) → site.home < n → (index : ℕ) (paths : List Path) → CallsBelow n (derives_from site node attr adt index paths)
+derives_below n site node attr adt low index [] = tt
+derives_below n site node attr adt low index (path ∷ paths) = (low, derives_below n site node attr adt low (count_of (index + 1)) paths)
+
 module _ (s : State) (p : IsInRange s) (v : Visit) (rest : List Task) (next : s.agenda ≡ visits v ∷ rest) where
   -- the next item is of a module that is there, and so is each that stays
   pub next_home : v.site.home < length s.core.map.modules
@@ -194,7 +213,7 @@ module _ (s : State) (p : IsInRange s) (v : Visit) (rest : List Task) (next : s.
 
 stays_in_range : (finished : Maps) (s : State) (r : Rule) → May finished s r → IsInRange s → AllFine StaysInRange (asking s r) (acts finished s r)
 stays_in_range finished s (drops_item v report rest) may p = (left s p v rest may.next, (tt, tt))
-stays_in_range finished s (declares_item v d rest) may p = (left s p v rest may.here.next, (tt, (tt, tt)))
+stays_in_range finished s (declares_item v d rest) may p = (left s p _ rest may.here.next, (tt, (tt, tt)))
 stays_in_range finished s (declares_enum site head name found rest) may p = (left s p _ rest may.next, (tt, (tt, (tt, tt))))
 stays_in_range finished s (lists_constant site head rest) may p = (left s p _ rest may.next, (tt, tt))
 stays_in_range finished s (lists_impl site head of_trait rest) may p = (left s p _ rest may.next, (tt, tt))
@@ -221,16 +240,26 @@ stays_in_range finished s (reaches_imports site head tree rest) may p =
 stays_in_range finished s (reaches_crate site head name alias rest) may p =
     (left s p _ rest may.next, (tt, (tt, ((next_home s p _ rest may.next, tt), (tt, tt)))))
 stays_in_range finished s (defines_rules site head name expander helpers rest) may p =
-    (left s p _ rest may.next, (tt, (tt, fine_macro StaysInRange _ _ expander (λ t. tt) head name (macro_rules_id s.core.map site head.id expander) (λ t. tt) _)))
+    (left s p _ rest may.next, (tt, (tt, (tt, fine_macro StaysInRange _ _ expander (λ t. tt) head name (macro_rules_id s.core.map site head.id expander) (λ t. tt) _))))
 stays_in_range finished s (defines_macro site head name expander helpers rest) may p =
-    (left s p _ rest may.next, (tt, (tt, (tt, fine_reporting StaysInRange _ _ expander (λ t. tt) _))))
+    (left s p _ rest may.next, (tt, (tt, (tt, (tt, fine_reporting StaysInRange _ _ expander (λ t. tt) _)))))
 stays_in_range finished s (closes_module parent child rest) may p = (subst (VisitsBelow (length s.core.map.modules)) may p.visits, (tt, tt))
+stays_in_range finished s (awaits_attribute v a k rest) may p = (left s p v rest may.has.on.next, ((next_home s p v rest may.has.on.next, tt), tt))
+stays_in_range finished s (lists_derives v at a adt paths rest) may p =
+    let here : v.site.home < length s.core.map.modules = next_home s p v rest may.has.on.next in
+    ((here, left s p v rest may.has.on.next), (derives_below (length s.core.map.modules) v.site (item_node v.site v.item) (attr_id a) adt here 0 paths, tt))
+stays_in_range finished s (faults_derive v at report rest) may p = ((next_home s p v rest may.has.on.next, left s p v rest may.has.on.next), (tt, tt))
+stays_in_range finished s (exports_macro site head name d e rest) may p = (left s p _ rest may.here.next, (tt, (tt, (tt, (tt, (tt, (tt, tt)))))))
 stays_in_range finished s (reaches_call site head path rest) may p = (left s p _ rest may.next, ((next_home s p _ rest may.next, tt), tt))
 stays_in_range finished s rests may p = (tt, tt)
 stays_in_range finished s (expands_call i d makro x) may p =
-    let here : d.site.home < length s.core.map.modules = call_below (length s.core.map.modules) s.core.calls i d p.calls may.due.waiting.call in
-    (tt, (visits_of (length s.core.map.modules) (call_site d x.id) here x.tree.tree.items, fine_failing StaysInRange _ d (error_of x.there) (λ t text. tt) _))
+    let here : d.site.home < length s.core.map.modules = call_below (length s.core.map.modules) s.core.calls i d p.calls may.called.due.waiting.call in
+    (tt, (visits_of (length s.core.map.modules) (call_site d x.id) here x.tree.tree.items, fine_expanding StaysInRange _ (λ t helper. tt) _ _ d (error_of x.there) (λ t text. tt) _))
 stays_in_range finished s (drops_call i d) may p = (tt, tt)
+stays_in_range finished s (drops_reached i d makro) may p = (tt, fine_bringing StaysInRange _ (λ t helper. tt) _ _)
+stays_in_range finished s (derives_builtin i d makro imp) may p = (tt, (tt, fine_bringing StaysInRange _ (λ t helper. tt) _ _))
+stays_in_range finished s (skips_attribute i d k kept_item) may p = (tt, ((call_below (length s.core.map.modules) s.core.calls i d p.calls may.due.waiting.call, tt), tt))
+stays_in_range finished s (falls_back i d k kept_item) may p = (tt, (tt, ((call_below (length s.core.map.modules) s.core.calls i d p.calls may.waiting.call, tt), tt)))
 stays_in_range finished s (resolves_imports rule) may p = all_fine StaysInRange (λ t c. tt) (import_acts finished (import_state s) rule) s
 
 pub in_range-Step : {env : Environment} {finished : Maps} {old new : State} → Step env finished old new → IsInRange old → IsInRange new

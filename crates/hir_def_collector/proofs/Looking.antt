@@ -22,13 +22,15 @@ use Rattle.hir_def_collector.specs.declared.collector.macro_directive.MacroDirec
 use Rattle.hir_def_collector.specs.declared.source_database.Key.{Key}
 use Rattle.hir_def_collector.specs.declared.source_database.Key.TheVariants as keys
 use Rattle.hir_def_collector.specs.CallMoves.{SeesCall}
-use Rattle.hir_def_collector.specs.Calls.{AreCallsPlaced, Expanding, IsMeantCall, IsPlacedBelow, IsNumberedCall, call_key, call_loc, call_site, call_tree, expansion_of_call, expansion_readings, text_readings}
-use Rattle.hir_def_collector.specs.Keys.{Environment, IsMeant, Look, entry_under, environment, input_at, look, node_tree, of_entry, of_input, of_text, of_tree, source_in, source_under, text_at}
+use Rattle.hir_def_collector.specs.declared.collector.macro_directive.MacroDirectiveKind.{MacroDirectiveKind}
+use Rattle.hir_def_collector.specs.declared.collector.macro_directive.MacroDirectiveKind.TheVariants.{Attr, Derive, FnLike}
+use Rattle.hir_def_collector.specs.Calls.{AreCallsPlaced, Expanding, IsMeantCall, IsPlacedBelow, IsNumberedCall, IsTextOf, call_key, call_loc, call_style, call_tree, called_text, expansion_of_call, expansion_readings, kind_by, text_readings}
+use Rattle.hir_def_collector.specs.Keys.{Environment, IsMeant, entry_under, environment, input_at, node_tree, of_entry, of_input, of_text, of_tree, source_in, text_at}
 use Rattle.hir_def_collector.specs.ModuleFiles.{Reading}
-use Rattle.hir_def_collector.specs.Moves.{IsHeld, IsWritten, OnceGrown}
+use Rattle.hir_def_collector.specs.Moves.{OnceGrown}
 use Rattle.hir_def_collector.specs.State.{Core, with_asked}
 use Rattle.hir_def_collector.specs.Steps.{Sees, keys_read, with_keys}
-use Rattle.hir_def_collector.specs.Workspace.{EntryLook, Workspace, seen_of}
+use Rattle.hir_def_collector.specs.Workspace.{Workspace, seen_of}
 use Rattle.hir_def_collector.proofs.CallPlaces.{placed_grown}
 use Rattle.hir_def_collector.proofs.Lists.{get_inside}
 use Rattle.hir_def_collector.proofs.Meaning.{looks_stand}
@@ -70,13 +72,13 @@ pub source_of_call : (tables : TablesValue) (id : MacroCallId) (loc : MacroCallL
 source_of_call tables id loc key call entry =
     ap (λ (o : Option MacroCallLoc). option_map expansion (option_and_then (λ (l : MacroCallLoc). entry_at tables l.entry) o)) call ∙ ap (λ (o : Option ExpansionValue). option_map expansion o) entry
 
-module _ (first second tables : TablesValue) (w : Workspace) (c new : Core) (d : MacroDirective) (makro : MacroId) (x : Expanding) (source : SourceTreeValue)
+module _ (first second tables : TablesValue) (w : Workspace) (finished : Maps) (c new : Core) (d : MacroDirective) (makro : MacroId) (x : Expanding) (source : SourceTreeValue)
     (before : KeepsTables first second) (after : KeepsTables second tables) (meant : IsMeantCall first d) (of_macro : IsMeant first makro) where
   abbrev own : Crate
   own = c.map.id.krate
 
   abbrev key : ExpansionValue
-  key = expansion_of_call own makro x.text x.input
+  key = expansion_of_call own (call_style d) makro x.text x.input
 
   kept : KeepsTables first tables
   kept = KeepsTables-trans first second tables before after
@@ -84,29 +86,36 @@ module _ (first second tables : TablesValue) (w : Workspace) (c new : Core) (d :
   numbered : entry_at second x.entry ≡ Some key → call_at tables x.id ≡ Some (call_loc d x.entry) → IsNumberedCall tables own d makro x
   numbered entry call = record { meant = macro_kept first tables kept makro of_macro; entry = after.entries x.entry.0 key entry; call = call }
 
-  sees_text : (makro : MacroId) → IsMeant first makro → x.text ≡ text_at first w makro → (grown : TablesValue) → KeepsTables tables grown → (finished : Maps) → Sees (environment grown w) finished (text_readings makro x.text)
-  sees_text (macros.Macro2Id id) there is grown k finished =
-      (looks_stand first grown w finished (keys.Text (macros.Macro2Id id)) (KeepsTables-trans first tables grown kept k) there ∙ ap of_text (sym is), tt)
-  sees_text (macros.MacroRulesId id) there is grown k finished =
-      (looks_stand first grown w finished (keys.Text (macros.MacroRulesId id)) (KeepsTables-trans first tables grown kept k) there ∙ ap of_text (sym is), tt)
-  sees_text (macros.ProcMacroId id) there is grown k finished = tt
+  sees_text : (makro : MacroId) → IsMeant first makro → x.text ≡ called_text finished c.map makro (text_at first w makro) → (grown : TablesValue) → KeepsTables tables grown → (maps : Maps)
+      → Sees (environment grown w) maps (text_readings makro x.text)
+  sees_text (macros.Macro2Id id) there is grown k maps =
+      (looks_stand first grown w maps (keys.Text (macros.Macro2Id id)) (KeepsTables-trans first tables grown kept k) there ∙ ap of_text (sym is), tt)
+  sees_text (macros.MacroRulesId id) there is grown k maps =
+      (looks_stand first grown w maps (keys.Text (macros.MacroRulesId id)) (KeepsTables-trans first tables grown kept k) there ∙ ap of_text (sym is), tt)
+  sees_text (macros.ProcMacroId id) there is grown k maps = tt
 
-  pub sees_call : entry_at second x.entry ≡ Some key → call_at tables x.id ≡ Some (call_loc d x.entry) → x.text ≡ text_at first w makro → x.input ≡ input_at first w own d.ast_id
+  -- that of a procedural macro is its name
+  text_of_it : (makro : MacroId) → x.text ≡ called_text finished c.map makro (text_at first w makro) → IsTextOf finished c.map makro x.text
+  text_of_it (macros.Macro2Id id) is = tt
+  text_of_it (macros.MacroRulesId id) is = tt
+  text_of_it (macros.ProcMacroId id) is = is
+
+  pub sees_call : entry_at second x.entry ≡ Some key → call_at tables x.id ≡ Some (call_loc d x.entry) → x.text ≡ called_text finished c.map makro (text_at first w makro) → x.input ≡ input_at first w own d.ast_id
       → x.there ≡ w.entry key → x.tree ≡ seen_of source → source ≡ source_in tables w (call_key own x.id)
-      → new ≡ record c { asked = with_keys c.asked (keys_read (text_readings makro x.text ++ expansion_readings own d x)) } → SeesCall tables w d makro c new x source
+      → new ≡ record c { asked = with_keys c.asked (keys_read (text_readings makro x.text ++ expansion_readings own d x)) } → SeesCall tables w finished d makro c new x source
   sees_call entry call text input there tree found asked =
       let at_last : IsNumberedCall tables own d makro x = numbered entry call in
       let place : source_of tables (call_tree x.id) ≡ Some (expansion key) = source_of_call tables x.id (call_loc d x.entry) key call at_last.entry in
-      let is : source ≡ w.tree own (expansion key) = found ∙ ap (λ (o : Option SourcePlaceValue). source_under w own o) place in
       record {
+        text = text_of_it makro text;
         numbered = λ grown k. call_kept tables grown k own d makro x at_last;
-        sees = λ grown k finished.
-            Sees-append (environment grown w) finished (text_readings makro x.text) (expansion_readings own d x) (sees_text makro of_macro text grown k finished) (
-              looks_stand first grown w finished (keys.Input own d.ast_id) (KeepsTables-trans first tables grown kept k) meant.node ∙ ap of_input (sym input),
+        sees = λ grown k maps.
+            Sees-append (environment grown w) maps (text_readings makro x.text) (expansion_readings own d x) (sees_text makro of_macro text grown k maps) (
+              looks_stand first grown w maps (keys.Input own d.ast_id) (KeepsTables-trans first tables grown kept k) meant.node ∙ ap of_input (sym input),
               (
                 ap (λ (o : Option ExpansionValue). of_entry (entry_under w o)) (k.entries x.entry.0 key at_last.entry) ∙ ap of_entry (sym there),
                 (
-                  looks_stand tables grown w finished (keys.Tree (call_key own x.id)) k (subst (λ (o : Option SourcePlaceValue). IsSome o) (sym place) refl)
+                  looks_stand tables grown w maps (keys.Tree (call_key own x.id)) k (subst (λ (o : Option SourcePlaceValue). IsSome o) (sym place) refl)
                       ∙ ap (λ (s : SourceTreeValue). of_tree (seen_of s)) (sym found) ∙ ap of_tree (sym tree),
                   tt,
                 ),
@@ -114,7 +123,7 @@ module _ (first second tables : TablesValue) (w : Workspace) (c new : Core) (d :
             );
         tree = tree;
         asked = asked;
-        written = record { held = record { place = expansion key; at = place; is = sym is }; file = (site_kept first tables kept d.site meant.site).file };
+        written = record { tree = subst (λ (o : Option SourcePlaceValue). IsSome o) (sym place) refl; file = (site_kept first tables kept d.site meant.site).file };
       }
 
 -- ---- where calls are written
@@ -138,6 +147,12 @@ within_calls : (tables : TablesValue) (node : AstId) (c : MacroCallId) → IsSom
 within_calls tables node c there file block =
     no_call c (call_at tables c) tables refl
     (subst (λ (o : Option SourcePlaceValue). IsSome o) (ap (λ (id : HirFileId). source_under_file tables id node.block) file ∙ ap (λ (b : Option BlockId). source_under_file tables (Macro c) b) block) there)
+
+-- the node of a call, of a derive or of an attribute is that on which it is
+node_by_kind : (node : AstId) (kind : MacroDirectiveKind) → call_node (kind_by node kind) ≡ node
+node_by_kind node (FnLike path) = refl
+node_by_kind node (Derive path attr index adt) = refl
+node_by_kind node (Attr path attr item) = refl
 
 -- where an expansion gets a number, and then a call in a source that has one, each call is placed still
 pub placed_call : (first second tables : TablesValue) (d : MacroDirective) (entry : EntryId) → KeepsTables first second → KeepsTables second tables → second ≡ record first { entries = second.entries }
@@ -167,6 +182,6 @@ placed_call first second tables d entry before after entries calls interns there
     go : Interns second.calls tables.calls (call_loc d entry) → (n : ℕ) (loc : MacroCallLoc) → slice_get tables.calls n ≡ Some loc → IsPlacedBelow tables n (call_node loc.kind)
     go (had_number known same) n loc e = earlier n loc (ap (λ (ls : List MacroCallLoc). slice_get ls n) (sym same) ∙ e)
     go (gets_next fresh same) n loc e = elim (last_or_before n loc (ap (λ (ls : List MacroCallLoc). slice_get ls n) (sym same) ∙ e)) [
-      | inl p ↦ subst (λ (l : MacroCallLoc). IsPlacedBelow tables n (call_node l.kind)) p.1 (here n p.0)
+      | inl p ↦ subst (λ (l : MacroCallLoc). IsPlacedBelow tables n (call_node l.kind)) p.1 (subst (λ (node : AstId). IsPlacedBelow tables n node) (sym (node_by_kind d.ast_id d.kind)) (here n p.0))
       | inr old ↦ earlier n loc old
     ]

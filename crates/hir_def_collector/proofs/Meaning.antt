@@ -1,21 +1,25 @@
 -- The numbers in a run's keys mean something, and what is seen at them stays as tables grow.
-use Rattle.std.proofs.Common.{◌≡◌, ◌<◌, ℕ, zero, suc, Bool, true, false, ◌||◌, List, [], ◌∷◌, ◌++◌, length, slice_get, Option, Some, None, inl, inr, refl, sym, ap, subst, arith, append_assoc, Contains}
+use Rattle.std.proofs.Common.{◌≡◌, ◌<◌, ◌+◌, ℕ, zero, suc, Bool, true, false, ◌||◌, List, [], ◌∷◌, ◌++◌, length, slice_get, Option, Some, None, inl, inr, refl, sym, ap, subst, arith, append_assoc, Contains}
 use Rattle.std.specs.Option.{option_and_then}
 use Rattle.std.specs.Prelude.{IsSome, option_map}
 use Rattle.std.proofs.lemmas.List.Elements.{Contains-append_cases}
+use Rattle.hir_base.specs.ModPath.{Path}
+use Rattle.hir_base.specs.declared.ast_id.AstId.{AstId}
 use Rattle.hir_base.specs.declared.ast_id.AstKind.TheVariants.{MacroDef, MacroRules}
+use Rattle.hir_base.specs.declared.ast_id.AttrId.{AttrId}
 use Rattle.hir_base.specs.declared.ast_id.BlockId.{BlockId}
 use Rattle.hir_base.specs.declared.ast_id.EntryId.{EntryId}
 use Rattle.hir_base.specs.declared.ast_id.FileId.{FileId}
 use Rattle.hir_base.specs.declared.ast_id.HirFileId.{HirFileId}
 use Rattle.hir_base.specs.declared.ast_id.HirFileId.TheVariants.{File, Macro}
+use Rattle.hir_base.specs.declared.ids.AdtId.{AdtId}
 use Rattle.hir_base.specs.declared.ids.Crate.{Crate}
 use Rattle.hir_base.specs.declared.macro_kind.MacroCallLoc.{MacroCallLoc}
 use Rattle.hir_base.specs.declared.macro_kind.MacroId.{MacroId}
 use Rattle.hir_base.specs.declared.macro_kind.MacroId.TheVariants as macros
 use Rattle.hir_item_tree.specs.Collected.{is_enabled}
 use Rattle.hir_item_tree.specs.ItemTree.{Tree}
-use Rattle.hir_item_tree.specs.KeptForest.{Head, KeptForest, no_items, item}
+use Rattle.hir_item_tree.specs.KeptForest.{Head, KeptForest, KeptItem, no_items, item}
 use Rattle.hir_item_tree.specs.SourceTree.{variants_of}
 use Rattle.hir_item_tree.specs.SyntaxIds.{node_id}
 use Rattle.hir_mod_dir.specs.Directory.{Directory}
@@ -28,25 +32,28 @@ use Rattle.hir_def_map.specs.State.{Map}
 use Rattle.hir_def_map.specs.Overlay.{Maps}
 use Rattle.hir_import_resolution.specs.Rules.{acts as import_acts}
 use Rattle.hir_def_collector.specs.declared.collector.Start.{Start}
+use Rattle.hir_use_tree.specs.UseTree.{count_of}
 use Rattle.hir_def_collector.specs.declared.collector.macro_directive.MacroDirective.{MacroDirective}
+use Rattle.hir_def_collector.specs.declared.collector.macro_directive.WaitingItem.{WaitingItem}
 use Rattle.hir_def_collector.specs.declared.collector.site.Site.{Site}
 use Rattle.hir_def_collector.specs.declared.source_database.Key.{Key}
 use Rattle.hir_def_collector.specs.declared.source_database.Key.TheVariants as keys
 use Rattle.hir_def_collector.specs.Workspace.{Workspace, seen_of, transitive_dependencies_in}
+use Rattle.hir_def_collector.specs.Attributes.{attr_id, item_node}
 use Rattle.hir_def_collector.specs.ItemIds.{macro_rules_id}
 use Rattle.hir_def_collector.specs.Macros.{is_macro_use}
 use Rattle.hir_def_collector.specs.Keys.{HasMeaning, IsMeant, entry_under, enum_key, environment, input_of, macro_tree, map_key, map_keys, node_tree, of_entry, of_input, of_text, of_tree, of_variants, source_under, text_at, text_of, tree_at}
 use Rattle.hir_def_collector.specs.ModuleFiles.{IsFileMeant, own_file, tried_in}
-use Rattle.hir_def_collector.specs.Calls.{Expanding, IsMeantAt, IsMeantCall, IsNumberedCall, call_site, call_tree, error_of, expansion_readings, text_readings}
+use Rattle.hir_def_collector.specs.Calls.{Expanding, IsMeantAt, IsMeantCall, IsNumberedCall, call_site, call_tree, error_of, expansion_readings, item_kept, text_readings, waiting_item}
 use Rattle.hir_def_collector.specs.State.{State, Task, Visit, visits, closes, import_state, visits_over}
 use Rattle.hir_def_collector.specs.Start.{began, krate_of, read_by, root_key, root_site, tree_key, tree_visits}
-use Rattle.hir_def_collector.specs.Changes.{Change, lists, makes, gives_variants, begins_paths, reaches, awaits, ends, settles, changes_imports, adds_textual, takes_textual, defines, uses_macros, tells, goes_on, act}
-use Rattle.hir_def_collector.specs.Steps.{Rule, drops_item, reaches_call, rests, expands_call, drops_call, defines_rules, defines_macro, closes_module, closing, declares_item, declares_enum, lists_constant, lists_impl, opens_module, opens_file, drops_file, misses_file, enters_block, reaches_imports, reaches_crate, resolves_imports, May, Numbered, acts, asking, inside_block, inside_file, inside_module, keys_read, path_of, reads, visits_inside, Step, Steps, none, more}
+use Rattle.hir_def_collector.specs.Changes.{Change, lists, makes, gives_variants, begins_paths, reaches, awaits, ends, settles, changes_imports, adds_textual, takes_textual, defines, describes, helps, lists_derive, exports, uses_macros, tells, goes_on, act}
+use Rattle.hir_def_collector.specs.Steps.{Rule, drops_item, awaits_attribute, lists_derives, faults_derive, exports_macro, reaches_call, rests, expands_call, drops_call, drops_reached, derives_builtin, skips_attribute, falls_back, defines_rules, defines_macro, closes_module, closing, declares_item, declares_enum, lists_constant, lists_impl, opens_module, opens_file, drops_file, misses_file, enters_block, reaches_imports, reaches_crate, resolves_imports, May, Numbered, acts, asking, call_at, derive_at, derives_from, inside_block, inside_file, inside_module, keys_read, path_of, reads, visits_inside, Step, Steps, none, more}
 use Rattle.hir_def_collector.specs.Derivation.{finished_run}
 use Rattle.hir_def_collector.specs.Growth.{AnswersStand, AskedKeysHaveMeaning, LooksStand}
 use Rattle.hir_def_collector.proofs.Asked.{mapped_from}
 use Rattle.hir_def_collector.proofs.Asks.{only}
-use Rattle.hir_def_collector.proofs.Changes.{AllFine, all_fine, asked-Step, fine_failing, fine_macro, fine_reporting, perform_keeps}
+use Rattle.hir_def_collector.proofs.Changes.{AllFine, all_fine, asked-Step, fine_bringing, fine_expanding, fine_macro, fine_reporting, perform_keeps}
 use Rattle.hir_def_collector.proofs.Derived.{ends_alike}
 use Rattle.hir_def_collector.proofs.ModuleFiles.{found_meant, readings_meant}
 
@@ -162,6 +169,21 @@ module _ (tables : TablesValue) where
   meant_next : (ts : List Task) (v : Visit) (rest : List Task) → AreMeant tables ts → ts ≡ visits v ∷ rest → IsMeantAt tables v.site × AreMeant tables rest
   meant_next ts v rest f e = subst (AreMeant tables) e f
 
+  -- an item that waits is kept, and no other call has one
+  kept_meant : (k : WaitingItem) (i : KeptItem) → item_kept k ≡ Some i → (other : WaitingItem) → Some k ≡ Some other → IsSome (item_kept other)
+  kept_meant k i kept other e =
+      let same : k ≡ other = cc in
+      subst (λ (w : WaitingItem). IsSome (item_kept w)) same (subst (λ (o : Option KeptItem). IsSome o) (sym kept) refl)
+
+  none_meant : (d : MacroDirective) → waiting_item d ≡ None → (k : WaitingItem) → waiting_item d ≡ Some k → IsSome (item_kept k)
+  none_meant d without k e = absurd (let no : ⊥ = cc in no)
+
+  derives_meant : (site : Site) (node : AstId) (attr : AttrId) (adt : AdtId) → IsMeantAt tables site → IsSome (source_of tables (node_tree node)) → (index : ℕ) (paths : List Path)
+      → CallsMeant tables (derives_from site node attr adt index paths)
+  derives_meant site node attr adt here there index [] = tt
+  derives_meant site node attr adt here there index (path ∷ paths) =
+      (record { site = here; node = there; item = none_meant (derive_at site node attr adt index path) refl }, derives_meant site node attr adt here there (count_of (index + 1)) paths)
+
   abbrev GoesOnMeant : State → Change → Type 0
   GoesOnMeant s (lists home d) = Unit {0}
   GoesOnMeant s (makes home name origin visibility) = Unit {0}
@@ -175,6 +197,10 @@ module _ (tables : TablesValue) where
   GoesOnMeant s (adds_textual home name makro) = Unit {0}
   GoesOnMeant s (takes_textual home from) = Unit {0}
   GoesOnMeant s (defines node makro) = Unit {0}
+  GoesOnMeant s (describes makro what) = Unit {0}
+  GoesOnMeant s (helps node helper) = Unit {0}
+  GoesOnMeant s (lists_derive home imp) = Unit {0}
+  GoesOnMeant s (exports f makro) = Unit {0}
   GoesOnMeant s (uses_macros macros by) = Unit {0}
   GoesOnMeant s (tells d) = Unit {0}
   GoesOnMeant s (goes_on vs) = AreMeant tables vs
@@ -192,6 +218,10 @@ module _ (tables : TablesValue) where
   meant-act s (adds_textual home name makro) p fine = record { visits = p.visits; calls = p.calls }
   meant-act s (takes_textual home from) p fine = record { visits = p.visits; calls = p.calls }
   meant-act s (defines node makro) p fine = record { visits = p.visits; calls = p.calls }
+  meant-act s (describes makro what) p fine = record { visits = p.visits; calls = p.calls }
+  meant-act s (helps node helper) p fine = record { visits = p.visits; calls = p.calls }
+  meant-act s (lists_derive home imp) p fine = record { visits = p.visits; calls = p.calls }
+  meant-act s (exports f makro) p fine = record { visits = p.visits; calls = p.calls }
   meant-act s (uses_macros macros by) p fine = record { visits = p.visits; calls = p.calls }
   meant-act s (tells d) p fine = record { visits = p.visits; calls = p.calls }
   meant-act s (goes_on vs) p fine = record { visits = fine; calls = p.calls }
@@ -205,7 +235,7 @@ module _ (tables : TablesValue) where
 
   goes_on_meant : (finished : Maps) (s : State) (r : Rule) → May finished s r → Numbered tables s r → IsAllMeant tables s → AllFine GoesOnMeant (asking s r) (acts finished s r)
   goes_on_meant finished s (drops_item v report rest) may numbered p = (left s p v rest may.next, (tt, tt))
-  goes_on_meant finished s (declares_item v d rest) may numbered p = (left s p v rest may.here.next, (tt, (tt, tt)))
+  goes_on_meant finished s (declares_item v d rest) may numbered p = (left s p _ rest may.here.next, (tt, (tt, tt)))
   goes_on_meant finished s (declares_enum site head name found rest) may numbered p = (left s p _ rest may.next, (tt, (tt, (tt, tt))))
   goes_on_meant finished s (lists_constant site head rest) may numbered p = (left s p _ rest may.next, (tt, tt))
   goes_on_meant finished s (lists_impl site head of_trait rest) may numbered p = (left s p _ rest may.next, (tt, tt))
@@ -224,17 +254,34 @@ module _ (tables : TablesValue) where
   goes_on_meant finished s (reaches_imports site head t rest) may numbered p = (left s p _ rest may.next, (tt, (tt, tt)))
   goes_on_meant finished s (reaches_crate site head name alias rest) may numbered p = (left s p _ rest may.next, (tt, (tt, (tt, (tt, tt)))))
   goes_on_meant finished s (defines_rules site head name expander helpers rest) may numbered p =
-      (left s p _ rest may.next, (tt, (tt, fine_macro GoesOnMeant _ _ expander (λ t. tt) head name (macro_rules_id s.core.map site head.id expander) (λ t. tt) _)))
-  goes_on_meant finished s (defines_macro site head name expander helpers rest) may numbered p = (left s p _ rest may.next, (tt, (tt, (tt, fine_reporting GoesOnMeant _ _ expander (λ t. tt) _))))
+      (left s p _ rest may.next, (tt, (tt, (tt, fine_macro GoesOnMeant _ _ expander (λ t. tt) head name (macro_rules_id s.core.map site head.id expander) (λ t. tt) _))))
+  goes_on_meant finished s (defines_macro site head name expander helpers rest) may numbered p = (left s p _ rest may.next, (tt, (tt, (tt, (tt, fine_reporting GoesOnMeant _ _ expander (λ t. tt) _)))))
   goes_on_meant finished s (closes_module parent child rest) may numbered p = (subst (AreMeant tables) may p.visits, (tt, tt))
+  goes_on_meant finished s (awaits_attribute v a k rest) may numbered p =
+      let here : IsMeantAt tables v.site = next_meant s p v rest may.has.on.next in
+      (left s p v rest may.has.on.next, ((record { site = here; node = here.tree; item = kept_meant k v.item may.kept }, tt), tt))
+  goes_on_meant finished s (lists_derives v at a adt paths rest) may numbered p =
+      let here : IsMeantAt tables v.site = next_meant s p v rest may.has.on.next in
+      ((here, left s p v rest may.has.on.next), (derives_meant v.site (item_node v.site v.item) (attr_id a) adt here here.tree 0 paths, tt))
+  goes_on_meant finished s (faults_derive v at report rest) may numbered p = ((next_meant s p v rest may.has.on.next, left s p v rest may.has.on.next), (tt, tt))
+  goes_on_meant finished s (exports_macro site head name d e rest) may numbered p = (left s p _ rest may.here.next, (tt, (tt, (tt, (tt, (tt, (tt, tt)))))))
   goes_on_meant finished s (reaches_call site head path rest) may numbered p =
-      let here : IsMeantAt tables site = next_meant s p _ rest may.next in (left s p _ rest may.next, ((record { site = here; node = here.tree }, tt), tt))
+      let here : IsMeantAt tables site = next_meant s p _ rest may.next in
+      (left s p _ rest may.next, ((record { site = here; node = here.tree; item = none_meant (call_at site head path) refl }, tt), tt))
   goes_on_meant finished s rests may numbered p = (tt, tt)
   goes_on_meant finished s (expands_call i d makro x) may numbered p =
-      let call : IsMeantCall tables d = call_meant s.core.calls i d p.calls may.due.waiting.call in
+      let call : IsMeantCall tables d = call_meant s.core.calls i d p.calls may.called.due.waiting.call in
       let there : IsMeantAt tables (call_site d x.id) = record { tree = expansion_meant tables s.core.map.id.krate d makro x numbered; file = call.site.file } in
-      (tt, (meant_visits (call_site d x.id) there x.tree.tree.items, fine_failing GoesOnMeant _ d (error_of x.there) (λ t text. tt) _))
+      (tt, (meant_visits (call_site d x.id) there x.tree.tree.items, fine_expanding GoesOnMeant _ (λ t helper. tt) _ _ d (error_of x.there) (λ t text. tt) _))
   goes_on_meant finished s (drops_call i d) may numbered p = (tt, tt)
+  goes_on_meant finished s (drops_reached i d makro) may numbered p = (tt, fine_bringing GoesOnMeant _ (λ t helper. tt) _ _)
+  goes_on_meant finished s (derives_builtin i d makro imp) may numbered p = (tt, (tt, fine_bringing GoesOnMeant _ (λ t helper. tt) _ _))
+  goes_on_meant finished s (skips_attribute i d k waited) may numbered p =
+      let call : IsMeantCall tables d = call_meant s.core.calls i d p.calls may.due.waiting.call in
+      (tt, ((record { tree = call.site.tree; file = call.site.file }, tt), tt))
+  goes_on_meant finished s (falls_back i d k waited) may numbered p =
+      let call : IsMeantCall tables d = call_meant s.core.calls i d p.calls may.waiting.call in
+      (tt, (tt, ((record { tree = call.site.tree; file = call.site.file }, tt), tt)))
   goes_on_meant finished s (resolves_imports rule) may numbered p = all_fine GoesOnMeant (λ t c. tt) (import_acts finished (import_state s) rule) s
 
   pub meant-Step : {w : Workspace} {finished : Maps} {old new : State} → Step (environment tables w) finished old new → IsAllMeant tables old → IsAllMeant tables new
@@ -283,11 +330,19 @@ module _ (tables : TablesValue) where
   read_meant finished s (defines_rules site head name expander helpers rest) may numbered p key h = absurd (no_key key h)
   read_meant finished s (defines_macro site head name expander helpers rest) may numbered p key h = absurd (no_key key h)
   read_meant finished s (closes_module parent child rest) may numbered p key h = absurd (no_key key h)
+  read_meant finished s (awaits_attribute v a k rest) may numbered p key h = absurd (no_key key h)
+  read_meant finished s (lists_derives v at a adt paths rest) may numbered p key h = absurd (no_key key h)
+  read_meant finished s (faults_derive v at report rest) may numbered p key h = absurd (no_key key h)
+  read_meant finished s (exports_macro site head name d e rest) may numbered p key h = absurd (no_key key h)
   read_meant finished s (reaches_call site head path rest) may numbered p key h = absurd (no_key key h)
   read_meant finished s rests may numbered p key h = absurd (no_key key h)
   read_meant finished s (expands_call i d makro x) may numbered p key h =
-      call_keys_meant s.core.map.id.krate d makro x (call_meant tables s.core.calls i d p.calls may.due.waiting.call) numbered key h
+      call_keys_meant s.core.map.id.krate d makro x (call_meant tables s.core.calls i d p.calls may.called.due.waiting.call) numbered key h
   read_meant finished s (drops_call i d) may numbered p key h = absurd (no_key key h)
+  read_meant finished s (drops_reached i d makro) may numbered p key h = absurd (no_key key h)
+  read_meant finished s (derives_builtin i d makro imp) may numbered p key h = absurd (no_key key h)
+  read_meant finished s (skips_attribute i d k waited) may numbered p key h = absurd (no_key key h)
+  read_meant finished s (falls_back i d k waited) may numbered p key h = absurd (no_key key h)
   read_meant finished s (declares_item v d rest) may numbered p key h = absurd (no_key key h)
   read_meant finished s (declares_enum site head name found rest) may numbered p key h = subst (HasMeaning tables) (only _ key h) (next_meant tables s p _ rest may.next).tree
   read_meant finished s (lists_constant site head rest) may numbered p key h = absurd (no_key key h)
@@ -336,7 +391,8 @@ answers_stand tables grown w finished from answer kept there e =
     (record {
       kept = kept;
       config = λ krate. refl;
+      crates = refl;
       same = λ key h. looks_stand tables grown w finished key kept (asked_keys_have_meaning tables w finished from answer there e key h);
     })
     e.visited
-    (record { closed = e.closed; stands = e.stands; settled = e.settled; linked = e.linked; nowhere = e.nowhere; many = e.limited })
+    (record { closed = e.closed; stands = e.stands; settled = e.settled; linked = e.linked; nowhere = e.nowhere; unwaiting = e.unwaiting; many = e.limited })

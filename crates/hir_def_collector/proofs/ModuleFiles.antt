@@ -20,9 +20,9 @@ use Rattle.hir_def_collector.specs.declared.source_database.Key.{Key}
 use Rattle.hir_def_collector.specs.declared.source_database.Key.TheVariants as keys
 use Rattle.hir_def_collector.specs.Workspace.{TreeLook, Workspace, seen_of}
 use Rattle.hir_def_collector.specs.Keys.{HasMeaning, IsMeant, Look, absent_source, environment, look, macro_tree, of_tree, source_under}
-use Rattle.hir_def_collector.specs.Calls.{Expanding, IsMeantAt, IsNumberedCall, call_loc, expansion_of_call}
+use Rattle.hir_def_collector.specs.Calls.{Expanding, IsMeantAt, IsNumberedCall, call_loc, call_style, expansion_of_call}
 use Rattle.hir_def_collector.specs.ModuleFiles.{AreAbsent, AreNumbered, AreTried, IsNumberOf, IsNumbered, LookedAt, ModuleFile, Search, Tried, file_key, file_reading, file_readings, file_tree, is_there, module_file, named_by, taken_by, tried_in}
-use Rattle.hir_def_collector.specs.Steps.{Numbered, Rule, Sees, drops_item, reaches_call, rests, expands_call, drops_call, defines_rules, defines_macro, closes_module, declares_item, declares_enum, lists_constant, lists_impl, opens_module, opens_file, drops_file, misses_file, enters_block, reaches_imports, reaches_crate, resolves_imports, keys_read}
+use Rattle.hir_def_collector.specs.Steps.{Numbered, Rule, Sees, drops_item, awaits_attribute, lists_derives, faults_derive, exports_macro, reaches_call, rests, expands_call, drops_call, drops_reached, derives_builtin, skips_attribute, falls_back, defines_rules, defines_macro, closes_module, declares_item, declares_enum, lists_constant, lists_impl, opens_module, opens_file, drops_file, misses_file, enters_block, reaches_imports, reaches_crate, resolves_imports, keys_read}
 use Rattle.hir_def_collector.specs.State.{State}
 use Rattle.hir_def_collector.proofs.Asked.{seen_tree}
 
@@ -59,7 +59,7 @@ module _ (tables grown : TablesValue) (kept : KeepsTables tables grown) where
   pub call_kept : (own : Crate) (d : MacroDirective) (makro : MacroId) (x : Expanding) → IsNumberedCall tables own d makro x → IsNumberedCall grown own d makro x
   call_kept own d makro x h = record {
     meant = macro_kept makro h.meant;
-    entry = kept.entries x.entry.0 (expansion_of_call own makro x.text x.input) h.entry;
+    entry = kept.entries x.entry.0 (expansion_of_call own (call_style d) makro x.text x.input) h.entry;
     call = kept.calls x.id.0 (call_loc d x.entry) h.call;
   }
 
@@ -82,10 +82,18 @@ module _ (tables grown : TablesValue) (kept : KeepsTables tables grown) where
   Numbered-kept s (defines_rules site head name expander helpers rest) h = tt
   Numbered-kept s (defines_macro site head name expander helpers rest) h = tt
   Numbered-kept s (closes_module parent child rest) h = tt
+  Numbered-kept s (awaits_attribute v a k rest) h = tt
+  Numbered-kept s (lists_derives v at a adt paths rest) h = tt
+  Numbered-kept s (faults_derive v at report rest) h = tt
+  Numbered-kept s (exports_macro site head name d e rest) h = tt
   Numbered-kept s (reaches_call site head path rest) h = tt
   Numbered-kept s rests h = tt
   Numbered-kept s (expands_call i d makro x) h = call_kept s.core.map.id.krate d makro x h
   Numbered-kept s (drops_call i d) h = tt
+  Numbered-kept s (drops_reached i d makro) h = tt
+  Numbered-kept s (derives_builtin i d makro imp) h = tt
+  Numbered-kept s (skips_attribute i d k item) h = tt
+  Numbered-kept s (falls_back i d k item) h = tt
   Numbered-kept s (declares_item v d rest) h = tt
   Numbered-kept s (declares_enum site head name found rest) h = tt
   Numbered-kept s (lists_constant site head rest) h = tt

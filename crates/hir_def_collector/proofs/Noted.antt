@@ -3,17 +3,20 @@ use Rattle.std.proofs.Common.{◌≡◌, ◌≢◌, ◌∙◌, ap, sym, refl, su
 use Rattle.std.proofs.lemmas.List.Elements.{Contains-append_left, Contains-append_right}
 use Rattle.hir_base.specs.declared.ast_id.AstId.{AstId}
 use Rattle.hir_base.specs.declared.ids.EnumId.{EnumId}
+use Rattle.hir_base.specs.declared.ids.FunctionId.{FunctionId}
 use Rattle.hir_base.specs.declared.ids.ModuleId.{ModuleId}
+use Rattle.hir_base.specs.declared.macro_kind.BuiltinDeriveImplId.{BuiltinDeriveImplId}
 use Rattle.hir_base.specs.declared.macro_kind.MacroId.{MacroId}
+use Rattle.hir_base.specs.declared.macro_kind.ProcMacroId.{ProcMacroId}
 use Rattle.hir_scope.specs.Globs.{GlobNames}
 use Rattle.hir_scope.specs.Scope.{ScopeValue}
 use Rattle.hir_scope.specs.declared.per_ns.PerNs.{PerNs}
 use Rattle.hir_scope.specs.declared.visibility.Visibility.{Visibility}
-use Rattle.hir_def_map.proofs.Grown.{length-changed}
+use Rattle.hir_def_map.proofs.Grown.{kept, length-changed}
 use Rattle.hir_def_map.proofs.StaysWellFormed.{length-made}
 use Rattle.hir_def_map.specs.Declaration.{listed}
-use Rattle.hir_def_map.specs.Macros.{with_diagnostic, with_macro_def}
-use Rattle.hir_def_map.specs.State.{Local, Map, ModuleValue, changed_at, entry_of, module_at, new_module, parent_at, parent_of, pushed, pushed_module, place_at, Variants, with_enum, with_module, with_module_scope, with_scope}
+use Rattle.hir_def_map.specs.Macros.{with_diagnostic, with_exported, with_macro_data, with_macro_def}
+use Rattle.hir_def_map.specs.State.{Local, MacroDataValue, Map, ModuleValue, changed_at, entry_of, module_at, new_module, parent_at, parent_of, pushed, pushed_module, place_at, Variants, with_enum, with_module, with_module_scope, with_scope}
 use Rattle.hir_def_map.specs.declared.nameres.declaration.Declaration.{Declaration as Listing}
 use Rattle.hir_def_map.specs.declared.nameres.diagnostics.DefDiagnostic.{DefDiagnostic}
 use Rattle.hir_def_map.specs.declared.nameres.origin.ModuleOrigin.{ModuleOrigin}
@@ -27,6 +30,7 @@ use Rattle.hir_def_map_laws.specs.ReadLaw.{AgreeAt, Grows}
 use Rattle.hir_def_map_laws.specs.SlotChanges.{ChangesOnly}
 use Rattle.hir_textual_scope.specs.Macros.{with_macro}
 use Rattle.hir_call_queue.specs.Changes.{ChangedValue, IsThere, IsUntouched, everything, with_slot}
+use Rattle.hir_def_collector.specs.Changes.{with_builtin_derive, with_derived}
 use Rattle.hir_def_collector.specs.Macros.{textual_at, with_textual_macro}
 use Rattle.hir_def_collector.specs.Moves.{begun}
 use Rattle.hir_def_collector.specs.State.{Run}
@@ -71,6 +75,7 @@ noted_follow {a} {b} {c} first then = record {
       let before : IsUntouched b.changed slot = then.noted slot e in
       agree_later a.map b.map c.map a.local b.local c.local slot (first.others slot before there)
       (then.others slot e (there_later (length a.map.modules) (length b.map.modules) (first.keeps before.some).count slot there));
+  helpers = λ e. then.helpers e ∙ first.helpers (then.some e);
 }
 
 -- where the map stays, and nothing else is noted
@@ -80,6 +85,7 @@ noted_same a b map local changed = record {
   noted = λ slot e. subst (λ (c : ChangedValue). IsUntouched c slot) changed e;
   keeps = λ e. subst (KeepsModules a.map) (sym map) (modules_kept_itself a.map);
   others = λ slot e there. subst (λ (m : Map). AgreeAt a.map a.local m b.local slot) (sym map) (subst (λ (l : Local). AgreeAt a.map a.local a.map l slot) (sym local) (agree_itself a.map a.local slot));
+  helpers = λ e. ap (λ (m : Map). m.derive_helpers) map;
 }
 
 -- where nothing changes at all
@@ -96,13 +102,14 @@ noted_everything a b all = record {
   noted = λ slot e. absurd (no e.some);
   keeps = λ e. absurd (no e);
   others = λ slot e there. absurd (no e.some);
+  helpers = λ e. absurd (no e);
 }
   where
     no : b.changed.all ≡ false → ⊥
     no e = let is : b.changed.all ≡ true = ap (λ (c : ChangedValue). c.all) all in absurd (let wrong : ⊥ = cc in wrong)
 
--- where the map grows, and no slot of a module that was there changes
-module _ (a b : Run) (local : b.local ≡ a.local) (changed : b.changed ≡ a.changed) (keeps : KeepsModules a.map b.map)
+-- where the map grows, and no slot of a module that was there changes, nor helpers
+module _ (a b : Run) (local : b.local ≡ a.local) (changed : b.changed ≡ a.changed) (helpers : b.map.derive_helpers ≡ a.map.derive_helpers) (keeps : KeepsModules a.map b.map)
     (agree : (slot : PathSlot) → IsThere (length a.map.modules) slot → AgreeAt a.map a.local b.map a.local slot) where
   pub noted_around : IsNoted a b
   noted_around = record {
@@ -110,10 +117,11 @@ module _ (a b : Run) (local : b.local ≡ a.local) (changed : b.changed ≡ a.ch
     noted = λ slot e. subst (λ (c : ChangedValue). IsUntouched c slot) changed e;
     keeps = λ e. keeps;
     others = λ slot e there. subst (λ (l : Local). AgreeAt a.map a.local b.map l slot) (sym local) (agree slot there);
+    helpers = λ e. helpers;
   }
 
 -- where one slot of a module may change, which is noted
-module _ (a b : Run) (home : ℕ) (name : List ℕ) (local : b.local ≡ a.local) (changed : b.changed ≡ with_slot home name a.changed) (changes : ChangesOnly a.map a.local b.map a.local (Some (of_module home name)))
+module _ (a b : Run) (home : ℕ) (name : List ℕ) (local : b.local ≡ a.local) (changed : b.changed ≡ with_slot home name a.changed) (helpers : b.map.derive_helpers ≡ a.map.derive_helpers) (changes : ChangesOnly a.map a.local b.map a.local (Some (of_module home name)))
     (count : length a.map.modules ≤ length b.map.modules) where
   -- of what isn't touched now nothing was touched
   untouched_before : (slot : PathSlot) → IsUntouched (with_slot home name a.changed) slot → IsUntouched a.changed slot
@@ -142,6 +150,7 @@ module _ (a b : Run) (home : ℕ) (name : List ℕ) (local : b.local ≡ a.local
     others = λ slot e there.
         subst (λ (l : Local). AgreeAt a.map a.local b.map l slot) (sym local)
         (changes.others slot (untouched_other slot (subst (λ (c : ChangedValue). IsUntouched c slot) changed e)));
+    helpers = λ e. helpers;
   }
     where
       some_before : (with_slot home name a.changed).all ≡ false → a.changed.all ≡ false
@@ -170,7 +179,7 @@ scope_kept map at change =
 -- a push
 pub noted_push : (a b : Run) (globs : GlobNames) (home : ℕ) (name : List ℕ) (items : PerNs) → b.map ≡ pushed a.map globs home name items None → b.local ≡ a.local → b.changed ≡ with_slot home name a.changed → IsNoted a b
 noted_push a b globs home name items map local changed =
-    noted_slot a b home name local changed
+    noted_slot a b home name local changed (ap (λ (m : Map). m.derive_helpers) map)
     (subst (λ (m : Map). ChangesOnly a.map a.local m a.local (Some (of_module home name))) (sym map) (changes-pushed a.map a.local globs home name items None))
     (subst (λ (m : Map). length a.map.modules ≤ length m.modules) (sym map)
     (let same = length-changed a.map.modules home (pushed_module globs (place_at a.map.id home name) items None) in omega (arith, same)))
@@ -178,7 +187,7 @@ noted_push a b globs home name items map local changed =
 -- a macro in textual scope
 pub noted_textual : (a b : Run) (home : ℕ) (name : List ℕ) (makro : MacroId) → b.map ≡ with_textual_macro a.map home name makro → b.local ≡ a.local → b.changed ≡ with_slot home name a.changed → IsNoted a b
 noted_textual a b home name makro map local changed =
-    noted_slot a b home name local changed
+    noted_slot a b home name local changed (ap (λ (m : Map). m.derive_helpers) map)
     (subst (λ (m : Map). ChangesOnly a.map a.local m a.local (Some (of_module home name))) (sym map) (textual_macros a.map a.local home name makro))
     (subst (λ (m : Map). length a.map.modules ≤ length m.modules) (sym map) (let same = length-changed a.map.modules home (with_module_scope (λ (s : ScopeValue). record s { legacy_macros = with_macro s.legacy_macros name makro })) in omega (arith, same)))
 
@@ -186,10 +195,24 @@ noted_textual a b home name makro map local changed =
 pub noted_list : (a b : Run) (home : ℕ) (d : Listing) → b.map ≡ with_scope a.map home (listed d) → b.local ≡ a.local → b.changed ≡ a.changed → IsNoted a b
 noted_list a b home d map local changed =
     let changes : ChangesOnly a.map a.local b.map a.local None = subst (λ (m : Map). ChangesOnly a.map a.local m a.local None) (sym map) (changes-listed a.map a.local home d) in
-    noted_around a b local changed
+    noted_around a b local changed (ap (λ (m : Map). m.derive_helpers) map)
     (grown_kept a.map b.map changes.grows
     (subst (λ (m : Map). length a.map.modules ≤ length m.modules) (sym map) (let same = length-changed a.map.modules home (with_module_scope (listed d)) in omega (arith, same))))
     (λ slot there. changes.others slot (λ e. absurd cc))
+
+-- an impl for which a builtin derive stands
+pub noted_derived : (a b : Run) → b.local ≡ a.local → b.changed ≡ a.changed → (home : ℕ) (imp : BuiltinDeriveImplId) → b.map ≡ with_derived a.map home imp → IsNoted a b
+noted_derived a b local changed home imp map =
+    noted_around a b local changed (ap (λ (m : Map). m.derive_helpers) map)
+    (subst (KeepsModules a.map) (sym map) (scope_kept a.map home (with_builtin_derive imp)))
+    (λ slot there. subst (λ (m : Map). AgreeAt a.map a.local m a.local slot) (sym map) (same slot))
+  where
+    same : (slot : PathSlot) → AgreeAt a.map a.local (with_derived a.map home imp) a.local slot
+    same (of_module at name) = record {
+      entries = kept (λ (o : Option ModuleValue). entry_of o name) a.map.modules home (with_module_scope (with_builtin_derive imp)) (λ m. refl) at;
+      legacy = kept (λ (o : Option ModuleValue). legacy_of o name) a.map.modules home (with_module_scope (with_builtin_derive imp)) (λ m. refl) at;
+    }
+    same (of_preludes name) = record { crates = refl; macro_uses = refl }
 
 -- the scope of a module that wasn't there
 other_scope_agrees : (map : Map) (local : Local) (bound home : ℕ) (change : ScopeValue → ScopeValue) → bound ≤ home → (slot : PathSlot) → IsThere bound slot → AgreeAt map local (with_scope map home change) local slot
@@ -209,20 +232,20 @@ noted_module a b home name origin visibility parent map local changed =
     let change : ScopeValue → ScopeValue = λ s. record s { legacy_macros = textual_at made home } in
     let scopes : KeepsModules made (with_scope made count change) = scope_kept made count change in
     let kept : KeepsModules a.map made = grown_kept a.map made changes.grows (omega (arith, longer)) in
-    noted_around a b local changed
+    noted_around a b local changed (ap (λ (m : Map). m.derive_helpers) map)
     (subst (KeepsModules a.map) (sym map) (modules_kept_later a.map made (with_scope made count change) kept scopes))
     (λ slot there. subst (λ (m : Map). AgreeAt a.map a.local m a.local slot) (sym map)
     (agree_later a.map made (with_scope made count change) a.local a.local a.local slot (changes.others slot (λ e. absurd cc)) (other_scope_agrees made a.local count count change (omega arith) slot there)))
 
 -- what lies beside modules and preludes
 module _ (a b : Run) (local : b.local ≡ a.local) (changed : b.changed ≡ a.changed) where
-  beside : (m : Map) → b.map ≡ m → KeepsModules a.map m → ((slot : PathSlot) → AgreeAt a.map a.local m a.local slot) → IsNoted a b
-  beside m map keeps agree =
-      noted_around a b local changed (subst (KeepsModules a.map) (sym map) keeps) (λ slot there. subst (λ (x : Map). AgreeAt a.map a.local x a.local slot) (sym map) (agree slot))
+  beside : (m : Map) → b.map ≡ m → m.derive_helpers ≡ a.map.derive_helpers → KeepsModules a.map m → ((slot : PathSlot) → AgreeAt a.map a.local m a.local slot) → IsNoted a b
+  beside m map helpers keeps agree =
+      noted_around a b local changed (ap (λ (m : Map). m.derive_helpers) map ∙ helpers) (subst (KeepsModules a.map) (sym map) keeps) (λ slot there. subst (λ (x : Map). AgreeAt a.map a.local x a.local slot) (sym map) (agree slot))
 
   -- a diagnostic
   pub noted_told : (d : DefDiagnostic) → b.map ≡ with_diagnostic a.map d → IsNoted a b
-  noted_told d map = beside (with_diagnostic a.map d) map
+  noted_told d map = beside (with_diagnostic a.map d) map refl
       (record { id = refl; holder = refl; crate_data = refl; prelude = refl; parents = λ at m e. ap parent_of e; count = omega arith }) same
     where
       same : (slot : PathSlot) → AgreeAt a.map a.local (with_diagnostic a.map d) a.local slot
@@ -231,7 +254,7 @@ module _ (a b : Run) (local : b.local ≡ a.local) (changed : b.changed ≡ a.ch
 
   -- the macro that an item defines
   pub noted_defined : (node : AstId) (makro : MacroId) → b.map ≡ with_macro_def a.map node makro → IsNoted a b
-  noted_defined node makro map = beside (with_macro_def a.map node makro) map
+  noted_defined node makro map = beside (with_macro_def a.map node makro) map refl
       (record { id = refl; holder = refl; crate_data = refl; prelude = refl; parents = λ at m e. ap parent_of e; count = omega arith }) same
     where
       same : (slot : PathSlot) → AgreeAt a.map a.local (with_macro_def a.map node makro) a.local slot
@@ -240,9 +263,27 @@ module _ (a b : Run) (local : b.local ≡ a.local) (changed : b.changed ≡ a.ch
 
   -- the variants of an enum
   pub noted_enum : (id : EnumId) (variants : Variants) → b.map ≡ with_enum a.map id variants → IsNoted a b
-  noted_enum id variants map = beside (with_enum a.map id variants) map
+  noted_enum id variants map = beside (with_enum a.map id variants) map refl
       (record { id = refl; holder = refl; crate_data = refl; prelude = refl; parents = λ at m e. ap parent_of e; count = omega arith }) same
     where
       same : (slot : PathSlot) → AgreeAt a.map a.local (with_enum a.map id variants) a.local slot
+      same (of_module at name) = record { entries = refl; legacy = refl }
+      same (of_preludes name) = record { crates = refl; macro_uses = refl }
+
+  -- what is kept of a macro
+  pub noted_described : (makro : MacroId) (what : MacroDataValue) → b.map ≡ with_macro_data a.map makro what → IsNoted a b
+  noted_described makro what map = beside (with_macro_data a.map makro what) map refl
+      (record { id = refl; holder = refl; crate_data = refl; prelude = refl; parents = λ at m e. ap parent_of e; count = omega arith }) same
+    where
+      same : (slot : PathSlot) → AgreeAt a.map a.local (with_macro_data a.map makro what) a.local slot
+      same (of_module at name) = record { entries = refl; legacy = refl }
+      same (of_preludes name) = record { crates = refl; macro_uses = refl }
+
+  -- a function that exports a macro
+  pub noted_exported : (function : FunctionId) (makro : ProcMacroId) → b.map ≡ with_exported a.map function makro → IsNoted a b
+  noted_exported function makro map = beside (with_exported a.map function makro) map refl
+      (record { id = refl; holder = refl; crate_data = refl; prelude = refl; parents = λ at m e. ap parent_of e; count = omega arith }) same
+    where
+      same : (slot : PathSlot) → AgreeAt a.map a.local (with_exported a.map function makro) a.local slot
       same (of_module at name) = record { entries = refl; legacy = refl }
       same (of_preludes name) = record { crates = refl; macro_uses = refl }

@@ -36,11 +36,12 @@ use Rattle.hir_def_collector.specs.ModuleFiles.{AreTried, IsFileMeant, IsNumberO
 use Rattle.hir_def_collector.specs.Macros.{is_macro_use}
 use Rattle.hir_def_collector.specs.Reports.{IsUnresolvedModule}
 use Rattle.hir_def_collector.specs.State.{Core, Task, Visit, visits, joined, visits_over}
-use Rattle.hir_def_collector.specs.Steps.{LooksFor, none, closing, drops_file, inside_file, keys_read, misses_file, module_declaration, opens_file, opens_module, path_of, search_readings, visit, visits_in_file, visits_inside, with_keys}
+use Rattle.hir_def_collector.specs.Steps.{LooksFor, none, behind, closing, drops_file, inside_file, keys_read, misses_file, module_declaration, opens_file, opens_module, path_of, search_readings, visit, visits_in_file, visits_inside, with_keys}
 use Rattle.hir_def_collector.specs.Derivation.{IsFull, IsSpent, counted_out, numbered_out}
 use Rattle.hir_def_collector.specs.declared.collector.mod_collector.Inside.{Inside}
 use Rattle.hir_def_collector.specs.declared.collector.mod_collector.Inside.TheVariants.{Nothing, Held, File}
-use Rattle.hir_def_collector.specs.Moves.{DropsFile, Finds, GoesInside, Handles, IsHeld, IsWritten, MayTake, OnceGrown, OpensFile, TakesFile, Tells, WalksTooFar, may_drop, may_open, opened, tasks_of}
+use Rattle.hir_def_collector.specs.Calls.{IsMeantAt}
+use Rattle.hir_def_collector.specs.Moves.{DropsFile, Finds, GoesInside, Handles, HandlesTooFar, IsHeld, IsPassed, MayTake, OnceGrown, OpensFile, TakesFile, Tells, may_drop, may_open, opened, tasks_of}
 use Rattle.hir_def_collector.proofs.Made.{Goes, goes, made, missed_after, opened_after}
 use Rattle.hir_def_collector.proofs.Grows.{longer_by_module}
 use Rattle.hir_def_collector.proofs.Lists.{get_inside, get_there}
@@ -85,14 +86,10 @@ root_meant tables w krate tree source held = go tree.file tree.block held.at
 pub file_meant : (tables : TablesValue) (w : Workspace) (krate : Crate) (edition : Edition) (id : FileId) (source : SourceTreeValue) → IsHeld tables w krate (file_tree edition id) source → IsFileMeant tables (Some id)
 file_meant tables w krate edition id source held = root_meant tables w krate (file_tree edition id) source held
 
--- what is written at a site is still, and the numbers of the site still mean something
-pub written_grown : (tables grown : TablesValue) (w : Workspace) (krate : Crate) (site : Site) (source : SourceTreeValue) → KeepsTables tables grown → IsWritten tables w krate site source → IsWritten grown w krate site source
-written_grown tables grown w krate site source kept h = record { held = held_grown tables grown w krate site.tree source kept h.held; file = file_grown tables grown site.file kept h.file }
-
--- so it is at another site in the same source
-pub written_inside : (tables : TablesValue) (w : Workspace) (krate : Crate) (site inner : Site) (source : SourceTreeValue) → inner.tree ≡ site.tree → inner.file ≡ site.file → IsWritten tables w krate site source → IsWritten tables w krate inner source
-written_inside tables w krate site inner source tree file h = record {
-  held = subst (λ (t : TreeId). IsHeld tables w krate t source) (sym tree) h.held;
+-- the numbers of a site mean something, so do those of another one in the same source
+pub meant_inside : (tables : TablesValue) (site inner : Site) → inner.tree ≡ site.tree → inner.file ≡ site.file → IsMeantAt tables site → IsMeantAt tables inner
+meant_inside tables site inner tree file h = record {
+  tree = subst (λ (t : TreeId). IsSome (source_of tables t)) (sym tree) h.tree;
   file = subst (λ (f : Option FileId). IsFileMeant tables f) (sym file) h.file;
 }
 
@@ -117,8 +114,9 @@ module _ (tables : TablesValue) (w : Workspace) (finished : Maps) (site : Site) 
   abbrev asked : {file : Option ModuleFile} → Finds tables w declaring candidates old mid file → Core
   asked finds = record old { asked = with_keys old.asked (keys_read (search_readings old.map (searched finds))) }
 
-  looks : {file : Option ModuleFile} (finds : Finds tables w declaring candidates old mid file) (rest : List Task) → LooksFor (joined old (visits next ∷ rest)) site head name (searched finds) rest
-  looks finds rest = record { here = record { next = refl; enabled = enabled }; tries = subst (λ (cs : List Candidate). IsSearch cs (searched finds)) tried finds.search }
+  looks : {file : Option ModuleFile} (finds : Finds tables w declaring candidates old mid file) (done : ℕ) → IsPassed old next done → (rest : List Task)
+      → LooksFor (joined old (visits (behind next done) ∷ rest)) site head name (searched finds) rest
+  looks finds done passed rest = record { here = record { done = done; next = refl; enabled = enabled; passed = passed }; tries = subst (λ (cs : List Candidate). IsSearch cs (searched finds)) tried finds.search }
 
   numbered : {file : Option ModuleFile} (finds : Finds tables w declaring candidates old mid file) (grown : TablesValue) → KeepsTables tables grown → IsNumbered grown site.file (searched finds)
   numbered finds grown kept = record { declaring = written grown kept; tried = numbers_kept tables grown kept declaring (finds.absent ++ option_to_list finds.found) finds.numbered }
@@ -126,19 +124,19 @@ module _ (tables : TablesValue) (w : Workspace) (finished : Maps) (site : Site) 
   pub file_opened : (file : ModuleFile) (new : Core) → Finds tables w declaring candidates old mid (Some file) → OpensFile finished site head name file mid new
       → OnceGrown tables w (λ env. Handles env finished old new next (visits_in_file old.map site head file))
   file_opened file new finds opens = λ grown kept. record {
-    step = λ rest.
+    step = λ done passed rest.
         let origin : ModuleOrigin = file_origin site.tree head.id old.map.crate_data.edition file in
-        made (opens_file site head name (searched finds) file rest) (record { looks = looks finds rest; found = sym finds.is; enabled = opens.enabled }) (finds.sees grown kept finished) (numbered finds grown kept)
-        (rw (opens.is, finds.asked) (opened_after finished (asked finds) site head name origin (visits next ∷ rest) (visits_in_file old.map site head file ++ rest)));
+        made (opens_file site head name (searched finds) file rest) (record { looks = looks finds done passed rest; found = sym finds.is; enabled = opens.enabled }) (finds.sees grown kept finished) (numbered finds grown kept)
+        (rw (opens.is, finds.asked) (opened_after finished (asked finds) site head name origin (visits (behind next done) ∷ rest) (visits_in_file old.map site head file ++ rest)));
   }
 
   pub file_dropped : (file : ModuleFile) (new : Core) → Finds tables w declaring candidates old mid (Some file) → DropsFile site head file mid new
       → OnceGrown tables w (λ env. Handles env finished old new next [])
   file_dropped file new finds drops = λ grown kept. record {
-    step = λ rest.
+    step = λ done passed rest.
         let reported = rw finds.asked at drops.drops.is_such in
         made (drops_file site head name (searched finds) drops.drops.report rest)
-        (record { looks = looks finds rest; file = file; found = sym finds.is; condition = drops.condition; disabled = drops.disabled; reported = reported })
+        (record { looks = looks finds done passed rest; file = file; found = sym finds.is; condition = drops.condition; disabled = drops.disabled; reported = reported })
         (finds.sees grown kept finished) (numbered finds grown kept) (rw (drops.drops.is, finds.asked) refl);
   }
 
@@ -146,48 +144,49 @@ module _ (tables : TablesValue) (w : Workspace) (finished : Maps) (site : Site) 
       → Tells (IsUnresolvedModule (module_id mid.map site.home) (node_of site.tree nodes.Module head.id) (list_map (λ (c : Candidate). c.text) candidates)) (opened finished mid site head name (inline_origin site.tree head.id)) new
       → OnceGrown tables w (λ env. Handles env finished old new next [])
   file_missed new finds tells = λ grown kept. record {
-    step = λ rest.
+    step = λ done passed rest.
         let reported = rw (finds.asked, tried) at tells.is_such in
-        made (misses_file site head name (searched finds) tells.report rest) (record { looks = looks finds rest; missing = sym finds.is; reported = reported })
+        made (misses_file site head name (searched finds) tells.report rest) (record { looks = looks finds done passed rest; missing = sym finds.is; reported = reported })
         (finds.sees grown kept finished) (numbered finds grown kept)
-        (rw (tells.is, finds.asked) (missed_after finished (asked finds) site head name (inline_origin site.tree head.id) (visits next ∷ rest) rest tells.report));
+        (rw (tells.is, finds.asked) (missed_after finished (asked finds) site head name (inline_origin site.tree head.id) (visits (behind next done) ∷ rest) rest tells.report));
   }
 
   same_full : {file : Option ModuleFile} → Finds tables w declaring candidates old mid file → IsFull mid.count mid.map → IsFull old.count old.map
   same_full finds full = rw finds.asked at full
 
   -- as many steps or modules as are counted, and the step that is wanted
-  far : (grown : TablesValue) (rest : List Task) → IsFull old.count old.map → Goes (environment grown w) finished (joined old (visits next ∷ rest)) → IsSpent (environment grown w) finished (joined old (visits next ∷ rest))
-  far grown rest full goes = record { at = joined old (visits next ∷ rest); steps = none; stuck = counted_out goes.next goes.step full }
+  far : (grown : TablesValue) (done : ℕ) (rest : List Task) → IsFull old.count old.map → Goes (environment grown w) finished (joined old (visits (behind next done) ∷ rest))
+      → IsSpent (environment grown w) finished (joined old (visits (behind next done) ∷ rest))
+  far grown done rest full goes = record { at = joined old (visits (behind next done) ∷ rest); steps = none; stuck = counted_out goes.next goes.step full }
 
   pub file_far : (file : ModuleFile) → Finds tables w declaring candidates old mid (Some file) → IsFull mid.count mid.map → MayTake site head file mid
-      → OnceGrown tables w (λ env. WalksTooFar env finished old (visits next ∷ []))
+      → OnceGrown tables w (λ env. HandlesTooFar env finished old next)
   file_far file finds full (may_open on) = λ grown kept. record {
-    spent = λ rest.
-        far grown rest (same_full finds full)
-        (goes (opens_file site head name (searched finds) file rest) (record { looks = looks finds rest; found = sym finds.is; enabled = on }) (finds.sees grown kept finished) (numbered finds grown kept));
+    spent = λ done passed rest.
+        far grown done rest (same_full finds full)
+        (goes (opens_file site head name (searched finds) file rest) (record { looks = looks finds done passed rest; found = sym finds.is; enabled = on }) (finds.sees grown kept finished) (numbered finds grown kept));
   }
   file_far file finds full (may_drop condition report off reported) = λ grown kept. record {
-    spent = λ rest.
-        far grown rest (same_full finds full)
+    spent = λ done passed rest.
+        far grown done rest (same_full finds full)
         (goes (drops_file site head name (searched finds) report rest)
-        (record { looks = looks finds rest; file = file; found = sym finds.is; condition = condition; disabled = off; reported = rw finds.asked at reported })
+        (record { looks = looks finds done passed rest; file = file; found = sym finds.is; condition = condition; disabled = off; reported = rw finds.asked at reported })
         (finds.sees grown kept finished) (numbered finds grown kept));
   }
 
   pub missed_far : (report : DefDiagnostic) → Finds tables w declaring candidates old mid None → IsFull mid.count mid.map
       → IsUnresolvedModule (module_id mid.map site.home) (node_of site.tree nodes.Module head.id) (list_map (λ (c : Candidate). c.text) candidates) report
-      → OnceGrown tables w (λ env. WalksTooFar env finished old (visits next ∷ []))
+      → OnceGrown tables w (λ env. HandlesTooFar env finished old next)
   missed_far report finds full reported = λ grown kept. record {
-    spent = λ rest.
-        far grown rest (same_full finds full)
-        (goes (misses_file site head name (searched finds) report rest) (record { looks = looks finds rest; missing = sym finds.is; reported = rw (finds.asked, tried) at reported })
+    spent = λ done passed rest.
+        far grown done rest (same_full finds full)
+        (goes (misses_file site head name (searched finds) report rest) (record { looks = looks finds done passed rest; missing = sym finds.is; reported = rw (finds.asked, tried) at reported })
         (finds.sees grown kept finished) (numbered finds grown kept));
   }
 
 -- there are as many files as have numbers
-pub numbers_far : (tables : TablesValue) (w : Workspace) (finished : Maps) (old : Core) (v : Visit) → max_locations ≤ length tables.files → OnceGrown tables w (λ env. WalksTooFar env finished old (visits v ∷ []))
-numbers_far tables w finished old v full = λ grown kept. record { spent = λ rest. record { at = joined old (visits v ∷ rest); steps = none; stuck = numbered_out (inl (more_files grown kept)) } }
+pub numbers_far : (tables : TablesValue) (w : Workspace) (finished : Maps) (old : Core) (v : Visit) → max_locations ≤ length tables.files → OnceGrown tables w (λ env. HandlesTooFar env finished old v)
+numbers_far tables w finished old v full = λ grown kept. record { spent = λ done passed rest. record { at = joined old (visits (behind v done) ∷ rest); steps = none; stuck = numbered_out (inl (more_files grown kept)) } }
   where
     more_files : (grown : TablesValue) → KeepsTables tables grown → max_locations ≤ length grown.files
     more_files grown kept =
@@ -251,9 +250,9 @@ pub inline_opened : (env : Environment) (finished : Maps) (site : Site) (head : 
     → new ≡ opened finished old site head name (inline_origin site.tree head.id) → inside ≡ visits_inside old.map site head (inline_directory site.dir name (path_of head)) items
     → Handles env finished old new (visit site (holder head (inline_module name) items)) inside
 inline_opened env finished site head name items old new inside enabled is same = record {
-  step = λ rest.
-      made (opens_module site head name items rest) (record { next = refl; enabled = enabled }) tt tt
-      (rw (is, same) (opened_after finished old site head name (inline_origin site.tree head.id) (visits (visit site (holder head (inline_module name) items)) ∷ rest)
+  step = λ done passed rest.
+      made (opens_module site head name items rest) (record { done = done; next = refl; enabled = enabled; passed = passed }) tt tt
+      (rw (is, same) (opened_after finished old site head name (inline_origin site.tree head.id) (visits (behind (visit site (holder head (inline_module name) items)) done) ∷ rest)
       (visits_inside old.map site head (inline_directory site.dir name (path_of head)) items ++ rest)));
 }
 
@@ -271,7 +270,7 @@ module _ (tables : TablesValue) (w : Workspace) (finished : Maps) (site : Site) 
   taken_ok Nothing takes = λ grown kept items. file_dropped tables w finished site head name declaring candidates old mid tried written enabled file new finds takes grown kept
   taken_ok (Held inner ids marked) takes = absurd takes
   taken_ok (File inner held marked) takes = λ grown kept items.
-      let done : Handles (environment grown w) finished old new (visit site (leaf head (outline_module name))) (visits_in_file old.map site head file) =
+      let opens : Handles (environment grown w) finished old new (visit site (leaf head (outline_module name))) (visits_in_file old.map site head file) =
       file_opened tables w finished site head name declaring candidates old mid tried written enabled file new finds takes.0 grown kept in
       let inner_is : inside_file old.map file ≡ inner = ap (λ (m : Map). inside_file m file) (sym same_map) ∙ sym takes.1 in
       let tree_same : file.tree ≡ held.value.tree = tree_is ∙ ap (λ (s : SourceTreeValue). s.tree) (sym takes.2) in
@@ -279,22 +278,25 @@ module _ (tables : TablesValue) (w : Workspace) (finished : Maps) (site : Site) 
       (subst (λ (s : Site). Handles (environment grown w) finished old new (visit site (leaf head (outline_module name)))
       (visits_over s held.value.tree.items ++ closing (is_macro_use head.attributes || is_macro_use file.tree.attributes) site.home s.home)) inner_is
       (subst (λ (t : Tree). Handles (environment grown w) finished old new (visit site (leaf head (outline_module name)))
-      (visits_over (inside_file old.map file) t.items ++ closing (is_macro_use head.attributes || is_macro_use file.tree.attributes) site.home (length old.map.modules))) tree_same done))
+      (visits_over (inside_file old.map file) t.items ++ closing (is_macro_use head.attributes || is_macro_use file.tree.attributes) site.home (length old.map.modules))) tree_same opens))
 
   pub taken_within : IsHeld tables w old.map.id.krate (file_tree old.map.crate_data.edition file.id) source → (inside : Inside) → TakesFile finished site head name file source mid new inside
-      → GoesInside tables w old.map.id.krate (length new.map.modules) site [] inside
+      → GoesInside tables (length new.map.modules) site [] inside
   taken_within held Nothing takes = tt
   taken_within held (Held inner ids marked) takes = absurd takes
   taken_within held (File inner kept marked) takes =
       let deep = found_deeper tables w declaring candidates old mid file site.dir name (path_of head) finds tried in
       let inner_is : inner ≡ inside_file old.map file = takes.1 ∙ ap (λ (m : Map). inside_file m file) same_map in
-      let written_there : IsWritten tables w old.map.id.krate (inside_file old.map file) source =
-      record { held = held; file = file_meant tables w old.map.id.krate old.map.crate_data.edition file.id source held } in
+      let meant_there : IsMeantAt tables (inside_file old.map file) =
+      record {
+        tree = held_meant tables w old.map.id.krate (file_tree old.map.crate_data.edition file.id) source held;
+        file = file_meant tables w old.map.id.krate old.map.crate_data.edition file.id source held;
+      } in
       let longer : length mid.map.modules < length new.map.modules = opened_longer finished mid new site head name _ takes.0.is in
       let there : length old.map.modules < length new.map.modules = subst (λ (m : Map). length m.modules < length new.map.modules) same_map longer in
       record {
         there = subst (λ (s : Site). s.home < length new.map.modules) (sym inner_is) there;
-        held = subst (λ (s : Site). IsWritten tables w old.map.id.krate s kept.value) (sym inner_is) (subst (λ (s : SourceTreeValue). IsWritten tables w old.map.id.krate (inside_file old.map file) s) (sym takes.2) written_there);
+        meant = subst (IsMeantAt tables) (sym inner_is) meant_there;
         above = deep.0;
         deeper = ap (λ (s : Site). s.dir.depth) inner_is ∙ deep.1;
       }

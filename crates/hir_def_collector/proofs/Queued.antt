@@ -10,18 +10,18 @@ use Rattle.hir_call_queue.specs.Waking.{KeepsQueued, worklist_of}
 use Rattle.hir_call_queue.specs.declared.queue.CallQueue.{CallQueue}
 use Rattle.hir_def_collector.specs.declared.collector.macro_directive.Fate.TheVariants.{Handled}
 use Rattle.hir_def_collector.specs.declared.collector.macro_directive.MacroDirective.{MacroDirective}
-use Rattle.hir_def_collector.specs.CallMoves.{ComesToRest, TriesCall, TriesCalls, handled, idle, left, rested, round}
+use Rattle.hir_def_collector.specs.CallMoves.{ComesToRest, NoneWaits, TriesCall, TriesCalls, handled, idle, left, rested, round}
 use Rattle.hir_def_collector.specs.Calls.{IsWaiting, LeadsNowhere}
 use Rattle.hir_def_collector.specs.Keys.{Environment}
 use Rattle.hir_def_collector.specs.Rounds as rounds
 use Rattle.hir_def_collector.specs.Rounds.{IsRound, Rises, Rounds, WasTried, met, more}
-use Rattle.hir_def_collector.specs.State.{Core, at_rest, import_state}
+use Rattle.hir_def_collector.specs.State.{Core, State, at_rest, import_state}
 use Rattle.hir_def_collector.specs.Steps as steps
 use Rattle.hir_def_collector.specs.Steps.{Steps}
 use Rattle.hir_def_collector.specs.Waiting.{IsUpToDate}
 use Rattle.hir_def_collector.proofs.Lists.{get_inside}
 use Rattle.hir_def_collector.proofs.Moves.{Steps-append}
-use Rattle.hir_def_collector.proofs.Tried.{WasTried-extend, waiting_before}
+use Rattle.hir_def_collector.proofs.Tried.{WasTried-extend, rounds_steps, waiting_before}
 
 -- the calls were tried that aren't left: one was handled, or nothing was done
 pub data AreTried (env : Environment) (finished : Maps) (old now : Core) (places : List ℕ) : Bool → Type 0 where
@@ -45,12 +45,19 @@ left_or_tried q r s i takes keeps k none = go (is_among k q.current) refl (i == 
         let out : is_among k r.current ≡ false = gone (is_among k r.current) refl in
         absurd (let no : ⊥ = cc in no)
 
+-- so many rounds, and behind them other steps
+pub record HasRounds (env : Environment) (finished : Maps) (from to : State) (n : ℕ) : Type 0 where
+  pub last : State
+  pub rounds : Rounds env finished from last n
+  pub after : Steps env finished last to
+
 module _ (env : Environment) (finished : Maps) (old : Core) where
   -- at first all are left that are queued
   pub tried_first : (q : CallQueue) → IsUpToDate finished q old None → (worklist_of q).current ≡ [] → count_of (worklist_of q) ≡ length old.calls → AreTried env finished old old (opened (worklist_of q)).current false
   tried_first q up over all = nothing_done refl (λ k out. record {
     shallow = λ d waits. up.shallow k d (rests k d out waits) (λ none. absurd cc) waits;
     nowhere = λ d waits. up.nowhere k d (rests k d out waits) (λ none. absurd cc) waits;
+    active = λ d waits. up.active k d (rests k d out waits) (λ none. absurd cc) waits;
   })
     where
       rests : (k : ℕ) (d : MacroDirective) → is_among k (worklist_of q).later ≡ false → IsWaiting (at_rest old) k d → IsIdle (worklist_of q) k
@@ -94,24 +101,44 @@ module _ (env : Environment) (finished : Maps) (old : Core) where
 
   -- ---- rounds
 
-  -- one more
-  pub rounds_next : (now settled new : Core) (n : ℕ) → Rounds env finished (at_rest old) (at_rest now) n → Steps env finished (at_rest now) (at_rest settled) → IsRound env finished (at_rest settled) (at_rest new)
-      → Rounds env finished (at_rest old) (at_rest new) (n + 1)
-  rounds_next now settled new n before between of_round =
-      subst (λ (m : ℕ). Rounds env finished (at_rest old) (at_rest new) m) (sym (add-one n)) (more (at_rest now) (at_rest settled) (at_rest new) n before between of_round)
+  -- one more, behind those that there were and other steps
+  pub rounds_next : (now : State) (begun new : Core) (n : ℕ) → HasRounds env finished (at_rest old) now n → Steps env finished now (at_rest begun) → IsRound env finished (at_rest begun) (at_rest new)
+      → HasRounds env finished (at_rest old) (at_rest new) (n + 1)
+  rounds_next now begun new n before between of_round = record {
+    last = at_rest new;
+    rounds = subst (λ (m : ℕ). Rounds env finished (at_rest old) (at_rest new) m) (sym (add-one n)) (more before.last (at_rest begun) (at_rest new) n before.rounds (Steps-append before.after between) of_round);
+    after = steps.none;
+  }
+
+  -- as many, with more steps behind them
+  pub rounds_then : (now : State) (new : State) (n : ℕ) → HasRounds env finished (at_rest old) now n → Steps env finished now new → HasRounds env finished (at_rest old) new n
+  rounds_then now new n before between = record { last = before.last; rounds = before.rounds; after = Steps-append before.after between }
+
+  -- all of it is steps
+  pub has_rounds_steps : (now : State) (n : ℕ) → HasRounds env finished (at_rest old) now n → Steps env finished (at_rest old) now
+  has_rounds_steps now n before = Steps-append (rounds_steps before.rounds) before.after
 
   -- where a call was handled, this was one
   pub of_round : (settled new : Core) (progress : Bool) → progress ≡ true → TriesCalls env finished settled new progress → IsRound env finished (at_rest settled) (at_rest new)
   of_round settled new false some_handled_here tried = absurd (let no : ⊥ = cc in no)
   of_round settled new true some_handled_here (round is) = is
 
-  -- where none was, imports rest and no call that waits reaches a macro
-  pub rests_idle : (settled new : Core) (progress : Bool) → progress ≡ false → IsAtRest finished (import_state (at_rest settled)) → TriesCalls env finished settled new progress
+  -- where none was, all is as it was, and nothing that waits reaches a macro
+  pub none_handled : (settled new : Core) (progress : Bool) → progress ≡ false → TriesCalls env finished settled new progress → (new ≡ settled) × ((i : ℕ) → LeadsNowhere finished (at_rest settled) i)
+  none_handled settled new true no_progress tried = absurd (let no : ⊥ = cc in no)
+  none_handled settled new false no_progress (idle same nowhere) = (same, nowhere)
+
+  -- and where no attribute waited either, imports rest still
+  pub rests_idle : (settled tried new : Core) → IsAtRest finished (import_state (at_rest settled)) → tried ≡ settled → ((i : ℕ) → LeadsNowhere finished (at_rest settled) i) → new ≡ tried → NoneWaits tried
       → ComesToRest env finished old new false
-  rests_idle settled new true none_handled rest tried = absurd (let no : ⊥ = cc in no)
-  rests_idle settled new false none_handled rest (idle same nowhere) =
-      rested (subst (λ (c : Core). IsAtRest finished (import_state (at_rest c))) (sym same) rest)
-      (λ i. subst (λ (c : Core). LeadsNowhere finished (at_rest c) i) (sym same) (nowhere i))
+  rests_idle settled tried new rest same nowhere stays none =
+      let is : new ≡ settled = stays ∙ same in
+      rested (subst (λ (c : Core). IsAtRest finished (import_state (at_rest c))) (sym is) rest) (λ i. subst (λ (c : Core). LeadsNowhere finished (at_rest c) i) (sym is) (nowhere i))
+      (subst NoneWaits (sym stays) none)
+
+-- steps that lead to where imports rest lead to where what has changed was queued
+pub settles_requeued : (env : Environment) (finished : Maps) (now settled requeued : Core) → requeued ≡ settled → Steps env finished (at_rest now) (at_rest settled) → Steps env finished (at_rest now) (at_rest requeued)
+settles_requeued env finished now settled requeued same steps = subst (λ (core : Core). Steps env finished (at_rest now) (at_rest core)) (sym same) steps
 
 -- ---- what was done with one call
 

@@ -8,7 +8,7 @@ use Rattle.hir_tables.specs.Tables.{KeepsTables, TablesValue, source_of}
 use Rattle.hir_textual_scope.specs.Macros.{with_macro}
 use Rattle.hir_scope.specs.Scope.{ScopeValue}
 use Rattle.hir_scope.specs.declared.visibility.Visibility.TheVariants as visibilities
-use Rattle.hir_def_map.specs.Macros.{with_diagnostic, with_macro_def}
+use Rattle.hir_def_map.specs.Macros.{with_derive_helper, with_diagnostic, with_exported, with_macro_data, with_macro_def}
 use Rattle.hir_def_map.specs.Overlay.{Maps}
 use Rattle.hir_def_map.specs.State.{IsInOrder, Map, entry_at, module_at, new_module, with_enum}
 use Rattle.hir_glob_imports.specs.Waves.{Stands}
@@ -37,9 +37,9 @@ use Rattle.hir_def_collector.specs.ItemIds.{module_id}
 use Rattle.hir_def_collector.specs.Macros.{textual_at, with_macros_used}
 use Rattle.hir_def_collector.specs.Start.{began, origin_of}
 use Rattle.hir_def_collector.specs.State.{Core, State, at_rest, import_state, ticked}
-use Rattle.hir_def_collector.specs.Changes.{Change, lists, makes, gives_variants, begins_paths, reaches, awaits, ends, settles, changes_imports, adds_textual, takes_textual, defines, uses_macros, tells, goes_on, act, on_map, perform}
-use Rattle.hir_def_collector.specs.Steps.{Rule, drops_item, reaches_call, rests, expands_call, drops_call, defines_rules, defines_macro, closes_module, declares_item, declares_enum, lists_constant, lists_impl, opens_module, opens_file, drops_file, misses_file, enters_block, reaches_imports, reaches_crate, resolves_imports, May, acts, after, asking, Step, Steps, none, more}
-use Rattle.hir_def_collector.proofs.Changes.{AllFine, fine_failing, fine_macro, fine_reporting, perform_keeps}
+use Rattle.hir_def_collector.specs.Changes.{Change, lists, makes, gives_variants, begins_paths, reaches, awaits, ends, settles, changes_imports, adds_textual, takes_textual, defines, describes, helps, lists_derive, exports, uses_macros, tells, goes_on, act, on_map, perform, with_builtin_derive}
+use Rattle.hir_def_collector.specs.Steps.{Rule, drops_item, awaits_attribute, lists_derives, faults_derive, exports_macro, reaches_call, rests, expands_call, drops_call, drops_reached, derives_builtin, skips_attribute, falls_back, defines_rules, defines_macro, closes_module, declares_item, declares_enum, lists_constant, lists_impl, opens_module, opens_file, drops_file, misses_file, enters_block, reaches_imports, reaches_crate, resolves_imports, May, acts, after, asking, Step, Steps, none, more}
+use Rattle.hir_def_collector.proofs.Changes.{AllFine, fine_bringing, fine_expanding, fine_macro, fine_reporting, perform_keeps}
 use Rattle.hir_def_collector.proofs.Holds.{in_range-begun}
 use Rattle.hir_def_collector.proofs.ImportEdits.{imports_after}
 use Rattle.hir_def_collector.proofs.ImportSteps.{perform-imports}
@@ -115,6 +115,10 @@ OnlyDeclares s (changes_imports c) = IsDeclared c
 OnlyDeclares s (adds_textual home name makro) = Unit {0}
 OnlyDeclares s (takes_textual home from) = Unit {0}
 OnlyDeclares s (defines node makro) = Unit {0}
+OnlyDeclares s (describes makro what) = Unit {0}
+OnlyDeclares s (helps node helper) = Unit {0}
+OnlyDeclares s (lists_derive home imp) = Unit {0}
+OnlyDeclares s (exports f makro) = Unit {0}
 OnlyDeclares s (uses_macros macros by) = Unit {0}
 OnlyDeclares s (tells d) = Unit {0}
 OnlyDeclares s (goes_on tasks) = Unit {0}
@@ -154,6 +158,13 @@ module _ (finished : Maps) where
   steady-act s (takes_textual home from) p fine = fast_steady s _
       (around_fast (scopes_around s.core.map home (λ (v : ScopeValue). record v { legacy_macros = textual_at s.core.map from }) (λ v other. refl) (λ v trait. refl))) p
   steady-act s (defines node makro) p fine = fast_steady s (with_macro_def s.core.map node makro) (record { modules = omega arith; entries = λ at name. refl; traits = λ at trait. refl }) p
+  steady-act s (describes makro what) p fine = fast_steady s (with_macro_data s.core.map makro what) (record { modules = omega arith; entries = λ at name. refl; traits = λ at trait. refl }) p
+  steady-act s (helps node helper) p fine = fast_steady s (with_derive_helper s.core.map node helper) (record { modules = omega arith; entries = λ at name. refl; traits = λ at trait. refl }) p
+  steady-act s (lists_derive home imp) p fine = fast_steady s _ (around_fast (scopes_around s.core.map home (with_builtin_derive imp) (λ v other. refl) (λ v trait. refl))) p
+  steady-act s (exports f makro) p fine =
+      let noted : IsSteady finished (on_map s (with_exported s.core.map f.id makro)) =
+      fast_steady s (with_exported s.core.map f.id makro) (record { modules = omega arith; entries = λ at name. refl; traits = λ at trait. refl }) p in
+      record { sound = noted.sound; paired = noted.paired }
   steady-act s (uses_macros macros by) p fine = fast_steady s (with_macros_used s.core.map macros by) (record { modules = omega arith; entries = λ at name. refl; traits = λ at trait. refl }) p
   steady-act s (tells d) p fine = fast_steady s (with_diagnostic s.core.map d) (record { modules = omega arith; entries = λ at name. refl; traits = λ at trait. refl }) p
   steady-act s (goes_on tasks) p fine = record { sound = p.sound; paired = p.paired }
@@ -178,13 +189,21 @@ only_declares finished s (misses_file site head name search report rest) = decla
 only_declares finished s (enters_block site head items rest) = declares (tt, (tt, tt))
 only_declares finished s (reaches_imports site head tree rest) = declares (tt, (tt, (tt, tt)))
 only_declares finished s (reaches_crate site head name alias rest) = declares (tt, (tt, (tt, (tt, (tt, tt)))))
-only_declares finished s (defines_rules site head name expander helpers rest) = declares (tt, (tt, (tt, fine_macro OnlyDeclares _ _ expander (λ t. tt) head name _ (λ t. tt) _)))
-only_declares finished s (defines_macro site head name expander helpers rest) = declares (tt, (tt, (tt, (tt, fine_reporting OnlyDeclares _ _ expander (λ t. tt) _))))
+only_declares finished s (defines_rules site head name expander helpers rest) = declares (tt, (tt, (tt, (tt, fine_macro OnlyDeclares _ _ expander (λ t. tt) head name _ (λ t. tt) _))))
+only_declares finished s (defines_macro site head name expander helpers rest) = declares (tt, (tt, (tt, (tt, (tt, fine_reporting OnlyDeclares _ _ expander (λ t. tt) _)))))
 only_declares finished s (closes_module parent child rest) = declares (tt, (tt, tt))
+only_declares finished s (awaits_attribute v a k rest) = declares (tt, (tt, tt))
+only_declares finished s (lists_derives v at a adt paths rest) = declares (tt, (tt, tt))
+only_declares finished s (faults_derive v at report rest) = declares (tt, (tt, tt))
+only_declares finished s (exports_macro site head name d e rest) = declares (tt, (tt, (tt, (tt, (tt, (tt, (tt, tt)))))))
 only_declares finished s (reaches_call site head path rest) = declares (tt, (tt, tt))
 only_declares finished s rests = declares (tt, tt)
-only_declares finished s (expands_call i d makro x) = declares (tt, (tt, fine_failing OnlyDeclares _ d (error_of x.there) (λ t text. tt) _))
+only_declares finished s (expands_call i d makro x) = declares (tt, (tt, fine_expanding OnlyDeclares _ (λ t helper. tt) _ _ d (error_of x.there) (λ t text. tt) _))
 only_declares finished s (drops_call i d) = declares (tt, tt)
+only_declares finished s (drops_reached i d makro) = declares (tt, fine_bringing OnlyDeclares _ (λ t helper. tt) _ _)
+only_declares finished s (derives_builtin i d makro imp) = declares (tt, (tt, fine_bringing OnlyDeclares _ (λ t helper. tt) _ _))
+only_declares finished s (skips_attribute i d k item) = declares (tt, (tt, tt))
+only_declares finished s (falls_back i d k item) = declares (tt, (tt, (tt, tt)))
 only_declares finished s (resolves_imports rule) = resolves rule refl
 
 -- changes of imports leave as many as there are, and as many takings
@@ -299,7 +318,7 @@ ready_grown {tables = tables} {grown = grown} kept r = record {
   calls = r.calls;
   meant = λ i d at.
       let meant : IsMeantCall tables d = r.meant i d at in
-      record { site = site_kept tables grown kept d.site meant.site; node = source_kept tables grown kept (node_tree d.ast_id) meant.node };
+      record { site = site_kept tables grown kept d.site meant.site; node = source_kept tables grown kept (node_tree d.ast_id) meant.node; item = meant.item };
   in_order = r.in_order;
 }
 

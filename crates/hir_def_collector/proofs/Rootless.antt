@@ -54,7 +54,9 @@ rests_empty env finished c globs reached calls =
     (λ i. record {
       shallow = λ d waits. absurd (nothing_at c.calls i d calls waits.call);
       nowhere = λ d waits. absurd (nothing_at c.calls i d calls waits.call);
+      active = λ d waits. absurd (nothing_at c.calls i d calls waits.call);
     })
+    (λ j w. nothing_at c.calls j w.call calls w.waits.call)
   where
     no_edges : c.globs.edges ≡ []
     no_edges = ap (λ (g : RecordedGlobs). g.edges) globs

@@ -3,12 +3,16 @@ use Rattle.std.specs.Prelude.{◌≡◌, ◌==◌, ◌&&◌, ◌||◌, ℕ, ◌<
 use Rattle.std.specs.List.{list_any}
 use Rattle.std.specs.Cmp.Lexicographic.{pointwise}
 use Rattle.std.specs.Prelude.{nat_eq}
-use Rattle.std.proofs.Common.{Contains, refl, subst, sym, arith}
+use Rattle.std.proofs.Common.{◌+◌, Contains, suc, refl, subst, sym, arith}
 use Rattle.std.proofs.lemmas.List.Elements.{Contains-append_left, Contains-append_right}
 use mathlib.Core.Bool.{true≢false}
+use Rattle.hir_base.specs.ModPath.{Path}
 use Rattle.hir_base.specs.declared.ast_id.AstId.{AstId}
+use Rattle.hir_base.specs.declared.ast_id.AttrId.{AttrId}
 use Rattle.hir_base.specs.declared.ast_id.HirFileId.TheVariants.{Macro}
+use Rattle.hir_base.specs.declared.ids.AdtId.{AdtId}
 use Rattle.hir_base.specs.declared.ids.AdtId.TheVariants as adts
+use Rattle.hir_base.specs.declared.ids.FunctionId.{FunctionId}
 use Rattle.hir_base.specs.declared.ids.EnumId.{EnumId}
 use Rattle.hir_base.specs.declared.ids.Crate.{Crate}
 use Rattle.hir_base.specs.declared.ids.ModuleDefId.{ModuleDefId}
@@ -17,6 +21,7 @@ use Rattle.hir_base.specs.declared.ids.ModuleId.{ModuleId}
 use Rattle.hir_base.specs.declared.ids.TraitId.{TraitId}
 use Rattle.hir_base.specs.declared.macro_kind.MacroId.{MacroId}
 use Rattle.hir_base.specs.declared.macro_kind.MacroId.TheVariants as macros
+use Rattle.hir_base.specs.declared.macro_kind.ProcMacroId.{ProcMacroId}
 use Rattle.hir_item_tree.specs.Collected.{is_enabled}
 use Rattle.hir_item_tree.specs.Imports.{imports_of}
 use Rattle.hir_item_tree.specs.KeptForest.{Head, Leaf, KeptItem, KeptForest, leaf, holder, import, extern_crate, function, structure, union_structure, enumeration, constant, static_item, trait_item, implementation, type_alias, outline_module, macro_call, macro_rules, macro_def}
@@ -38,7 +43,7 @@ use Rattle.hir_scope.specs.declared.imports.ImportOrExternCrate.TheVariants as w
 use Rattle.hir_scope.specs.declared.per_ns.PerNs.{PerNs}
 use Rattle.hir_scope.specs.declared.visibility.Visibility.{Visibility}
 use Rattle.hir_scope.specs.declared.visibility.Visibility.TheVariants as visibilities
-use Rattle.hir_def_map.specs.Macros.{with_macro_def}
+use Rattle.hir_def_map.specs.Macros.{with_derive_helper, with_exported, with_macro_data, with_macro_def}
 use Rattle.hir_def_map.specs.References.{is_missing, reference_to, test_of, test_visibility, FailsAtItem}
 use Rattle.hir_def_map.specs.Closed.{AreThere, IsClosed, IsThere, PathsLeadToWhatIsThere}
 use Rattle.hir_def_map.specs.WellFormed.{AreWellFormed}
@@ -46,7 +51,7 @@ use Rattle.hir_def_map.proofs.NoneOf.{neither, none_at, none_inserted_last, not_
 use Rattle.hir_def_map.specs.Reaches.{by_import}
 use Rattle.hir_def_map.specs.Scoping.{Resolution, resolution_of}
 use Rattle.hir_def_map.specs.Sources.{HoldsNowhere, HoldsNowhereIn, HoldsOfNone, HoldsOfNoExtern, PathsAnswerFromSources, SourceTest, on_def, on_extern, on_extern_entry, on_import, on_macro, on_origin, on_some, on_values, on_variant, on_visibility}
-use Rattle.hir_def_map.specs.State.{CrateData, Local, Map, crate_root, new_id, root_of, with_extern}
+use Rattle.hir_def_map.specs.State.{CrateData, Local, MacroDataValue, Map, crate_root, new_id, root_of, with_extern}
 use Rattle.hir_def_map.specs.Overlay.{Maps, entry_in, overlay, module_in}
 use Rattle.hir_def_map.proofs.StaysWellFormed.{IsClosed-overlay, LocalIsThere-begins, module_there}
 use Rattle.hir_def_map.proofs.StaysSourced.{HoldsNowhere-overlay, HoldsNowhereIn-enum, HoldsNowhereIn-listed, HoldsNowhereIn-made, HoldsNowhereIn-prelude}
@@ -64,6 +69,8 @@ use Rattle.hir_glob_imports.specs.declared.edge.Key.TheVariants.{Types, Values, 
 use Rattle.hir_glob_imports.specs.declared.edge.Slot.{Slot}
 use Rattle.hir_glob_imports.specs.declared.edge.Target.{Target}
 use Rattle.hir_glob_imports.specs.declared.edge.Target.TheVariants as targets
+use Rattle.hir_def_map.specs.declared.nameres.derive_helpers.DeriveHelper.{DeriveHelper}
+use Rattle.hir_use_tree.specs.UseTree.{count_of}
 use Rattle.hir_import_resolution.specs.Changes.{Change as ImportChange, act as act_on_imports, along, keeps_trait, pushes, pushing, records, takes}
 use Rattle.hir_import_resolution.specs.Names.{ScopesValue, bound_of, entries_of, is_foreign, scope_table, traits_of, view_of}
 use Rattle.hir_import_resolution.specs.Rules.{Rule as ImportRule, May as MayImport, acts as import_acts, goes_along, takes_glob, takes_import}
@@ -82,12 +89,14 @@ use Rattle.hir_def_collector.specs.ItemIds.{enum_id, macro_def_id, macro_rules_i
 use Rattle.hir_def_collector.specs.Items.{constructor_of, declaration_of, declared_by, declared_by_leaf, declared_type, file_origin, inline_origin, own_visibility}
 use Rattle.hir_def_collector.specs.Preludes.{extern_prelude, joins, prelude_of, with_dependency, with_prelude_module}
 use Rattle.hir_def_collector.specs.Macros.{is_macro_use, macros_beside, textual_at}
+use Rattle.hir_def_collector.specs.Attributes.{attr_id, item_node, proc_macro_id}
+use Rattle.hir_def_collector.specs.Ended.{ended}
 use Rattle.hir_def_collector.specs.Calls.{Expanding, call_key, call_site, error_of, expansion_readings, text_readings}
 use Rattle.hir_def_collector.specs.Sources.{IsClearOf}
 use Rattle.hir_def_collector.specs.Start.{Beginning, begin_of, krate_of, origin_of, read_by, root_key, root_map, root_site, root_tree, start_data, start_of, tree_key}
-use Rattle.hir_def_collector.specs.State.{State, Task, Visit, visits, import_state, visits_over}
-use Rattle.hir_def_collector.specs.Changes.{Change, lists, makes, gives_variants, begins_paths, reaches, awaits, ends, settles, changes_imports, adds_textual, takes_textual, defines, uses_macros, tells, goes_on, act, on_map}
-use Rattle.hir_def_collector.specs.Steps.{Rule, drops_item, reaches_call, rests, expands_call, drops_call, defines_rules, defines_macro, closes_module, visits_in_file, declares_item, declares_enum, lists_constant, lists_impl, opens_module, opens_file, drops_file, misses_file, enters_block, reaches_imports, reaches_crate, resolves_imports, May, acts, asking, keys_read, making, path_of, reads, visits_inside, Step, Steps, none, more, inside_block, inside_file, inside_module}
+use Rattle.hir_def_collector.specs.State.{State, Task, Visit, visits, import_state, visits_over, behind}
+use Rattle.hir_def_collector.specs.Changes.{Change, lists, makes, gives_variants, begins_paths, reaches, awaits, ends, settles, changes_imports, adds_textual, takes_textual, defines, describes, helps, lists_derive, exports, uses_macros, tells, goes_on, act, on_map}
+use Rattle.hir_def_collector.specs.Steps.{Rule, drops_item, awaits_attribute, lists_derives, faults_derive, exports_macro, reaches_call, rests, expands_call, drops_call, drops_reached, derives_builtin, skips_attribute, falls_back, defines_rules, defines_macro, closes_module, visits_in_file, declares_item, declares_enum, lists_constant, lists_impl, opens_module, opens_file, drops_file, misses_file, enters_block, reaches_imports, reaches_crate, resolves_imports, May, behind, derives_from, visit, acts, asking, keys_read, making, path_of, reads, visits_inside, Step, Steps, none, more, inside_block, inside_file, inside_module}
 use Rattle.hir_def_collector.specs.Whole.{StandsOnWhole}
 use Rattle.hir_def_collector.specs.Workspace.{Workspace, dependencies_in, transitive_dependencies_in}
 use Rattle.hir_tables.specs.Tables.{TablesValue}
@@ -99,7 +108,7 @@ use Rattle.hir_def_collector.proofs.Asks.{still_asked, still_asked-Step}
 use Rattle.hir_def_collector.proofs.Grows.{Grows, Grows-Step, Grows-same}
 use Rattle.hir_def_collector.proofs.ModuleFiles.{found_read}
 use Rattle.hir_def_collector.proofs.Lists.{none_joined}
-use Rattle.hir_def_collector.proofs.Changes.{AllFine, asked-Step, fine_failing, fine_macro, fine_reporting, id-Step, perform_keeps}
+use Rattle.hir_def_collector.proofs.Changes.{AllFine, asked-Step, fine_bringing, fine_expanding, fine_macro, fine_reporting, id-Step, perform_keeps}
 use Rattle.hir_def_collector.proofs.InRange.{IsInRange, import_at, in_range-Steps, next_home}
 use Rattle.hir_def_collector.proofs.Holds.{in_range-start}
 use Rattle.hir_def_collector.proofs.ImportEdits.{copy_at, copy_where, edit_of, follow_at, follow_where, imports_after, local_after, map_after}
@@ -108,7 +117,8 @@ use Rattle.hir_def_collector.proofs.SourcedEdits.{EditIsClear, EditsAreClear, Is
 use Rattle.hir_def_collector.proofs.SourcedMacros.{beside_clear, brought_macros_clear, textual_changed, textual_clear, textual_more, used_clear}
 use Rattle.hir_def_collector.proofs.Whole.{begins, steps_keep}
 use Rattle.hir_def_collector.proofs.WholeChanges.{NamesWhatIsThere}
-use Rattle.hir_def_collector.proofs.SourcedState.{on_site, on_reached, IsSourced, AreClear, ShowsThere, stays_there}
+use Rattle.hir_def_collector.proofs.SourcedEnded.{HoldsNowhereIn-derived, HoldsNowhereIn-ended, stays_ended}
+use Rattle.hir_def_collector.proofs.SourcedState.{on_call, on_site, on_reached, IsSourced, AreClear, ShowsThere, stays_there}
 
 -- a call that reaches a macro asks for what it expands to
 expansion_read : (own : Crate) (d : MacroDirective) (makro : MacroId) (x : Expanding) → Contains (keys_read (text_readings makro x.text ++ expansion_readings own d x)) (keys.Tree (call_key own x.id))
@@ -134,13 +144,17 @@ module _ (t : SourceTest) where
   BringsNone s (gives_variants id variants) = on_values (on_variant t) variants ≡ false
   BringsNone s (begins_paths r) = on_reached t r ≡ false
   BringsNone s (reaches rs) = list_any (on_reached t) rs ≡ false
-  BringsNone s (awaits calls) = Unit {0}
+  BringsNone s (awaits calls) = list_any (on_call t) calls ≡ false
   BringsNone s (ends i fate) = Unit {0}
   BringsNone s settles = Unit {0}
   BringsNone s (changes_imports c) = EditsAreClear t (edit_of (import_state s) c) × EdgesAreClear c
   BringsNone s (adds_textual home name makro) = on_macro t makro ≡ false
   BringsNone s (takes_textual home from) = Unit {0}
   BringsNone s (defines node makro) = Unit {0}
+  BringsNone s (describes makro what) = Unit {0}
+  BringsNone s (helps node helper) = Unit {0}
+  BringsNone s (lists_derive home imp) = Unit {0}
+  BringsNone s (exports f makro) = Unit {0}
   BringsNone s (uses_macros macros by) = (on_values (on_macro t) macros ≡ false) × (on_extern t by ≡ false)
   BringsNone s (tells d) = Unit {0}
   BringsNone s (goes_on vs) = list_any (on_site t) vs ≡ false
@@ -151,8 +165,18 @@ module _ (t : SourceTest) where
   HoldsNowhereIn-defined : (m : Map) (node : AstId) (makro : MacroId) → HoldsNowhereIn t m → HoldsNowhereIn t (with_macro_def m node makro)
   HoldsNowhereIn-defined m node makro f = record { origins = f.origins; types = f.types; values = f.values; macros = f.macros; legacy = f.legacy; enums = f.enums; macro_use = f.macro_use }
 
+  -- nor is anything bound by what is kept of macros, of helpers and of what functions export
+  HoldsNowhereIn-described : (m : Map) (makro : MacroId) (what : MacroDataValue) → HoldsNowhereIn t m → HoldsNowhereIn t (with_macro_data m makro what)
+  HoldsNowhereIn-described m makro what f = record { origins = f.origins; types = f.types; values = f.values; macros = f.macros; legacy = f.legacy; enums = f.enums; macro_use = f.macro_use }
+
+  HoldsNowhereIn-helped : (m : Map) (node : AstId) (helper : DeriveHelper) → HoldsNowhereIn t m → HoldsNowhereIn t (with_derive_helper m node helper)
+  HoldsNowhereIn-helped m node helper f = record { origins = f.origins; types = f.types; values = f.values; macros = f.macros; legacy = f.legacy; enums = f.enums; macro_use = f.macro_use }
+
+  HoldsNowhereIn-exported : (m : Map) (x : FunctionId) (makro : ProcMacroId) → HoldsNowhereIn t m → HoldsNowhereIn t (with_exported m x makro)
+  HoldsNowhereIn-exported m x makro f = record { origins = f.origins; types = f.types; values = f.values; macros = f.macros; legacy = f.legacy; enums = f.enums; macro_use = f.macro_use }
+
   on_new_map : (s : State) (m : Map) → HoldsNowhereIn t m → IsSourced t s → IsSourced t (on_map s m)
-  on_new_map s m g f = record { map = g; local = f.local; visits = f.visits; reached = f.reached; edges = f.edges }
+  on_new_map s m g f = record { map = g; local = f.local; visits = f.visits; reached = f.reached; calls = f.calls; edges = f.edges }
 
   extern_of : (local : Local) (source : ImportSource) (name : Option (List ℕ)) → HoldsOfNoExtern t local → on_import t (way_of source) ≡ false → HoldsOfNoExtern t (extern_by local source name)
   extern_of local (sources.Use id kind) name f g = f
@@ -193,12 +217,13 @@ module _ (t : SourceTest) where
     local = extern_or ((r.home == 0) && is_none s.core.map.id.block) (extern_by s.core.local r.source (name_of r)) s.core.local (extern_of s.core.local r.source (name_of r) f.local fine) f.local;
     visits = f.visits;
     reached = f.reached;
+    calls = f.calls;
     edges = f.edges;
   }
-  sourced-act s (reaches rs) f fine = record { map = f.map; local = f.local; visits = f.visits; reached = none_joined (on_reached t) s.core.reached rs f.reached fine; edges = f.edges }
-  sourced-act s (awaits calls) f fine = record { map = f.map; local = f.local; visits = f.visits; reached = f.reached; edges = f.edges }
-  sourced-act s (ends i fate) f fine = record { map = f.map; local = f.local; visits = f.visits; reached = f.reached; edges = f.edges }
-  sourced-act s settles f fine = record { map = f.map; local = f.local; visits = f.visits; reached = f.reached; edges = f.edges }
+  sourced-act s (reaches rs) f fine = record { map = f.map; local = f.local; visits = f.visits; reached = none_joined (on_reached t) s.core.reached rs f.reached fine; calls = f.calls; edges = f.edges }
+  sourced-act s (awaits calls) f fine = record { map = f.map; local = f.local; visits = f.visits; reached = f.reached; calls = none_joined (on_call t) s.core.calls calls f.calls fine; edges = f.edges }
+  sourced-act s (ends i fate) f fine = record { map = f.map; local = f.local; visits = f.visits; reached = f.reached; calls = f.calls; edges = f.edges }
+  sourced-act s settles f fine = record { map = f.map; local = f.local; visits = f.visits; reached = f.reached; calls = f.calls; edges = f.edges }
   sourced-act s (changes_imports c) f fine =
       let i : ImportState = import_state s in
       record {
@@ -206,6 +231,7 @@ module _ (t : SourceTest) where
         local = subst (HoldsOfNoExtern t) (sym (local_after i c)) f.local;
         visits = f.visits;
         reached = subst (λ (rs : List ImportDirective). list_any (on_reached t) rs ≡ false) (sym (imports_after i c)) f.reached;
+        calls = f.calls;
         edges = edges_clear i c f.edges fine.1;
       }
   sourced-act s (adds_textual home name makro) f fine =
@@ -213,9 +239,15 @@ module _ (t : SourceTest) where
   sourced-act s (takes_textual home from) f fine =
       on_new_map s _ (textual_changed t s.core.map home (λ _. textual_at s.core.map from) (λ ms g. textual_clear t s.core.map from f.map) f.map) f
   sourced-act s (defines node makro) f fine = on_new_map s _ (HoldsNowhereIn-defined s.core.map node makro f.map) f
+  sourced-act s (describes makro what) f fine = on_new_map s _ (HoldsNowhereIn-described s.core.map makro what f.map) f
+  sourced-act s (helps node helper) f fine = on_new_map s _ (HoldsNowhereIn-helped s.core.map node helper f.map) f
+  sourced-act s (lists_derive home imp) f fine = on_new_map s _ (HoldsNowhereIn-derived t s.core.map home imp f.map) f
+  sourced-act s (exports x makro) f fine =
+      let noted : IsSourced t (on_map s (with_exported s.core.map x.id makro)) = on_new_map s _ (HoldsNowhereIn-exported s.core.map x.id makro f.map) f in
+      record { map = noted.map; local = noted.local; visits = noted.visits; reached = noted.reached; calls = noted.calls; edges = noted.edges }
   sourced-act s (uses_macros macros by) f fine = on_new_map s _ (used_clear t s.core.map macros by fine.0 fine.1 f.map) f
   sourced-act s (tells d) f fine = on_new_map s _ (HoldsNowhereIn-reported s.core.map (s.core.map.diagnostics ++ d ∷ []) f.map) f
-  sourced-act s (goes_on vs) f fine = record { map = f.map; local = f.local; visits = fine; reached = f.reached; edges = f.edges }
+  sourced-act s (goes_on vs) f fine = record { map = f.map; local = f.local; visits = fine; reached = f.reached; calls = f.calls; edges = f.edges }
 
   -- ---- rules
 
@@ -465,12 +497,24 @@ module _ (t : SourceTest) where
           → (HoldsOfNone t (macros_only makro vis None) × (on_some (on_import t) (pushing None) ≡ false)) × Unit {0}
       bare_macro makro vis g h = ((record { types = refl; values = refl; macros = bare t (on_macro t makro) (on_visibility t vis) g h }, refl), tt)
 
+      -- the next item again, where more of its attributes are done with
+      again : (v : Visit) (done : ℕ) (rest : List Task) → s.agenda ≡ visits v ∷ rest → list_any (on_site t) (visits (behind v done) ∷ rest) ≡ false
+      again v done rest next = neither (t.holder v.site.tree.file v.site.tree.block) (list_any (on_site t) rest) (file v rest next) (left v rest next)
+
+      -- the paths of a derive are written where it is
+      derives_none : (site : Site) (node : AstId) (attr : AttrId) (adt : AdtId) → t.holder site.tree.file site.tree.block ≡ false → (index : ℕ) (paths : List Path)
+          → list_any (on_call t) (derives_from site node attr adt index paths) ≡ false
+      derives_none site node attr adt own index [] = refl
+      derives_none site node attr adt own index (path ∷ paths) =
+          neither (t.holder site.tree.file site.tree.block) (list_any (on_call t) (derives_from site node attr adt (count_of (index + 1)) paths)) own
+          (derives_none site node attr adt own (count_of (index + 1)) paths)
+
       -- the sources that a rule reads are clear of it too
       brings_none : (r : Rule) → May finished s r → ((key : TreeKey) → Contains (keys_read (reads s r)) (keys.Tree key) → t.holder key.id.file key.id.block ≡ false)
           → AllFine BringsNone (asking s r) (acts finished s r)
       brings_none (drops_item v report rest) may read = (left v rest may.next, (tt, tt))
       brings_none (declares_item v d rest) may read =
-          (left v rest may.here.next, (tt, (((declares v d (low v rest may.here.next) (file v rest may.here.next) may.declares, refl), tt), tt)))
+          (left (behind v may.here.done) rest may.here.next, (tt, (((declares v d (low (behind v may.here.done) rest may.here.next) (file (behind v may.here.done) rest may.here.next) may.declares, refl), tt), tt)))
       brings_none (declares_enum site head name found rest) may read =
           let id : EnumId = enum_id s.core.map site head.id in
           let bare = bare_type (definitions.AdtId (adts.EnumId id)) (own_visibility finished s.core.local s.core.map site head) (file _ rest may.next) (written site.home (low _ rest may.next) head.visibility) in
@@ -515,28 +559,45 @@ module _ (t : SourceTest) where
       brings_none (defines_rules site head name expander helpers rest) may read =
           let own : t.holder site.tree.file site.tree.block ≡ false = file _ rest may.next in
           let makro : MacroId = macro_rules_id s.core.map site head.id expander in
-          (left _ rest may.next, (tt, (own, fine_macro BringsNone _ _ expander (λ at. tt) head name makro (λ at. bare_macro makro visibilities.Public own refl) _)))
+          (left _ rest may.next, (tt, (tt, (own, fine_macro BringsNone _ _ expander (λ at. tt) head name makro (λ at. bare_macro makro visibilities.Public own refl) _))))
       brings_none (defines_macro site head name expander helpers rest) may read =
           let own : t.holder site.tree.file site.tree.block ≡ false = file _ rest may.next in
           let makro : MacroId = macro_def_id s.core.map site head.id expander in
-          (left _ rest may.next, (tt, (tt, (bare_macro makro (own_visibility finished s.core.local s.core.map site head) own (written site.home (low _ rest may.next) head.visibility), fine_reporting BringsNone _ _ expander (λ at. tt) _))))
+          (left _ rest may.next, (tt, (tt, (tt, (bare_macro makro (own_visibility finished s.core.local s.core.map site head) own (written site.home (low _ rest may.next) head.visibility), fine_reporting BringsNone _ _ expander (λ at. tt) _)))))
       brings_none (closes_module parent child rest) may read =
           (subst (λ (ts : List Task). list_any (on_site t) ts ≡ false) may f.visits, (tt, tt))
-      brings_none (reaches_call site head path rest) may read = (left _ rest may.next, (tt, tt))
+      brings_none (awaits_attribute v a k rest) may read =
+          let next = may.has.on.next in (left v rest next, (neither (t.holder v.site.tree.file v.site.tree.block) false (file v rest next) refl, tt))
+      brings_none (lists_derives v at a adt paths rest) may read =
+          let next = may.has.on.next in
+          (again v (suc at) rest next, (derives_none v.site (item_node v.site v.item) (attr_id a) adt (file v rest next) 0 paths, tt))
+      brings_none (faults_derive v at report rest) may read = (again v (suc at) rest may.has.on.next, (tt, tt))
+      brings_none (exports_macro site head name d e rest) may read =
+          let next = may.here.next in
+          let own : t.holder site.tree.file site.tree.block ≡ false = file _ rest next in
+          let bare_two = bare_macro (macros.ProcMacroId (proc_macro_id s.core.map site head.id e.style)) visibilities.Public own refl in
+          (left _ rest next, (tt, (tt, (tt, (((declares (visit site (leaf head (function name))) d (low _ rest next) own may.declares, refl), tt), (tt, (bare_two, tt)))))))
+      brings_none (reaches_call site head path rest) may read = (left _ rest may.next, (neither (t.holder site.tree.file site.tree.block) false (file _ rest may.next) refl, tt))
       brings_none rests may read = (tt, tt)
       brings_none (expands_call i d makro x) may read =
           let own : t.holder (Macro x.id) None ≡ false = read (call_key s.core.map.id.krate x.id) (expansion_read s.core.map.id.krate d makro x) in
-          (tt, (site_visits t (call_site d x.id) own x.tree.tree.items, fine_failing BringsNone (module_id s.core.map d.site.home) d (error_of x.there) (λ at text. tt) _))
+          (tt, (site_visits t (call_site d x.id) own x.tree.tree.items, fine_expanding BringsNone _ (λ at helper. tt) _ (module_id s.core.map d.site.home) d (error_of x.there) (λ at text. tt) _))
       brings_none (drops_call i d) may read = (tt, tt)
+      brings_none (drops_reached i d makro) may read = (tt, fine_bringing BringsNone _ (λ at helper. tt) _ _)
+      brings_none (derives_builtin i d makro imp) may read = (tt, (tt, fine_bringing BringsNone _ (λ at helper. tt) _ _))
+      brings_none (skips_attribute i d k item) may read =
+          (tt, (neither (t.holder d.site.tree.file d.site.tree.block) false (none_at (on_call t) s.core.calls f.calls i d may.due.waiting.call) refl, tt))
+      brings_none (falls_back i d k item) may read =
+          (tt, (tt, (neither (t.holder d.site.tree.file d.site.tree.block) false (none_at (on_call t) s.core.calls f.calls i d may.waiting.call) refl, tt)))
       brings_none (resolves_imports rule) may read = imports_bring rule may
 
       sourced-Step : (env : Environment) (new : State) → Step env finished s new → AreClear t new → IsSourced t new
       sourced-Step env new step clear =
           let read : (key : TreeKey) → Contains (keys_read (reads s step.rule)) (keys.Tree key) → t.holder key.id.file key.id.block ≡ false =
           λ key h. clear key (subst (λ (ks : List Key). Contains ks (keys.Tree key)) (sym (asked-Step step)) (Contains-append_right s.core.asked (keys_read (reads s step.rule)) (keys.Tree key) h)) in
-          let first : IsSourced t (asking s step.rule) = record { map = f.map; local = f.local; visits = f.visits; reached = f.reached; edges = f.edges } in
+          let first : IsSourced t (asking s step.rule) = record { map = f.map; local = f.local; visits = f.visits; reached = f.reached; calls = f.calls; edges = f.edges } in
           let done = perform_keeps (IsSourced t) BringsNone sourced-act (acts finished s step.rule) (asking s step.rule) first (brings_none step.rule step.may read) in
-          subst (IsSourced t) (sym step.is) (record { map = done.map; local = done.local; visits = done.visits; reached = done.reached; edges = done.edges })
+          subst (IsSourced t) (sym step.is) (record { map = done.map; local = done.local; visits = done.visits; reached = done.reached; calls = done.calls; edges = done.edges })
 
     -- so are all states to which steps lead, as far as the test holds of no module there, and of no source that was asked for
     all_sourced : (env : Environment) (from to : State) → IsInRange from → NamesWhatIsThere finished from → IsSourced t from → Steps env finished from to → ShowsThere t finished to.core.map
@@ -575,6 +636,7 @@ module _ (t : SourceTest) where
         local = local_begins crate_data [] (dependencies_in w krate) refl;
         visits = go (is_enabled tree.attributes) tree.items;
         reached = refl;
+        calls = refl;
         edges = refl;
       }
     where
@@ -597,11 +659,12 @@ module _ (t : SourceTest) where
       let root : t.holder from.tree.file from.tree.block ≡ false =
       asked (tree_key from.start from.tree) (still_asked derived (root_key from.start from.tree) (0, omega arith, refl)) in
       let first : IsSourced t begun = first_sourced (read_by w all from.start) (subst (HoldsNowhere t) (sym same) clear.read) tables w from root in
-      let m : Map = e.last.core.map in
+      let m : Map = ended e.last.core in
       let reports : List DefDiagnostic = m.diagnostics ++ leftover_reports e.last.core in
       let reported : Map = record m { diagnostics = reports } in
       let above : ShowsThere t finished reported = subst (λ (x : Map). ShowsThere t finished x) e.map_is clear.shown in
       let grows : Grows m reported = let same_map : Grows m m = Grows-same m in record { longer = same_map.longer; kept = same_map.kept; listed = same_map.listed } in
-      let shown : ShowsThere t finished m = λ at there. above at (stays_there finished m reported refl grows at there) in
+      let seen : ShowsThere t finished m = λ at there. above at (stays_there finished m reported refl grows at there) in
+      let shown : ShowsThere t finished e.last.core.map = λ at there. seen at (stays_ended finished e.last.core at there) in
       let end : IsSourced t e.last = all_sourced answers paths finished whole clear.read env begun e.last (in_range-start tables w (read_by w all from.start) from) names first derived shown asked in
-      (subst (HoldsNowhereIn t) (sym e.map_is) (HoldsNowhereIn-reported m reports end.map), subst (HoldsOfNoExtern t) (sym e.local_is) end.local)
+      (subst (HoldsNowhereIn t) (sym e.map_is) (HoldsNowhereIn-reported m reports (HoldsNowhereIn-ended t e.last.core end.map)), subst (HoldsOfNoExtern t) (sym e.local_is) end.local)

@@ -13,6 +13,7 @@ use Rattle.hir_def_map.specs.State.{Map, module_at}
 use Rattle.hir_def_map.specs.Overlay.{Maps, Placed, overlay, placed_in}
 use Rattle.hir_import_resolution.specs.declared.directive.ImportDirective.{ImportDirective}
 use Rattle.hir_import_resolution.specs.Directives.{way_of}
+use Rattle.hir_def_collector.specs.declared.collector.macro_directive.MacroDirective.{MacroDirective}
 use Rattle.hir_def_collector.specs.State.{State, Task, visits, closes}
 use Rattle.hir_def_collector.specs.declared.source_database.Key.TheVariants as keys
 use Rattle.hir_def_collector.proofs.Grows.{Grows}
@@ -24,6 +25,10 @@ abbrev pub on_site : SourceTest → Task → Bool
 on_site t (visits v) = t.holder v.site.tree.file v.site.tree.block
 on_site t (closes parent child) = false
 
+-- what waits is written at its site
+abbrev pub on_call : SourceTest → MacroDirective → Bool
+on_call t d = t.holder d.site.tree.file d.site.tree.block
+
 abbrev pub on_reached : SourceTest → ImportDirective → Bool
 on_reached t r = on_import t (way_of r.source)
 
@@ -33,6 +38,7 @@ pub record IsSourced (t : SourceTest) (s : State) : Type 0 where
   pub local : HoldsOfNoExtern t s.core.local
   pub visits : list_any (on_site t) s.agenda ≡ false
   pub reached : list_any (on_reached t) s.core.reached ≡ false
+  pub calls : list_any (on_call t) s.core.calls ≡ false
   pub edges : list_any (on_edge t) s.core.globs.edges ≡ false
 
 -- nor of a source that was asked for
@@ -51,12 +57,16 @@ some_at (x ∷ xs) [] low k e = absurd (omega arith)
 some_at (x ∷ xs) (y ∷ ys) low zero e = refl
 some_at (x ∷ xs) (y ∷ ys) low (suc k) e = some_at xs ys (omega arith) k e
 
-pub stays_there : (finished : Maps) (old new : Map) → new.id ≡ old.id → Grows old new → (m : ModuleId) → ModuleIsThere (overlay finished old) m → ModuleIsThere (overlay finished new) m
-stays_there finished old new same grows m e =
+pub stays_longer : (finished : Maps) (old new : Map) → new.id ≡ old.id → length old.modules ≤ length new.modules → (m : ModuleId) → ModuleIsThere (overlay finished old) m
+    → ModuleIsThere (overlay finished new) m
+stays_longer finished old new same longer m e =
     ap (λ (id : MapId). is_some (option_and_then (λ (p : Placed). module_at p.map m.index) (cond (map_id.ghosts.eq m.map id) (Some (placed_in finished new)) (finished m.map)))) same
     ∙ go (map_id.ghosts.eq m.map old.id) e
   where
     go : (b : Bool) → is_some (option_and_then (λ (p : Placed). module_at p.map m.index) (cond b (Some (placed_in finished old)) (finished m.map))) ≡ true
         → is_some (option_and_then (λ (p : Placed). module_at p.map m.index) (cond b (Some (placed_in finished new)) (finished m.map))) ≡ true
-    go true f = some_at old.modules new.modules grows.longer m.index f
+    go true f = some_at old.modules new.modules longer m.index f
     go false f = f
+
+pub stays_there : (finished : Maps) (old new : Map) → new.id ≡ old.id → Grows old new → (m : ModuleId) → ModuleIsThere (overlay finished old) m → ModuleIsThere (overlay finished new) m
+stays_there finished old new same grows m e = stays_longer finished old new same grows.longer m e

@@ -1,19 +1,19 @@
--- Calls stay, and those that were handled stay so; what rounds of calls come to, one after another.
+-- What waits stays, and what was handled stays so; what rounds of calls come to, one after another.
 use Rattle.std.proofs.Common.{◌≡◌, ◌∙◌, inl, inr, ℕ, ◌+◌, ◌<◌, ◌≤◌, List, ◌++◌, length, slice_get, slice_set, Some, refl, sym, ap, subst, arith}
 use Rattle.hir_def_map.specs.Overlay.{Maps}
 use Rattle.hir_import_resolution.specs.Rules.{acts as import_acts}
 use Rattle.hir_def_collector.specs.declared.collector.macro_directive.Fate.{Fate}
-use Rattle.hir_def_collector.specs.declared.collector.macro_directive.Fate.TheVariants.{Handled, Waits}
+use Rattle.hir_def_collector.specs.declared.collector.macro_directive.Fate.TheVariants.{GivenUp, Handled, Waits}
 use Rattle.hir_def_collector.specs.declared.collector.macro_directive.MacroDirective.{MacroDirective}
 use Rattle.hir_def_collector.specs.Calls.{IsWaiting, error_of}
 use Rattle.hir_def_collector.specs.Keys.{Environment}
 use Rattle.hir_def_collector.specs.State.{State, all_wait, import_state}
-use Rattle.hir_def_collector.specs.Changes.{Change, lists, makes, gives_variants, begins_paths, reaches, awaits, ends, settles, changes_imports, adds_textual, takes_textual, defines, uses_macros, tells, goes_on, act, perform}
+use Rattle.hir_def_collector.specs.Changes.{Change, lists, makes, gives_variants, begins_paths, reaches, awaits, ends, settles, changes_imports, adds_textual, takes_textual, defines, describes, helps, lists_derive, exports, uses_macros, tells, goes_on, act, perform}
 use Rattle.hir_def_collector.specs.Rounds as rounds
 use Rattle.hir_def_collector.specs.Rounds.{HasManyRounds, Rounds, WasTried, handled, met}
-use Rattle.hir_def_collector.specs.Steps.{Rule, drops_item, reaches_call, rests, expands_call, drops_call, defines_rules, defines_macro, closes_module, declares_item, declares_enum, lists_constant, lists_impl, opens_module, opens_file, drops_file, misses_file, enters_block, reaches_imports, reaches_crate, resolves_imports, acts, after, asking, Step, Steps, none, more}
+use Rattle.hir_def_collector.specs.Steps.{Rule, drops_item, awaits_attribute, lists_derives, faults_derive, exports_macro, reaches_call, rests, expands_call, drops_call, drops_reached, derives_builtin, skips_attribute, falls_back, defines_rules, defines_macro, closes_module, declares_item, declares_enum, lists_constant, lists_impl, opens_module, opens_file, drops_file, misses_file, enters_block, reaches_imports, reaches_crate, resolves_imports, May, acts, after, asking, Step, Steps, none, more}
 use Rattle.hir_def_collector.proofs.Bound.{number_same_or_not}
-use Rattle.hir_def_collector.proofs.Changes.{AllFine, all_fine, fine_failing, fine_macro, fine_reporting, perform_keeps}
+use Rattle.hir_def_collector.proofs.Changes.{AllFine, all_fine, fine_bringing, fine_expanding, fine_macro, fine_reporting, perform_keeps}
 use Rattle.hir_def_collector.proofs.Lists.{get_inside, get_left, get_set_other, get_set_same, get_there, length_both, length_mapped, length_set}
 use Rattle.hir_def_collector.proofs.Moves.{Steps-append}
 
@@ -83,9 +83,20 @@ KeepsCalls-awaits s calls = record {
     as_many : length (all_wait calls) ≡ length calls
     as_many = length_mapped (λ (d : MacroDirective). Waits) calls
 
--- a call that is handled
-KeepsCalls-ends : (s : State) (i : ℕ) → KeepsCalls s (act s (ends i Handled))
-KeepsCalls-ends s i = record {
+-- a call ends with this: it no longer waits, and where it was handled it stays so
+record IsEnding (s : State) (i : ℕ) (fate : Fate) : Type 0 where
+  ended : ¬ (fate ≡ Waits)
+  still : slice_get s.core.fates i ≡ Some Handled → fate ≡ Handled
+
+ending_handled : (s : State) (i : ℕ) → IsEnding s i Handled
+ending_handled s i = record { ended = λ e. let no : ⊥ = cc in no; still = λ h. refl }
+
+-- one that waits may be given up
+ending_given_up : (s : State) (i : ℕ) → slice_get s.core.fates i ≡ Some Waits → IsEnding s i GivenUp
+ending_given_up s i waits = record { ended = λ e. let no : ⊥ = cc in no; still = λ h. absurd (let no : ⊥ = cc in no) }
+
+KeepsCalls-ends : (s : State) (i : ℕ) (fate : Fate) → IsEnding s i fate → KeepsCalls s (act s (ends i fate))
+KeepsCalls-ends s i fate ending = record {
   longer = omega arith;
   as_long = omega (arith, same);
   calls = λ j d h. h;
@@ -96,23 +107,28 @@ KeepsCalls-ends s i = record {
   bounded = λ h. h;
 }
   where
-    same : length (slice_set s.core.fates i Handled) ≡ length s.core.fates
-    same = length_set s.core.fates i Handled
+    same : length (slice_set s.core.fates i fate) ≡ length s.core.fates
+    same = length_set s.core.fates i fate
 
-    handled_still : (j : ℕ) → slice_get s.core.fates j ≡ Some Handled → slice_get (slice_set s.core.fates i Handled) j ≡ Some Handled
+    -- it has this fate, where there is one at its place
+    set : (j : ℕ) → j ≡ i → j < length s.core.fates → slice_get (slice_set s.core.fates i fate) j ≡ Some fate
+    set j here low =
+        subst (λ (k : ℕ). slice_get (slice_set s.core.fates i fate) k ≡ Some fate) (sym here) (get_set_same s.core.fates i fate (subst (λ (k : ℕ). k < length s.core.fates) here low))
+
+    handled_still : (j : ℕ) → slice_get s.core.fates j ≡ Some Handled → slice_get (slice_set s.core.fates i fate) j ≡ Some Handled
     handled_still j h = elim (number_same_or_not j i) [
-      | inl here ↦ subst (λ (k : ℕ). slice_get (slice_set s.core.fates i Handled) k ≡ Some Handled) (sym here)
-          (get_set_same s.core.fates i Handled (subst (λ (k : ℕ). k < length s.core.fates) here (get_inside s.core.fates j Handled h)))
-      | inr other ↦ get_set_other s.core.fates i j Handled other ∙ h
+      | inl here ↦
+          set j here (get_inside s.core.fates j Handled h)
+          ∙ ap (λ (f : Fate). Some f) (ending.still (subst (λ (k : ℕ). slice_get s.core.fates k ≡ Some Handled) here h))
+      | inr other ↦ get_set_other s.core.fates i j fate other ∙ h
     ]
 
-    waited_before : (j : ℕ) → j < length s.core.fates → slice_get (slice_set s.core.fates i Handled) j ≡ Some Waits → slice_get s.core.fates j ≡ Some Waits
+    waited_before : (j : ℕ) → j < length s.core.fates → slice_get (slice_set s.core.fates i fate) j ≡ Some Waits → slice_get s.core.fates j ≡ Some Waits
     waited_before j low h = elim (number_same_or_not j i) [
       | inl here ↦
-          let ended : slice_get (slice_set s.core.fates i Handled) j ≡ Some Handled =
-          subst (λ (k : ℕ). slice_get (slice_set s.core.fates i Handled) k ≡ Some Handled) (sym here) (get_set_same s.core.fates i Handled (subst (λ (k : ℕ). k < length s.core.fates) here low)) in
-          absurd (let no : ⊥ = cc in no)
-      | inr other ↦ sym (get_set_other s.core.fates i j Handled other) ∙ h
+          let is : Some fate ≡ Some Waits = sym (set j here low) ∙ h in
+          absurd (ending.ended cc)
+      | inr other ↦ sym (get_set_other s.core.fates i j fate other) ∙ h
     ]
 
 -- all that there are may be expanded
@@ -130,72 +146,88 @@ KeepsCalls-settles s = record {
 
 -- ---- changes
 
--- what becomes of a call is that it is handled
-abbrev EndsHandled : State → Change → Type 0
-EndsHandled s (lists home d) = Unit {0}
-EndsHandled s (makes home name origin visibility) = Unit {0}
-EndsHandled s (gives_variants id variants) = Unit {0}
-EndsHandled s (begins_paths r) = Unit {0}
-EndsHandled s (reaches rs) = Unit {0}
-EndsHandled s (awaits calls) = Unit {0}
-EndsHandled s (ends i fate) = fate ≡ Handled
-EndsHandled s settles = Unit {0}
-EndsHandled s (changes_imports c) = Unit {0}
-EndsHandled s (adds_textual home name makro) = Unit {0}
-EndsHandled s (takes_textual home from) = Unit {0}
-EndsHandled s (defines node makro) = Unit {0}
-EndsHandled s (uses_macros macros by) = Unit {0}
-EndsHandled s (tells d) = Unit {0}
-EndsHandled s (goes_on tasks) = Unit {0}
+-- what waits ends so
+abbrev EndsCalls : State → Change → Type 0
+EndsCalls s (lists home d) = Unit {0}
+EndsCalls s (makes home name origin visibility) = Unit {0}
+EndsCalls s (gives_variants id variants) = Unit {0}
+EndsCalls s (begins_paths r) = Unit {0}
+EndsCalls s (reaches rs) = Unit {0}
+EndsCalls s (awaits calls) = Unit {0}
+EndsCalls s (ends i fate) = IsEnding s i fate
+EndsCalls s settles = Unit {0}
+EndsCalls s (changes_imports c) = Unit {0}
+EndsCalls s (adds_textual home name makro) = Unit {0}
+EndsCalls s (takes_textual home from) = Unit {0}
+EndsCalls s (defines node makro) = Unit {0}
+EndsCalls s (describes makro what) = Unit {0}
+EndsCalls s (helps node helper) = Unit {0}
+EndsCalls s (lists_derive home imp) = Unit {0}
+EndsCalls s (exports f makro) = Unit {0}
+EndsCalls s (uses_macros macros by) = Unit {0}
+EndsCalls s (tells d) = Unit {0}
+EndsCalls s (goes_on tasks) = Unit {0}
 
-KeepsCalls-act : (s : State) (c : Change) → EndsHandled s c → KeepsCalls s (act s c)
+KeepsCalls-act : (s : State) (c : Change) → EndsCalls s c → KeepsCalls s (act s c)
 KeepsCalls-act s (lists home d) fine = KeepsCalls-same s (act s (lists home d)) refl refl refl
 KeepsCalls-act s (makes home name origin visibility) fine = KeepsCalls-same s (act s (makes home name origin visibility)) refl refl refl
 KeepsCalls-act s (gives_variants id variants) fine = KeepsCalls-same s (act s (gives_variants id variants)) refl refl refl
 KeepsCalls-act s (begins_paths r) fine = KeepsCalls-same s (act s (begins_paths r)) refl refl refl
 KeepsCalls-act s (reaches rs) fine = KeepsCalls-same s (act s (reaches rs)) refl refl refl
 KeepsCalls-act s (awaits calls) fine = KeepsCalls-awaits s calls
-KeepsCalls-act s (ends i fate) fine = subst (λ (f : Fate). KeepsCalls s (act s (ends i f))) (sym fine) (KeepsCalls-ends s i)
+KeepsCalls-act s (ends i fate) fine = KeepsCalls-ends s i fate fine
 KeepsCalls-act s settles fine = KeepsCalls-settles s
 KeepsCalls-act s (changes_imports c) fine = KeepsCalls-same s (act s (changes_imports c)) refl refl refl
 KeepsCalls-act s (adds_textual home name makro) fine = KeepsCalls-same s (act s (adds_textual home name makro)) refl refl refl
 KeepsCalls-act s (takes_textual home from) fine = KeepsCalls-same s (act s (takes_textual home from)) refl refl refl
 KeepsCalls-act s (defines node makro) fine = KeepsCalls-same s (act s (defines node makro)) refl refl refl
+KeepsCalls-act s (describes makro what) fine = KeepsCalls-same s (act s (describes makro what)) refl refl refl
+KeepsCalls-act s (helps node helper) fine = KeepsCalls-same s (act s (helps node helper)) refl refl refl
+KeepsCalls-act s (lists_derive home imp) fine = KeepsCalls-same s (act s (lists_derive home imp)) refl refl refl
+KeepsCalls-act s (exports f makro) fine = KeepsCalls-same s (act s (exports f makro)) refl refl refl
 KeepsCalls-act s (uses_macros macros by) fine = KeepsCalls-same s (act s (uses_macros macros by)) refl refl refl
 KeepsCalls-act s (tells d) fine = KeepsCalls-same s (act s (tells d)) refl refl refl
 KeepsCalls-act s (goes_on tasks) fine = KeepsCalls-same s (act s (goes_on tasks)) refl refl refl
 
 -- ---- rules
 
-ends_handled : (finished : Maps) (s : State) (r : Rule) → AllFine EndsHandled (asking s r) (acts finished s r)
-ends_handled finished s (drops_item v report rest) = (tt, (tt, tt))
-ends_handled finished s (declares_item v d rest) = (tt, (tt, (tt, tt)))
-ends_handled finished s (declares_enum site head name found rest) = (tt, (tt, (tt, (tt, tt))))
-ends_handled finished s (lists_constant site head rest) = (tt, (tt, tt))
-ends_handled finished s (lists_impl site head of_trait rest) = (tt, (tt, tt))
-ends_handled finished s (opens_module site head name items rest) = (tt, (tt, (tt, (tt, (tt, tt)))))
-ends_handled finished s (opens_file site head name search file rest) = (tt, (tt, (tt, (tt, (tt, tt)))))
-ends_handled finished s (drops_file site head name search report rest) = (tt, (tt, tt))
-ends_handled finished s (misses_file site head name search report rest) = (tt, (tt, (tt, (tt, (tt, (tt, tt))))))
-ends_handled finished s (enters_block site head items rest) = (tt, (tt, tt))
-ends_handled finished s (reaches_imports site head tree rest) = (tt, (tt, (tt, tt)))
-ends_handled finished s (reaches_crate site head name alias rest) = (tt, (tt, (tt, (tt, (tt, tt)))))
-ends_handled finished s (defines_rules site head name expander helpers rest) = (tt, (tt, (tt, fine_macro EndsHandled _ _ expander (λ t. tt) head name _ (λ t. tt) _)))
-ends_handled finished s (defines_macro site head name expander helpers rest) = (tt, (tt, (tt, (tt, fine_reporting EndsHandled _ _ expander (λ t. tt) _))))
-ends_handled finished s (closes_module parent child rest) = (tt, (tt, tt))
-ends_handled finished s (reaches_call site head path rest) = (tt, (tt, tt))
-ends_handled finished s rests = (tt, tt)
-ends_handled finished s (expands_call i d makro x) = (refl, (tt, fine_failing EndsHandled _ d (error_of x.there) (λ t text. tt) _))
-ends_handled finished s (drops_call i d) = (refl, tt)
-ends_handled finished s (resolves_imports rule) = all_fine EndsHandled (λ t c. tt) (import_acts finished (import_state s) rule) s
+ends_calls : (finished : Maps) (s : State) (r : Rule) → May finished s r → AllFine EndsCalls (asking s r) (acts finished s r)
+ends_calls finished s (drops_item v report rest) may = (tt, (tt, tt))
+ends_calls finished s (declares_item v d rest) may = (tt, (tt, (tt, tt)))
+ends_calls finished s (declares_enum site head name found rest) may = (tt, (tt, (tt, (tt, tt))))
+ends_calls finished s (lists_constant site head rest) may = (tt, (tt, tt))
+ends_calls finished s (lists_impl site head of_trait rest) may = (tt, (tt, tt))
+ends_calls finished s (opens_module site head name items rest) may = (tt, (tt, (tt, (tt, (tt, tt)))))
+ends_calls finished s (opens_file site head name search file rest) may = (tt, (tt, (tt, (tt, (tt, tt)))))
+ends_calls finished s (drops_file site head name search report rest) may = (tt, (tt, tt))
+ends_calls finished s (misses_file site head name search report rest) may = (tt, (tt, (tt, (tt, (tt, (tt, tt))))))
+ends_calls finished s (enters_block site head items rest) may = (tt, (tt, tt))
+ends_calls finished s (reaches_imports site head tree rest) may = (tt, (tt, (tt, tt)))
+ends_calls finished s (reaches_crate site head name alias rest) may = (tt, (tt, (tt, (tt, (tt, tt)))))
+ends_calls finished s (defines_rules site head name expander helpers rest) may = (tt, (tt, (tt, (tt, fine_macro EndsCalls _ _ expander (λ t. tt) head name _ (λ t. tt) _))))
+ends_calls finished s (defines_macro site head name expander helpers rest) may = (tt, (tt, (tt, (tt, (tt, fine_reporting EndsCalls _ _ expander (λ t. tt) _)))))
+ends_calls finished s (closes_module parent child rest) may = (tt, (tt, tt))
+ends_calls finished s (awaits_attribute v a k rest) may = (tt, (tt, tt))
+ends_calls finished s (lists_derives v at a adt paths rest) may = (tt, (tt, tt))
+ends_calls finished s (faults_derive v at report rest) may = (tt, (tt, tt))
+ends_calls finished s (exports_macro site head name d e rest) may = (tt, (tt, (tt, (tt, (tt, (tt, (tt, tt)))))))
+ends_calls finished s (reaches_call site head path rest) may = (tt, (tt, tt))
+ends_calls finished s rests may = (tt, tt)
+ends_calls finished s (expands_call i d makro x) may = (ending_handled (asking s (expands_call i d makro x)) i, (tt, fine_expanding EndsCalls _ (λ t helper. tt) _ _ d (error_of x.there) (λ t text. tt) _))
+ends_calls finished s (drops_call i d) may = (ending_handled (asking s (drops_call i d)) i, tt)
+ends_calls finished s (drops_reached i d makro) may = (ending_handled (asking s (drops_reached i d makro)) i, fine_bringing EndsCalls _ (λ t helper. tt) _ _)
+ends_calls finished s (derives_builtin i d makro imp) may = (ending_handled (asking s (derives_builtin i d makro imp)) i, (tt, fine_bringing EndsCalls _ (λ t helper. tt) _ _))
+ends_calls finished s (skips_attribute i d k item) may = (ending_handled (asking s (skips_attribute i d k item)) i, (tt, tt))
+ends_calls finished s (falls_back i d k item) may = (ending_given_up (asking s (falls_back i d k item)) i may.waiting.waits, (tt, (tt, tt)))
+ends_calls finished s (resolves_imports rule) may = all_fine EndsCalls (λ t c. tt) (import_acts finished (import_state s) rule) s
 
 -- ---- steps
 
 KeepsCalls-Step : {env : Environment} {finished : Maps} {old new : State} → Step env finished old new → KeepsCalls old new
 KeepsCalls-Step {finished = finished} {old = old} step =
     let done : KeepsCalls old (perform (asking old step.rule) (acts finished old step.rule)) =
-    perform_keeps (KeepsCalls old) EndsHandled (λ s c kept fine. KeepsCalls-trans kept (KeepsCalls-act s c fine)) (acts finished old step.rule) (asking old step.rule)
-    (KeepsCalls-same old (asking old step.rule) refl refl refl) (ends_handled finished old step.rule) in
+    perform_keeps (KeepsCalls old) EndsCalls (λ s c kept fine. KeepsCalls-trans kept (KeepsCalls-act s c fine)) (acts finished old step.rule) (asking old step.rule)
+    (KeepsCalls-same old (asking old step.rule) refl refl refl) (ends_calls finished old step.rule step.may) in
     subst (KeepsCalls old) (sym step.is) (KeepsCalls-trans done (KeepsCalls-same _ (after finished old step.rule) refl refl refl))
 
 pub keeps_calls : {env : Environment} {finished : Maps} {from to : State} → Steps env finished from to → KeepsCalls from to

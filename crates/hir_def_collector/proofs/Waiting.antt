@@ -4,9 +4,11 @@ use Rattle.std.proofs.lemmas.Bool.Decides.{nat_tests}
 use Rattle.std.proofs.lemmas.List.Elements.{All-contains_itself, All-nil}
 use Rattle.std.specs.List.{All}
 use Rattle.std.specs.Prelude.{not, slice_index_or}
+use Rattle.hir_base.specs.declared.ast_id.AstId.{AstId}
 use Rattle.hir_base.specs.declared.ids.MapId.{MapId}
 use Rattle.hir_def_map.specs.Overlay.{Maps}
-use Rattle.hir_def_map.specs.State.{CrateData, IsInOrder}
+use Rattle.hir_def_map.specs.State.{CrateData, IsInOrder, Map}
+use Rattle.hir_def_map.specs.declared.nameres.derive_helpers.DeriveHelper.{DeriveHelper}
 use Rattle.hir_def_map.specs.declared.nameres.path_resolution.slots.Slot.{Slot as PathSlot}
 use Rattle.hir_worklist.proofs.Idle.{idle-closed, idle-opened, idle-taken}
 use Rattle.hir_worklist.specs.Moves.{Takes, closed, empty_queue, opened}
@@ -20,13 +22,16 @@ use Rattle.hir_call_queue.specs.Waking.{AreWatching, IsWatching, IsWoken, is_apa
 use Rattle.hir_call_queue.specs.declared.queue.CallQueue.{CallQueue}
 use Rattle.hir_def_collector.specs.declared.collector.macro_directive.Fate.TheVariants.{Handled, Waits}
 use Rattle.hir_def_collector.specs.declared.collector.macro_directive.MacroDirective.{MacroDirective}
-use Rattle.hir_def_collector.specs.Calls.{IsWaiting, called_macro}
+use Rattle.hir_def_collector.specs.declared.collector.macro_directive.MacroDirectiveKind.{MacroDirectiveKind}
+use Rattle.hir_def_collector.specs.declared.collector.macro_directive.MacroDirectiveKind.TheVariants.{Attr, Derive, FnLike}
+use Rattle.hir_def_collector.specs.Attributes.{is_helper}
+use Rattle.hir_def_collector.specs.Calls.{IsWaiting, LeadsNowhere, called_macro, is_call, is_inert_by, is_inert_now}
 use Rattle.hir_def_collector.specs.Keys.{Environment}
 use Rattle.hir_def_collector.specs.State.{Core, Run, at_rest, core_in}
 use Rattle.hir_def_collector.specs.Steps.{Steps}
-use Rattle.hir_def_collector.specs.Waiting.{IsNoted, IsUpToDate, KeepsWaiting, LiesApart, StandsStill, call_reads}
+use Rattle.hir_def_collector.specs.Waiting.{IsNoted, IsStale, IsUpToDate, KeepsWaiting, LiesApart, StandsStill, call_reads}
 use Rattle.hir_def_collector.proofs.CallReads.{agree_itself, agree_later, modules_kept_itself, stands_nowhere}
-use Rattle.hir_def_collector.proofs.Noted.{modules_kept_later, there_later}
+use Rattle.hir_def_collector.proofs.Noted.{modules_kept_later, noted_follow, noted_itself, there_later}
 use Rattle.hir_def_collector.proofs.Tried.{calls_longer, waiting_before}
 
 -- ---- what a call has seen
@@ -94,7 +99,8 @@ record Remains (finished : Maps) (q : CallQueue) (before now : Run) : Type 0 whe
   seen : ℕ → List PathSlot
   watched : is_apart q ≡ true → AreWatching seen q
   stands : is_apart q ≡ true → (p : ℕ) (d : MacroDirective) → IsIdle (worklist_of q) p → IsWaiting (at_rest (core_in now)) p d → StandsStill finished (core_in before) d (seen p)
-  shallow : (p : ℕ) (d : MacroDirective) → IsIdle (worklist_of q) p → IsWaiting (at_rest (core_in now)) p d → d.site.level < (core_in before).map.crate_data.recursion_limit
+  shallow : (p : ℕ) (d : MacroDirective) → IsIdle (worklist_of q) p → IsWaiting (at_rest (core_in now)) p d → is_call d ≡ true → d.site.level < (core_in before).map.crate_data.recursion_limit
+  active : (p : ℕ) (d : MacroDirective) → IsIdle (worklist_of q) p → IsWaiting (at_rest (core_in now)) p d → is_inert_now (core_in before).map d ≡ false
   unfinished : (p : ℕ) → p < count_of (worklist_of q) → is_unfinished (worklist_of q) p ≡ true
   count : count_of (worklist_of q) ≤ length (core_in before).calls
 
@@ -109,6 +115,7 @@ module _ (finished : Maps) (q : CallQueue) (before now : Run) (waits : KeepsWait
     watched = up.watched;
     stands = λ a p d idle waiting. up.stands a p d idle (λ none. absurd cc) (waits.before p d (inside_of up.count p idle) waiting);
     shallow = λ p d idle waiting. up.shallow p d idle (λ none. absurd cc) (waits.before p d (inside_of up.count p idle) waiting);
+    active = λ p d idle waiting. up.active p d idle (λ none. absurd cc) (waits.before p d (inside_of up.count p idle) waiting);
     unfinished = up.unfinished;
     count = up.count;
   }
@@ -120,17 +127,31 @@ module _ (finished : Maps) (q : CallQueue) (before now : Run) (waits : KeepsWait
     watched = λ a. watched_with i [] up.seen q q (up.watched a) (λ p idle. idle) (λ slot p e. e) (λ idle. All-nil (λ slot. _));
     stands = λ a p d idle waiting. go a p d (i == p) refl idle waiting;
     shallow = λ p d idle waiting. low p d (i == p) refl idle waiting;
+    active = λ p d idle waiting. active p d (i == p) refl idle waiting;
     unfinished = up.unfinished;
     count = up.count;
   }
     where
-      low : (p : ℕ) (d : MacroDirective) (b : Bool) → (i == p) ≡ b → IsIdle (worklist_of q) p → IsWaiting (at_rest (core_in now)) p d → d.site.level < (core_in before).map.crate_data.recursion_limit
+      low : (p : ℕ) (d : MacroDirective) (b : Bool) → (i == p) ≡ b → IsIdle (worklist_of q) p → IsWaiting (at_rest (core_in now)) p d → is_call d ≡ true → d.site.level < (core_in before).map.crate_data.recursion_limit
       low p d true e idle waiting = absurd (over d (subst (λ (k : ℕ). IsWaiting (at_rest (core_in now)) k d) (sym (same_place i p e)) waiting))
       low p d false e idle waiting = up.shallow p d idle (other_place i p e) (waits.before p d (inside_of up.count p idle) waiting)
+
+      active : (p : ℕ) (d : MacroDirective) (b : Bool) → (i == p) ≡ b → IsIdle (worklist_of q) p → IsWaiting (at_rest (core_in now)) p d → is_inert_now (core_in before).map d ≡ false
+      active p d true e idle waiting = absurd (over d (subst (λ (k : ℕ). IsWaiting (at_rest (core_in now)) k d) (sym (same_place i p e)) waiting))
+      active p d false e idle waiting = up.active p d idle (other_place i p e) (waits.before p d (inside_of up.count p idle) waiting)
 
       go : is_apart q ≡ true → (p : ℕ) (d : MacroDirective) (b : Bool) → (i == p) ≡ b → IsIdle (worklist_of q) p → IsWaiting (at_rest (core_in now)) p d → StandsStill finished (core_in before) d (cond b [] (up.seen p))
       go a p d true e idle waiting = absurd (over d (subst (λ (k : ℕ). IsWaiting (at_rest (core_in now)) k d) (sym (same_place i p e)) waiting))
       go a p d false e idle waiting = up.stands a p d idle (other_place i p e) (waits.before p d (inside_of up.count p idle) waiting)
+
+-- where helpers are the same, what was inert is inert
+inert_alike : (old new : Map) (d : MacroDirective) → new.derive_helpers ≡ old.derive_helpers → is_inert_now new d ≡ is_inert_now old d
+inert_alike old new d same = go d.kind
+  where
+    go : (kind : MacroDirectiveKind) → is_inert_by new d.ast_id kind ≡ is_inert_by old d.ast_id kind
+    go (FnLike path) = refl
+    go (Derive path attr index adt) = refl
+    go (Attr path attr item) = ap (λ (helpers : List (AstId × List DeriveHelper)). is_helper (record old { derive_helpers = helpers }) d.ast_id path) same
 
 -- what has read what has changed is queued
 module _ (finished : Maps) (q r : CallQueue) (before now : Run) (noted : IsNoted before now) (waits : KeepsWaiting (core_in before) (core_in now)) (woken : IsWoken now.changed q r) (apart : LiesApart finished r (core_in now)) where
@@ -156,11 +177,22 @@ module _ (finished : Maps) (q r : CallQueue) (before now : Run) (noted : IsNoted
     unfolding core_in
     same_limit some = ap (λ (x : CrateData). x.recursion_limit) (noted.keeps some).crate_data
 
-    shallow_now : (p : ℕ) (d : MacroDirective) → IsIdle (worklist_of r) p → IsWaiting (at_rest (core_in now)) p d → d.site.level < (core_in now).map.crate_data.recursion_limit
-    shallow_now p d idle waiting = go (is_apart r) refl
+    shallow_now : (p : ℕ) (d : MacroDirective) → IsIdle (worklist_of r) p → IsWaiting (at_rest (core_in now)) p d → is_call d ≡ true → d.site.level < (core_in now).map.crate_data.recursion_limit
+    shallow_now p d idle waiting call = go (is_apart r) refl
       where
         go : (b : Bool) → is_apart r ≡ b → d.site.level < (core_in now).map.crate_data.recursion_limit
-        go true a = let same = same_limit (woken.some (was_apart a) p idle) in let before_low = m.shallow p d (woken.idle p idle) waiting in omega (arith, same, before_low)
+        go true a = let same = same_limit (woken.some (was_apart a) p idle) in let before_low = m.shallow p d (woken.idle p idle) waiting call in omega (arith, same, before_low)
+        go false a = absurd (woken.alone (sym woken.on.apart ∙ a) p idle)
+
+    same_helpers : now.changed.all ≡ false → (core_in now).map.derive_helpers ≡ (core_in before).map.derive_helpers
+    unfolding core_in
+    same_helpers some = noted.helpers some
+
+    active_now : (p : ℕ) (d : MacroDirective) → IsIdle (worklist_of r) p → IsWaiting (at_rest (core_in now)) p d → is_inert_now (core_in now).map d ≡ false
+    active_now p d idle waiting = go (is_apart r) refl
+      where
+        go : (b : Bool) → is_apart r ≡ b → is_inert_now (core_in now).map d ≡ false
+        go true a = inert_alike (core_in before).map (core_in now).map d (same_helpers (woken.some (was_apart a) p idle)) ∙ m.active p d (woken.idle p idle) waiting
         go false a = absurd (woken.alone (sym woken.on.apart ∙ a) p idle)
 
     up_to_date_by : IsUpToDate finished r (core_in now) None
@@ -169,6 +201,7 @@ module _ (finished : Maps) (q r : CallQueue) (before now : Run) (noted : IsNoted
       watched = λ a. woken.watching (was_apart a) m.seen (m.watched (was_apart a));
       stands = λ a p d idle other waiting. still a p d idle waiting;
       shallow = λ p d idle other waiting. shallow_now p d idle waiting;
+      active = λ p d idle other waiting. active_now p d idle waiting;
       nowhere = λ p d idle other waiting. nowhere_now p d idle waiting;
       unfinished = λ p below.
           ap (λ (f : List Bool). not (slice_index_or f p true)) woken.on.pass.finished
@@ -193,11 +226,12 @@ module _ (finished : Maps) (q r : CallQueue) (c : Core) (i : ℕ) (up : IsUpToDa
     stands = λ a p d idle other waiting. stands a p d (i == p) refl idle waiting;
     shallow = λ p d idle other waiting. shallow p d (i == p) refl idle waiting;
     nowhere = λ p d idle other waiting. nowhere p d (i == p) refl idle waiting;
+    active = λ p d idle other waiting. active p d (i == p) refl idle waiting;
     unfinished = up.unfinished;
     count = up.count;
   }
     where
-      shallow : (p : ℕ) (d : MacroDirective) (b : Bool) → (i == p) ≡ b → IsIdle (worklist_of q) p → IsWaiting (at_rest c) p d → d.site.level < c.map.crate_data.recursion_limit
+      shallow : (p : ℕ) (d : MacroDirective) (b : Bool) → (i == p) ≡ b → IsIdle (worklist_of q) p → IsWaiting (at_rest c) p d → is_call d ≡ true → d.site.level < c.map.crate_data.recursion_limit
       shallow p d true e idle waiting = absurd (over d (subst (λ (k : ℕ). IsWaiting (at_rest c) k d) (sym (same_place i p e)) waiting))
       shallow p d false e idle waiting = up.shallow p d idle (other_place i p e) waiting
 
@@ -209,15 +243,20 @@ module _ (finished : Maps) (q r : CallQueue) (c : Core) (i : ℕ) (up : IsUpToDa
       nowhere p d true e idle waiting = absurd (over d (subst (λ (k : ℕ). IsWaiting (at_rest c) k d) (sym (same_place i p e)) waiting))
       nowhere p d false e idle waiting = up.nowhere p d idle (other_place i p e) waiting
 
+      active : (p : ℕ) (d : MacroDirective) (b : Bool) → (i == p) ≡ b → IsIdle (worklist_of q) p → IsWaiting (at_rest c) p d → is_inert_now c.map d ≡ false
+      active p d true e idle waiting = absurd (over d (subst (λ (k : ℕ). IsWaiting (at_rest c) k d) (sym (same_place i p e)) waiting))
+      active p d false e idle waiting = up.active p d idle (other_place i p e) waiting
+
   -- one that reaches no macro, and watches what it has read
-  pub up_to_date_watched : (d : MacroDirective) → IsWaiting (at_rest c) i d → d.site.level < c.map.crate_data.recursion_limit → called_macro finished c.local c.map d ≡ None → d.site.home < length c.map.modules → IsInOrder c.map
+  pub up_to_date_watched : (d : MacroDirective) → IsWaiting (at_rest c) i d → LeadsNowhere finished (at_rest c) i → d.site.home < length c.map.modules → IsInOrder c.map
       → IsWatching (length c.map.modules) (call_reads finished c.local c.map d) i q r → IsUpToDate finished r c None
-  up_to_date_watched d here level none low in_order watching = record {
+  up_to_date_watched d here nowhere_here low in_order watching = record {
     seen = seen_with i slots up.seen;
     watched = λ a. watched_with i slots up.seen q r (up.watched (was a)) watching.idle watching.others (watching.each (was a));
     stands = λ a p e idle other waiting. stands a p e (i == p) refl idle waiting;
     shallow = λ p e idle other waiting. shallow p e (i == p) refl idle waiting;
     nowhere = λ p e idle other waiting. nowhere p e (i == p) refl idle waiting;
+    active = λ p e idle other waiting. active p e (i == p) refl idle waiting;
     unfinished = λ p below.
         ap (λ (f : List Bool). not (slice_index_or f p true)) watching.on.pass.finished
         ∙ up.unfinished p (subst (λ (f : List Bool). p < length f) watching.on.pass.finished below);
@@ -236,22 +275,24 @@ module _ (finished : Maps) (q r : CallQueue) (c : Core) (i : ℕ) (up : IsUpToDa
 
       stands_here : is_apart r ≡ true → (e : MacroDirective) → IsIdle (worklist_of r) i → IsWaiting (at_rest c) i e → StandsStill finished c e slots
       stands_here a e idle waiting =
-          subst (λ (x : MacroDirective). StandsStill finished c x slots) (same_call e waiting) (stands_now finished c d none low in_order (watching.there (was a) idle))
+          subst (λ (x : MacroDirective). StandsStill finished c x slots) (same_call e waiting) (stands_now finished c d (nowhere_here.nowhere d here) low in_order (watching.there (was a) idle))
 
       stands : is_apart r ≡ true → (p : ℕ) (e : MacroDirective) (b : Bool) → (i == p) ≡ b → IsIdle (worklist_of r) p → IsWaiting (at_rest c) p e → StandsStill finished c e (cond b slots (up.seen p))
       stands a p e true f idle waiting =
           stands_here a e (subst (IsIdle (worklist_of r)) (sym (same_place i p f)) idle) (subst (λ (k : ℕ). IsWaiting (at_rest c) k e) (sym (same_place i p f)) waiting)
       stands a p e false f idle waiting = up.stands (was a) p e (watching.idle p idle) (other_place i p f) waiting
 
-      shallow : (p : ℕ) (e : MacroDirective) (b : Bool) → (i == p) ≡ b → IsIdle (worklist_of r) p → IsWaiting (at_rest c) p e → e.site.level < c.map.crate_data.recursion_limit
-      shallow p e true f idle waiting =
-          subst (λ (x : MacroDirective). x.site.level < c.map.crate_data.recursion_limit) (same_call e (subst (λ (k : ℕ). IsWaiting (at_rest c) k e) (sym (same_place i p f)) waiting)) level
+      shallow : (p : ℕ) (e : MacroDirective) (b : Bool) → (i == p) ≡ b → IsIdle (worklist_of r) p → IsWaiting (at_rest c) p e → is_call e ≡ true → e.site.level < c.map.crate_data.recursion_limit
+      shallow p e true f idle waiting = nowhere_here.shallow e (subst (λ (k : ℕ). IsWaiting (at_rest c) k e) (sym (same_place i p f)) waiting)
       shallow p e false f idle waiting = up.shallow p e (watching.idle p idle) (other_place i p f) waiting
 
       nowhere : (p : ℕ) (e : MacroDirective) (b : Bool) → (i == p) ≡ b → IsIdle (worklist_of r) p → IsWaiting (at_rest c) p e → called_macro finished c.local c.map e ≡ None
-      nowhere p e true f idle waiting =
-          subst (λ (x : MacroDirective). called_macro finished c.local c.map x ≡ None) (same_call e (subst (λ (k : ℕ). IsWaiting (at_rest c) k e) (sym (same_place i p f)) waiting)) none
+      nowhere p e true f idle waiting = nowhere_here.nowhere e (subst (λ (k : ℕ). IsWaiting (at_rest c) k e) (sym (same_place i p f)) waiting)
       nowhere p e false f idle waiting = up.nowhere p e (watching.idle p idle) (other_place i p f) waiting
+
+      active : (p : ℕ) (e : MacroDirective) (b : Bool) → (i == p) ≡ b → IsIdle (worklist_of r) p → IsWaiting (at_rest c) p e → is_inert_now c.map e ≡ false
+      active p e true f idle waiting = nowhere_here.active e (subst (λ (k : ℕ). IsWaiting (at_rest c) k e) (sym (same_place i p f)) waiting)
+      active p e false f idle waiting = up.active p e (watching.idle p idle) (other_place i p f) waiting
 
 -- ---- passes
 
@@ -265,6 +306,7 @@ module _ (finished : Maps) (q : CallQueue) (w : Queue) (c : Core) (tried now : O
     stands = λ a p d rests other waiting. let before = idle p rests other in up.stands a p d before.0 before.1 waiting;
     shallow = λ p d rests other waiting. let before = idle p rests other in up.shallow p d before.0 before.1 waiting;
     nowhere = λ p d rests other waiting. let before = idle p rests other in up.nowhere p d before.0 before.1 waiting;
+    active = λ p d rests other waiting. let before = idle p rests other in up.active p d before.0 before.1 waiting;
     unfinished = unfinished;
     count = count;
   }
@@ -302,6 +344,7 @@ up_to_date_first finished q c none = record {
   stands = λ a p d idle other waiting. absurd (no p idle);
   shallow = λ p d idle other waiting. absurd (no p idle);
   nowhere = λ p d idle other waiting. absurd (no p idle);
+  active = λ p d idle other waiting. absurd (no p idle);
   unfinished = λ p below. absurd (let empty : count_of (worklist_of q) ≡ 0 = ap count_of none in omega (arith, empty, below));
   count = let empty : count_of (worklist_of q) ≡ 0 = ap count_of none in omega (arith, empty);
 }
@@ -314,6 +357,22 @@ up_to_date_first finished q c none = record {
 -- calls stay while steps are taken, and one that waits waited before
 pub keeps_waiting : {env : Environment} {finished : Maps} (c d : Core) → Steps env finished (at_rest c) (at_rest d) → length c.fates ≡ length c.calls → KeepsWaiting c d
 keeps_waiting c d steps fated = record { longer = calls_longer steps; before = λ p x low waiting. waiting_before steps fated waiting low }
+
+-- a queue that was up to date is so but for what is noted
+pub stale_now : (finished : Maps) (q : CallQueue) (a : Run) → IsUpToDate finished q (core_in a) None → IsStale finished q a
+stale_now finished q a up = record { before = a; up_to_date = up; noted = noted_itself a; waits = record { longer = omega arith; before = λ p d low waiting. waiting } }
+
+-- and later too
+pub stale_later : (finished : Maps) (q : CallQueue) (a b : Run) → IsStale finished q a → IsNoted a b → KeepsWaiting (core_in a) (core_in b) → IsStale finished q b
+stale_later finished q a b stale noted waits = record {
+  before = stale.before;
+  up_to_date = stale.up_to_date;
+  noted = noted_follow stale.noted noted;
+  waits = record {
+    longer = omega (arith, stale.waits.longer, waits.longer);
+    before = λ p d low waiting. stale.waits.before p d low (waits.before p d (omega (arith, low, stale.waits.longer)) waiting);
+  };
+}
 
 -- a call that was handled doesn't wait
 pub waits_no_more : (c : Core) (i : ℕ) → slice_get c.fates i ≡ Some Handled → (d : MacroDirective) → ¬ IsWaiting (at_rest c) i d

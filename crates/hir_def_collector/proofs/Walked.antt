@@ -24,13 +24,13 @@ use Rattle.hir_def_collector.specs.declared.collector.site.Site.{Site}
 use Rattle.hir_def_collector.specs.Keys.{Environment, absent_source}
 use Rattle.hir_def_collector.specs.State.{Task, Visit, visits, closes, Core, at_rest, joined, visits_over, counted, with_map}
 use Rattle.hir_def_collector.specs.Start.{tree_visits}
-use Rattle.hir_def_collector.specs.Steps.{Steps, none, closes_module, closing, drops_item, visit}
+use Rattle.hir_def_collector.specs.Steps.{Steps, behind, none, closes_module, closing, drops_item, visit}
 use Rattle.hir_def_collector.specs.Macros.{textual_at, with_textual_scope}
-use Rattle.hir_def_collector.specs.TreeReads.{visits_at, above}
+use Rattle.hir_def_collector.specs.TreeReads.{visits_at, visits_behind, visits_found as one_found, above}
 use Rattle.hir_def_collector.specs.Reports.{IsUnconfigured}
 use Rattle.hir_def_collector.specs.ItemIds.{module_id, node_of}
 use Rattle.hir_def_collector.specs.Derivation.{IsFull, IsSpent, counted_out}
-use Rattle.hir_def_collector.specs.Moves.{Drops, Handles, Walks, WalksTooFar, is_single}
+use Rattle.hir_def_collector.specs.Moves.{Drops, Handles, HandlesTooFar, IsPassed, Passes, PassesTooFar, Walks, WalksTooFar, is_single}
 use Rattle.hir_def_collector.proofs.Lists.{drop_at, get_there}
 use Rattle.hir_def_collector.proofs.Moves.{Steps-append, Steps-one, Steps-first, spent_after}
 use Rattle.hir_def_collector.proofs.Made.{Goes, made}
@@ -147,9 +147,10 @@ pub longer_after : {env : Environment} {finished : Maps} (old new : Core) (vs : 
 longer_after old new vs walks = (Grows-Steps (walks.steps [])).longer
 
 -- nor does one step
-pub still_there : {env : Environment} {finished : Maps} (old new : Core) (v : Visit) (inside : List Task) (n : ℕ) → Handles env finished old new v inside → n < length old.map.modules → n < length new.map.modules
-still_there old new v inside n handles h =
-    let longer : length old.map.modules ≤ length new.map.modules = (Grows-Step (handles.step [])).longer in
+pub still_there : {env : Environment} {finished : Maps} (old new : Core) (v : Visit) (inside : List Task) (n done : ℕ) → IsPassed old v done → Handles env finished old new v inside → n < length old.map.modules
+    → n < length new.map.modules
+still_there old new v inside n done passed handles h =
+    let longer : length old.map.modules ≤ length new.map.modules = (Grows-Step (handles.step done passed [])).longer in
     omega arith
 
 pub still_there-counted : (old new : Core) (n : ℕ) → new ≡ counted old → n < length old.map.modules → n < length new.map.modules
@@ -160,34 +161,64 @@ still_there-counted old new n is h = rw is h
 found : {A : Type 0} (o : Option A) (x : A) (P : A → Type 0) → o ≡ Some x → IfSome o P → P x
 found o x P e h = let p : IfSome (Some x) P = subst (λ (q : Option _). IfSome q P) e h in p
 
-module _ (tree : Tree) (site : Site) (n : ℕ) (h : Head) (c : Content) where
+module _ (tree : Tree) (site : Site) (n done : ℕ) (h : Head) (c : Content) where
   -- the item of a number, by its head and content
   pub visits_one : n < length (all_items tree.items) → IfSome (slice_get (all_items tree.items) n) (λ i. h ≡ item_head i)
       → IfSome (slice_get (all_items tree.items) n) (λ i. item_of (all_items tree.items) (item_head i) c ≡ i)
-      → visits_at tree site (n ∷ []) ≡ visits (visit site (item_of (all_items tree.items) h c)) ∷ []
+      → visits_behind tree site n done ≡ visits (behind (visit site (item_of (all_items tree.items) h c)) done) ∷ []
   visits_one there head content =
       let items = all_items tree.items in
       let i = get_there items n there in
       let same_head : h ≡ item_head i.0 = found (slice_get items n) i.0 (λ i. h ≡ item_head i) i.1 head in
       let same : item_of items (item_head i.0) c ≡ i.0 = found (slice_get items n) i.0 (λ i. item_of items (item_head i) c ≡ i) i.1 content in
       let whole : item_of items h c ≡ i.0 = ap (λ (g : Head). item_of items g c) same_head ∙ same in
-      ap (λ (o : Option KeptItem). visits_over site (and_found o no_items)) i.1 ∙ ap (λ (x : KeptItem). visits (visit site x) ∷ []) (sym whole)
+      ap (λ (o : Option KeptItem). one_found site done o) i.1 ∙ ap (λ (x : KeptItem). visits (behind (visit site x) done) ∷ []) (sym whole)
 
--- a step handles the item, and then those inside are walked
-pub Walks-first : {env : Environment} {finished : Maps} (old mid new : Core) (v : Visit) (vs inside : List Task) → vs ≡ visits v ∷ [] → Handles env finished old mid v inside → Walks env finished mid new inside → Walks env finished old new vs
-Walks-first {env} {finished} old mid new v vs inside e handles walks = record {
+-- the item of a number alone is one that is visited from its first attribute on
+pub visits_alone : (tree : Tree) (site : Site) (n : ℕ) → visits_at tree site (n ∷ []) ≡ visits_behind tree site n 0
+visits_alone tree site n = go (slice_get (all_items tree.items) n)
+  where
+    go : (o : Option KeptItem) → visits_over site (and_found o no_items) ≡ one_found site 0 o
+    go None = refl
+    go (Some i) = refl
+
+-- a step handles the item whose attributes are done with, and then those inside are walked
+pub Walks-first : {env : Environment} {finished : Maps} (old mid new : Core) (v : Visit) (done : ℕ) (inside : List Task) → IsPassed old v done → Handles env finished old mid v inside
+    → Walks env finished mid new inside → Walks env finished old new (visits (behind v done) ∷ [])
+Walks-first {env} {finished} old mid new v done inside passed handles walks = record { steps = λ rest. Steps-first (handles.step done passed rest) (walks.steps rest) }
+
+-- steps through attributes of the item come before that, or lead to where it waits
+pub Walks-passed : {env : Environment} {finished : Maps} (old mid new : Core) (v : Visit) (from done : ℕ) (vs : List Task) → vs ≡ visits (behind v from) ∷ [] → Passes env finished old mid v from (Some done)
+    → Walks env finished mid new (visits (behind v done) ∷ []) → Walks env finished old new vs
+Walks-passed {env} {finished} old mid new v from done vs e passes walks = record {
   steps = λ rest.
       subst (λ (us : List Task). Steps env finished (joined old (us ++ rest)) (joined new rest)) (sym e)
-      (Steps-first (handles.step rest) (walks.steps rest));
+      (Steps-append (passes.goes.1 rest) (walks.steps rest));
 }
 
--- steps through those inside lead too far
-pub WalksTooFar-inside : {env : Environment} {finished : Maps} (old mid : Core) (v : Visit) (vs inside : List Task) → vs ≡ visits v ∷ [] → Handles env finished old mid v inside → WalksTooFar env finished mid inside → WalksTooFar env finished old vs
-WalksTooFar-inside {env} {finished} old mid v vs inside e handles far = record {
-  spent = λ rest.
-      subst (λ (us : List Task). IsSpent env finished (joined old (us ++ rest))) (sym e)
-      (spent_after (Steps-one (handles.step rest)) (far.spent rest));
+pub Walks-waits : {env : Environment} {finished : Maps} (old new : Core) (v : Visit) (from : ℕ) (vs : List Task) → vs ≡ visits (behind v from) ∷ [] → Passes env finished old new v from None → Walks env finished old new vs
+Walks-waits {env} {finished} old new v from vs e passes = record {
+  steps = λ rest. subst (λ (us : List Task). Steps env finished (joined old (us ++ rest)) (joined new rest)) (sym e) (passes.goes rest);
 }
+
+-- or they lead too far, or what comes behind them does
+pub WalksTooFar-passing : {env : Environment} {finished : Maps} (old : Core) (v : Visit) (from : ℕ) (vs : List Task) → vs ≡ visits (behind v from) ∷ [] → PassesTooFar env finished old v from → WalksTooFar env finished old vs
+WalksTooFar-passing {env} {finished} old v from vs e far = record { spent = λ rest. subst (λ (us : List Task). IsSpent env finished (joined old (us ++ rest))) (sym e) (far.spent rest) }
+
+pub WalksTooFar-passed : {env : Environment} {finished : Maps} (old mid : Core) (v : Visit) (from done : ℕ) (vs : List Task) → vs ≡ visits (behind v from) ∷ [] → Passes env finished old mid v from (Some done)
+    → WalksTooFar env finished mid (visits (behind v done) ∷ []) → WalksTooFar env finished old vs
+WalksTooFar-passed {env} {finished} old mid v from done vs e passes far = record {
+  spent = λ rest. subst (λ (us : List Task). IsSpent env finished (joined old (us ++ rest))) (sym e) (spent_after (passes.goes.1 rest) (far.spent rest));
+}
+
+-- the item leads too far itself
+pub WalksTooFar-here : {env : Environment} {finished : Maps} (old : Core) (v : Visit) (done : ℕ) → IsPassed old v done → HandlesTooFar env finished old v → WalksTooFar env finished old (visits (behind v done) ∷ [])
+WalksTooFar-here old v done passed far = record { spent = λ rest. far.spent done passed rest }
+
+-- steps through those inside lead too far
+pub WalksTooFar-inside : {env : Environment} {finished : Maps} (old mid : Core) (v : Visit) (done : ℕ) (inside : List Task) → IsPassed old v done → Handles env finished old mid v inside
+    → WalksTooFar env finished mid inside → WalksTooFar env finished old (visits (behind v done) ∷ [])
+WalksTooFar-inside {env} {finished} old mid v done inside passed handles far = record { spent = λ rest. spent_after (Steps-one (handles.step done passed rest)) (far.spent rest) }
 
 -- tasks that are done one after another
 pub Walks-append : {env : Environment} {finished : Maps} (old mid new : Core) (inside behind : List Task) → Walks env finished old mid inside → Walks env finished mid new behind
@@ -212,28 +243,30 @@ WalksTooFar-behind {env} {finished} old mid inside behind first far = record {
 
 -- as many as are counted were taken already, and the item has its rule
 pub far_here : {env : Environment} {finished : Maps} (site : Site) (i : KeptItem) (old : Core) → is_enabled (item_head i).attributes ≡ true → is_outline i ≡ false → IsFull old.count old.map
-    → WalksTooFar env finished old (visits (visit site i) ∷ [])
+    → HandlesTooFar env finished old (visit site i)
 far_here {env} {finished} site i old on single full = record {
-  spent = λ rest.
-      let goes : Goes env finished (joined old (visits (visit site i) ∷ rest)) = goes_next env finished (joined old (visits (visit site i) ∷ rest)) site rest i refl on single in
-      record { at = joined old (visits (visit site i) ∷ rest); steps = none; stuck = counted_out goes.next goes.step full };
+  spent = λ done passed rest.
+      let at = joined old (visits (behind (visit site i) done) ∷ rest) in
+      let goes : Goes env finished at = goes_next env finished at site rest i done refl on passed single in
+      record { at = at; steps = none; stuck = counted_out goes.next goes.step full };
 }
 
-pub far_off : {env : Environment} {finished : Maps} (site : Site) (i : KeptItem) (condition : Cfg) (report : DefDiagnostic) (old : Core) → (item_head i).attributes.disabled ≡ Some condition
+pub far_off : {env : Environment} {finished : Maps} (site : Site) (i : KeptItem) (done : ℕ) (condition : Cfg) (report : DefDiagnostic) (old : Core) → (item_head i).attributes.disabled ≡ Some condition
     → IsUnconfigured (module_id old.map site.home) (node_of site.tree (item_kind i) (item_head i).id) condition old.options report → IsFull old.count old.map
-    → WalksTooFar env finished old (visits (visit site i) ∷ [])
-far_off {env} {finished} site i condition report old off reported full = record {
+    → WalksTooFar env finished old (visits (behind (visit site i) done) ∷ [])
+far_off {env} {finished} site i done condition report old off reported full = record {
   spent = λ rest.
-      let goes : Goes env finished (joined old (visits (visit site i) ∷ rest)) = goes_off env finished (joined old (visits (visit site i) ∷ rest)) site rest i condition report refl off reported in
-      record { at = joined old (visits (visit site i) ∷ rest); steps = none; stuck = counted_out goes.next goes.step full };
+      let at = joined old (visits (behind (visit site i) done) ∷ rest) in
+      let goes : Goes env finished at = goes_off env finished at site rest i done condition report refl off reported in
+      record { at = at; steps = none; stuck = counted_out goes.next goes.step full };
 }
 
 -- a disabled item is dropped
-pub dropped : {env : Environment} {finished : Maps} (site : Site) (i : KeptItem) (condition : Cfg) (old new : Core) → (item_head i).attributes.disabled ≡ Some condition
-    → Drops (IsUnconfigured (module_id old.map site.home) (node_of site.tree (item_kind i) (item_head i).id) condition old.options) old new → Walks env finished old new (visits (visit site i) ∷ [])
-dropped {env} {finished} site i condition old new off drops = record {
+pub dropped : {env : Environment} {finished : Maps} (site : Site) (i : KeptItem) (done : ℕ) (condition : Cfg) (old new : Core) → (item_head i).attributes.disabled ≡ Some condition
+    → Drops (IsUnconfigured (module_id old.map site.home) (node_of site.tree (item_kind i) (item_head i).id) condition old.options) old new → Walks env finished old new (visits (behind (visit site i) done) ∷ [])
+dropped {env} {finished} site i done condition old new off drops = record {
   steps = λ rest.
-      Steps-one (made (drops_item (visit site i) drops.report rest) (record { next = refl; condition = condition; disabled = off; reported = drops.is_such }) tt tt (rw drops.is refl));
+      Steps-one (made (drops_item (behind (visit site i) done) drops.report rest) (record { next = refl; condition = condition; disabled = off; reported = drops.is_such }) tt tt (rw drops.is refl));
 }
 
 -- a module that is closed
@@ -303,13 +336,13 @@ pub block_here : (items : List KeptItem) (h : Head) (item : ModItemKind) (b : Ex
 block_here items h item b e = subst (λ (it : ModItemKind). is_outline (item_of items h (kind_content it)) ≡ false) (sym e) refl
 
 pub far_item : (env : Environment) (finished : Maps) (site : Site) (items : List KeptItem) (h : Head) (item : ModItemKind) (old : Core) → is_enabled h.attributes ≡ true
-    → is_outline (item_of items h (kind_content item)) ≡ false → IsFull old.count old.map → WalksTooFar env finished old (visits (visit site (item_of items h (kind_content item))) ∷ [])
+    → is_outline (item_of items h (kind_content item)) ≡ false → IsFull old.count old.map → HandlesTooFar env finished old (visit site (item_of items h (kind_content item)))
 far_item env finished site items h item old on here full =
     far_here site (item_of items h (kind_content item)) old (ap (λ (g : Head). is_enabled g.attributes) (head_same items h (kind_content item)) ∙ on) here full
 
 -- an item of a tree that is disabled
-module _ (site : Site) (tree : Tree) (n : ℕ) (h : Head) (item : ModItemKind) (condition : Cfg)
-    (is : visits_at tree site (n ∷ []) ≡ visits (visit site (item_of (all_items tree.items) h (kind_content item))) ∷ []) (off : h.attributes.disabled ≡ Some condition) where
+module _ (site : Site) (tree : Tree) (n done : ℕ) (h : Head) (item : ModItemKind) (condition : Cfg)
+    (is : visits_behind tree site n done ≡ visits (behind (visit site (item_of (all_items tree.items) h (kind_content item))) done) ∷ []) (off : h.attributes.disabled ≡ Some condition) where
   abbrev i : KeptItem
   i = item_of (all_items tree.items) h (kind_content item)
 
@@ -323,15 +356,15 @@ module _ (site : Site) (tree : Tree) (n : ℕ) (h : Head) (item : ModItemKind) (
       (subst (λ (g : Head). IsUnconfigured (module_id old.map site.home) (node_of site.tree (kind_of item) g.id) condition old.options d) (sym (head_same (all_items tree.items) h (kind_content item))) r)
 
   pub dropped_at : (env : Environment) (finished : Maps) (old new : Core) → Drops (IsUnconfigured (module_id old.map site.home) (node_of site.tree (kind_of item) h.id) condition old.options) old new
-      → Walks env finished old new (visits_at tree site (n ∷ []))
+      → Walks env finished old new (visits_behind tree site n done)
   dropped_at env finished old new drops =
       subst (λ (vs : List Task). Walks env finished old new vs) (sym is)
-      (dropped site i condition old new off_there (record { report = drops.report; is_such = reported_there old drops.report drops.is_such; is = drops.is }))
+      (dropped site i done condition old new off_there (record { report = drops.report; is_such = reported_there old drops.report drops.is_such; is = drops.is }))
 
   pub far_at : (env : Environment) (finished : Maps) (old : Core) (d : DefDiagnostic) → IsUnconfigured (module_id old.map site.home) (node_of site.tree (kind_of item) h.id) condition old.options d
-      → IsFull old.count old.map → WalksTooFar env finished old (visits_at tree site (n ∷ []))
+      → IsFull old.count old.map → WalksTooFar env finished old (visits_behind tree site n done)
   far_at env finished old d r full =
-      subst (λ (vs : List Task). WalksTooFar env finished old vs) (sym is) (far_off site i condition d old off_there (reported_there old d r) full)
+      subst (λ (vs : List Task). WalksTooFar env finished old vs) (sym is) (far_off site i done condition d old off_there (reported_there old d r) full)
 
 -- ---- the start
 

@@ -15,9 +15,12 @@ use Rattle.hir_base.specs.declared.ids.ModuleId.{ModuleId}
 use Rattle.hir_base.specs.declared.ids.ModuleDefId.{ModuleDefId}
 use Rattle.hir_base.specs.declared.ids.ModuleDefId.TheVariants as definitions
 use Rattle.hir_base.specs.declared.ids.TraitId.{TraitId}
+use Rattle.hir_base.specs.declared.ids.FunctionId.{FunctionId}
 use Rattle.hir_base.specs.declared.macro_kind.MacroId.{MacroId}
+use Rattle.hir_base.specs.declared.macro_kind.MacroId.TheVariants as macros
+use Rattle.hir_base.specs.declared.macro_kind.ProcMacroId.{ProcMacroId}
 use Rattle.hir_item_tree.specs.Shape.{has_constructor}
-use Rattle.hir_item_tree.specs.KeptForest.{Head}
+use Rattle.hir_item_tree.specs.KeptForest.{Head, function, leaf}
 use Rattle.hir_item_tree.specs.Imports.{imports_of}
 use Rattle.hir_item_tree.specs.declared.shape.ExternCrateName.{ExternCrateName}
 use Rattle.hir_item_tree.specs.declared.shape.ExternCrateName.TheVariants.{SelfCrate, Name}
@@ -45,14 +48,14 @@ use Rattle.hir_def_map.specs.Closed.{AreThere, IsThere, IsClosed, PathsLeadToWha
 use Rattle.hir_def_map.specs.WellFormed.{AreWellFormed, HasNoDanglingExtern, Extends, HasNoDanglingReference}
 use Rattle.hir_def_map.proofs.WellFormed.{HasNoDanglingExtern-more, IsClosed-well_formed, HasNoDanglingReference-more, none_missing}
 use Rattle.hir_def_map.specs.Declaration.{listed}
-use Rattle.hir_def_map.specs.Macros.{with_macro_def}
+use Rattle.hir_def_map.specs.Macros.{with_exported, with_macro_data, with_macro_def}
 use Rattle.hir_def_map.specs.References.{crate_map, is_missing, reference_to, prelude_reference, test_crate, test_of, test_item, test_visibility, FailsAtItem, FailsAtMacro}
 use Rattle.hir_def_map.specs.Reaches.{by_import}
 use Rattle.hir_def_map.specs.Scoping.{Resolution, resolution_of}
 use Rattle.hir_def_map.specs.Scoping.Segments.{variant_in}
 use Rattle.hir_def_map.specs.Scoping.Start.{crate_root}
 use Rattle.hir_def_map.specs.declared.nameres.enum_variants.EnumVariant.{EnumVariant}
-use Rattle.hir_def_map.specs.State.{CrateData, IsBefore, Local, Map, ModuleValue, Variants, entry_at, entry_of, module_at, new_id, new_module, numbered, root_of, with_declared, with_enum, with_extern, with_prelude, with_module, with_scope, at_name}
+use Rattle.hir_def_map.specs.State.{CrateData, IsBefore, Local, MacroDataValue, Map, ModuleValue, Variants, entry_at, entry_of, module_at, new_id, new_module, numbered, root_of, with_declared, with_enum, with_extern, with_prelude, with_module, with_scope, at_name}
 use Rattle.hir_def_map.specs.Overlay.{Maps, Placed, entry_in, overlay, placed_in, module_in, variants_in}
 use Rattle.hir_def_map.proofs.StaysWellFormed.{Extends-overlay, Extends-grown, Extends-made, Extends-scope, IsClosed-overlay, LocalIsThere-begins, HasNoDanglingReference-prelude, module_there, new_there, Extends-enum}
 use Rattle.hir_def_collector.specs.declared.collector.Start.{Start}
@@ -73,8 +76,8 @@ use Rattle.hir_def_collector.specs.declared.source_database.Dependency.{Dependen
 use Rattle.hir_def_collector.specs.Workspace.{Workspace, dependencies_in, transitive_dependencies_in}
 use Rattle.hir_tables.specs.Tables.{TablesValue}
 use Rattle.hir_def_collector.specs.Keys.{Environment, environment}
-use Rattle.hir_def_collector.specs.State.{State, Visit, import_state, Task, visits}
-use Rattle.hir_def_collector.specs.ItemIds.{enum_id, extern_crate_id, macro_rules_id, module_id, use_id, macro_def_id, node_of}
+use Rattle.hir_def_collector.specs.State.{State, Visit, import_state, Task, visits, behind}
+use Rattle.hir_def_collector.specs.ItemIds.{enum_id, extern_crate_id, function_id, macro_rules_id, module_id, use_id, macro_def_id, node_of}
 use Rattle.hir_def_collector.specs.Items.{declaration_of, declared_module, declared_type, file_origin, inline_origin, own_visibility}
 use Rattle.hir_import_resolution.specs.Visibilities.{visibility_in, greater_in}
 use Rattle.hir_def_collector.specs.Enums.{variants_of}
@@ -84,16 +87,18 @@ use Rattle.hir_import_resolution.specs.Names.{ScopesValue, bound_at, bound_by, b
 use Rattle.hir_import_resolution.specs.Rules.{Rule as ImportRule, May as MayImport, acts as import_acts, goes_along, takes_glob, takes_import}
 use Rattle.hir_import_resolution.specs.State.{ImportState, scopes_of, glob_state}
 use Rattle.hir_def_collector.specs.Imports.{crate_import, crate_named, dependency_named}
+use Rattle.hir_def_collector.specs.Attributes.{proc_macro_id}
 use Rattle.hir_def_collector.specs.Calls.{error_of}
+use Rattle.hir_def_collector.specs.Ended.{ended}
 use Rattle.hir_def_collector.specs.Changes.{changes_imports, act}
 use Rattle.hir_def_collector.specs.Macros.{macros_beside, macros_brought, with_macros_used}
 use Rattle.hir_def_collector.specs.Moves.{begun}
 use Rattle.hir_def_collector.specs.Preludes.{by_prelude, extern_prelude, joins, module_by, module_named, module_of, prelude_of, prelude_path, with_dependency}
 use Rattle.hir_def_collector.specs.Start.{Beginning, begin_of, krate_of, origin_of, read_by, root_map, root_tree, start_data, start_of}
-use Rattle.hir_def_collector.specs.Steps.{Rule, drops_item, reaches_call, rests, expands_call, drops_call, defines_rules, defines_macro, closes_module, declares_item, declares_enum, lists_constant, lists_impl, opens_module, opens_file, drops_file, misses_file, enters_block, reaches_imports, reaches_crate, resolves_imports, May, acts, asking, Step, Steps, none, more}
+use Rattle.hir_def_collector.specs.Steps.{Rule, drops_item, awaits_attribute, lists_derives, faults_derive, exports_macro, reaches_call, rests, expands_call, drops_call, drops_reached, derives_builtin, skips_attribute, falls_back, defines_rules, defines_macro, closes_module, declares_item, declares_enum, lists_constant, lists_impl, opens_module, opens_file, drops_file, misses_file, enters_block, reaches_imports, reaches_crate, resolves_imports, May, acts, asking, macro_data_of, visit, Step, Steps, none, more}
 use Rattle.hir_def_collector.specs.Derivation.{CollectedValue, Ends, leftover_reports}
 use Rattle.hir_def_collector.specs.Whole.{StandsOnWhole}
-use Rattle.hir_def_collector.proofs.Changes.{AllFine, fine_failing, fine_macro, fine_reporting, perform_keeps}
+use Rattle.hir_def_collector.proofs.Changes.{AllFine, fine_bringing, fine_expanding, fine_macro, fine_reporting, perform_keeps}
 use Rattle.hir_def_collector.proofs.InRange.{IsInRange, import_at, in_range-Steps, next_home}
 use Rattle.hir_def_collector.proofs.Holds.{in_range-start}
 use Rattle.hir_def_collector.proofs.ImportEdits.{copy_at, copy_where, edit_of, follow_at, follow_where, map_after}
@@ -101,7 +106,8 @@ use Rattle.hir_def_collector.proofs.SourcedEdits.{shown_stands}
 use Rattle.hir_def_collector.proofs.Visible.{greater, imported_fails, lesser_or, on_edge, recorded_fail, some_or, target_reference, visible_there}
 use Rattle.hir_def_collector.proofs.WholeEdits.{DefIsThere, EditIsThere, EditsWhatIsThere}
 use Rattle.hir_def_collector.proofs.WholeEnums.{enum_there, own_variants}
-use Rattle.hir_def_collector.proofs.WholeChanges.{crate_of, root_named, test_import, NamesWhatIsThere, uses_name_none, still_there, seen_still, items_still, root_stands, type_there, value_there, macro_there, declared_item_there, kept_there, open_there, sourced_there, BoundIsThere, BringsWhatIsThere, Extends-beside, Extends-reported, NamesOnly-reported, Extends-used, NamesOnly-used, Extends-edited, trait_seen, names-act}
+use Rattle.hir_def_collector.proofs.WholeChanges.{crate_of, root_named, test_import, NamesWhatIsThere, uses_name_none, still_there, seen_still, items_still, root_stands, type_there, value_there, macro_there, declared_item_there, kept_there, open_there, sourced_there, BoundIsThere, BringsWhatIsThere, Extends-beside_of, Extends-reported, NamesOnly-reported, Extends-used, NamesOnly-used, Extends-edited, trait_seen, names-act}
+use Rattle.hir_def_collector.proofs.WholeEnded.{Extends-ended, HasNoDanglingReference-ended}
 
 -- ---- rules
 
@@ -161,15 +167,24 @@ module _ (paths : PathsLeadToWhatIsThere) (finished : Maps) (whole : AreWellForm
         (seen_still maps_here (overlay finished one) (Extends-made finished here site.home low name origin vis) vis (own_seen_at site head low))))
 
     -- a macro that is defined and listed
-    macro_made_there : (site : Site) (head : Head) (node : AstId) (makro : MacroId) → site.home < count
-        → AreThere (overlay finished (with_declared (with_macro_def here node makro) site.home (definitions.MacroId makro))) (macros_only makro (own_visibility finished s.core.local here site head) None)
-    macro_made_there site head node makro low =
+    macro_made_there : (site : Site) (head : Head) (node : AstId) (makro : MacroId) (what : MacroDataValue) → site.home < count
+        → AreThere (overlay finished (with_declared (with_macro_data (with_macro_def here node makro) makro what) site.home (definitions.MacroId makro))) (macros_only makro (own_visibility finished s.core.local here site head) None)
+    macro_made_there site head node makro what low =
         let vis : Visibility = own_visibility finished s.core.local here site head in
-        let one : Map = with_macro_def here node makro in
+        let one : Map = with_macro_data (with_macro_def here node makro) makro what in
         let listing : Listing = listings.Def (definitions.MacroId makro) in
         items_still (overlay finished one) (overlay finished (with_scope one site.home (listed listing))) (Extends-scope finished one site.home (listed listing)) (macros_only makro vis None)
         (macro_there (overlay finished one) makro vis
-        (seen_still maps_here (overlay finished one) (Extends-beside finished here one.macro_ids here.macro_use_prelude here.diagnostics) vis (own_seen_at site head low)))
+        (seen_still maps_here (overlay finished one) (Extends-beside_of finished here one) vis (own_seen_at site head low)))
+
+    -- a function that is listed, once what it exports is noted
+    exporting_there : (v : Visit) (d : Declaration) (f : FunctionId) (makro : ProcMacroId) (what : MacroDataValue) → v.site.home < count → declaration_of finished s.core.local here v ≡ Some d
+        → AreThere (overlay finished (with_declared (with_macro_data (with_exported here f makro) (macros.ProcMacroId makro) what) v.site.home d.def)) d.items
+    exporting_there v d f makro what low e =
+        let one : Map = with_macro_data (with_exported here f makro) (macros.ProcMacroId makro) what in
+        items_still (overlay finished one) (overlay finished (with_declared one v.site.home d.def)) (Extends-scope finished one v.site.home (listed (listings.Def d.def))) d.items
+        (items_still maps_here (overlay finished one) (Extends-beside_of finished here one) d.items
+        (declared_item_there finished maps_here s.core.local here v d (seen_at v.site.home low) v.item e))
 
     -- the root of its own crate is there, and of each crate on which it depends
     own_there : is_missing (overlay finished here) (named.Module (crate_root here.id.krate)) ≡ false
@@ -439,7 +454,7 @@ module _ (paths : PathsLeadToWhatIsThere) (finished : Maps) (whole : AreWellForm
     brings_what_is_there : (r : Rule) → May finished s r → AllFine (BringsWhatIsThere finished) (asking s r) (acts finished s r)
     brings_what_is_there (drops_item v report rest) may = (tt, (tt, tt))
     brings_what_is_there (declares_item v d rest) may =
-        (tt, (tt, ((item_there v d (low_next v rest may.here.next) may.declares, tt), tt)))
+        (tt, (tt, ((item_there v d (low_next (behind v may.here.done) rest may.here.next) may.declares, tt), tt)))
     brings_what_is_there (declares_enum site head name found rest) may =
         (tt, (own_variants (enum_id here site head.id) found, (tt, ((enumeration_there site head (variants_of (enum_id here site head.id) found) (low_next _ rest may.next), tt), tt))))
     brings_what_is_there (lists_constant site head rest) may = (tt, (tt, tt))
@@ -464,25 +479,26 @@ module _ (paths : PathsLeadToWhatIsThere) (finished : Maps) (whole : AreWellForm
         still_there (overlay finished here) (overlay finished (with_macros_used here macros by)) (Extends-used finished here macros by) (root_named (crate_of r.source)) there in
         (tt, (there, (tt, (neither (test_import (is_missing (overlay finished (with_macros_used here macros by))) r) false stays refl, (tt, tt)))))
     brings_what_is_there (defines_rules site head name expander helpers rest) may =
-        (tt, (tt, (tt, fine_macro (BringsWhatIsThere finished) _ _ expander (λ t. tt) head name (macro_rules_id here site head.id expander) (λ t. (public_macro _ _, tt)) _)))
-    brings_what_is_there (defines_macro site head name expander helpers rest) may = (
-      tt,
-      (
-        tt,
-        (
-          tt,
-          (
-            (macro_made_there site head (node_of site.tree nodes.MacroDef head.id) (macro_def_id here site head.id expander) (low_next _ rest may.next), tt),
-            fine_reporting (BringsWhatIsThere finished) _ _ expander (λ t. tt) _,
-          ),
-        ),
-      ),
-    )
+        (tt, (tt, (tt, (tt, fine_macro (BringsWhatIsThere finished) _ _ expander (λ t. tt) head name (macro_rules_id here site head.id expander) (λ t. (public_macro _ _, tt)) _))))
+    brings_what_is_there (defines_macro site head name expander helpers rest) may =
+        let node : AstId = node_of site.tree nodes.MacroDef head.id in
+        let there = macro_made_there site head node (macro_def_id here site head.id expander) (macro_data_of name helpers) (low_next _ rest may.next) in
+        (tt, (tt, (tt, (tt, ((there, tt), fine_reporting (BringsWhatIsThere finished) _ _ expander (λ t. tt) _)))))
     brings_what_is_there (closes_module parent child rest) may = (tt, (tt, tt))
+    brings_what_is_there (awaits_attribute v a k rest) may = (tt, (tt, tt))
+    brings_what_is_there (lists_derives v at a adt paths rest) may = (tt, (tt, tt))
+    brings_what_is_there (faults_derive v at report rest) may = (tt, (tt, tt))
+    brings_what_is_there (exports_macro site head name d e rest) may =
+        let there = exporting_there (visit site (leaf head (function name))) d (function_id here site head.id) (proc_macro_id here site head.id e.style) e.what (low_next _ rest may.here.next) may.declares in
+        (tt, (tt, (tt, (tt, ((there, tt), (tt, ((public_macro _ _, tt), tt)))))))
     brings_what_is_there (reaches_call site head path rest) may = (tt, (tt, tt))
     brings_what_is_there rests may = (tt, tt)
-    brings_what_is_there (expands_call i d makro x) may = (tt, (tt, fine_failing (BringsWhatIsThere finished) (module_id here d.site.home) d (error_of x.there) (λ t text. tt) _))
+    brings_what_is_there (expands_call i d makro x) may = (tt, (tt, fine_expanding (BringsWhatIsThere finished) _ (λ t helper. tt) _ (module_id here d.site.home) d (error_of x.there) (λ t text. tt) _))
     brings_what_is_there (drops_call i d) may = (tt, tt)
+    brings_what_is_there (drops_reached i d makro) may = (tt, fine_bringing (BringsWhatIsThere finished) _ (λ t helper. tt) _ _)
+    brings_what_is_there (derives_builtin i d makro imp) may = (tt, (tt, fine_bringing (BringsWhatIsThere finished) _ (λ t helper. tt) _ _))
+    brings_what_is_there (skips_attribute i d k item) may = (tt, (tt, tt))
+    brings_what_is_there (falls_back i d k item) may = (tt, (tt, (tt, tt)))
     brings_what_is_there (resolves_imports rule) may = imports_bring rule may
 
   names-Step : (env : Environment) (old new : State) → IsInRange old → NamesWhatIsThere finished old → Step env finished old new → NamesWhatIsThere finished new
@@ -601,11 +617,13 @@ module _ (paths : PathsLeadToWhatIsThere) (finished : Maps) (whole : AreWellForm
       let first : NamesWhatIsThere finished (begin_of tables w all from) = subst (λ (x : Maps). NamesWhatIsThere finished (start_of tables w x from)) (sym same) (begins tables w from stands) in
       let derived : Steps env finished (begin_of tables w all from) e.last = subst (λ (x : Maps). Steps env x (begin_of tables w all from) e.last) same e.derived in
       let end : NamesWhatIsThere finished e.last = steps_keep paths finished whole env (begin_of tables w all from) e.last (in_range-start tables w (read_by w all from.start) from) first derived in
-      let m : Map = e.last.core.map in
+      let m : Map = ended e.last.core in
       let reports : List DefDiagnostic = m.diagnostics ++ leftover_reports e.last.core in
       let reported : Map = record m { diagnostics = reports } in
+      let begins_ended : HasNoDanglingExtern (overlay finished m) e.last.core.local =
+      HasNoDanglingExtern-more (overlay finished e.last.core.map) (overlay finished m) (Extends-ended finished e.last.core) e.last.core.local end.begins in
       let begins_there : HasNoDanglingExtern (overlay finished reported) e.last.core.local =
-      HasNoDanglingExtern-more (overlay finished m) (overlay finished reported) (Extends-reported finished m reports) e.last.core.local end.begins in (
-        subst (λ (x : Map). HasNoDanglingReference (overlay finished x) x) (sym e.map_is) (NamesOnly-reported finished m reports end.names),
+      HasNoDanglingExtern-more (overlay finished m) (overlay finished reported) (Extends-reported finished m reports) e.last.core.local begins_ended in (
+        subst (λ (x : Map). HasNoDanglingReference (overlay finished x) x) (sym e.map_is) (NamesOnly-reported finished m reports (HasNoDanglingReference-ended finished e.last.core end.names)),
         subst (λ (l : Local). HasNoDanglingExtern (overlay finished answer.map) l) (sym e.local_is) (subst (λ (x : Map). HasNoDanglingExtern (overlay finished x) e.last.core.local) (sym e.map_is) begins_there),
       )

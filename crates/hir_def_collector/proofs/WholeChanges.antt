@@ -39,7 +39,7 @@ use Rattle.hir_def_map.specs.Closed.{AreThere, VisibilityIsThere}
 use Rattle.hir_def_map.specs.WellFormed.{AreWellFormed, HasNoDanglingExtern, Extends, HasNoDanglingReference}
 use Rattle.hir_def_map.proofs.WellFormed.{HasNoDanglingExtern-more, IsClosed-well_formed, HasNoDanglingReference-more, none_missing}
 use Rattle.hir_def_map.specs.Declaration.{listed}
-use Rattle.hir_def_map.specs.Macros.{with_macro_def}
+use Rattle.hir_def_map.specs.Macros.{with_derive_helper, with_exported, with_macro_data, with_macro_def}
 use Rattle.hir_def_map.specs.References.{crate_map, is_missing, reference_to, test_crate, test_of, any_reference_in, are_variants_of, test_visibility, visibility_reference}
 use Rattle.hir_def_map.specs.Scoping.{Resolution}
 use Rattle.hir_def_map.specs.Scoping.Start.{crate_root}
@@ -63,7 +63,7 @@ use Rattle.hir_import_resolution.specs.Changes.{act as act_on_imports, along, ke
 use Rattle.hir_import_resolution.specs.Names.{trait_vis}
 use Rattle.hir_import_resolution.specs.State.{ImportState}
 use Rattle.hir_def_collector.specs.Imports.{extern_by, reached_import}
-use Rattle.hir_def_collector.specs.Changes.{Change, lists, makes, gives_variants, begins_paths, reaches, awaits, ends, settles, changes_imports, adds_textual, takes_textual, defines, uses_macros, tells, goes_on, act, on_map}
+use Rattle.hir_def_collector.specs.Changes.{Change, lists, makes, gives_variants, begins_paths, reaches, awaits, ends, settles, changes_imports, adds_textual, takes_textual, defines, describes, helps, lists_derive, exports, uses_macros, tells, goes_on, act, on_map, with_builtin_derive}
 use Rattle.hir_def_collector.specs.Macros.{textual_at, with_macros_used, with_used}
 use Rattle.hir_def_collector.proofs.Lists.{none_joined}
 use Rattle.hir_def_collector.proofs.ImportEdits.{Edit, edit, edit_of, edited, imports_after, local_after, map_after}
@@ -244,6 +244,10 @@ BringsWhatIsThere finished s (changes_imports c) = EditsWhatIsThere (overlay fin
 BringsWhatIsThere finished s (adds_textual home name makro) = Unit {0}
 BringsWhatIsThere finished s (takes_textual home from) = Unit {0}
 BringsWhatIsThere finished s (defines node makro) = Unit {0}
+BringsWhatIsThere finished s (describes makro what) = Unit {0}
+BringsWhatIsThere finished s (helps node helper) = Unit {0}
+BringsWhatIsThere finished s (lists_derive home imp) = Unit {0}
+BringsWhatIsThere finished s (exports f makro) = Unit {0}
 BringsWhatIsThere finished s (uses_macros macros by) = Unit {0}
 BringsWhatIsThere finished s (tells d) = Unit {0}
 BringsWhatIsThere finished s (goes_on vs) = Unit {0}
@@ -274,6 +278,28 @@ NamesOnly-beside : (finished : Maps) (m : Map) (ids : List (AstId × MacroId)) (
 NamesOnly-beside finished m ids used ds f =
     let new : Map = beside m ids used ds in
     HasNoDanglingReference-more (overlay finished m) (overlay finished new) (Extends-beside finished m ids used ds) new (record {
+      own_crate = f.own_crate;
+      held = f.held;
+      outside = f.outside;
+      root = f.root;
+      in_order = f.in_order;
+      variants = f.variants;
+      modules = f.modules;
+      prelude = f.prelude;
+      dependencies = f.dependencies;
+    })
+
+-- nor does what is kept of macros, of helpers and of what functions export
+abbrev pub beside_of : Map → Map → Map
+beside_of m o = record m { macro_ids = o.macro_ids; macro_data = o.macro_data; derive_helpers = o.derive_helpers; proc_macros = o.proc_macros }
+
+pub Extends-beside_of : (finished : Maps) (m o : Map) → Extends (overlay finished m) (overlay finished (beside_of m o))
+Extends-beside_of finished m o = Extends-grown finished m (beside_of m o) refl (λ k e. e) (λ e t. t)
+
+pub NamesOnly-beside_of : (finished : Maps) (m o : Map) → HasNoDanglingReference (overlay finished m) m → HasNoDanglingReference (overlay finished (beside_of m o)) (beside_of m o)
+NamesOnly-beside_of finished m o f =
+    let new : Map = beside_of m o in
+    HasNoDanglingReference-more (overlay finished m) (overlay finished new) (Extends-beside_of finished m o) new (record {
       own_crate = f.own_crate;
       held = f.held;
       outside = f.outside;
@@ -407,6 +433,18 @@ names-act finished s (takes_textual home from) f fine = names-textual finished s
 names-act finished s (defines node makro) f fine =
     with_larger finished s _ refl (Extends-beside finished s.core.map (with_macro_def s.core.map node makro).macro_ids s.core.map.macro_use_prelude s.core.map.diagnostics)
     (NamesOnly-beside finished s.core.map (with_macro_def s.core.map node makro).macro_ids s.core.map.macro_use_prelude s.core.map.diagnostics f.names) f
+names-act finished s (describes makro what) f fine =
+    let new : Map = with_macro_data s.core.map makro what in
+    with_larger finished s new refl (Extends-beside_of finished s.core.map new) (NamesOnly-beside_of finished s.core.map new f.names) f
+names-act finished s (helps node helper) f fine =
+    let new : Map = with_derive_helper s.core.map node helper in
+    with_larger finished s new refl (Extends-beside_of finished s.core.map new) (NamesOnly-beside_of finished s.core.map new f.names) f
+names-act finished s (lists_derive home imp) f fine =
+    with_larger finished s _ refl (Extends-scope finished s.core.map home (with_builtin_derive imp)) (HasNoDanglingReference-scope finished s.core.map home (with_builtin_derive imp) (λ x g. g) f.names) f
+names-act finished s (exports x makro) f fine =
+    let new : Map = with_exported s.core.map x.id makro in
+    let noted : NamesWhatIsThere finished (on_map s new) = with_larger finished s new refl (Extends-beside_of finished s.core.map new) (NamesOnly-beside_of finished s.core.map new f.names) f in
+    record { apart = noted.apart; names = noted.names; begins = noted.begins; crates = noted.crates; dependencies = noted.dependencies; edges = noted.edges }
 names-act finished s (uses_macros macros by) f fine =
     with_larger finished s _ refl (Extends-used finished s.core.map macros by) (NamesOnly-used finished s.core.map macros by f.names) f
 names-act finished s (tells d) f fine =

@@ -26,7 +26,7 @@ use Rattle.hir_def_collector.specs.ModuleFiles.{IsNumberOf, file_key, named_by}
 use Rattle.hir_def_collector.specs.State.{State, Task, visits}
 use Rattle.hir_def_collector.specs.Start.{Beginning, begin_of, krate_of, read_by, root_key}
 use Rattle.hir_def_collector.specs.Calls.{Expanding, IsNumberedCall}
-use Rattle.hir_def_collector.specs.Steps.{Expands, Sees, Steps, expands_call, keys_read, path_of, reads, visit}
+use Rattle.hir_def_collector.specs.Steps.{Expands, Sees, Steps, behind, expands_call, keys_read, path_of, reads, visit}
 
 -- the definitions that a module lists, if it is there
 abbrev pub declarations_of : Option ModuleValue → List ModuleDefId
@@ -44,7 +44,8 @@ pub record IsCandidate (tables : TablesValue) (w : Workspace) (at : State) (key 
   pub head : Head
   pub name : List ℕ
   pub rest : List Task
-  pub next : at.agenda ≡ visits (visit site (leaf head (outline_module name))) ∷ rest
+  pub done : ℕ
+  pub next : at.agenda ≡ visits (behind (visit site (leaf head (outline_module name))) done) ∷ rest
   pub enabled : is_enabled head.attributes ≡ true
   -- the file in which the item, or the outermost call around it, is written
   pub declaring : Option (List ℕ)
@@ -59,13 +60,14 @@ pub record IsCandidate (tables : TablesValue) (w : Workspace) (at : State) (key 
   pub earlier : (m : ℕ) (c : Candidate) → m < place → slice_get (candidates_of site.dir name (path_of head)) m ≡ Some c
       → option_map_or (λ path. (w.tree at.core.map.id.krate (file path)).present) (named_by declaring c) false ≡ false
 
--- a call of a state reaches a macro, and this is the key of the macro's text, of the call's input, of its expansion or of the expansion's items
+-- a call, a path of a derive or an attribute of a state reaches a macro, and this is the key of the macro's text, of the input, of the expansion or of the
+-- expansion's items
 pub record IsOfCall (tables : TablesValue) (w : Workspace) (finished : Maps) (at : State) (key : Key) : Type 0 where
   pub place : ℕ
   pub call : MacroDirective
   pub makro : MacroId
-  pub expands : Expands finished at place call makro
   pub seen : Expanding
+  pub expands : Expands finished at place call makro seen
   pub numbered : IsNumberedCall tables at.core.map.id.krate call makro seen
   pub sees : Sees (environment tables w) finished (reads at (expands_call place call makro seen))
   pub among : Contains (keys_read (reads at (expands_call place call makro seen))) key

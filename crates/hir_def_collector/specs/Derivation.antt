@@ -14,10 +14,12 @@ use Rattle.hir_import_resolution.specs.Directives.{AreAmong, TakenValue, glob_of
 use Rattle.hir_import_resolution.specs.Rest.{BroughtStands, IsClosed, IsSettled, IsSource}
 use Rattle.hir_def_collector.specs.declared.collector.collected.Collected.{Collected}
 use Rattle.hir_def_collector.specs.declared.collector.TheConstants.{STEP_LIMIT}
+use Rattle.hir_def_collector.specs.declared.collector.macro_directive.MacroDirective.{MacroDirective}
 use Rattle.hir_def_collector.specs.declared.source_database.Key.{Key}
 use Rattle.hir_def_collector.specs.Workspace.{Workspace, transitive_dependencies_in}
 use Rattle.hir_def_collector.specs.Keys.{Environment, environment, map_keys}
-use Rattle.hir_def_collector.specs.Calls.{LeadsNowhere}
+use Rattle.hir_def_collector.specs.Calls.{IsWaiting, LeadsNowhere, waiting_item}
+use Rattle.hir_def_collector.specs.Ended.{ended}
 use Rattle.hir_def_collector.specs.Rounds.{HasManyRounds}
 use Rattle.hir_def_collector.specs.State.{Core, State, import_state}
 use Rattle.hir_def_collector.specs.Start.{Beginning, begin_of, id_of, krate_of, read_by}
@@ -71,7 +73,7 @@ collected_view c = record { map = c.map; local = c.local; leftover = c.leftover.
 -- what a run answers that comes to this, whether or not rounds of calls were cut off, of a crate with these transitive dependencies
 abbrev pub finished_run : Core → Bool → List Crate → CollectedValue
 finished_run c round_limit_met transitive = record {
-  map = with_diagnostics c.map (leftover_reports c);
+  map = with_diagnostics (ended c) (leftover_reports c);
   local = c.local;
   leftover = leftover_among c.reached c.taken;
   round_limit_met = round_limit_met;
@@ -91,14 +93,16 @@ pub record Ends (tables : TablesValue) (w : Workspace) (finished : Maps) (from :
   pub settled : answer.round_limit_met ≡ false → (i : ℕ) → IsSettled (read_by w finished from.start) (import_state last) i
   pub binds : answer.round_limit_met ≡ false → (i : ℕ) → BindsWhatItReaches (read_by w finished from.start) last i
   pub linked : answer.round_limit_met ≡ false → (i : ℕ) → IsLinked (read_by w finished from.start) last i
-  -- and no call that waits is too deep, or reaches a macro
+  -- no call that waits is too deep; no call and no path of a derive that waits reaches a macro, and no attribute waits
   pub nowhere : answer.round_limit_met ≡ false → (i : ℕ) → LeadsNowhere (read_by w finished from.start) last i
+  pub unwaiting : answer.round_limit_met ≡ false → (i : ℕ) (d : MacroDirective) → IsWaiting last i d → waiting_item d ≡ None
   -- they are cut off only where there were more than may be
   pub limited : answer.round_limit_met ≡ true → HasManyRounds (environment tables w) (read_by w finished from.start) (begin_of tables w finished from) last
   -- it is the map of the start
   pub own : answer.map.id ≡ id_of from.start
-  -- with a diagnostic behind the others for each call and each import that is left over
-  pub map_is : answer.map ≡ with_diagnostics last.core.map (leftover_reports last.core)
+  -- where the crate is a procedural macro's, others see of its root only the macros that it exports; a diagnostic comes behind the others for each call and
+  -- each import that is left over
+  pub map_is : answer.map ≡ with_diagnostics (ended last.core) (leftover_reports last.core)
   pub local_is : answer.local ≡ last.core.local
   pub leftover_is : answer.leftover ≡ leftover_among last.core.reached last.core.taken
   -- what the steps asked for, and the map of each crate on which the run's crate depends

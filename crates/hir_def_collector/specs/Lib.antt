@@ -18,11 +18,13 @@ pub mod Calls
 pub mod ModuleFiles
 pub mod Reports
 pub mod BuiltinAttributes
+pub mod Attributes
 -- ---- the rules
 pub mod Changes
 pub mod Steps
 -- ---- what a run comes to
 pub mod Rounds
+pub mod Ended
 pub mod Derivation
 pub mod Causes
 pub mod Growth

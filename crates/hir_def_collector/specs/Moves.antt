@@ -1,21 +1,30 @@
 -- What a part of a run does.
-use Rattle.std.specs.Prelude.{◌≡◌, ◌<◌, ◌≤◌, ◌+◌, ℕ, Bool, true, false, ◌||◌, List, [], ◌∷◌, ◌++◌, length, Option, Some, option_map}
+use Rattle.std.specs.Prelude.{◌≡◌, ◌<◌, ◌≤◌, ◌+◌, ℕ, suc, map, Bool, true, false, ◌||◌, List, [], ◌∷◌, ◌++◌, length, Option, None, Some, option_map, slice_get}
 use Rattle.std.specs.Option.{option_to_list}
 use Rattle.hir_base.specs.Cfg.{Cfg}
 use Rattle.hir_base.specs.declared.ast_id.AstKind.TheVariants as nodes
-use Rattle.hir_item_tree.specs.Collected.{is_enabled}
-use Rattle.hir_item_tree.specs.KeptForest.{Head, KeptItem}
+use Rattle.hir_item_tree.specs.Collected.{Numbered as Attribute, is_enabled, numbered}
+use Rattle.hir_item_tree.specs.KeptForest.{Head, KeptItem, all_items}
+use Rattle.hir_item_tree.specs.Kinds.{item_head}
+use Rattle.hir_base.specs.ModPath.{Path}
+use Rattle.hir_base.specs.declared.ast_id.AstId.{AstId}
+use Rattle.hir_base.specs.declared.ids.AdtId.{AdtId}
 use Rattle.hir_item_tree.specs.declared.kinds.ModItemKind.{ModItemKind}
 use Rattle.hir_item_tree.specs.declared.kinds.ModItemKind.TheVariants as kinds
 use Rattle.hir_item_tree.specs.Rows.{items_at, numbers_of}
 use Rattle.hir_mod_dir.specs.declared.candidate.Candidate.{Candidate}
-use Rattle.hir_def_map.specs.Macros.{with_diagnostic}
+use Rattle.hir_def_map.specs.Macros.{with_diagnostic, with_exported, with_macro_data}
 use Rattle.hir_def_map.specs.declared.nameres.diagnostics.DefDiagnostic.{DefDiagnostic}
 use Rattle.hir_def_collector.specs.declared.collector.mod_resolution.FoundFile.{FoundFile}
 use Rattle.hir_def_collector.specs.declared.collector.mod_resolution.LookedFile.{LookedFile}
+use Rattle.hir_def_collector.specs.declared.collector.attributes.Visited.{Visited}
 use Rattle.hir_def_collector.specs.declared.collector.mod_collector.Inside.{Inside}
 use Rattle.hir_def_collector.specs.declared.collector.mod_collector.Inside.TheVariants.{Nothing, Held, File}
+use Rattle.hir_base.specs.declared.macro_kind.MacroId.TheVariants.{ProcMacroId}
+use Rattle.hir_def_collector.specs.declared.collector.declaration.Declaration.{Declaration}
+use Rattle.hir_def_collector.specs.declared.collector.exports.Export.{Export}
 use Rattle.hir_scope.specs.declared.visibility.Visibility.{Visibility}
+use Rattle.hir_scope.specs.declared.visibility.Visibility.TheVariants.{Public}
 use Rattle.hir_def_map.specs.Overlay.{Maps}
 use Rattle.hir_def_map.specs.State.{Map, ModuleValue, new_module, with_module}
 use Rattle.hir_def_map.specs.declared.nameres.origin.ModuleOrigin.{ModuleOrigin}
@@ -35,14 +44,16 @@ use Rattle.hir_tables.specs.SourcePlaces.{SourcePlaceValue}
 use Rattle.hir_tables.specs.Tables.{KeepsTables, TablesValue, source_of}
 use Rattle.hir_def_collector.specs.Keys.{Environment, environment}
 use Rattle.hir_def_collector.specs.Workspace.{Workspace, seen_of}
-use Rattle.hir_def_collector.specs.ModuleFiles.{AreNumbered, IsFileMeant, IsNumberOf, IsSearch, LookedAt, ModuleFile, Tried, file_reading, file_readings, module_file, named_by}
-use Rattle.hir_def_collector.specs.ItemIds.{module_id, node_of}
+use Rattle.hir_def_collector.specs.ModuleFiles.{AreNumbered, IsNumberOf, IsSearch, LookedAt, ModuleFile, Tried, file_reading, file_readings, module_file, named_by}
+use Rattle.hir_def_collector.specs.Attributes.{adt_of, attr_id, item_node, next_attribute, paths_in, proc_macro_id}
+use Rattle.hir_def_collector.specs.Calls.{IsMeantAt}
+use Rattle.hir_def_collector.specs.ItemIds.{function_id, module_id, node_of}
 use Rattle.hir_def_collector.specs.Items.{file_origin, own_visibility}
-use Rattle.hir_def_collector.specs.Macros.{is_macro_use, textual_at, with_textual_scope}
-use Rattle.hir_def_collector.specs.Reports.{IsUnconfigured}
-use Rattle.hir_def_collector.specs.State.{Core, Task, Visit, visits, counted, joined, visits_over, with_map}
+use Rattle.hir_def_collector.specs.Macros.{is_macro_use, macro_declaration, textual_at, with_textual_scope}
+use Rattle.hir_def_collector.specs.Reports.{IsUnconfigured, invalid_target, malformed_derive}
+use Rattle.hir_def_collector.specs.State.{Core, Task, Visit, visits, counted, joined, visits_over, with_calls, with_exported_function, with_map}
 use Rattle.hir_def_collector.specs.Changes.{Change, perform}
-use Rattle.hir_def_collector.specs.Steps.{Sees, Step, Steps, closing, inside_file, keys_read, module_declaration, with_declaration, with_keys}
+use Rattle.hir_def_collector.specs.Steps.{Sees, Step, Steps, behind, closing, derives_from, exported_function, inside_file, keys_read, module_declaration, with_declaration, with_keys}
 use Rattle.hir_def_collector.specs.Derivation.{IsSpent}
 
 -- it holds over the tables as they are, and over each that they grow to
@@ -55,14 +66,55 @@ pub record IsHeld (tables : TablesValue) (w : Workspace) (krate : Crate) (tree :
   pub at : source_of tables tree ≡ Some place
   pub is : w.tree krate place ≡ source
 
--- this is what the source of a site has under a crate, and the numbers of the site mean something
-pub record IsWritten (tables : TablesValue) (w : Workspace) (krate : Crate) (site : Site) (source : SourceTreeValue) : Type 0 where
-  pub held : IsHeld tables w krate site.tree source
-  pub file : IsFileMeant tables site.file
+-- nothing is to be looked up for an attribute of the visited item any more, where so many are done with
+abbrev pub IsPassed : Core → Visit → ℕ → Type 0
+IsPassed c v done = next_attribute c.map v.site v.item done ≡ None
 
--- one step over the workspace handles the visit, and these tasks come next
+-- one step over the workspace handles the visit once its attributes are done with, and these tasks come next
 pub record Handles (env : Environment) (finished : Maps) (old new : Core) (v : Visit) (inside : List Task) : Type 0 where
-  pub step : (rest : List Task) → Step env finished (joined old (visits v ∷ rest)) (joined new (inside ++ rest))
+  pub step : (done : ℕ) → IsPassed old v done → (rest : List Task) → Step env finished (joined old (visits (behind v done) ∷ rest)) (joined new (inside ++ rest))
+
+-- as many steps as are counted were taken by then
+pub record HandlesTooFar (env : Environment) (finished : Maps) (old : Core) (v : Visit) : Type 0 where
+  pub spent : (done : ℕ) → IsPassed old v done → (rest : List Task) → IsSpent env finished (joined old (visits (behind v done) ∷ rest))
+
+-- steps go through attributes of the visited item, and come to where it is next, or to where it waits
+abbrev pub GoesThrough : Environment → Maps → Core → Core → Visit → ℕ → Option ℕ → Type 0
+GoesThrough env finished old new v from None = (rest : List Task) → Steps env finished (joined old (visits (behind v from) ∷ rest)) (joined new rest)
+GoesThrough env finished old new v from (Some done) =
+    IsPassed new v done × ((rest : List Task) → Steps env finished (joined old (visits (behind v from) ∷ rest)) (joined new (visits (behind v done) ∷ rest)))
+
+pub record Passes (env : Environment) (finished : Maps) (old new : Core) (v : Visit) (from : ℕ) (done : Option ℕ) : Type 0 where
+  pub goes : GoesThrough env finished old new v from done
+
+-- steps through them lead to as many as are counted
+pub record PassesTooFar (env : Environment) (finished : Maps) (old : Core) (v : Visit) (from : ℕ) : Type 0 where
+  pub spent : (rest : List Task) → IsSpent env finished (joined old (visits (behind v from) ∷ rest))
+
+-- this is what the item that is visited is: the item of a number in a tree, with its node, its attributes, and the struct, union or enum that it is
+pub record IsVisited (m : Map) (visited : Visited) (item : KeptItem) : Type 0 where
+  pub kept : slice_get (all_items visited.source.now.value.tree.items) visited.id.0 ≡ Some item
+  pub node : visited.node ≡ item_node visited.site.now item
+  pub enabled : is_enabled (item_head item).attributes ≡ true
+  pub attributes : map numbered visited.attrs.now ≡ (item_head item).attributes.attributes
+  pub adt : visited.adt ≡ adt_of m visited.site.now item
+
+-- a `derive` on a node becomes calls of its paths, or is reported
+pub data TakesDerive (site : Site) (node : AstId) (a : Attribute) (adt : Option AdtId) (old new : Core) : Type 0 where
+  listed : (target : AdtId) (paths : List Path) → adt ≡ Some target → paths_in a.meta.input ≡ Some paths → new ≡ with_calls old (derives_from site node (attr_id a) target 0 paths)
+      → TakesDerive site node a adt old new
+  no_target : adt ≡ None → new ≡ with_map old (with_diagnostic old.map (invalid_target (module_id old.map site.home) node (attr_id a))) → TakesDerive site node a adt old new
+  no_paths : (target : AdtId) → adt ≡ Some target → paths_in a.meta.input ≡ None → new ≡ with_map old (with_diagnostic old.map (malformed_derive (module_id old.map site.home) node (attr_id a)))
+      → TakesDerive site node a adt old new
+
+-- what is to be done once the attribute at a place is handled: the item goes on behind it, unless it waits
+abbrev pub goes_behind : Visit → ℕ → Bool → List Task
+goes_behind v at false = []
+goes_behind v at true = visits (behind v (suc at)) ∷ []
+
+-- one step handles an attribute of the visited item, and this is still to be done
+pub record HandlesAttribute (env : Environment) (finished : Maps) (old new : Core) (v : Visit) (done : ℕ) (next : List Task) : Type 0 where
+  pub step : (rest : List Task) → Step env finished (joined old (visits (behind v done) ∷ rest)) (joined new (next ++ rest))
 
 -- these changes are made, whatever is still to be done
 pub record Makes (changes : List Change) (old new : Core) : Type 0 where
@@ -133,22 +185,30 @@ pub record IsWithin (count : ℕ) (site inner : Site) : Type 0 where
   pub file : inner.file ≡ site.file
   pub deep : site.dir.depth ≤ inner.dir.depth
 
--- those of a file are written in a module that is there, one deeper
-pub record IsOfFile (tables : TablesValue) (w : Workspace) (krate : Crate) (count : ℕ) (site inner : Site) (source : SourceTreeValue) : Type 0 where
+-- those of a file are written in a module that is there, one deeper; the numbers mean something
+pub record IsOfFile (tables : TablesValue) (count : ℕ) (site inner : Site) : Type 0 where
   pub there : inner.home < count
-  pub held : IsWritten tables w krate inner source
+  pub meant : IsMeantAt tables inner
   pub above : site.dir.depth < 32
   pub deeper : inner.dir.depth ≡ site.dir.depth + 1
 
 -- so are those that come next behind an item that holds these
-abbrev pub GoesInside : TablesValue → Workspace → Crate → ℕ → Site → List ℕ → Inside → Type 0
-GoesInside tables w krate count site numbers Nothing = Unit {0}
-GoesInside tables w krate count site numbers (Held inner ids marked) = IsWithin count site inner × (numbers_of ids.now ≡ numbers)
-GoesInside tables w krate count site numbers (File inner source marked) = IsOfFile tables w krate count site inner source.value
+abbrev pub GoesInside : TablesValue → ℕ → Site → List ℕ → Inside → Type 0
+GoesInside tables count site numbers Nothing = Unit {0}
+GoesInside tables count site numbers (Held inner ids marked) = IsWithin count site inner × (numbers_of ids.now ≡ numbers)
+GoesInside tables count site numbers (File inner source marked) = IsOfFile tables count site inner
 
 -- the map with one more module, which begins with the macros in textual scope in the one around it
 abbrev pub begun : Map → ℕ → List ℕ → ModuleValue → Map
 begun m home name new = let made : Map = with_module m home name new in with_textual_scope made (length m.modules) (textual_at made home)
+
+-- the core once a function that exports a macro is declared, with the macro
+abbrev pub with_export : Core → Site → Head → List ℕ → Declaration → Export → Core
+with_export c site head name d e =
+    let makro = proc_macro_id c.map site head.id e.style in
+    let noted = with_exported_function (with_map c (with_exported c.map (function_id c.map site head.id) makro)) (exported_function c.map site head name) in
+    with_declaration (with_declaration (with_map noted (with_macro_data noted.map (ProcMacroId makro) e.what)) site.home d) site.home
+    (macro_declaration e.what.name (ProcMacroId makro) Public)
 
 -- a run once a module is made, listed and bound
 abbrev pub opened : Maps → Core → Site → Head → List ℕ → ModuleOrigin → Core

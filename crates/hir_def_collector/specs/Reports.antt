@@ -10,6 +10,7 @@ use Rattle.hir_base.specs.Cfg.{Cfg, cfg_view}
 use Rattle.hir_base.specs.ModPath.{Path}
 use Rattle.hir_base.specs.declared.ast_id.AstId.{AstId}
 use Rattle.hir_base.specs.declared.ast_id.AstKind.TheVariants as nodes
+use Rattle.hir_base.specs.declared.ast_id.AttrId.{AttrId}
 use Rattle.hir_base.specs.declared.cfg.CfgAtom.{CfgAtom}
 use Rattle.hir_base.specs.declared.cfg.CfgExpr.{CfgExpr}
 use Rattle.hir_base.specs.declared.ids.MapId.{MapId}
@@ -58,12 +59,20 @@ is_unimplemented expanders.Unimplemented = true
 abbrev pub unimplemented_macro : ModuleId → AstId → DefDiagnostic
 unimplemented_macro at node = record { in_module = at; kind = kinds.UnimplementedBuiltinMacro node }
 
+-- a `derive` on what is no struct, enum or union, and one without paths
+abbrev pub invalid_target : ModuleId → AstId → AttrId → DefDiagnostic
+invalid_target at node id = record { in_module = at; kind = kinds.InvalidDeriveTarget node id }
+
+abbrev pub malformed_derive : ModuleId → AstId → AttrId → DefDiagnostic
+malformed_derive at node id = record { in_module = at; kind = kinds.MalformedDerive node id }
+
 -- the macro of a call on a node is known, and it didn't expand, or not well
 abbrev pub failed_call : ModuleId → AstId → Path → List ℕ → DefDiagnostic
 failed_call at node path error = record { in_module = at; kind = kinds.MacroError node path error }
 
 -- ---- calls that are left over
 
+-- a call, a path of a derive or an attribute reaches no macro
 abbrev pub call_report : MapId → MacroDirective → DefDiagnostic
 call_report id d = record { in_module = numbered id d.site.home; kind = kinds.UnresolvedMacroCall (call_kind d) (path_of_call d) }
 
@@ -73,6 +82,8 @@ unresolved_calls id [] fs = []
 unresolved_calls id (d ∷ ds) [] = []
 unresolved_calls id (d ∷ ds) (fates.Waits ∷ fs) = call_report id d ∷ unresolved_calls id ds fs
 unresolved_calls id (d ∷ ds) (fates.Handled ∷ fs) = unresolved_calls id ds fs
+-- an attribute that was given up was reported then
+unresolved_calls id (d ∷ ds) (fates.GivenUp ∷ fs) = unresolved_calls id ds fs
 
 -- ---- imports that are left over
 

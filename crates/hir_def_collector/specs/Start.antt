@@ -1,5 +1,5 @@
 -- Where a run begins.
-use Rattle.std.specs.Prelude.{List, [], ◌∷◌, Option, None, if◌then◌else◌}
+use Rattle.std.specs.Prelude.{Bool, false, List, [], ◌∷◌, Option, None, Some, if◌then◌else◌}
 use Rattle.hir_base.specs.declared.cfg.CfgAtom.{CfgAtom}
 use Rattle.hir_base.specs.declared.edition.Edition.{Edition}
 use Rattle.hir_base.specs.declared.ids.Crate.{Crate}
@@ -22,8 +22,9 @@ use Rattle.hir_def_collector.specs.declared.collector.Start.TheVariants as start
 use Rattle.hir_def_collector.specs.declared.collector.site.Site.{Site}
 use Rattle.hir_def_collector.specs.declared.source_database.Key.{Key}
 use Rattle.hir_def_collector.specs.declared.source_database.Key.TheVariants as keys
+use Rattle.hir_def_collector.specs.declared.source_database.CrateRoot.{CrateRoot}
 use Rattle.hir_def_collector.specs.declared.source_database.Dependency.{Dependency}
-use Rattle.hir_def_collector.specs.Workspace.{ConfigValue, Workspace, dependencies_of, options_of, transitive_dependencies_in}
+use Rattle.hir_def_collector.specs.Workspace.{ConfigValue, Workspace, crate_in, dependencies_of, options_of, transitive_dependencies_in}
 use Rattle.hir_def_collector.specs.Keys.{tree_at}
 use Rattle.hir_def_collector.specs.CrateTop.{crate_data_of}
 use Rattle.hir_def_collector.specs.Preludes.{extern_prelude, with_preludes}
@@ -85,8 +86,8 @@ abbrev pub root_map : CrateData → Start → Map
 root_map crate_data start = empty_map (krate_of start) crate_data (new_module (origin_of start) visibilities.Public None) None
 
 -- the root module, and what all modules find; its tree asked for
-abbrev pub core_by : Maps → CrateData → Local → List Dependency → List CfgAtom → Start → TreeId → Core
-core_by finished crate_data local dependencies options start id = record {
+abbrev pub core_by : Maps → CrateData → Local → List Dependency → List CfgAtom → Bool → Start → TreeId → Core
+core_by finished crate_data local dependencies options is_proc_macro start id = record {
   map = with_preludes finished (root_map crate_data start) local;
   local = local;
   dependencies = dependencies;
@@ -97,33 +98,40 @@ core_by finished crate_data local dependencies options start id = record {
   calls = [];
   fates = [];
   settled = 0;
+  is_proc_macro = is_proc_macro;
+  exported = [];
   asked = root_key start id ∷ [];
   count = 0;
 }
 
 -- the same over this tree, of a crate that was handed in so, with these transitive dependencies
-abbrev pub core_of : Maps → Tree → Option ConfigValue → List Crate → Start → TreeId → Core
-core_of finished tree config transitive start id =
+abbrev pub core_of : Maps → Tree → Bool → Option ConfigValue → List Crate → Start → TreeId → Core
+core_of finished tree is_proc_macro config transitive start id =
     let crate_data = start_data tree transitive start in
-    core_by finished crate_data (extern_prelude crate_data [] (dependencies_of config)) (dependencies_of config) (options_of config) start id
+    core_by finished crate_data (extern_prelude crate_data [] (dependencies_of config)) (dependencies_of config) (options_of config) is_proc_macro start id
+
+-- whether a crate is a procedural macro's; one that isn't there is none
+abbrev pub is_proc_macro_by : Option CrateRoot → Bool
+is_proc_macro_by None = false
+is_proc_macro_by (Some c) = c.is_proc_macro
 
 -- the items of a tree that is written at a site; one that is disabled at its top declares nothing
 abbrev pub tree_visits : Site → Tree → List Task
 tree_visits site tree = if is_enabled tree.attributes then visits_over site tree.items else []
 
 -- the same, the items of the tree still to be visited
-abbrev pub start_by : Maps → Tree → Option ConfigValue → List Crate → Start → TreeId → State
-start_by finished tree config transitive start id = joined (core_of finished tree config transitive start id) (tree_visits (root_site id) tree)
+abbrev pub start_by : Maps → Tree → Bool → Option ConfigValue → List Crate → Start → TreeId → State
+start_by finished tree is_proc_macro config transitive start id = joined (core_of finished tree is_proc_macro config transitive start id) (tree_visits (root_site id) tree)
 
 -- the start of a run
 abbrev pub start_of : TablesValue → Workspace → Maps → Beginning → State
 start_of tables w finished from =
     let krate : Crate = krate_of from.start in
-    start_by finished (root_tree tables w from) (w.config krate) (transitive_dependencies_in w krate) from.start from.tree
+    start_by finished (root_tree tables w from) (is_proc_macro_by (crate_in w krate)) (w.config krate) (transitive_dependencies_in w krate) from.start from.tree
 
 -- the start over a workspace, of a crate with these transitive dependencies, beside the maps that it may read
 abbrev pub began : TablesValue → Workspace → Maps → List Crate → Start → TreeId → State
-began tables w finished transitive start id = start_by finished (tree_at tables w (tree_key start id)).tree (w.config (krate_of start)) transitive start id
+began tables w finished transitive start id = start_by finished (tree_at tables w (tree_key start id)).tree (is_proc_macro_by (crate_in w (krate_of start))) (w.config (krate_of start)) transitive start id
 
 -- the finished maps that a run reads: those of the crates on which its crate depends
 abbrev pub read_by : Workspace → Maps → Start → Maps

@@ -1,5 +1,5 @@
 -- Where a run stands.
-use Rattle.std.specs.Prelude.{ℕ, ◌+◌, List, [], ◌∷◌, ◌++◌, None, length, map, slice_set}
+use Rattle.std.specs.Prelude.{ℕ, ◌+◌, Bool, List, [], ◌∷◌, ◌++◌, None, length, map, slice_set}
 use Rattle.hir_base.specs.declared.cfg.CfgAtom.{CfgAtom}
 use Rattle.hir_item_tree.specs.KeptForest.{KeptItem, KeptForest, no_items, item}
 use Rattle.hir_scope.specs.Globs.{GlobNames}
@@ -13,6 +13,7 @@ use Rattle.hir_call_queue.specs.Changes.{ChangedValue}
 use Rattle.hir_import_resolution.specs.declared.directive.ImportDirective.{ImportDirective}
 use Rattle.hir_import_resolution.specs.Directives.{TakenValue, not_taken}
 use Rattle.hir_import_resolution.specs.State.{ImportState, nothing_brought}
+use Rattle.hir_def_collector.specs.declared.collector.exports.ExportedFunction.{ExportedFunction}
 use Rattle.hir_def_collector.specs.declared.collector.macro_directive.Fate.{Fate}
 use Rattle.hir_def_collector.specs.declared.collector.macro_directive.Fate.TheVariants.{Waits}
 use Rattle.hir_def_collector.specs.declared.collector.macro_directive.MacroDirective.{MacroDirective}
@@ -20,10 +21,19 @@ use Rattle.hir_def_collector.specs.declared.collector.site.Site.{Site}
 use Rattle.hir_def_collector.specs.declared.source_database.Dependency.{Dependency}
 use Rattle.hir_def_collector.specs.declared.source_database.Key.{Key}
 
--- an item that was come upon and not handled yet, and where it is written
+-- an item that was come upon and not handled yet, where it is written, and how many of its attributes are done with
 pub record Visit : Type 0 where
   pub site : Site
   pub item : KeptItem
+  pub done : ℕ
+
+-- an item that is written at a site, of whose attributes none is done with
+abbrev pub visit : Site → KeptItem → Visit
+visit site i = record { site = site; item = i; done = 0 }
+
+-- the same item where so many of its attributes are done with
+abbrev pub behind : Visit → ℕ → Visit
+behind v done = record v { done = done }
 
 -- something that is still to be done
 pub data Task : Type 0 where
@@ -61,12 +71,15 @@ pub record Core : Type 0 where
   pub reached : List ImportDirective
   -- for each of them what its takings reached
   pub taken : List TakenValue
-  -- the macro calls that were come upon, in order
+  -- the macro calls, paths of derives and attributes that were come upon and wait or waited for a macro, in order
   pub calls : List MacroDirective
-  -- for each of them whether it was handled
+  -- for each of them what became of it
   pub fates : List Fate
   -- how many calls there were when imports rested last: these may be expanded
   pub settled : ℕ
+  -- whether the crate is a procedural macro's, and the functions of its root that export macros, in order
+  pub is_proc_macro : Bool
+  pub exported : List ExportedFunction
   -- the keys that were asked for, those of finished maps aside
   pub asked : List Key
   -- how many steps were taken
@@ -86,6 +99,8 @@ pub record Run : Type 0 where
   pub calls : List MacroDirective
   pub fates : List Fate
   pub settled : ℕ
+  pub is_proc_macro : Bool
+  pub exported : List ExportedFunction
   pub asked : List Key
   pub count : ℕ
   -- the slots of paths that may have changed since it was last looked at
@@ -104,6 +119,8 @@ core_in r = record {
   calls = r.calls;
   fates = r.fates;
   settled = r.settled;
+  is_proc_macro = r.is_proc_macro;
+  exported = r.exported;
   asked = r.asked;
   count = r.count;
 }
@@ -143,6 +160,10 @@ with_fate c i fate = record c { fates = slice_set c.fates i fate }
 abbrev pub with_settled : Core → Core
 with_settled c = record c { settled = length c.calls }
 
+-- the core where one more function exports a macro
+abbrev pub with_exported_function : Core → ExportedFunction → Core
+with_exported_function c f = record c { exported = c.exported ++ f ∷ [] }
+
 -- the core once a declaration bound items to a name of a module: no glob has brought any more what stands there
 abbrev pub with_bound : Core → ℕ → List ℕ → PerNs → Core
 with_bound c home name items = record c {
@@ -168,7 +189,7 @@ at_rest c = joined c []
 -- the items of a forest that is written at a site, to be visited one after another
 abbrev pub visits_over : Site → KeptForest → List Task
 visits_over site no_items = []
-visits_over site (item i is) = visits (record { site = site; item = i }) ∷ visits_over site is
+visits_over site (item i is) = visits (visit site i) ∷ visits_over site is
 
 -- the state with one more step counted
 abbrev pub ticked : State → State

@@ -1,26 +1,33 @@
 -- The steps that the import rules allow: each is a rule, which reads of the workspace and makes changes.
-use Rattle.std.specs.Prelude.{◌≡◌, ◌<◌, ◌≤◌, ℕ, Bool, ◌||◌, true, List, [], ◌∷◌, ◌++◌, length, map as list_map, Option, Some, None, cond}
+use Rattle.std.specs.Prelude.{◌≡◌, ◌<◌, ◌≤◌, ℕ, suc, ◌+◌, Bool, ◌||◌, true, false, List, [], ◌∷◌, ◌++◌, length, map as list_map, Option, Some, None, cond}
+use Rattle.either.specs.declared.Either.TheVariants as either
 use Rattle.hir_base.specs.Cfg.{Cfg}
 use Rattle.hir_base.specs.ModPath.{Path}
 use Rattle.hir_base.specs.declared.ast_id.AstId.{AstId}
 use Rattle.hir_base.specs.declared.ast_id.AstKind.TheVariants as nodes
+use Rattle.hir_base.specs.declared.ast_id.AttrId.{AttrId}
+use Rattle.hir_base.specs.declared.ids.AdtId.{AdtId}
 use Rattle.hir_base.specs.declared.ids.AdtId.TheVariants as adts
 use Rattle.hir_base.specs.declared.ids.EnumId.{EnumId}
 use Rattle.hir_base.specs.declared.ids.ExternCrateId.{ExternCrateId}
 use Rattle.hir_base.specs.declared.ids.ModuleDefId.TheVariants as definitions
 use Rattle.hir_base.specs.declared.ids.ModuleId.{ModuleId}
+use Rattle.hir_base.specs.declared.macro_kind.BuiltinDeriveImplId.{BuiltinDeriveImplId}
 use Rattle.hir_base.specs.declared.macro_kind.MacroExpander.{MacroExpander}
 use Rattle.hir_base.specs.declared.macro_kind.MacroId.{MacroId}
-use Rattle.hir_item_tree.specs.Collected.{is_enabled}
+use Rattle.hir_base.specs.declared.macro_kind.MacroId.TheVariants.{ProcMacroId}
+use Rattle.hir_item_tree.specs.Collected.{Numbered as Attribute, is_enabled}
 use Rattle.hir_item_tree.specs.Kinds.{item_head, item_kind}
-use Rattle.hir_item_tree.specs.KeptForest.{Head, KeptItem, KeptForest, leaf, import, extern_crate, enumeration, constant, implementation, outline_module, macro_call, macro_rules, macro_def, holder, extern_block, inline_module}
+use Rattle.hir_item_tree.specs.KeptForest.{Head, KeptItem, KeptForest, leaf, function, import, extern_crate, enumeration, constant, implementation, outline_module, macro_call, macro_rules, macro_def, holder, extern_block, inline_module}
 use Rattle.hir_item_tree.specs.UseTree.{UseTree}
 use Rattle.hir_item_tree.specs.declared.shape.ExternCrateName.{ExternCrateName}
+use Rattle.hir_use_tree.specs.UseTree.{count_of}
 use Rattle.hir_use_tree.specs.declared.imports.ImportAlias.{ImportAlias}
 use Rattle.hir_item_tree.specs.declared.side_lists.VariantItem.{VariantItem}
-use Rattle.hir_def_map.specs.State.{Map, new_id, with_declared}
+use Rattle.hir_def_map.specs.State.{MacroDataValue, Map, new_id, with_declared}
 use Rattle.hir_def_map.specs.Overlay.{Maps}
 use Rattle.hir_def_map.specs.declared.nameres.declaration.Declaration.TheVariants as listings
+use Rattle.hir_def_map.specs.declared.nameres.derive_helpers.DeriveHelper.{DeriveHelper}
 use Rattle.hir_def_map.specs.declared.nameres.diagnostics.DefDiagnostic.{DefDiagnostic}
 use Rattle.hir_def_map.specs.declared.nameres.origin.ModuleOrigin.{ModuleOrigin}
 use Rattle.hir_mod_dir.specs.Directory.{Directory}
@@ -35,23 +42,28 @@ use Rattle.hir_import_resolution.specs.declared.directive.ImportDirective.{Impor
 use Rattle.hir_import_resolution.specs.Changes.{pushes}
 use Rattle.hir_import_resolution.specs.Rest.{IsClosed, IsSettled}
 use Rattle.hir_import_resolution.specs.Rules.{Rule as ImportRule, May as MayImport, acts as import_acts}
-use Rattle.hir_def_collector.specs.declared.collector.macro_directive.Fate.TheVariants.{Handled}
+use Rattle.hir_def_collector.specs.declared.collector.exports.Export.{Export}
+use Rattle.hir_def_collector.specs.declared.collector.exports.ExportedFunction.{ExportedFunction}
+use Rattle.hir_def_collector.specs.declared.collector.macro_directive.Fate.TheVariants.{GivenUp, Handled}
 use Rattle.hir_def_collector.specs.declared.collector.macro_directive.MacroDirective.{MacroDirective}
-use Rattle.hir_def_collector.specs.declared.collector.macro_directive.MacroDirectiveKind.TheVariants.{FnLike}
+use Rattle.hir_def_collector.specs.declared.collector.macro_directive.MacroDirectiveKind.TheVariants.{Attr, Derive, FnLike}
+use Rattle.hir_def_collector.specs.declared.collector.macro_directive.WaitingItem.{WaitingItem}
 use Rattle.hir_def_collector.specs.declared.collector.site.Site.{Site}
 use Rattle.hir_def_collector.specs.declared.source_database.Key.{Key}
 use Rattle.hir_def_collector.specs.declared.source_database.Key.TheVariants as keys
 use Rattle.hir_def_collector.specs.Keys.{Environment, of_variants, look}
 use Rattle.hir_def_collector.specs.ModuleFiles.{IsNumbered, IsSearch, ModuleFile, Reading, Search, file_readings, file_tree, module_file, path_attribute, tried_in}
-use Rattle.hir_def_collector.specs.Calls.{Expanding, IsNumberedCall, IsWaiting, call_site, called_macro, error_of, expansion_readings, path_of_call, text_readings}
-use Rattle.hir_def_collector.specs.Reports.{IsUnconfigured, IsUnresolvedModule, failed_call, is_unimplemented, unimplemented_macro}
+use Rattle.hir_def_collector.specs.Attributes.{adt_of, attr_id, export_at, is_derive, item_node, next_attribute, paths_in, proc_macro_id}
+use Rattle.hir_def_collector.specs.Calls.{Expanding, IsNumberedCall, IsTextOf, IsWaiting, LeadsNowhere, builtin_impl, call_site, called_macro, error_of, expansion_readings, has_expansion, helpers_brought, is_call, is_inert_now, item_kept, path_of_call, text_readings, waiting_item}
+use Rattle.hir_def_collector.specs.Reports.{IsUnconfigured, IsUnresolvedModule, call_report, failed_call, invalid_target, is_unimplemented, malformed_derive, unimplemented_macro}
+pub use Rattle.hir_def_collector.specs.State.{behind, visit}
 use Rattle.hir_def_collector.specs.State.{Core, Visit, Task, visits, closes, State, import_state, visits_over, ticked, with_bound, with_map}
-use Rattle.hir_def_collector.specs.ItemIds.{const_id, enum_id, impl_id, extern_block_id, extern_crate_id, macro_def_id, macro_rules_id, module_id, node_of, use_id}
+use Rattle.hir_def_collector.specs.ItemIds.{const_id, enum_id, impl_id, extern_block_id, extern_crate_id, function_id, macro_def_id, macro_rules_id, module_id, node_of, use_id}
 use Rattle.hir_def_collector.specs.Items.{declaration_of, declared_module, file_origin, inline_origin, own_visibility, type_declaration}
 use Rattle.hir_def_collector.specs.Enums.{variants_of}
 use Rattle.hir_def_collector.specs.Imports.{crate_import, imports_by}
 use Rattle.hir_def_collector.specs.Macros.{is_exported, is_macro_use, macro_declaration, macros_brought}
-use Rattle.hir_def_collector.specs.Changes.{Change, lists, makes, gives_variants, begins_paths, reaches, awaits, ends, settles, changes_imports, adds_textual, takes_textual, defines, uses_macros, tells, goes_on, perform}
+use Rattle.hir_def_collector.specs.Changes.{Change, lists, makes, gives_variants, begins_paths, reaches, awaits, ends, settles, changes_imports, adds_textual, takes_textual, defines, describes, helps, lists_derive, exports, uses_macros, tells, goes_on, perform}
 
 -- ---- what the rules are about
 
@@ -100,9 +112,28 @@ visits_inside m s head (Some dir) items = visits_over (inside_module m s dir) it
 abbrev pub visits_in_file : Map → Site → Head → ModuleFile → List Task
 visits_in_file m s head f = visits_over (inside_file m f) f.tree.items ++ closing (is_macro_use head.attributes || is_macro_use f.tree.attributes) s.home (length m.modules)
 
--- an item that is written at a site
-abbrev pub visit : Site → KeptItem → Visit
-visit site i = record { site = site; item = i }
+-- ---- what waits
+
+-- a path of a `derive` attribute on the node of a struct, enum or union
+abbrev pub derive_at : Site → AstId → AttrId → AdtId → ℕ → Path → MacroDirective
+derive_at site node attr adt index path = record { site = site; ast_id = node; kind = Derive path attr index adt }
+
+-- its paths, of which the first has this place
+abbrev pub derives_from : Site → AstId → AttrId → AdtId → ℕ → List Path → List MacroDirective
+derives_from site node attr adt index [] = []
+derives_from site node attr adt index (path ∷ paths) = derive_at site node attr adt index path ∷ derives_from site node attr adt (count_of (index + 1)) paths
+
+-- an attribute on the node of an item, which waits
+abbrev pub attribute_at : Site → AstId → AttrId → Path → WaitingItem → MacroDirective
+attribute_at site node attr path k = record { site = site; ast_id = node; kind = Attr path attr k }
+
+-- where an item goes on that waited for an attribute: one level deeper, at most as deep as is counted
+abbrev pub site_behind : Site → Site
+site_behind s = record { home = s.home; tree = s.tree; file = s.file; extern_block = s.extern_block; dir = s.dir; level = count_of (s.level + 1) }
+
+-- that item, the attribute for which it waited done with
+abbrev pub visit_behind : MacroDirective → WaitingItem → KeptItem → Visit
+visit_behind d k i = record { site = site_behind d.site; item = i; done = k.done }
 
 -- ---- the rules
 
@@ -138,14 +169,30 @@ pub data Rule : Type 0 where
   defines_macro : (site : Site) (head : Head) (name : List ℕ) (expander : MacroExpander) (helpers : List (List ℕ)) (rest : List Task) → Rule
   -- the items of a module marked `macro_use` were visited
   closes_module : (parent child : ℕ) (rest : List Task) → Rule
+  -- an attribute of the next item is looked up, and the item waits
+  awaits_attribute : (v : Visit) (a : Attribute) (k : WaitingItem) (rest : List Task) → Rule
+  -- the next item has a `derive`, each of whose paths waits, and goes on behind it
+  lists_derives : (v : Visit) (at : ℕ) (a : Attribute) (adt : AdtId) (paths : List Path) (rest : List Task) → Rule
+  -- the next item has a `derive` that is reported, and goes on behind it
+  faults_derive : (v : Visit) (at : ℕ) (report : DefDiagnostic) (rest : List Task) → Rule
+  -- the next item is a function that exports a macro
+  exports_macro : (site : Site) (head : Head) (name : List ℕ) (d : Declaration) (e : Export) (rest : List Task) → Rule
   -- the next item is a macro call, which waits
   reaches_call : (site : Site) (head : Head) (path : Path) (rest : List Task) → Rule
   -- nothing is left to do but to expand calls, and those that there are may be expanded now
   rests : Rule
-  -- the call at the place reaches a macro: the items to which it expands are visited next
+  -- the call, path of a derive or attribute at the place reaches a macro: the items to which it expands are visited next
   expands_call : (i : ℕ) (d : MacroDirective) (makro : MacroId) (x : Expanding) → Rule
   -- the call at the place is deeper than calls may be, and is dropped
   drops_call : (i : ℕ) (d : MacroDirective) → Rule
+  -- the path of a derive or the attribute at the place reaches a macro, is deeper than calls may be, and is dropped
+  drops_reached : (i : ℕ) (d : MacroDirective) (makro : MacroId) → Rule
+  -- the path of a derive at the place reaches a builtin macro, which stands for an impl
+  derives_builtin : (i : ℕ) (d : MacroDirective) (makro : MacroId) (imp : BuiltinDeriveImplId) → Rule
+  -- the attribute at the place is inert by now, or builtin: its item goes on behind it
+  skips_attribute : (i : ℕ) (d : MacroDirective) (k : WaitingItem) (item : KeptItem) → Rule
+  -- nothing that waits reaches anything: the first attribute that waits is given up, and its item goes on behind it
+  falls_back : (i : ℕ) (d : MacroDirective) (k : WaitingItem) (item : KeptItem) → Rule
   -- an import is taken, or a name goes along a glob
   resolves_imports : (rule : ImportRule) → Rule
 
@@ -158,15 +205,61 @@ pub record IsOff (s : State) (v : Visit) (report : DefDiagnostic) (rest : List T
   pub disabled : (item_head v.item).attributes.disabled ≡ Some condition
   pub reported : IsUnconfigured (module_id s.core.map v.site.home) (node_of v.site.tree (item_kind v.item) (item_head v.item).id) condition s.core.options report
 
--- this is the next item, and it isn't disabled
-pub record IsNext (s : State) (v : Visit) (rest : List Task) : Type 0 where
+-- this is the next item, it isn't disabled, and so many of its attributes are done with
+pub record IsOn (s : State) (v : Visit) (rest : List Task) : Type 0 where
   pub next : s.agenda ≡ visits v ∷ rest
   pub enabled : is_enabled (item_head v.item).attributes ≡ true
 
--- or this is what it declares
+-- an attribute of it is next, at this place
+pub record HasAttribute (s : State) (v : Visit) (at : ℕ) (a : Attribute) (rest : List Task) : Type 0 where
+  pub on : IsOn s v rest
+  pub active : next_attribute s.core.map v.site v.item v.done ≡ Some (at, a)
+
+-- this is the next item, it isn't disabled, and nothing is to be looked up for an attribute of it any more
+pub record IsNext (s : State) (v : Visit) (rest : List Task) : Type 0 where
+  pub done : ℕ
+  pub next : s.agenda ≡ visits (behind v done) ∷ rest
+  pub enabled : is_enabled (item_head v.item).attributes ≡ true
+  pub passed : next_attribute s.core.map v.site v.item done ≡ None
+
+-- its attribute waits, which isn't a `derive`; what is kept of the item is the item
+pub record Awaits (s : State) (v : Visit) (a : Attribute) (k : WaitingItem) (rest : List Task) : Type 0 where
+  pub at : ℕ
+  pub has : HasAttribute s v at a rest
+  pub looked_up : is_derive a ≡ false
+  pub behind_it : k.done ≡ suc at
+  pub kept : item_kept k ≡ Some v.item
+
+-- its attribute is a `derive` on a struct, enum or union, with these paths
+pub record ListsDerives (s : State) (v : Visit) (at : ℕ) (a : Attribute) (adt : AdtId) (paths : List Path) (rest : List Task) : Type 0 where
+  pub has : HasAttribute s v at a rest
+  pub derives : is_derive a ≡ true
+  pub target : adt_of s.core.map v.site v.item ≡ Some adt
+  pub lists : paths_in a.meta.input ≡ Some paths
+
+-- it is one on something else, or one without paths, which is reported
+pub data IsFaulty (s : State) (v : Visit) (a : Attribute) (report : DefDiagnostic) : Type 0 where
+  no_target : adt_of s.core.map v.site v.item ≡ None → report ≡ invalid_target (module_id s.core.map v.site.home) (item_node v.site v.item) (attr_id a) → IsFaulty s v a report
+  no_paths : (adt : AdtId) → adt_of s.core.map v.site v.item ≡ Some adt → paths_in a.meta.input ≡ None
+      → report ≡ malformed_derive (module_id s.core.map v.site.home) (item_node v.site v.item) (attr_id a) → IsFaulty s v a report
+
+pub record FaultsDerive (s : State) (v : Visit) (at : ℕ) (report : DefDiagnostic) (rest : List Task) : Type 0 where
+  pub attribute : Attribute
+  pub has : HasAttribute s v at attribute rest
+  pub derives : is_derive attribute ≡ true
+  pub faulty : IsFaulty s v attribute report
+
+-- or this is what it declares, where it exports no macro
 pub record Declares (finished : Maps) (s : State) (v : Visit) (d : Declaration) (rest : List Task) : Type 0 where
   pub here : IsNext s v rest
   pub declares : declaration_of finished s.core.local s.core.map v ≡ Some d
+  pub exports_none : export_at s.core.is_proc_macro s.core.map v.site v.item ≡ None
+
+-- or it is a function that declares this and exports that
+pub record Exports (finished : Maps) (s : State) (site : Site) (head : Head) (name : List ℕ) (d : Declaration) (e : Export) (rest : List Task) : Type 0 where
+  pub here : IsNext s (visit site (leaf head (function name))) rest
+  pub declares : declaration_of finished s.core.local s.core.map (visit site (leaf head (function name))) ≡ Some d
+  pub exports : export_at s.core.is_proc_macro s.core.map site (leaf head (function name)) ≡ Some e
 
 -- or its file is looked for so
 pub record LooksFor (s : State) (site : Site) (head : Head) (name : List ℕ) (search : Search) (rest : List Task) : Type 0 where
@@ -204,16 +297,60 @@ pub record IsDue (s : State) (i : ℕ) (d : MacroDirective) : Type 0 where
   pub waiting : IsWaiting s i d
   pub settled : i < s.core.settled
 
--- and isn't deeper than calls may be
-pub record Expands (finished : Maps) (s : State) (i : ℕ) (d : MacroDirective) (makro : MacroId) : Type 0 where
+-- it is active, and reaches a macro that has an expansion
+pub record CallsMacro (finished : Maps) (s : State) (i : ℕ) (d : MacroDirective) (makro : MacroId) : Type 0 where
   pub due : IsDue s i d
-  pub shallow : d.site.level < s.core.map.crate_data.recursion_limit
+  pub active : is_inert_now s.core.map d ≡ false
   pub reaches : called_macro finished s.core.local s.core.map d ≡ Some makro
+  pub expands : has_expansion d makro ≡ true
 
--- and is deeper than calls may be
+-- and isn't deeper than calls may be; this is the macro's text
+pub record Expands (finished : Maps) (s : State) (i : ℕ) (d : MacroDirective) (makro : MacroId) (x : Expanding) : Type 0 where
+  pub called : CallsMacro finished s i d makro
+  pub shallow : d.site.level < s.core.map.crate_data.recursion_limit
+  pub text : IsTextOf finished s.core.map makro x.text
+
+-- a call that is too deep
 pub record IsDeep (s : State) (i : ℕ) (d : MacroDirective) : Type 0 where
   pub due : IsDue s i d
+  pub is_call : is_call d ≡ true
   pub deep : s.core.map.crate_data.recursion_limit ≤ d.site.level
+
+-- a path of a derive, or an attribute, that reaches a macro and is too deep
+pub record IsReachedDeep (finished : Maps) (s : State) (i : ℕ) (d : MacroDirective) (makro : MacroId) : Type 0 where
+  pub called : CallsMacro finished s i d makro
+  pub no_call : is_call d ≡ false
+  pub deep : s.core.map.crate_data.recursion_limit ≤ d.site.level
+
+-- a path of a derive that reaches a builtin macro
+pub record DerivesBuiltin (finished : Maps) (s : State) (i : ℕ) (d : MacroDirective) (makro : MacroId) (imp : BuiltinDeriveImplId) : Type 0 where
+  pub due : IsDue s i d
+  pub reaches : called_macro finished s.core.local s.core.map d ≡ Some makro
+  pub builtin : has_expansion d makro ≡ false
+  pub is : builtin_impl makro d.kind ≡ Some imp
+
+-- nothing is to be looked up for an attribute that waited: it is inert by now, or reaches a builtin macro
+pub data IsPassedOver (finished : Maps) (s : State) (d : MacroDirective) : Type 0 where
+  by_helper : is_inert_now s.core.map d ≡ true → IsPassedOver finished s d
+  by_builtin : (makro : MacroId) → called_macro finished s.core.local s.core.map d ≡ Some makro → has_expansion d makro ≡ false → IsPassedOver finished s d
+
+-- the item that waits for the attribute at the place
+pub record IsItemOf (d : MacroDirective) (k : WaitingItem) (item : KeptItem) : Type 0 where
+  pub waits : waiting_item d ≡ Some k
+  pub kept : item_kept k ≡ Some item
+
+pub record Skips (finished : Maps) (s : State) (i : ℕ) (d : MacroDirective) (k : WaitingItem) (item : KeptItem) : Type 0 where
+  pub due : IsDue s i d
+  pub of : IsItemOf d k item
+  pub passed : IsPassedOver finished s d
+
+-- the first attribute that waits, where no import, call, path of a derive or attribute reaches anything
+pub record FallsBack (finished : Maps) (s : State) (i : ℕ) (d : MacroDirective) (k : WaitingItem) (item : KeptItem) : Type 0 where
+  pub waiting : IsWaiting s i d
+  pub of : IsItemOf d k item
+  pub quiet : IsQuiet finished s
+  pub nowhere : (j : ℕ) → LeadsNowhere finished s j
+  pub first : (j : ℕ) (e : MacroDirective) (other : WaitingItem) → IsWaiting s j e → waiting_item e ≡ Some other → i ≤ j
 
 abbrev pub May : Maps → State → Rule → Type 0
 May finished s (drops_item v report rest) = IsOff s v report rest
@@ -231,10 +368,18 @@ May finished s (reaches_crate site head name alias rest) = IsNext s (visit site 
 May finished s (defines_rules site head name expander helpers rest) = IsNext s (visit site (leaf head (macro_rules name expander helpers))) rest
 May finished s (defines_macro site head name expander helpers rest) = IsNext s (visit site (leaf head (macro_def name expander helpers))) rest
 May finished s (closes_module parent child rest) = s.agenda ≡ closes parent child ∷ rest
+May finished s (awaits_attribute v a k rest) = Awaits s v a k rest
+May finished s (lists_derives v at a adt paths rest) = ListsDerives s v at a adt paths rest
+May finished s (faults_derive v at report rest) = FaultsDerive s v at report rest
+May finished s (exports_macro site head name d e rest) = Exports finished s site head name d e rest
 May finished s (reaches_call site head path rest) = IsNext s (visit site (leaf head (macro_call path))) rest
 May finished s rests = IsQuiet finished s
-May finished s (expands_call i d makro x) = Expands finished s i d makro
+May finished s (expands_call i d makro x) = Expands finished s i d makro x
 May finished s (drops_call i d) = IsDeep s i d
+May finished s (drops_reached i d makro) = IsReachedDeep finished s i d makro
+May finished s (derives_builtin i d makro imp) = DerivesBuiltin finished s i d makro imp
+May finished s (skips_attribute i d k item) = Skips finished s i d k item
+May finished s (falls_back i d k item) = FallsBack finished s i d k item
 May finished s (resolves_imports rule) = MayImport finished (import_state s) rule
 
 -- ---- what it reads
@@ -259,10 +404,18 @@ reads s (reaches_crate site head name alias rest) = []
 reads s (defines_rules site head name expander helpers rest) = []
 reads s (defines_macro site head name expander helpers rest) = []
 reads s (closes_module parent child rest) = []
+reads s (awaits_attribute v a k rest) = []
+reads s (lists_derives v at a adt paths rest) = []
+reads s (faults_derive v at report rest) = []
+reads s (exports_macro site head name d e rest) = []
 reads s (reaches_call site head path rest) = []
 reads s rests = []
 reads s (expands_call i d makro x) = text_readings makro x.text ++ expansion_readings s.core.map.id.krate d x
 reads s (drops_call i d) = []
+reads s (drops_reached i d makro) = []
+reads s (derives_builtin i d makro imp) = []
+reads s (skips_attribute i d k item) = []
+reads s (falls_back i d k item) = []
 reads s (resolves_imports rule) = []
 
 -- the numbers of files, expansions and calls that a rule speaks of mean what they are taken for
@@ -282,10 +435,18 @@ Numbered tables s (reaches_crate site head name alias rest) = Unit {0}
 Numbered tables s (defines_rules site head name expander helpers rest) = Unit {0}
 Numbered tables s (defines_macro site head name expander helpers rest) = Unit {0}
 Numbered tables s (closes_module parent child rest) = Unit {0}
+Numbered tables s (awaits_attribute v a k rest) = Unit {0}
+Numbered tables s (lists_derives v at a adt paths rest) = Unit {0}
+Numbered tables s (faults_derive v at report rest) = Unit {0}
+Numbered tables s (exports_macro site head name d e rest) = Unit {0}
 Numbered tables s (reaches_call site head path rest) = Unit {0}
 Numbered tables s rests = Unit {0}
 Numbered tables s (expands_call i d makro x) = IsNumberedCall tables s.core.map.id.krate d makro x
 Numbered tables s (drops_call i d) = Unit {0}
+Numbered tables s (drops_reached i d makro) = Unit {0}
+Numbered tables s (derives_builtin i d makro imp) = Unit {0}
+Numbered tables s (skips_attribute i d k item) = Unit {0}
+Numbered tables s (falls_back i d k item) = Unit {0}
 Numbered tables s (resolves_imports rule) = Unit {0}
 
 -- ---- what it changes
@@ -312,6 +473,18 @@ call_at site head path = record { site = site; ast_id = node_of site.tree nodes.
 abbrev pub failing : ModuleId → MacroDirective → Option (List ℕ) → List Change
 failing at d None = []
 failing at d (Some error) = tells (failed_call at d.ast_id (path_of_call d) error) ∷ []
+
+-- the changes that bring helpers into scope on the node of a derive
+abbrev pub bringing : AstId → List DeriveHelper → List Change
+bringing node helpers = list_map (helps node) helpers
+
+-- what is kept of a macro that an item defines
+abbrev pub macro_data_of : List ℕ → List (List ℕ) → MacroDataValue
+macro_data_of name helpers = record { name = name; helpers = helpers }
+
+-- a function of a site that exports a macro
+abbrev pub exported_function : Map → Site → Head → List ℕ → ExportedFunction
+exported_function m site head name = record { name = name; id = function_id m site head.id }
 
 abbrev pub acts : Maps → State → Rule → List Change
 acts finished s (drops_item v report rest) = goes_on rest ∷ tells report ∷ []
@@ -342,18 +515,32 @@ acts finished s (reaches_crate site head name alias rest) =
 acts finished s (defines_rules site head name expander helpers rest) =
     let makro : MacroId = macro_rules_id s.core.map site head.id expander in
     let node : AstId = node_of site.tree nodes.MacroRules head.id in
-    goes_on rest ∷ defines node makro ∷ adds_textual site.home name makro ∷ exporting head name makro ++ reporting (module_id s.core.map site.home) node expander
+    goes_on rest ∷ defines node makro ∷ describes makro (macro_data_of name helpers) ∷ adds_textual site.home name makro ∷ exporting head name makro ++ reporting (module_id s.core.map site.home) node expander
 acts finished s (defines_macro site head name expander helpers rest) =
     let makro : MacroId = macro_def_id s.core.map site head.id expander in
     let node : AstId = node_of site.tree nodes.MacroDef head.id in
-    goes_on rest ∷ defines node makro
+    goes_on rest ∷ defines node makro ∷ describes makro (macro_data_of name helpers)
     ∷ declaring site.home (macro_declaration name makro (own_visibility finished s.core.local s.core.map site head)) ++ reporting (module_id s.core.map site.home) node expander
 acts finished s (closes_module parent child rest) = goes_on rest ∷ takes_textual parent child ∷ []
+acts finished s (awaits_attribute v a k rest) = goes_on rest ∷ awaits (attribute_at v.site (item_node v.site v.item) (attr_id a) a.meta.path k ∷ []) ∷ []
+acts finished s (lists_derives v at a adt paths rest) = goes_on (visits (behind v (suc at)) ∷ rest) ∷ awaits (derives_from v.site (item_node v.site v.item) (attr_id a) adt 0 paths) ∷ []
+acts finished s (faults_derive v at report rest) = goes_on (visits (behind v (suc at)) ∷ rest) ∷ tells report ∷ []
+acts finished s (exports_macro site head name d e rest) =
+    let makro = proc_macro_id s.core.map site head.id e.style in
+    goes_on rest ∷ exports (exported_function s.core.map site head name) makro ∷ describes (ProcMacroId makro) e.what
+    ∷ declaring site.home d ++ declaring site.home (macro_declaration e.what.name (ProcMacroId makro) visibilities.Public)
 acts finished s (reaches_call site head path rest) = goes_on rest ∷ awaits (call_at site head path ∷ []) ∷ []
 acts finished s rests = settles ∷ []
 acts finished s (expands_call i d makro x) =
-    ends i Handled ∷ goes_on (visits_over (call_site d x.id) x.tree.tree.items) ∷ failing (module_id s.core.map d.site.home) d (error_of x.there)
+    ends i Handled ∷ goes_on (visits_over (call_site d x.id) x.tree.tree.items)
+    ∷ bringing d.ast_id (helpers_brought finished s.core.map d makro (Some (either.Left x.id))) ++ failing (module_id s.core.map d.site.home) d (error_of x.there)
 acts finished s (drops_call i d) = ends i Handled ∷ []
+acts finished s (drops_reached i d makro) = ends i Handled ∷ bringing d.ast_id (helpers_brought finished s.core.map d makro None)
+acts finished s (derives_builtin i d makro imp) =
+    ends i Handled ∷ lists_derive d.site.home imp ∷ bringing d.ast_id (helpers_brought finished s.core.map d makro (Some (either.Right imp)))
+acts finished s (skips_attribute i d k item) = ends i Handled ∷ goes_on (visits (visit_behind d k item) ∷ []) ∷ []
+acts finished s (falls_back i d k item) =
+    ends i GivenUp ∷ tells (call_report s.core.map.id d) ∷ goes_on (visits (visit_behind d k item) ∷ []) ∷ []
 acts finished s (resolves_imports rule) = list_map changes_imports (import_acts finished (import_state s) rule)
 
 -- ---- the same for all rules

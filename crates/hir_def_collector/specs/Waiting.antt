@@ -14,7 +14,7 @@ use Rattle.hir_call_queue.specs.Changes.{IsThere, IsUntouched}
 use Rattle.hir_call_queue.specs.Waking.{is_apart, watchers_of, worklist_of}
 use Rattle.hir_call_queue.specs.declared.queue.CallQueue.{CallQueue}
 use Rattle.hir_def_collector.specs.declared.collector.macro_directive.MacroDirective.{MacroDirective}
-use Rattle.hir_def_collector.specs.Calls.{IsWaiting, by_call, called_macro, path_of_call}
+use Rattle.hir_def_collector.specs.Calls.{IsWaiting, by_style, called_macro, is_call, is_inert_now, path_of_call, style_of}
 use Rattle.hir_def_collector.specs.State.{Core, Run, at_rest, core_in}
 
 -- ---- what may have changed
@@ -28,19 +28,20 @@ pub record KeepsModules (old new : Map) : Type 0 where
   pub parents : (at : ℕ) (m : ModuleValue) → module_at old at ≡ Some m → parent_at new at ≡ m.parent
   pub count : length old.modules ≤ length new.modules
 
--- what has changed of a run is noted: any other slot of a module that was there stands for what it stood for
+-- what has changed of a run is noted: any other slot of a module that was there stands for what it stood for, and helpers are noted by everything
 pub record IsNoted (old new : Run) : Type 0 where
   -- what was noted is noted still
   pub some : new.changed.all ≡ false → old.changed.all ≡ false
   pub noted : (slot : PathSlot) → IsUntouched new.changed slot → IsUntouched old.changed slot
   pub keeps : new.changed.all ≡ false → KeepsModules old.map new.map
   pub others : (slot : PathSlot) → IsUntouched new.changed slot → IsThere (length old.map.modules) slot → AgreeAt old.map old.local new.map new.local slot
+  pub helpers : new.changed.all ≡ false → new.map.derive_helpers ≡ old.map.derive_helpers
 
 -- ---- what waits
 
--- the slots that the path of a call reads
+-- the slots that the path of a call, of a derive or of an attribute reads
 abbrev pub call_reads : Maps → Local → Map → MacroDirective → List PathSlot
-call_reads finished local m d = reads finished (by_call local) m (numbered m.id d.site.home) (path_of_call d)
+call_reads finished local m d = reads finished (by_style (style_of d.kind) local) m (numbered m.id d.site.home) (path_of_call d)
 
 -- a call once reached no macro, and read these slots, of modules that were there; each stands for what it stood for then
 pub record StandsStill (finished : Maps) (c : Core) (d : MacroDirective) (seen : List PathSlot) : Type 0 where
@@ -54,13 +55,14 @@ pub record StandsStill (finished : Maps) (c : Core) (d : MacroDirective) (seen :
   pub keeps : KeepsModules map c.map
   pub agree : All (AgreeAt map local c.map c.local) seen
 
--- a queue is up to date with where a run stands: a call that isn't queued isn't too deep and reaches no macro, and watches what it has seen; one that is being tried aside
+-- a queue is up to date with where a run stands: what isn't queued is no call that is too deep, reaches no macro, isn't inert, and watches what it has seen; one that is being tried aside
 pub record IsUpToDate (finished : Maps) (q : CallQueue) (c : Core) (tried : Option ℕ) : Type 0 where
   pub seen : ℕ → List PathSlot
   pub watched : is_apart q ≡ true → AreWatched slot_cmp seen tried (worklist_of q) (watchers_of q)
   pub stands : is_apart q ≡ true → (p : ℕ) (d : MacroDirective) → IsIdle (worklist_of q) p → tried ≢ Some p → IsWaiting (at_rest c) p d → StandsStill finished c d (seen p)
-  pub shallow : (p : ℕ) (d : MacroDirective) → IsIdle (worklist_of q) p → tried ≢ Some p → IsWaiting (at_rest c) p d → d.site.level < c.map.crate_data.recursion_limit
+  pub shallow : (p : ℕ) (d : MacroDirective) → IsIdle (worklist_of q) p → tried ≢ Some p → IsWaiting (at_rest c) p d → is_call d ≡ true → d.site.level < c.map.crate_data.recursion_limit
   pub nowhere : (p : ℕ) (d : MacroDirective) → IsIdle (worklist_of q) p → tried ≢ Some p → IsWaiting (at_rest c) p d → called_macro finished c.local c.map d ≡ None
+  pub active : (p : ℕ) (d : MacroDirective) → IsIdle (worklist_of q) p → tried ≢ Some p → IsWaiting (at_rest c) p d → is_inert_now c.map d ≡ false
   -- it has calls of the run, and none is finished
   pub unfinished : (p : ℕ) → p < count_of (worklist_of q) → is_unfinished (worklist_of q) p ≡ true
   pub count : count_of (worklist_of q) ≤ length c.calls

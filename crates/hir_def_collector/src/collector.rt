@@ -11,15 +11,25 @@
 //! a module goes along all edges out of it at once. And an import is tried again when something is bound that its path has
 //! read. So a path can come to reach more, or something else: the import is then bound again, and a glob gets another edge.
 //!
-//! A macro call waits, in the order in which calls were found, until its path reaches a macro. Once imports rest those are
-//! tried, one after another, that are new or have read something that has changed since they were tried
-//! (`hir_call_queue`): the call that reaches a macro asks for the macro's text and its own input, and with them for its
-//! expansion, whose items are handled as those of a file are, in the module of the call. Then imports are taken up again,
-//! and so on, round by round, until a round handles no call, or more than `ROUND_LIMIT` have.
+//! An item is handled once its attributes are done with. An attribute that is builtin and inert, a tool's, or a helper that a
+//! derive brought into scope is passed. A `derive` lists paths, each of which waits for a macro; the item goes on. For any
+//! other attribute the item waits.
 //!
-//! When no import waits, none would bind anything, no name is left to go along an edge, and no call that waits reaches a
-//! macro, a run ends. That isn't told by these loops but by the rules in `specs/Steps`: each function below makes one step
-//! by a rule, and the whole is a derivation at whose end this holds (`specs/Derivation`), unless rounds were cut off.
+//! A macro call waits, as do paths of derives and attributes, in the order in which they were found, until the path reaches a
+//! macro. Once imports rest those are tried, one after another, that are new or have read something that has changed since
+//! they were tried (`hir_call_queue`): where one reaches a macro, that macro's text and the input of the call or the item are
+//! asked for, and with them the expansion, whose items are handled as those of a file are, in the module of the call; those
+//! of an attribute come in place of its item. A builtin derive stands for an impl instead, and the item of a builtin
+//! attribute goes on behind it. Then imports are taken up again, and so on, round by round, until a round handles nothing.
+//! Then the first attribute that waits is given up, and its item goes on behind it. More rounds than `ROUND_LIMIT` end a run.
+//!
+//! When no import waits, none would bind anything, no name is left to go along an edge, nothing that waits reaches a macro,
+//! and no attribute waits, a run ends. That isn't told by these loops but by the rules in `specs/Steps`: each function below
+//! makes one step by a rule, and the whole is a derivation at whose end this holds (`specs/Derivation`), unless rounds were
+//! cut off.
+//!
+//! In the root of a procedural-macro crate functions export macros by their attributes. At the end other crates see those
+//! macros there, and nothing else.
 ghost use Rattle.std.specs.Prelude.{◌≡◌, ◌<◌, IfOk, IsSome, None, OnOk, false, length, option_map, unwrap_or, []};
 ghost use Rattle.hir_item_tree.specs.Collected.{is_enabled};
 ghost use Rattle.hir_tables.specs.Tables.{KeepsTables, source_of};
@@ -28,22 +38,25 @@ ghost use Rattle.hir_def_map.specs.Overlay.{Maps};
 ghost use Rattle.hir_def_map.specs.World.{finished_in};
 ghost use Rattle.hir_def_collector.specs.Workspace.{Workspace, config_view, dependencies_of, options_of};
 ghost use Rattle.hir_def_collector.specs.Keys.{AgreeOn, Environment, environment};
-ghost use Rattle.hir_def_collector.specs.Start.{began, beginning, core_of, edition_of, krate_of, origin_of, root_site, tree_visits};
+ghost use Rattle.hir_def_collector.specs.Start.{began, beginning, core_of, edition_of, is_proc_macro_by, krate_of, origin_of, root_site, tree_visits};
 ghost use Rattle.hir_def_collector.specs.CallMoves.{ComesToRest, IsReady};
 ghost use Rattle.hir_def_collector.specs.Calls.{AreCallsPlaced};
 ghost use Rattle.hir_def_collector.specs.State.{at_rest, core_in, joined};
 ghost use Rattle.hir_def_collector.specs.Steps.{Steps};
 ghost use Rattle.hir_def_collector.specs.Derivation.{Ends, IsOverlong, IsSpent, collected_view};
-ghost use Rattle.hir_def_collector.specs.Moves.{IsHeld, OnceGrown};
+ghost use Rattle.hir_def_collector.specs.Moves.{OnceGrown};
 
+pub mod attributes;
 pub mod calls;
 pub mod collected;
 mod crate_attrs;
 pub mod declaration;
 mod declare;
 mod def_collector;
+mod derives;
 mod diagnostics;
 mod enums;
+pub mod exports;
 mod imports;
 mod known_name;
 mod leftovers;
@@ -53,11 +66,12 @@ mod macros;
 pub mod mod_collector;
 pub mod mod_resolution;
 mod preludes;
+mod resume;
 pub mod site;
 mod sources;
 mod textual;
 
-use crate::source_database::{Config, Dependency, SourceDatabase};
+use crate::source_database::{Config, CrateRoot, Dependency, SourceDatabase};
 use calls::resolve_rounds;
 use collected::Collected;
 use crate_attrs::top_data;
@@ -227,6 +241,16 @@ pub fn collect_defs<D: SourceDatabase>(
     Ok(run.finish(round_limit_met, transitive)?)
 }
 
+/// Whether a crate is a procedural macro's; one that isn't there is none.
+fn is_proc_macro(krate: Option<&CrateRoot>) -> bool
+    ensures value { result ≡ is_proc_macro_by (option_map (λ c. c.now) krate.entry) }
+{
+    match krate {
+        Some(krate) => krate.is_proc_macro,
+        None => false,
+    }
+}
+
 /// What a crate depends on; nothing where it isn't there.
 fn dependencies_of(config: Option<&Config>) -> &[Dependency]
     ensures value { result.now ≡ dependencies_of (option_map (λ c. config_view c.now) config.entry) }
@@ -276,13 +300,14 @@ fn fresh(
     alloc: Global,
     world: WorldPart<'_>,
     tree: &ItemTree,
+    is_proc_macro: bool,
     config: Option<&Config>,
     transitive: &Rc<CrateSet>,
     start: Start,
     id: TreeId,
 ) -> Result<DefCollector, AllocError>
     ensures value { IfOk result (λ run. core_in run
-        ≡ core_of (part_of world.entry) tree.now (option_map (λ c. config_view c.now) config.entry) transitive.now.value start id) }
+        ≡ core_of (part_of world.entry) tree.now is_proc_macro (option_map (λ c. config_view c.now) config.entry) transitive.now.value start id) }
 {
     let data = top_data(
         alloc,
@@ -294,7 +319,17 @@ fn fresh(
     let local = extern_prelude(alloc, &data, dependencies)?;
     let copies = cloned(alloc, dependencies)?;
     let options = options_of(alloc, config)?;
-    DefCollector::start(alloc, world, data, local, copies, options, start, id)
+    DefCollector::start(
+        alloc,
+        world,
+        data,
+        local,
+        copies,
+        options,
+        is_proc_macro,
+        start,
+        id,
+    )
 }
 
 /// The root module with what all modules find, and with all items handled to which its tree leads; calls wait.
@@ -322,7 +357,17 @@ fn begin<D: SourceDatabase>(
     let krate = start.krate();
     let source = source_at(alloc, db, locations, TreeKey { krate, id })?;
     let tree = source.tree();
-    let mut run = fresh(alloc, world, tree, db.config(krate), transitive, start, id)?;
+    let is_proc_macro = is_proc_macro(db.krate(krate));
+    let mut run = fresh(
+        alloc,
+        world,
+        tree,
+        is_proc_macro,
+        db.config(krate),
+        transitive,
+        start,
+        id,
+    )?;
     if locations.source_of(id).is_none() {
         return Ok(run);
     }
@@ -343,18 +388,18 @@ fn walk_root<D: SourceDatabase>(
     db: &mut D,
     world: WorldPart<'_>,
     locations: &mut Tables,
-    source: &SourceTree,
+    source: &Rc<SourceTree>,
     id: TreeId,
 ) -> Result<(), CollectError>
     requires in_range { 0 < length (core_in run.old).map.modules }
-    requires held { IsHeld locations.old (D.workspace db.old) (core_in run.old).map.id.krate id source.now }
+    requires meant { IsSome (source_of locations.old id) }
     ensures kept { KeepsTables locations.old locations.new }
     ensures placed { AreCallsPlaced locations.old → AreCallsPlaced locations.new }
     ensures same { D.workspace db.new ≡ D.workspace db.old }
     ensures ok { OnOk result (OnceGrown locations.new (D.workspace db.old) (λ env. Steps env (part_of world.entry)
-        (joined (core_in run.old) (tree_visits (root_site id) source.now.tree)) (at_rest (core_in run.new)))) }
+        (joined (core_in run.old) (tree_visits (root_site id) source.now.value.tree)) (at_rest (core_in run.new)))) }
     ensures many { result ≡ Err CollectError.TooMany → IsSpent (environment locations.new (D.workspace db.old)) (part_of world.entry)
-        (joined (core_in run.old) (tree_visits (root_site id) source.now.tree)) }
+        (joined (core_in run.old) (tree_visits (root_site id) source.now.value.tree)) }
 {
     if !is_enabled_at_top(source.tree()) {
         return Ok(());

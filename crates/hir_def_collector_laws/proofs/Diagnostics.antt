@@ -23,14 +23,14 @@ use Rattle.hir_def_collector.specs.declared.collector.macro_directive.Fate.{Fate
 use Rattle.hir_def_collector.specs.declared.collector.macro_directive.Fate.TheVariants as fates
 use Rattle.hir_def_collector.specs.declared.collector.macro_directive.MacroDirective.{MacroDirective}
 use Rattle.hir_def_collector.specs.Calls.{error_of, path_of_call}
-use Rattle.hir_def_collector.specs.Changes.{Change, lists, makes, gives_variants, begins_paths, reaches, awaits, ends, settles, changes_imports, adds_textual, takes_textual, defines, uses_macros, tells, goes_on, act}
+use Rattle.hir_def_collector.specs.Changes.{Change, lists, makes, gives_variants, begins_paths, reaches, awaits, ends, settles, changes_imports, adds_textual, takes_textual, defines, describes, helps, lists_derive, exports, uses_macros, tells, goes_on, act}
 use Rattle.hir_def_collector.specs.Derivation.{CollectedValue, Ends}
 use Rattle.hir_def_collector.specs.ItemIds.{module_id, node_of}
 use Rattle.hir_def_collector.specs.Keys.{environment}
 use Rattle.hir_def_collector.specs.Reports.{begins_with, call_report, crates_among, failed_call, leftover_diagnostics, report_by, reports_of, unimplemented_macro, unresolved_among, unresolved_calls}
 use Rattle.hir_def_collector.specs.Start.{Beginning, begin_of, krate_of, read_by}
 use Rattle.hir_def_collector.specs.State.{State, Task, Visit, visits, import_state}
-use Rattle.hir_def_collector.specs.Steps.{Rule, drops_item, reaches_call, rests, expands_call, drops_call, defines_rules, defines_macro, closes_module, declares_item, declares_enum, lists_constant, lists_impl, opens_module, opens_file, drops_file, misses_file, enters_block, reaches_imports, reaches_crate, resolves_imports, May, Steps, acts, asking, call_at, more, none, visit}
+use Rattle.hir_def_collector.specs.Steps.{Rule, drops_item, awaits_attribute, lists_derives, faults_derive, exports_macro, reaches_call, rests, expands_call, drops_call, drops_reached, derives_builtin, skips_attribute, falls_back, defines_rules, defines_macro, closes_module, declares_item, declares_enum, lists_constant, lists_impl, opens_module, opens_file, drops_file, misses_file, enters_block, reaches_imports, reaches_crate, resolves_imports, May, Steps, acts, asking, call_at, more, none, visit}
 use Rattle.hir_def_collector.specs.Workspace.{Workspace}
 use Rattle.hir_def_collector.proofs.Asks.{only, still_asked-Step}
 use Rattle.hir_def_collector.proofs.Changes.{AllFine, all_fine, fine_failing, fine_macro, fine_reporting, perform_keeps}

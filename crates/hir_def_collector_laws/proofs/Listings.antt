@@ -18,7 +18,7 @@ use Rattle.hir_def_map.proofs.StaysWellFormed.{length-made}
 use Rattle.hir_import_resolution.specs.Changes.{Change as ImportChange, pushes}
 use Rattle.hir_def_collector.specs.declared.collector.macro_directive.MacroDirective.{MacroDirective}
 use Rattle.hir_def_collector.specs.Causes.{declarations_of}
-use Rattle.hir_def_collector.specs.Changes.{Change, lists, makes, gives_variants, begins_paths, reaches, awaits, ends, settles, changes_imports, adds_textual, takes_textual, defines, uses_macros, tells, goes_on, act, perform}
+use Rattle.hir_def_collector.specs.Changes.{Change, lists, makes, gives_variants, begins_paths, reaches, awaits, ends, settles, changes_imports, adds_textual, takes_textual, defines, describes, helps, lists_derive, exports, uses_macros, tells, goes_on, act, perform}
 use Rattle.hir_def_collector.specs.ItemIds.{module_id}
 use Rattle.hir_def_collector.specs.Macros.{is_exported}
 use Rattle.hir_def_collector.specs.Reports.{is_unimplemented, unimplemented_macro}

@@ -9,11 +9,11 @@ use Rattle.hir_import_resolution.specs.Rules.{acts as import_acts}
 use Rattle.hir_def_collector.specs.declared.collector.macro_directive.MacroDirective.{MacroDirective}
 use Rattle.hir_def_collector.specs.declared.collector.site.Site.{Site}
 use Rattle.hir_def_collector.specs.Calls.{call_site, error_of}
-use Rattle.hir_def_collector.specs.Changes.{Change, lists, makes, gives_variants, begins_paths, reaches, awaits, ends, settles, changes_imports, adds_textual, takes_textual, defines, uses_macros, tells, goes_on, act}
+use Rattle.hir_def_collector.specs.Changes.{Change, lists, makes, gives_variants, begins_paths, reaches, awaits, ends, settles, changes_imports, adds_textual, takes_textual, defines, describes, helps, lists_derive, exports, uses_macros, tells, goes_on, act}
 use Rattle.hir_def_collector.specs.Keys.{Environment}
 use Rattle.hir_def_collector.specs.Macros.{is_macro_use}
 use Rattle.hir_def_collector.specs.State.{State, Task, Visit, visits, closes, import_state, visits_over}
-use Rattle.hir_def_collector.specs.Steps.{Rule, drops_item, reaches_call, rests, expands_call, drops_call, defines_rules, defines_macro, closes_module, closing, declares_item, declares_enum, lists_constant, lists_impl, opens_module, opens_file, drops_file, misses_file, enters_block, reaches_imports, reaches_crate, resolves_imports, May, Step, acts, asking, inside_block, inside_file, inside_module, path_of, visits_inside}
+use Rattle.hir_def_collector.specs.Steps.{Rule, drops_item, awaits_attribute, lists_derives, faults_derive, exports_macro, reaches_call, rests, expands_call, drops_call, drops_reached, derives_builtin, skips_attribute, falls_back, defines_rules, defines_macro, closes_module, closing, declares_item, declares_enum, lists_constant, lists_impl, opens_module, opens_file, drops_file, misses_file, enters_block, reaches_imports, reaches_crate, resolves_imports, May, Step, acts, asking, inside_block, inside_file, inside_module, path_of, visits_inside}
 use Rattle.hir_def_collector.proofs.Changes.{AllFine, all_fine, fine_failing, fine_macro, fine_reporting, perform_keeps}
 use Rattle.hir_def_collector.proofs.InRange.{CallsBelow, VisitsBelow}
 use Rattle.hir_def_collector_laws.specs.Declares.{HasNoCall, HaveNoCall}

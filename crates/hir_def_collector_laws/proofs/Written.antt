@@ -34,7 +34,7 @@ use Rattle.hir_def_collector.specs.declared.source_database.Dependency.{Dependen
 use Rattle.hir_def_collector.specs.declared.source_database.Key.{Key}
 use Rattle.hir_def_collector.specs.declared.source_database.Key.TheVariants as keys
 use Rattle.hir_def_collector.specs.Calls.{Expanding, call_key, call_site, call_tree, error_of, expansion_readings, text_readings}
-use Rattle.hir_def_collector.specs.Changes.{Change, lists, makes, gives_variants, begins_paths, reaches, awaits, ends, settles, changes_imports, adds_textual, takes_textual, defines, uses_macros, tells, goes_on, act}
+use Rattle.hir_def_collector.specs.Changes.{Change, lists, makes, gives_variants, begins_paths, reaches, awaits, ends, settles, changes_imports, adds_textual, takes_textual, defines, describes, helps, lists_derive, exports, uses_macros, tells, goes_on, act}
 use Rattle.hir_def_collector.specs.Derivation.{CollectedValue}
 use Rattle.hir_def_collector.specs.Imports.{crate_import, crate_named, reached_import}
 use Rattle.hir_def_collector.specs.Keys.{environment, tree_at}
@@ -42,7 +42,7 @@ use Rattle.hir_def_collector.specs.Macros.{is_macro_use}
 use Rattle.hir_def_collector.specs.ModuleFiles.{ModuleFile, Search, file_key, file_tree}
 use Rattle.hir_def_collector.specs.Start.{Beginning, krate_of, root_key, root_site, root_tree, start_of, tree_visits}
 use Rattle.hir_def_collector.specs.State.{State, Task, Visit, visits, closes, import_state, visits_over}
-use Rattle.hir_def_collector.specs.Steps.{Rule, drops_item, reaches_call, rests, expands_call, drops_call, defines_rules, defines_macro, closes_module, closing, declares_item, declares_enum, lists_constant, lists_impl, opens_module, opens_file, drops_file, misses_file, enters_block, reaches_imports, reaches_crate, resolves_imports, May, Opens, Sees, Step, Steps, acts, asking, inside_block, inside_file, inside_module, keys_read, more, none, path_of, reads, search_readings, visits_in_file, visits_inside}
+use Rattle.hir_def_collector.specs.Steps.{Rule, drops_item, awaits_attribute, lists_derives, faults_derive, exports_macro, reaches_call, rests, expands_call, drops_call, drops_reached, derives_builtin, skips_attribute, falls_back, defines_rules, defines_macro, closes_module, closing, declares_item, declares_enum, lists_constant, lists_impl, opens_module, opens_file, drops_file, misses_file, enters_block, reaches_imports, reaches_crate, resolves_imports, May, Opens, Sees, Step, Steps, acts, asking, inside_block, inside_file, inside_module, keys_read, more, none, path_of, reads, search_readings, visits_in_file, visits_inside}
 use Rattle.hir_def_collector.specs.Workspace.{TreeLook, Workspace, dependencies_in}
 use Rattle.hir_def_collector.proofs.Asks.{only, still_asked-Step}
 use Rattle.hir_def_collector.proofs.Changes.{AllFine, Keeps, Keeps-act, asked-Step, fine_failing, fine_macro, fine_reporting, perform_keeps}

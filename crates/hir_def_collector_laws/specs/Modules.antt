@@ -13,7 +13,7 @@ use Rattle.hir_def_map.specs.Overlay.{Maps}
 use Rattle.hir_def_map.specs.State.{ModuleValue, module_at}
 use Rattle.hir_def_map.specs.declared.nameres.origin.ModuleOrigin.{ModuleOrigin}
 use Rattle.hir_def_map.specs.declared.nameres.origin.ModuleOrigin.TheVariants as origins
-use Rattle.hir_def_collector.specs.declared.collector.macro_directive.Fate.TheVariants.{Handled}
+use Rattle.hir_def_collector.specs.declared.collector.macro_directive.Fate.TheVariants.{GivenUp, Handled}
 use Rattle.hir_def_collector.specs.declared.collector.macro_directive.MacroDirective.{MacroDirective}
 use Rattle.hir_def_collector.specs.declared.collector.site.Site.{Site}
 use Rattle.hir_def_collector.specs.declared.source_database.Key.TheVariants.{Tree}
@@ -54,9 +54,9 @@ pub data HasItems (tables : TablesValue) (w : Workspace) (finished : Maps) (from
       → origin ≡ inline_origin s.tree head.id → is_enabled head.attributes ≡ true
       → IsWritten tables w answer.asked (key_of answer s.tree) (leaf head (outline_module name)) → HasItems tables w finished from answer origin s no_items
 
--- a module lists the definitions that its items declare, in the order of the items, and behind them what expansions of calls
--- in it declare
-pub record ListsItsItems (tables : TablesValue) (w : Workspace) (finished : Maps) (from : Beginning) (answer : CollectedValue) (more : ℕ → List ModuleDefId) (number : ℕ) : Type 0 where
+-- a module lists the definitions that its items declare, in the order of the items, and behind them what expansions of calls in it declare, and items that had
+-- waited
+pub record ListsItsItems (tables : TablesValue) (w : Workspace) (finished : Maps) (from : Beginning) (answer : CollectedValue) (last : Core) (more : ℕ → List ModuleDefId) (number : ℕ) : Type 0 where
   pub value : ModuleValue
   pub there : module_at answer.map number ≡ Some value
   -- where its items are written, and what they are
@@ -65,22 +65,24 @@ pub record ListsItsItems (tables : TablesValue) (w : Workspace) (finished : Maps
   pub alone : site.extern_block ≡ None
   pub items : KeptForest
   pub has : HasItems tables w finished from answer value.origin site items
-  pub lists : ListsFirst answer.map more number items (λ own. Declares tables w finished answer more items site own)
+  pub lists : ListsFirst answer.map more number items (λ own. Declares tables w finished answer last more items site own)
 
--- the calls that a run expanded, one after another, and what modules list
+-- the calls, derives and attributes that a run expanded, and the items that went on, one after another, and what modules list
 pub record ListsAll (tables : TablesValue) (w : Workspace) (finished : Maps) (from : Beginning) (answer : CollectedValue) (last : Core) : Type 0 where
   pub expansions : List Expansion
-  pub each : (e : Expansion) → Contains expansions e → IsExpansion tables w finished answer (expanded_in expansions) e
-  -- each call that doesn't wait any more was expanded, unless it was too deep
-  pub done : (i : ℕ) (d : MacroDirective) → slice_get last.calls i ≡ Some d → slice_get last.fates i ≡ Some Handled → IsDone answer.map.crate_data.recursion_limit expansions d
-  pub modules : (number : ℕ) → number < length answer.map.modules → ListsItsItems tables w finished from answer (expanded_in expansions) number
+  pub each : (e : Expansion) → Contains expansions e → IsExpansion tables w finished answer last (expanded_in expansions) e
+  -- each that was handled is among them, unless it was too deep or builtin
+  pub done : (i : ℕ) (d : MacroDirective) → slice_get last.calls i ≡ Some d → slice_get last.fates i ≡ Some Handled → IsDone answer.map expansions d
+  -- and so is each attribute that was given up
+  pub given_up : (i : ℕ) (d : MacroDirective) → slice_get last.calls i ≡ Some d → slice_get last.fates i ≡ Some GivenUp → (e : Expansion) × Contains expansions e × (e.call ≡ d)
+  pub modules : (number : ℕ) → number < length answer.map.modules → ListsItsItems tables w finished from answer last (expanded_in expansions) number
 
 -- so a definition is listed exactly where an enabled item of a tree that was asked for writes it
 abbrev pub ModulesListTheirItems : Type 0
 ModulesListTheirItems = (tables : TablesValue) (w : Workspace) (finished : Maps) (from : Beginning) (answer : CollectedValue) → (ends : Ends tables w finished from answer)
     → ListsAll tables w (read_by w finished from.start) from answer ends.last.core
 
--- where no call is written, nothing comes behind that
+-- where nothing is written that waits, nothing comes behind that
 abbrev pub ModulesListTheirItemsAlone : Type 0
-ModulesListTheirItemsAlone = (tables : TablesValue) (w : Workspace) (finished : Maps) (from : Beginning) (answer : CollectedValue) → Ends tables w finished from answer → NoCallIsWritten tables w answer
-    → (number : ℕ) → number < length answer.map.modules → ListsItsItems tables w (read_by w finished from.start) from answer (expanded_in []) number
+ModulesListTheirItemsAlone = (tables : TablesValue) (w : Workspace) (finished : Maps) (from : Beginning) (answer : CollectedValue) → (ends : Ends tables w finished from answer) → NoCallIsWritten tables w answer
+    → (number : ℕ) → number < length answer.map.modules → ListsItsItems tables w (read_by w finished from.start) from answer ends.last.core (expanded_in []) number

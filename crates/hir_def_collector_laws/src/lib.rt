@@ -29,15 +29,17 @@ pub fn globs_bring_what_is_shown()
 {}
 
 /// Each macro call that a run came upon is an enabled item, in a tree that the run asked for, and stands in a module of the
-/// run's map.
+/// run's map. So does each path of a derive, which a `derive` on a struct, enum or union lists at its place, and each
+/// attribute for which its item waited.
 pub fn calls_are_written()
     ensures calls { CallsAreWritten }
 {}
 
 /// A module lists, in their order, the definitions that its enabled items declare: those of its file, or inside the `mod`
 /// item that declares it. Behind them come, in the order in which calls in the module were expanded, the definitions that the
-/// items declare to which they expand; each call that a run came upon waits in the end, was expanded, or was too deep. Where
-/// no call is written, a module lists what its items declare alone.
+/// items declare to which they expand, and in the same order those of items that had waited for an attribute. What a run came
+/// upon waits in the end, was expanded, went on, was too deep, or is a builtin derive whose impl the module lists. Where
+/// nothing is written that waits, a module lists what its items declare alone.
 pub fn modules_list_their_items()
     ensures modules { ModulesListTheirItems }
     ensures alone { ModulesListTheirItemsAlone }

@@ -37,7 +37,7 @@ use Rattle.hir_def_map.specs.contracts.nameres.enum_variants.EnumVariantPartialE
 use Rattle.hir_def_map.specs.contracts.nameres.enum_variants.EnumVariantEq.TheImpl.Laws.{laws-law as enum_variant_laws}
 use Rattle.hir_def_map.specs.contracts.nameres.origin.ModuleOriginPartialEq.TheImpl as origin
 use Rattle.hir_def_map.specs.contracts.nameres.origin.ModuleOriginEq.TheImpl.Laws.{laws-law as origin_laws}
-use Rattle.hir_def_map.specs.Inner.MacroEquality.{same_diagnostics, same_diagnostics_equiv, same_helpers, same_helpers_equiv}
+use Rattle.hir_def_map.specs.Inner.MacroEquality.{same_diagnostics, same_diagnostics_equiv, same_helpers, same_helpers_equiv, same_macro_data, same_macro_data_equiv}
 use Rattle.hir_def_map.specs.State.{CrateData, Local, Map, Modules, ModuleValue, Variants}
 
 -- a test of two values
@@ -115,12 +115,13 @@ same_prelude = option_eq (same_pair module_id.ghosts.eq (option_eq use_id.ghosts
 abbrev pub same_preludes : Test Map
 same_preludes = eq_of_both same_macro_use (on (λ (m : Map). m.prelude) same_prelude)
 
--- whether two maps have the same macros, by item and by function, and the same derive helpers
+-- whether two maps have the same macros, by item and by function, the same kept of each, and the same derive helpers
 abbrev pub same_macros : Test Map
 same_macros =
     eq_of_both (on (λ (m : Map). m.macro_ids) (pointwise (same_pair ast_id.ghosts.eq makro.ghosts.eq)))
     (eq_of_both (on (λ (m : Map). m.proc_macros) (pointwise (same_pair function.ghosts.eq proc_macro.ghosts.eq)))
-    (on (λ (m : Map). m.derive_helpers) (pointwise (same_pair ast_id.ghosts.eq same_helpers))))
+    (eq_of_both (on (λ (m : Map). m.macro_data) (pointwise (same_pair makro.ghosts.eq same_macro_data)))
+    (on (λ (m : Map). m.derive_helpers) (pointwise (same_pair ast_id.ghosts.eq same_helpers)))))
 
 -- and the same macros and diagnostics
 abbrev pub same_reports : Test Map
@@ -183,6 +184,7 @@ same_def_map_equiv =
     (and_equiv
     (and_equiv (on_equiv (λ (m : Map). m.macro_ids) (lists_equiv (same_pair_equiv ast_id_laws makro_laws)))
     (and_equiv (on_equiv (λ (m : Map). m.proc_macros) (lists_equiv (same_pair_equiv function_laws proc_macro_laws)))
-    (on_equiv (λ (m : Map). m.derive_helpers) (lists_equiv (same_pair_equiv ast_id_laws same_helpers_equiv)))))
+    (and_equiv (on_equiv (λ (m : Map). m.macro_data) (lists_equiv (same_pair_equiv makro_laws same_macro_data_equiv)))
+    (on_equiv (λ (m : Map). m.derive_helpers) (lists_equiv (same_pair_equiv ast_id_laws same_helpers_equiv))))))
     (on_equiv (λ (m : Map). m.diagnostics) same_diagnostics_equiv))
     (on_equiv (λ (m : Map). m.crate_data) same_data_equiv)))

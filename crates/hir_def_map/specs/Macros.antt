@@ -8,10 +8,11 @@ use Rattle.hir_base.specs.declared.macro_kind.MacroId.{MacroId}
 use Rattle.hir_base.specs.declared.macro_kind.ProcMacroId.{ProcMacroId}
 use Rattle.hir_base.specs.contracts.ast_id.AstIdOrd.TheImpl as ast_order
 use Rattle.hir_base.specs.contracts.ids.FunctionIdOrd.TheImpl as function_order
+use Rattle.hir_base.specs.contracts.macro_kind.MacroIdOrd.TheImpl as macro_order
 use Rattle.hir_base.specs.contracts.macro_kind.ProcMacroIdPartialEq.TheImpl as proc_macro
 use Rattle.hir_def_map.specs.declared.nameres.derive_helpers.DeriveHelper.{DeriveHelper}
 use Rattle.hir_def_map.specs.declared.nameres.diagnostics.DefDiagnostic.{DefDiagnostic}
-use Rattle.hir_def_map.specs.State.{Map}
+use Rattle.hir_def_map.specs.State.{MacroDataValue, Map}
 
 -- the map with one more diagnostic
 abbrev pub with_diagnostic : Map → DefDiagnostic → Map
@@ -37,6 +38,14 @@ exporting_function makro (e ∷ es) = cond (proc_macro.ghosts.eq e.1 makro) (Som
 -- the map where a function exports a procedural macro
 abbrev pub with_exported : Map → FunctionId → ProcMacroId → Map
 with_exported map function makro = record map { proc_macros = insert_entry function_order.ghosts.cmp map.proc_macros function makro }
+
+-- what is kept of a macro that the map defines
+abbrev pub macro_data_at : Map → MacroId → Option MacroDataValue
+macro_data_at map makro = lookup (is_at (macro_order.ghosts.cmp makro)) map.macro_data
+
+-- the map where this is kept of a macro
+abbrev pub with_macro_data : Map → MacroId → MacroDataValue → Map
+with_macro_data map makro what = record map { macro_data = insert_entry macro_order.ghosts.cmp map.macro_data makro what }
 
 -- the derive helpers on an item
 abbrev pub helpers_at : Map → AstId → Option (List DeriveHelper)

@@ -85,6 +85,11 @@ new_data edition = record {
 abbrev pub Variants : Type 0
 Variants = List (List ℕ × EnumVariant)
 
+-- the name of a macro, of a procedural one that under which it is exported, and the attributes that deriving with it brings
+pub record MacroDataValue : Type 0 where
+  pub name : List ℕ
+  pub helpers : List (List ℕ)
+
 -- a def map, finished or still being built
 pub record Map : Type 0 where
   pub id : MapId
@@ -102,6 +107,8 @@ pub record Map : Type 0 where
   pub macro_ids : List (AstId × MacroId)
   -- the procedural macro that each function exports which exports one
   pub proc_macros : List (FunctionId × ProcMacroId)
+  -- what is kept of each macro that the map defines
+  pub macro_data : List (MacroId × MacroDataValue)
   -- the attributes that derives bring into scope on each item, in the order in which they come
   pub derive_helpers : List (AstId × List DeriveHelper)
   -- what went wrong, in the order in which it was met
@@ -191,6 +198,7 @@ root_map id holder crate_data root = record {
   prelude = None;
   macro_ids = [];
   proc_macros = [];
+  macro_data = [];
   derive_helpers = [];
   diagnostics = [];
   crate_data = crate_data;

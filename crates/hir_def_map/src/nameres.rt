@@ -14,6 +14,7 @@ pub mod diagnostics;
 mod dump;
 pub mod enum_variants;
 pub mod local_def_map;
+pub mod macro_data;
 mod macros;
 pub mod module_data;
 pub mod module_ids;
@@ -38,6 +39,7 @@ use hir_scope::imports::ImportOrExternCrate;
 use hir_scope::item_scope::ItemScope;
 use hir_scope::per_ns::PerNs;
 use hir_scope::visibility::Visibility;
+use macro_data::MacroData;
 use module_data::ModuleData;
 use modules_map::ModulesMap;
 use origin::ModuleOrigin;
@@ -73,6 +75,7 @@ pub struct DefMap {
     prelude: Option<(ModuleId, Option<UseId>)>,
     macro_ids: BTreeMap<AstId, MacroId>,
     proc_macros: BTreeMap<FunctionId, ProcMacroId>,
+    macro_data: BTreeMap<MacroId, MacroData>,
     derive_helpers: BTreeMap<AstId, DeriveHelpers>,
     diagnostics: DefDiagnostics,
     crate_data: DefMapCrateData,
@@ -95,6 +98,7 @@ impl Model for DefMap {
       prelude = d.prelude;
       macro_ids = d.macro_ids.entries;
       proc_macros = d.proc_macros.entries;
+      macro_data = d.macro_data.entries;
       derive_helpers = d.derive_helpers.entries;
       diagnostics = d.diagnostics;
       crate_data = d.crate_data;
@@ -127,6 +131,7 @@ impl DefMap {
             prelude: None,
             macro_ids: BTreeMap::new(alloc),
             proc_macros: BTreeMap::new(alloc),
+            macro_data: BTreeMap::new(alloc),
             derive_helpers: BTreeMap::new(alloc),
             diagnostics: DefDiagnostics::new(Vec::new(alloc)),
             crate_data,

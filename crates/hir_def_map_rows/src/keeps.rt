@@ -25,7 +25,7 @@ fn add_helper(map: &mut DefMap, at: ModuleId, id: SyntaxId, name: Name) -> Resul
     let helper = DeriveHelper {
         name,
         makro: derive(at, id),
-        call: Either::Left(MacroCallId(3)),
+        call: Some(Either::Left(MacroCallId(3))),
     };
     map.add_derive_helper(item(AstKind::MacroRules, id), helper)?;
     Ok(())

@@ -5,7 +5,6 @@ use Rattle.hir_base.specs.declared.ids.Crate.{Crate}
 use Rattle.hir_wire.specs.CommandValue.{CommandValue, CrateInputValue}
 use Rattle.hir_wire.specs.declared.reply.Reply.{Reply}
 use Rattle.hir_session.specs.SessionState.{SessionState, IsSound, max_crates}
-use Rattle.hir_session.specs.NotYet.{is_crate_taken}
 use Rattle.hir_session.specs.Refusals.{first_out_of_order, is_too_deep, is_too_long, verdict_of_limits, verdict_of_order, verdict_of_new}
 use Rattle.hir_session.proofs.Truth.{on_bool}
 use Rattle.hir_session.proofs.Start.{begins_sound}
@@ -96,9 +95,7 @@ in_order inputs None accepted = (refl, within_limits inputs accepted)
 in_order inputs (Some krate) accepted = absurd (let wrong : ⊥ = cc accepted in wrong)
 
 accepted_both : (inputs : List CrateInputValue) → verdict_of_new inputs ≡ Ok tt → (first_out_of_order 0 inputs ≡ None) × (length inputs ≤ 10000)
-accepted_both inputs accepted = on_bool (list_any (λ c. not (is_crate_taken c)) inputs)
-    (λ untaken. absurd (let wrong : ⊥ = cc (rw untaken at accepted) in wrong))
-    (λ taken. in_order inputs (first_out_of_order 0 inputs) (rw taken at accepted))
+accepted_both inputs accepted = in_order inputs (first_out_of_order 0 inputs) accepted
 
 accepted_few : (inputs : List CrateInputValue) → verdict_of_new inputs ≡ Ok tt → length inputs ≤ 10000
 accepted_few inputs accepted = (accepted_both inputs accepted).1

@@ -1,17 +1,16 @@
 -- When is a session made?
-use Rattle.std.proofs.Common.{◌≡◌, ℕ, ◌≤◌, false, not, nat_lt, List, length, map, Option, None, Some, option_map, Ok, refl, arith}
+use Rattle.std.proofs.Common.{◌≡◌, ℕ, ◌≤◌, false, nat_lt, List, length, map, Option, None, Some, option_map, Ok, refl, arith}
 use Rattle.std.proofs.lemmas.List.{length-map}
 use Rattle.hir_base.specs.declared.ids.Crate.{Crate}
 use Rattle.std.specs.List.{list_any}
 use Rattle.hir_wire.specs.CommandValue.{CrateInputValue}
-use Rattle.hir_session.specs.NotYet.{is_crate_taken}
 use Rattle.hir_session.specs.Refusals.{first_out_of_order, is_too_deep, is_too_long, verdict_of_new}
 use Rattle.hir_session.specs.SessionState.{max_crates}
 
 -- crates that nothing is said against are accepted
-pub accepted : (inputs : List CrateInputValue) → list_any (λ c. not (is_crate_taken c)) inputs ≡ false → first_out_of_order 0 inputs ≡ None → list_any is_too_long inputs ≡ false
+pub accepted : (inputs : List CrateInputValue) → first_out_of_order 0 inputs ≡ None → list_any is_too_long inputs ≡ false
     → list_any is_too_deep inputs ≡ false → nat_lt max_crates (length inputs) ≡ false → verdict_of_new inputs ≡ Ok tt
-accepted inputs taken ordered short flat few = rw (taken, ordered, short, flat, few) refl
+accepted inputs ordered short flat few = rw (ordered, short, flat, few) refl
 
 -- no more than so many is not less of them
 not_more : (n m : ℕ) → m ≤ n → nat_lt n m ≡ false
@@ -23,10 +22,10 @@ no_crate_told None e = refl
 no_crate_told (Some c) e = absurd (let wrong : ⊥ = cc in wrong)
 
 -- crates against which the tests find nothing are accepted
-pub accepted_by : {T : Type 0} (view : T → CrateInputValue) (inputs : List T) → list_any (λ c. not (is_crate_taken c)) (map view inputs) ≡ false
+pub accepted_by : {T : Type 0} (view : T → CrateInputValue) (inputs : List T)
     → None ≡ option_map (λ (c : Crate). c.0) (first_out_of_order 0 (map view inputs)) → list_any is_too_long (map view inputs) ≡ false
     → list_any is_too_deep (map view inputs) ≡ false → length inputs ≤ 10000 → verdict_of_new (map view inputs) ≡ Ok tt
-accepted_by view inputs taken ordered short flat few =
+accepted_by view inputs ordered short flat few =
     let count : length (map view inputs) ≡ length inputs = length-map inputs view in
-    accepted (map view inputs) taken (no_crate_told (first_out_of_order 0 (map view inputs)) ordered) short flat
+    accepted (map view inputs) (no_crate_told (first_out_of_order 0 (map view inputs)) ordered) short flat
     (not_more 10000 (length (map view inputs)) (omega arith))

@@ -22,7 +22,6 @@ pub mod EditedSources
 pub mod Invalidated
 pub mod Due
 pub mod Nesting
-pub mod NotYet
 pub mod Refusals
 pub mod Beginning
 pub mod Changes

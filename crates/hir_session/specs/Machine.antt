@@ -41,14 +41,12 @@ use Rattle.hir_session.specs.Diagnostics.{diagnostics_of}
 
 -- what is told where no session is made
 abbrev pub new_reply : NewSessionError → Reply
-new_reply new_error.NotYet = reply.Command
 new_reply (new_error.DependencyOrder krate) = reply.DependencyOrder krate
 new_reply (new_error.TooLarge limit) = reply.TooLarge limit
 new_reply new_error.Memory = reply.Memory
 
 -- what is told where an edit is refused
 abbrev pub edit_reply : EditError → Reply
-edit_reply edit_error.NotYet = reply.Command
 edit_reply edit_error.UnknownCrate = reply.UnknownCrate
 edit_reply (edit_error.TooLarge limit) = reply.TooLarge limit
 edit_reply (edit_error.DuplicateId kind id) = reply.DuplicateId kind id

@@ -29,7 +29,6 @@ use Rattle.hir_session.specs.declared.error.DiagnosticsError.{DiagnosticsError}
 use Rattle.hir_session.specs.declared.error.DiagnosticsError.TheVariants as diagnostics_error
 use Rattle.hir_session.specs.SessionState.{max_crates}
 use Rattle.hir_session.specs.Nesting.{is_nested_too_deep}
-use Rattle.hir_session.specs.NotYet.{is_crate_taken, is_source_taken}
 
 -- memory ran out
 abbrev pub IsNewMemory : NewSessionError → Type 0
@@ -93,9 +92,7 @@ verdict_of_order inputs None = verdict_of_limits inputs
 
 -- that a session over the crates is made, or the first thing for which it is refused
 abbrev pub verdict_of_new : List CrateInputValue → Result (Unit {0}) NewSessionError
-verdict_of_new inputs =
-    if list_any (λ c. not (is_crate_taken c)) inputs then Err new_error.NotYet else
-    verdict_of_order inputs (first_out_of_order 0 inputs)
+verdict_of_new inputs = verdict_of_order inputs (first_out_of_order 0 inputs)
 
 -- what an edit is refused for where its source is
 abbrev pub edit_error_of : CheckError → EditError
@@ -111,22 +108,16 @@ edit_result_of (Err e) = Err (edit_error_of e)
 -- what a source is refused for
 abbrev pub verdict_of_source : SourceValue → Result (Unit {0}) EditError
 verdict_of_source source =
-    if is_nested_too_deep source then Err (edit_error.TooLarge limit.Modules) else
-    (if is_source_taken source then edit_result_of (verdict_of_check source) else Err edit_error.NotYet)
+    if is_nested_too_deep source then Err (edit_error.TooLarge limit.Modules) else edit_result_of (verdict_of_check source)
 
 -- whether there are the crates that an expansion names, where there are so many
 abbrev pub are_known : ℕ → ExpansionValue → Bool
 are_known count key = nat_lt key.caller.0 count && (nat_lt key.called.krate.0 count && list_all (λ (m : MacroText). nat_lt m.krate.0 count) key.reached)
 
--- whether a source holds what can't be taken, as far as it is looked at
-abbrev pub is_untaken : SourceValue → Bool
-is_untaken source = not (is_nested_too_deep source) && not (is_source_taken source)
-
--- what an expansion that is set is refused for: what can't be taken first, then crates that aren't there
+-- what an expansion that is set is refused for: crates that aren't there first
 abbrev pub verdict_of_expansion : ℕ → ExpansionValue → SourceValue → Result (Unit {0}) EditError
 verdict_of_expansion count key source =
-    if is_untaken source then Err edit_error.NotYet else
-    (if are_known count key then verdict_of_source source else Err edit_error.UnknownCrate)
+    if are_known count key then verdict_of_source source else Err edit_error.UnknownCrate
 
 -- that the edit of a session over so many crates is accepted, or the first thing for which it is refused
 abbrev pub verdict_of_apply : ℕ → EditValue → Result (Unit {0}) EditError

@@ -11,9 +11,6 @@ use thiserror::Error;
 /// Why a session isn't made.
 #[derive(Clone, Copy, Debug, PartialEq, Eq, Drop, Error)]
 pub enum NewSessionError {
-    /// Something that is handed in can't be taken yet.
-    #[error("a crate is of a kind that isn't taken yet")]
-    NotYet,
     /// A dependency of this crate doesn't come before it.
     #[error("crate {} depends on one that doesn't come before it", .0.0)]
     DependencyOrder(Crate),
@@ -26,9 +23,6 @@ pub enum NewSessionError {
 /// Why an edit is refused.
 #[derive(Clone, Copy, Debug, PartialEq, Eq, Drop, Error)]
 pub enum EditError {
-    /// Something that is handed in can't be taken yet.
-    #[error("the source holds something that isn't taken yet")]
-    NotYet,
     #[error("there is no such crate")]
     UnknownCrate,
     /// The first limit that is passed.

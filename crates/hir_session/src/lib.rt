@@ -19,7 +19,6 @@ mod kept;
 mod known_crates;
 pub mod laws;
 mod nesting;
-mod not_yet;
 mod open_line;
 mod output;
 mod runs;

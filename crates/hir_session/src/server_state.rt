@@ -43,7 +43,6 @@ fn new_error_reply(error: NewSessionError) -> Reply
     ensures value { result ≡ new_reply error }
 {
     match error {
-        NewSessionError::NotYet => Reply::Command,
         NewSessionError::DependencyOrder(krate) => Reply::DependencyOrder(krate),
         NewSessionError::TooLarge(limit) => Reply::TooLarge(limit),
         NewSessionError::Memory => Reply::Memory,
@@ -54,7 +53,6 @@ fn edit_error_reply(error: EditError) -> Reply
     ensures value { result ≡ edit_reply error }
 {
     match error {
-        EditError::NotYet => Reply::Command,
         EditError::UnknownCrate => Reply::UnknownCrate,
         EditError::TooLarge(limit) => Reply::TooLarge(limit),
         EditError::DuplicateId { kind, id } => Reply::DuplicateId { kind, id },

@@ -24,7 +24,7 @@ ghost use Rattle.hir_session.specs.SourceEdits.{edited, of_expansion, of_file};
 ghost use Rattle.hir_session.specs.Crates.{id_of};
 ghost use Rattle.hir_session.specs.SessionState.{SessionState, Resolution, workspace_of, finished_of, beginning_of, is_marked, IsResolutionOf, IsSound};
 ghost use Rattle.hir_session.specs.Due.{root_place, Grows, Resolved, HasOverlongRun};
-ghost use Rattle.hir_session.specs.Refusals.{first_out_of_order, is_untaken, verdict_of_new, IsNewMemory, verdict_of_apply, verdict_of_expansion, verdict_of_source, IsEditMemory};
+ghost use Rattle.hir_session.specs.Refusals.{first_out_of_order, verdict_of_new, IsNewMemory, verdict_of_apply, verdict_of_expansion, verdict_of_source, IsEditMemory};
 ghost use Rattle.hir_session.specs.Changes.{Becomes, Applies, Refreshes, RefreshesPartly};
 
 mod queries;
@@ -38,7 +38,6 @@ use crate::invalidate::{Invalidation, invalidated};
 use crate::kept::Kept;
 use crate::known_crates::names_known;
 use crate::nesting::nests_too_deep;
-use crate::not_yet::{is_any_untaken, is_source_taken_now};
 use crate::source_edit::SourceEdit;
 use hir_base::file_path::FilePath;
 use hir_base::ids::{Crate, MapId};
@@ -88,7 +87,7 @@ fn note(alloc: Global, done: &mut Vec<Place>, k: u32) -> Result<(), AllocError>
     Ok(())
 }
 
-/// Whether a source can be taken, is within the limits, and has each id once. How deep its items nest is looked at first,
+/// Whether a source is within the limits, and has each id once. How deep its items nest is looked at first,
 /// since what goes down the items needs stack for it.
 fn check_source(alloc: Global, source: &Source) -> Result<(), EditError>
     ensures accepted { OnOk result (verdict_of_source (source_view source.now) ≡ Ok tt) }
@@ -97,18 +96,8 @@ fn check_source(alloc: Global, source: &Source) -> Result<(), EditError>
     if nests_too_deep(source) {
         return Err(EditError::TooLarge(Limit::Modules));
     }
-    if !is_source_taken_now(source) {
-        return Err(EditError::NotYet);
-    }
     check(alloc, source)?;
     Ok(())
-}
-
-/// Whether a source holds what can't be taken, as far as it is looked at.
-fn is_untaken(source: &Source) -> bool
-    ensures value { result ≡ is_untaken (source_view source.now) }
-{
-    !nests_too_deep(source) && !is_source_taken_now(source)
 }
 
 impl Session {
@@ -119,9 +108,6 @@ impl Session {
         ensures refused { IfErr result (λ e. IsNewMemory e ⊎ (verdict_of_new (map crate_input_view inputs.items) ≡ Err e)) }
     {
         let count = inputs.as_slice().len();
-        if is_any_untaken(&inputs) {
-            return Err(NewSessionError::NotYet);
-        }
         if let Some(k) = first_late(&inputs) {
             return Err(NewSessionError::DependencyOrder(Crate(k)));
         }
@@ -255,9 +241,6 @@ impl Session {
         ensures ok { OnOk result (Becomes self.old (edited self.old.sources (of_expansion (expansion_value key) (Some (entry_view entry)))) self.new) }
         ensures err { OnErr result (self.new ≡ self.old) }
     {
-        if is_untaken(&entry.source) {
-            return Err(EditError::NotYet);
-        }
         if !names_known(self.inputs.crates().len(), &key) {
             return Err(EditError::UnknownCrate);
         }

@@ -1,4 +1,4 @@
-//! Macro calls: what each expands to, and rounds in which they are tried.
+//! Macro calls, derives and attributes: what each expands to, and rounds in which they are tried.
 ghost use Rattle.std.specs.Prelude.{◌≡◌, ◌<◌, ℕ, cond, true, [], IfOk, None, OnOk, Some, length, option_map, slice_get, unwrap_or};
 ghost use Rattle.hir_item_tree.specs.SyntaxIds.{node_id};
 ghost use Rattle.hir_tables.specs.SourcePlaces.{expansion_value};
@@ -10,25 +10,31 @@ ghost use Rattle.hir_import_resolution.specs.Rest.{IsAtRest, IsSound};
 ghost use Rattle.hir_import_resolution.specs.declared.directive.ImportDirective.{ImportDirective};
 ghost use Rattle.hir_worklist.specs.Queue.{count_of};
 ghost use Rattle.hir_call_queue.specs.Waking.{GoesOn, IsWoken, is_apart, worklist_of};
-ghost use Rattle.hir_def_collector.specs.CallMoves.{ComesToRest, IsDueOf, IsReady, SeesCall, TriesCall, TriesCalls};
-ghost use Rattle.hir_def_collector.specs.Calls.{AreCallsPlaced, Expanding, IsMeantCall, LeadsNowhere, call_site, error_of, expansion_of_call, text_readings};
+ghost use Rattle.hir_def_collector.specs.CallMoves.{ComesToRest, IsDueOf, IsReady, NoneWaitsBefore, SeesCall, TakesTurn, TriesCall, TriesCalls};
+ghost use Rattle.hir_def_collector.specs.Calls.{AreCallsPlaced, Expanding, IsMeantCall, LeadsNowhere, call_site, called_text, error_of, expansion_of_call, text_readings, waiting_item};
+ghost use Rattle.hir_def_collector.specs.declared.collector.macro_directive.WaitingItem.{WaitingItem};
 ghost use Rattle.hir_def_collector.specs.Derivation.{IsNumberedOut, IsSpent};
 ghost use Rattle.hir_def_collector.specs.ItemIds.{module_id};
 ghost use Rattle.hir_def_collector.specs.declared.collector.macro_directive.MacroDirective.{MacroDirective};
 ghost use Rattle.hir_def_collector.specs.Keys.{Environment, IsMeant, input_at, macro_key, macro_tree, source_in, text_at, text_of};
 ghost use Rattle.hir_def_collector.specs.Moves.{Makes, OnceGrown};
 ghost use Rattle.hir_def_collector.specs.State.{at_rest, core_in, import_state};
-ghost use Rattle.hir_def_collector.specs.Steps.{Expands, Steps, failing, keys_read, with_keys};
+ghost use Rattle.hir_def_collector.specs.Steps.{CallsMacro, IsDue, Steps, failing, keys_read, with_keys};
 ghost use Rattle.hir_def_collector.specs.Workspace.{entry_look};
 ghost use Rattle.hir_def_collector.specs.Waiting.{IsBetweenPasses, IsNoted, IsStale, IsUpToDate, LiesApart};
 
-use crate::collector::CollectError;
 use crate::collector::def_collector::DefCollector;
+use crate::collector::derives::{
+    bring_helpers, builtin_impl, derive_builtin, drop_call, drop_reached,
+};
 use crate::collector::macro_directive::{Fate, MacroDirective};
 use crate::collector::mod_collector::walk_all;
+use crate::collector::resume::{give_up, skip};
 use crate::collector::site::Site;
 use crate::collector::sources::source_at;
+use crate::collector::{CollectError, STEP_LIMIT};
 use crate::source_database::{ExpansionLook, Key, SourceDatabase};
+use either::Either;
 use hir_base::ast_id::{AstId, AstKind, HirFileId, MacroCallId};
 use hir_base::ids::{Crate, HasModule};
 use hir_base::macro_kind::{CallStyle, ExpansionKey, MacroCallLoc, MacroId, MacroLoc, MacroText};
@@ -152,15 +158,38 @@ fn or_empty(alloc: Global, text: Option<Text>) -> Result<Text, AllocError>
     }
 }
 
+/// The text of a macro, of a procedural one the name under which it is exported.
+fn called_text<D: SourceDatabase>(
+    run: &DefCollector,
+    db: &mut D,
+    world: WorldPart<'_>,
+    locations: &Tables,
+    makro: MacroId,
+) -> Result<Option<Text>, AllocError>
+    ensures value { IfOk result (λ text. text ≡ called_text (part_of world.entry) (core_in run.now).map makro (text_at locations.now (D.workspace db.old) makro)) }
+    ensures same { D.workspace db.new ≡ D.workspace db.old }
+{
+    match makro {
+        MacroId::Macro2Id(_) | MacroId::MacroRulesId(_) => {
+            text_at(run.allocator(), db, locations, makro)
+        }
+        MacroId::ProcMacroId(_) => match run.kept_of(world, makro) {
+            Some(what) => Ok(Some(Text::from_str(run.allocator(), what.name.as_str())?)),
+            None => Ok(None),
+        },
+    }
+}
+
 /// The key of a call's expansion.
 fn expansion_key(
     alloc: Global,
     caller: Crate,
+    style: CallStyle,
     makro: MacroId,
     text: Option<Text>,
     input: Option<Text>,
 ) -> Result<ExpansionKey, AllocError>
-    ensures value { IfOk result (λ key. expansion_value key ≡ expansion_of_call caller makro text input) }
+    ensures value { IfOk result (λ key. expansion_value key ≡ expansion_of_call caller style makro text input) }
 {
     Ok(ExpansionKey {
         caller,
@@ -168,7 +197,7 @@ fn expansion_key(
             krate: makro.module().map.krate,
             text: or_empty(alloc, text)?,
         },
-        call: CallStyle::Bang,
+        call: style,
         input: or_empty(alloc, input)?,
         reached: Vec::new(alloc),
     })
@@ -211,6 +240,7 @@ fn ask_text(run: &mut DefCollector, makro: MacroId) -> Result<(), AllocError>
 fn look_at_call<D: SourceDatabase>(
     run: &mut DefCollector,
     db: &mut D,
+    world: WorldPart<'_>,
     locations: &mut Tables,
     call: &MacroDirective,
     makro: MacroId,
@@ -219,7 +249,7 @@ fn look_at_call<D: SourceDatabase>(
     ensures kept { KeepsTables locations.old locations.new }
     ensures same { D.workspace db.new ≡ D.workspace db.old }
     ensures placed { AreCallsPlaced locations.old → AreCallsPlaced locations.new }
-    ensures ok { IfOk result (λ e. (x : Expanding) × SeesCall locations.new (D.workspace db.old) call.now makro (core_in run.old) (core_in run.new) x e.source.value
+    ensures ok { IfOk result (λ e. (x : Expanding) × SeesCall locations.new (D.workspace db.old) (part_of world.entry) call.now makro (core_in run.old) (core_in run.new) x e.source.value
         × (e.id ≡ x.id) × (e.error ≡ error_of x.there)) }
     ensures noted { OnOk result (IsNoted run.old run.new) }
     ensures many { result ≡ Err CollectError.TooMany → IsNumberedOut locations.new }
@@ -229,9 +259,9 @@ fn look_at_call<D: SourceDatabase>(
     }
     let alloc = run.allocator();
     let krate = run.map().id().krate;
-    let text = text_at(alloc, db, locations, makro)?;
+    let text = called_text(run, db, world, locations, makro)?;
     let input = input_at(alloc, db, locations, krate, call.ast_id)?;
-    let key = expansion_key(alloc, krate, makro, text, input)?;
+    let key = expansion_key(alloc, krate, call.call_style(), makro, text, input)?;
     let error = error_of(alloc, db.expansion(&key))?;
     let entry = locations.intern_entry(key)?;
     let id = locations.intern_call(MacroCallLoc {
@@ -287,7 +317,7 @@ fn report_failed(
     run.tell(DefDiagnostic::macro_error(at, call.ast_id, call.path().clone()?, error))
 }
 
-/// Expands the call at the place, which reaches a macro: handles the items of its expansion, with all that is in them.
+/// Expands what waits at the place, which reaches a macro: handles the items of its expansion, with all that is in them.
 fn expand<D: SourceDatabase>(
     run: &mut DefCollector,
     db: &mut D,
@@ -298,7 +328,8 @@ fn expand<D: SourceDatabase>(
     makro: MacroId,
 ) -> Result<(), CollectError>
     requires ready { IsReady locations.old (part_of world) (core_in run.old) }
-    requires expands { Expands (part_of world) (at_rest (core_in run.old)) i call.now makro }
+    requires called { CallsMacro (part_of world) (at_rest (core_in run.old)) i call.now makro }
+    requires shallow { call.now.site.level < (core_in run.old).map.crate_data.recursion_limit }
     requires below { call.now.site.level < 4294967295 }
     ensures kept { KeepsTables locations.old locations.new }
     ensures same { D.workspace db.new ≡ D.workspace db.old }
@@ -308,9 +339,10 @@ fn expand<D: SourceDatabase>(
     ensures handled { OnOk result (slice_get (core_in run.new).fates i ≡ Some Fate.Handled) }
     ensures many { result ≡ Err CollectError.TooMany → OnceGrown locations.new (D.workspace db.old) (λ env. IsSpent env (part_of world.entry) (at_rest (core_in run.old))) }
 {
-    let Expansion { id, error, source } = look_at_call(run, db, locations, call, makro)?;
+    let Expansion { id, error, source } = look_at_call(run, db, world, locations, call, makro)?;
     let site = call_site(call, id)?;
-    run.end_call(i);
+    run.end_call(i, Fate::Handled);
+    bring_helpers(run, world, call, makro, Some(Either::Left(id)))?;
     report_failed(run, call, error)?;
     run.tick()?;
     let ids = source.tree().top_level_items();
@@ -318,30 +350,101 @@ fn expand<D: SourceDatabase>(
     Ok(())
 }
 
-/// What is to be done about a call that waits.
+/// What is to be done about what waits.
+#[derive(Clone, Copy)]
 enum Due {
     Nothing,
-    /// It is deeper than calls may be.
+    /// It is a call, and deeper than calls may be.
     TooDeep,
+    /// It is an attribute for which nothing is looked up.
+    Skips,
+    /// It is a path of a derive, and reaches a builtin macro.
+    Derives(MacroId),
+    /// It reaches a macro, is no call, and is deeper than calls may be.
+    Drops(MacroId),
     /// It reaches a macro.
     Reaches(MacroId),
 }
 
-/// What is to be done about a call.
+/// What is to be done about what reaches a builtin macro that has no expansion.
+fn due_of_builtin(call: &MacroDirective, makro: MacroId) -> Due
+    ensures derives { waiting_item call.now ≡ None → result ≡ Due.Derives makro }
+    ensures skips { (k : WaitingItem) → waiting_item call.now ≡ Some k → result ≡ Due.Skips }
+{
+    if call.waiting_item().is_some() {
+        Due::Skips
+    } else {
+        Due::Derives(makro)
+    }
+}
+
+/// What is to be done about what waits.
 fn due_of(run: &DefCollector, world: WorldPart<'_>, call: &MacroDirective) -> Due
     ensures value { IsDueOf (part_of world.entry) (core_in run.now) call.now result }
     ensures below { (makro : MacroId) → result ≡ Due.Reaches makro → call.now.site.level < 4294967295 }
 {
-    if run.is_too_deep(call) {
+    if call.is_call() && run.is_too_deep(call) {
         return Due::TooDeep;
     }
-    match run.called_macro(world, call) {
-        Some(makro) => Due::Reaches(makro),
-        None => Due::Nothing,
+    if run.is_inert_now(call) {
+        return Due::Skips;
     }
+    let Some(makro) = run.called_macro(world, call) else {
+        return Due::Nothing;
+    };
+    if !call.has_expansion(makro) {
+        return due_of_builtin(call, makro);
+    }
+    if run.is_too_deep(call) {
+        return Due::Drops(makro);
+    }
+    Due::Reaches(makro)
 }
 
-/// Tries the call at the place, if it waits: whether it was handled.
+/// Does what is to be done about what waits at the place.
+fn do_due<D: SourceDatabase>(
+    run: &mut DefCollector,
+    db: &mut D,
+    world: WorldPart<'_>,
+    locations: &mut Tables,
+    i: usize,
+    call: &MacroDirective,
+    due: Due,
+) -> Result<bool, CollectError>
+    requires ready { IsReady locations.old (part_of world) (core_in run.old) }
+    requires waits { IsDue (at_rest (core_in run.old)) i call.now }
+    requires due { IsDueOf (part_of world) (core_in run.old) call.now due }
+    requires below { (makro : MacroId) → due ≡ Due.Reaches makro → call.now.site.level < 4294967295 }
+    ensures kept { KeepsTables locations.old locations.new }
+    ensures same { D.workspace db.new ≡ D.workspace db.old }
+    ensures placed { AreCallsPlaced locations.old → AreCallsPlaced locations.new }
+    ensures ok { OnOk result (OnceGrown locations.new (D.workspace db.old) (λ env. Steps env (part_of world.entry) (at_rest (core_in run.old)) (at_rest (core_in run.new)))) }
+    ensures tried { IfOk result (λ done. TriesCall (part_of world.entry) (core_in run.old) (core_in run.new) i done) }
+    ensures noted { OnOk result (IsNoted run.old run.new) }
+    ensures many { result ≡ Err CollectError.TooMany → OnceGrown locations.new (D.workspace db.old) (λ env. IsSpent env (part_of world.entry) (at_rest (core_in run.old))) }
+{
+    match due {
+        Due::Nothing => return Ok(false),
+        Due::TooDeep => drop_call(run, i)?,
+        Due::Skips => {
+            let Some(item) = call.waiting_item() else {
+                return Ok(false);
+            };
+            skip(run, db, world, locations, i, call, item)?;
+        }
+        Due::Derives(makro) => {
+            let Some(imp) = builtin_impl(call, makro) else {
+                return Ok(false);
+            };
+            derive_builtin(run, world, i, call, makro, imp)?;
+        }
+        Due::Drops(makro) => drop_reached(run, world, i, call, makro)?,
+        Due::Reaches(makro) => expand(run, db, world, locations, i, call, makro)?,
+    }
+    Ok(true)
+}
+
+/// Tries what waits at the place, if something does: whether it was handled.
 fn try_call<D: SourceDatabase>(
     run: &mut DefCollector,
     db: &mut D,
@@ -362,19 +465,12 @@ fn try_call<D: SourceDatabase>(
     let Some(call) = run.waiting(i) else {
         return Ok(false);
     };
-    match due_of(run, world, call) {
-        Due::Nothing => Ok(false),
-        Due::TooDeep => {
-            run.end_call(i);
-            run.tick()?;
-            Ok(true)
-        }
-        Due::Reaches(makro) => {
-            let call = call.clone()?;
-            expand(run, db, world, locations, i, &call, makro)?;
-            Ok(true)
-        }
+    let due = due_of(run, world, call);
+    if matches!(due, Due::Nothing) {
+        return Ok(false);
     }
+    let call = call.clone()?;
+    do_due(run, db, world, locations, i, &call, due)
 }
 
 /// Has the call at the place, if it waits, watch the slots that its path reads.
@@ -494,6 +590,7 @@ fn settle(
     ensures ok { IfOk result (λ run'. (env : Environment) → Steps env (part_of world.entry) (at_rest (core_in run)) (at_rest (core_in run'))) }
     ensures rests { IfOk result (λ run'. IsAtRest (part_of world.entry) (import_state (at_rest (core_in run')))) }
     ensures settled { IfOk result (λ run'. (core_in run').settled ≡ length (core_in run').calls) }
+    ensures counts { IfOk result (λ run'. ((core_in run).count < (core_in run').count) × ((core_in run).count < STEP_LIMIT)) }
     ensures noted { IfOk result (λ run'. IsNoted run run') }
     ensures many { result ≡ Err CollectError.TooMany → (env : Environment) → IsSpent env (part_of world.entry) (at_rest (core_in run)) }
 {
@@ -523,10 +620,63 @@ fn requeue(
     Ok(())
 }
 
-/// Takes imports and expands calls, round by round, until no more comes of them, and whether rounds were cut off.
+/// What a turn came to.
+#[derive(Clone, Copy)]
+enum Turn {
+    /// Something that waited was handled.
+    Round,
+    /// Nothing that waits reached anything, and the first attribute that waits was given up, at the place before this.
+    GaveUp(usize),
+    /// Nothing that waits reached anything, and no attribute waits.
+    Rests,
+}
+
+/// Takes imports until no more comes of them, and tries what waits; where nothing is handled, gives up the first
+/// attribute that waits.
+fn take_turn<D: SourceDatabase>(
+    run: DefCollector,
+    db: &mut D,
+    world: WorldPart<'_>,
+    locations: &mut Tables,
+    queue: &mut CallQueue,
+    apart: bool,
+    first: usize,
+) -> Result<(DefCollector, Turn), CollectError>
+    requires apart { apart ≡ true → (local : Local) → IsApart (part_of world) (core_in run).map.id local }
+    requires queue { is_apart queue.old ≡ apart }
+    requires stale { IsStale (part_of world) queue.old run }
+    requires between { IsBetweenPasses queue.old }
+    requires ready { IsReady locations.old (part_of world) (core_in run) }
+    requires first { NoneWaitsBefore (core_in run) first }
+    ensures kept { KeepsTables locations.old locations.new }
+    ensures same { D.workspace db.new ≡ D.workspace db.old }
+    ensures placed { AreCallsPlaced locations.old → AreCallsPlaced locations.new }
+    ensures ok { IfOk result (λ r. OnceGrown locations.new (D.workspace db.old) (λ env. Steps env (part_of world.entry) (at_rest (core_in run)) (at_rest (core_in r.0)))) }
+    ensures queue { OnOk result (is_apart queue.new ≡ is_apart queue.old) }
+    ensures stale { IfOk result (λ r. IsStale (part_of world.entry) queue.new r.0) }
+    ensures between { OnOk result (IsBetweenPasses queue.new) }
+    ensures counts { IfOk result (λ r. ((core_in run).count < (core_in r.0).count) × ((core_in run).count < STEP_LIMIT)) }
+    ensures turned { IfOk result (λ r. OnceGrown locations.new (D.workspace db.old) (λ env. TakesTurn env (part_of world.entry) (core_in run) (core_in r.0) first r.1)) }
+    ensures many { result ≡ Err CollectError.TooMany → OnceGrown locations.new (D.workspace db.old) (λ env. IsSpent env (part_of world.entry) (at_rest (core_in run))) }
+{
+    let mut run = settle(run, world, apart)?;
+    requeue(&mut run, world, queue)?;
+    if try_calls(&mut run, db, world, locations, queue)? {
+        return Ok((run, Turn::Round));
+    }
+    match give_up(&mut run, db, world, locations, first)? {
+        Some(next) => Ok((run, Turn::GaveUp(next))),
+        None => Ok((run, Turn::Rests)),
+    }
+}
+
+/// Takes imports, expands calls, derives and attributes, round by round, until no more comes of them, and whether rounds
+/// were cut off.
 ///
-/// A round tries each call that waits once imports rest, those aside that would be tried in vain. More rounds than
-/// `ROUND_LIMIT` end the run, with imports and calls that would go on; names go along globs all the same.
+/// A round tries each call, path of a derive and attribute that waits once imports rest, those aside that would be tried in
+/// vain. Where nothing that waits reaches anything, the first attribute that waits is given up, which isn't counted as a
+/// round. More rounds than `ROUND_LIMIT` end the run, with imports and calls that would go on; names go along globs all the
+/// same.
 pub fn resolve_rounds<D: SourceDatabase>(
     run: DefCollector,
     db: &mut D,
@@ -546,13 +696,15 @@ pub fn resolve_rounds<D: SourceDatabase>(
     let mut run = run;
     let mut queue = CallQueue::new(run.allocator(), apart);
     let mut rounds: u32 = 0;
+    let mut first: usize = 0;
     'rounds: while rounds <= ROUND_LIMIT {
-        run = settle(run, world, apart)?;
-        requeue(&mut run, world, &mut queue)?;
-        if !try_calls(&mut run, db, world, locations, &mut queue)? {
-            return Ok((run, false));
+        let (next, turn) = take_turn(run, db, world, locations, &mut queue, apart, first)?;
+        run = next;
+        match turn {
+            Turn::Round => rounds += 1,
+            Turn::GaveUp(behind) => first = behind,
+            Turn::Rests => return Ok((run, false)),
         }
-        rounds += 1;
     }
     let run = run.spread(world)?;
     Ok((run, true))

@@ -15,6 +15,7 @@ ghost use Rattle.hir_def_collector.specs.Waiting.{IsNoted};
 
 use crate::collector::declaration::Declaration;
 use crate::collector::def_collector::DefCollector;
+use crate::collector::exports::{declare_exporting, export_at};
 use crate::collector::site::{ItemHead, Site};
 use crate::collector::{CollectError, STEP_LIMIT};
 use hir_base::ids::{
@@ -105,7 +106,7 @@ fn declare_value(
     Ok(())
 }
 
-/// Declares a function.
+/// Declares a function, and the macro that it exports, if it exports one.
 pub fn declare_function(
     run: &mut DefCollector,
     world: WorldPart<'_>,
@@ -118,16 +119,21 @@ pub fn declare_function(
     ensures noted { OnOk result (IsNoted run.old run.new) }
     ensures many { result ≡ Err CollectError.TooMany → STEP_LIMIT ≤ (core_in run.old).count }
 {
-    let def = ModuleDefId::FunctionId(FunctionId {
+    let id = FunctionId {
         loc: ItemLoc {
             container: run.container(site),
             file_id: site.tree.file,
             block: site.tree.block,
             id: head.id,
         },
-    });
-    declare_value(run, world, site, head, name, def)?;
-    Ok(())
+    };
+    match export_at(run, site, head, name)? {
+        Some(export) => {
+            let vis = run.visibility(world, site, head);
+            declare_exporting(run, site, head, name, id, vis, export)
+        }
+        None => declare_value(run, world, site, head, name, ModuleDefId::FunctionId(id)),
+    }
 }
 
 /// Declares a constant that has a name.

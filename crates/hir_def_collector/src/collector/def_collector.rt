@@ -2,7 +2,7 @@
 #![tactic(auto, unfolding(crate::specs::State::core_in))]
 
 ghost use Rattle.std.specs.Prelude.{◌≡◌, ◌≢◌, ◌<◌, ◌≤◌, ℕ, true, false, ◌∷◌, [], Some, length, option_map, slice_get, slice_set, IfNone, IfOk, IfSome, OnOk};
-ghost use Rattle.hir_def_map.specs.State.{with_enum, with_module, new_id, new_module, with_declared, with_use, with_impl, with_extern_block, with_extern_crate, with_unnamed_const};
+ghost use Rattle.hir_def_map.specs.State.{with_enum, new_id, new_module, with_declared, with_use, with_impl, with_extern_block, with_extern_crate, with_unnamed_const};
 ghost use Rattle.hir_def_map.specs.WorldParts.{part_of};
 ghost use Rattle.hir_def_map.specs.Macros.{with_diagnostic, with_macro_def};
 ghost use Rattle.hir_import_resolution.specs.Inner.State.{IsApart};
@@ -13,7 +13,7 @@ ghost use Rattle.hir_def_collector.specs.Keys.{Environment};
 ghost use Rattle.hir_def_collector.specs.State.{at_rest, core_in, core_with_imports, counted, import_state, with_asked, with_bound, with_calls, with_fate, with_imports, with_local, with_map, with_settled};
 ghost use Rattle.hir_def_collector.specs.ItemIds.{container_of, module_id};
 ghost use Rattle.hir_def_collector.specs.Items.{own_visibility};
-ghost use Rattle.hir_def_collector.specs.Calls.{IsWaiting, called_macro, macro_among};
+ghost use Rattle.hir_def_collector.specs.Calls.{IsWaiting};
 ghost use Rattle.hir_def_collector.specs.TreeReads.{head_of};
 ghost use Rattle.hir_def_collector.specs.Imports.{crate_named, dependency_named, extern_after};
 ghost use Rattle.hir_def_collector.specs.Macros.{macros_brought, other_scope, textual_at, with_macros_used, with_textual_macro, with_textual_scope};
@@ -22,10 +22,11 @@ ghost use Rattle.hir_def_collector.specs.ModuleFiles.{file_key};
 ghost use Rattle.hir_def_collector.specs.Steps.{Steps};
 ghost use Rattle.hir_def_collector.specs.Derivation.{IsSpent, collected_view, finished_run};
 ghost use Rattle.hir_def_collector.specs.Moves.{begun};
-ghost use Rattle.hir_def_collector.specs.Waiting.{IsNoted, call_reads};
+ghost use Rattle.hir_def_collector.specs.Waiting.{IsNoted};
 
 use crate::collector::collected::{Asked, Collected};
 use crate::collector::diagnostics::{report_calls, report_unresolved, unresolved_crates};
+use crate::collector::exports::{ExportedFunction, censor_root};
 use crate::collector::leftovers::untaken;
 use crate::collector::macro_directive::{Fate, MacroDirective};
 use crate::collector::macro_use::{root_scope, use_prelude_macros, use_wanted};
@@ -43,7 +44,6 @@ use hir_base::macro_kind::MacroId;
 use hir_base::name::Name;
 use hir_call_queue::Changed;
 use hir_crate_graph::crate_set::CrateSet;
-use hir_def_map::def_maps::DefMaps;
 use hir_def_map::nameres::DefMap;
 use hir_def_map::nameres::crate_data::DefMapCrateData;
 use hir_def_map::nameres::diagnostics::DefDiagnostic;
@@ -51,9 +51,6 @@ use hir_def_map::nameres::enum_variants::EnumVariants;
 use hir_def_map::nameres::local_def_map::LocalDefMap;
 use hir_def_map::nameres::module_data::ModuleData;
 use hir_def_map::nameres::origin::ModuleOrigin;
-use hir_def_map::nameres::path_resolution::query::Query;
-use hir_def_map::nameres::path_resolution::slots::PathSlots;
-use hir_def_map::nameres::path_resolution::{BuiltinShadowMode, MacroSubNs, ResolveMode};
 use hir_def_map::world::part::WorldPart;
 use hir_glob_imports::GlobImports;
 use hir_import_resolution::answers::visibility;
@@ -71,6 +68,8 @@ use std::alloc::{AllocError, Global};
 use std::marker::Model;
 use std::rc::Rc;
 
+mod waiting;
+
 /// Where a run stands, what it has still to visit aside.
 #[derive(Drop)]
 pub struct DefCollector {
@@ -85,6 +84,8 @@ pub struct DefCollector {
     calls: Vec<MacroDirective>,
     fates: Vec<Fate>,
     settled: usize,
+    is_proc_macro: bool,
+    exported: Vec<ExportedFunction>,
     asked: Vec<Key>,
     count: u32,
     /// The slots of paths that may have changed since calls were tried.
@@ -113,6 +114,8 @@ impl Model for DefCollector {
       calls = r.calls.items;
       fates = r.fates.items;
       settled = r.settled;
+      is_proc_macro = r.is_proc_macro;
+      exported = r.exported.items;
       asked = r.asked.items;
       count = r.count;
       changed = r.changed;
@@ -133,22 +136,12 @@ fn dependency_named(dependencies: &[Dependency], name: &Name) -> Option<Crate>
     None
 }
 
-/// The macro among what a path reaches.
-fn macro_among(items: PerNs) -> Option<MacroId>
-    ensures value { result ≡ macro_among items }
-{
-    match items.macros {
-        Some(item) => Some(item.def),
-        None => None,
-    }
-}
-
-/// The call at the place is handled.
-fn end(fates: &mut Vec<Fate>, i: usize)
-    ensures value { fates.new.items ≡ slice_set fates.old.items i Fate.Handled }
+/// This becomes of the call at the place.
+fn end(fates: &mut Vec<Fate>, i: usize, fate: Fate)
+    ensures value { fates.new.items ≡ slice_set fates.old.items i fate }
 {
     if i < fates.len() {
-        fates[i] = Fate::Handled;
+        fates[i] = fate;
     }
 }
 
@@ -174,10 +167,11 @@ impl DefCollector {
         local: LocalDefMap,
         dependencies: Vec<Dependency>,
         options: CfgOptions,
+        is_proc_macro: bool,
         start: Start,
         tree: TreeId,
     ) -> Result<DefCollector, AllocError>
-        ensures value { IfOk result (λ run. core_in run ≡ core_by (part_of world.entry) crate_data local dependencies.items options start tree) }
+        ensures value { IfOk result (λ run. core_in run ≡ core_by (part_of world.entry) crate_data local dependencies.items options is_proc_macro start tree) }
     {
         let krate = start.krate();
         let root = ModuleData::new(alloc, start.origin(), Visibility::Public, None);
@@ -199,6 +193,8 @@ impl DefCollector {
             calls: Vec::new(alloc),
             fates: Vec::new(alloc),
             settled: 0,
+            is_proc_macro,
+            exported: Vec::new(alloc),
             asked,
             count: 0,
             changed: Changed::everything(alloc),
@@ -267,6 +263,7 @@ impl DefCollector {
     /// Counts a step.
     pub fn tick(&mut self) -> Result<(), CollectError>
         ensures ok { OnOk result (core_in self.new ≡ counted (core_in self.old)) }
+        ensures below { OnOk result ((core_in self.old).count < STEP_LIMIT) }
         ensures noted { OnOk result (IsNoted self.old self.new) }
         ensures many { result ≡ Err CollectError.TooMany → STEP_LIMIT ≤ (core_in self.old).count }
     {
@@ -541,7 +538,7 @@ impl DefCollector {
         Ok(())
     }
 
-    /// Notes a macro call that was come upon.
+    /// Notes a macro call, a path of a derive or an attribute that was come upon.
     pub fn await_call(&mut self, call: MacroDirective) -> Result<(), AllocError>
         ensures ok { OnOk result (core_in self.new ≡ with_calls (core_in self.old) (call ∷ [])) }
         ensures noted { OnOk result (IsNoted self.old self.new) }
@@ -565,38 +562,15 @@ impl DefCollector {
     {
         match self.fates.get(i)? {
             Fate::Waits => self.calls.get(i),
-            Fate::Handled => None,
+            Fate::Handled | Fate::GivenUp => None,
         }
     }
 
-    /// The macro that the path of a call reaches.
-    pub fn called_macro(&self, world: WorldPart<'_>, call: &MacroDirective) -> Option<MacroId>
-        ensures value { result ≡ called_macro (part_of world.entry) (core_in self.now).local (core_in self.now).map call.now }
+    /// How many calls, paths of derives and attributes were come upon.
+    pub fn call_count(&self) -> usize
+        ensures value { result ≡ length (core_in self.now).calls }
     {
-        let query = Query {
-            maps: DefMaps::new(world, &self.map),
-            local: Some(&self.local),
-            mode: ResolveMode::Other,
-            shadow: BuiltinShadowMode::Module,
-            sub_ns: Some(MacroSubNs::Bang),
-        };
-        let path = call.path();
-        let answer = query.resolve(self.module_id(call.site.home), path.kind(), path.segments());
-        macro_among(answer.resolved_def)
-    }
-
-    /// The slots that the path of a call reads.
-    pub fn call_slots<'a>(&'a self, world: WorldPart<'a>, call: &'a MacroDirective) -> PathSlots<'a>
-        ensures value { result ≡ call_reads (part_of world.entry) (core_in self.now).local (core_in self.now).map call.now }
-    {
-        DefMaps::new(world, &self.map).path_slots(
-            Some(&self.local),
-            ResolveMode::Other,
-            self.module_id(call.site.home),
-            call.path(),
-            BuiltinShadowMode::Module,
-            Some(MacroSubNs::Bang),
-        )
+        self.calls.len()
     }
 
     /// What may have changed since calls were tried.
@@ -623,17 +597,18 @@ impl DefCollector {
         call.site.level >= self.map.recursion_limit()
     }
 
-    /// Notes that the call at the place was handled.
-    pub fn end_call(&mut self, i: usize)
-        ensures value { core_in self.new ≡ with_fate (core_in self.old) i Fate.Handled }
+    /// This becomes of the call at the place.
+    pub fn end_call(&mut self, i: usize, fate: Fate)
+        ensures value { core_in self.new ≡ with_fate (core_in self.old) i fate }
         ensures noted { IsNoted self.old self.new }
     {
-        end(&mut self.fates, i);
+        end(&mut self.fates, i, fate);
     }
 
     /// Imports rest: all calls that there are may be tried from now on.
     pub fn rest(&mut self) -> Result<(), CollectError>
         ensures ok { OnOk result (core_in self.new ≡ counted (with_settled (core_in self.old))) }
+        ensures below { OnOk result ((core_in self.old).count < STEP_LIMIT) }
         ensures noted { OnOk result (IsNoted self.old self.new) }
         ensures many { result ≡ Err CollectError.TooMany → STEP_LIMIT ≤ (core_in self.old).count }
     {
@@ -681,6 +656,8 @@ impl DefCollector {
             calls: self.calls,
             fates: self.fates,
             settled: self.settled,
+            is_proc_macro: self.is_proc_macro,
+            exported: self.exported,
             asked: self.asked,
             count: imports.count,
             changed: changed_by(self.changed, before, imports.count),
@@ -724,6 +701,8 @@ impl DefCollector {
             calls: self.calls,
             fates: self.fates,
             settled: self.settled,
+            is_proc_macro: self.is_proc_macro,
+            exported: self.exported,
             asked: self.asked,
             count: imports.count,
             changed: changed_by(self.changed, before, imports.count),
@@ -744,6 +723,9 @@ impl DefCollector {
         let leftover = untaken(alloc, &self.reached, &self.taken)?;
         let names = unresolved_crates(alloc, &self.reached, &self.taken)?;
         let mut map = self.map;
+        if self.is_proc_macro {
+            censor_root(&mut map, &self.exported);
+        }
         report_calls(&mut map, &self.calls, &self.fates)?;
         report_unresolved(&mut map, &names, &self.reached, &self.taken)?;
         Ok(Collected {

@@ -173,7 +173,7 @@ pub fn report_unresolved(
     Ok(())
 }
 
-/// Reports the macro calls that wait, in their order.
+/// Reports the macro calls, paths of derives and attributes that wait, in their order.
 pub fn report_calls(
     map: &mut DefMap,
     calls: &[MacroDirective],
@@ -189,7 +189,7 @@ pub fn report_calls(
         };
         match fate {
             Fate::Waits => report_call(map, call)?,
-            Fate::Handled => {}
+            Fate::Handled | Fate::GivenUp => {}
         }
         left = others;
         left_fates = other_fates;
@@ -197,7 +197,7 @@ pub fn report_calls(
     Ok(())
 }
 
-/// Reports a macro call that reached no macro.
+/// Reports what reached no macro.
 fn report_call(map: &mut DefMap, call: &MacroDirective) -> Result<(), AllocError>
     ensures ok { OnOk result (map.new ≡ with_diagnostics map.old (call_report map.old.id call.now ∷ [])) }
 {

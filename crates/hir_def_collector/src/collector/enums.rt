@@ -4,25 +4,28 @@ ghost use Rattle.hir_item_tree.specs.Collected.{is_enabled};
 ghost use Rattle.hir_item_tree.specs.KeptForest.{leaf, enumeration};
 ghost use Rattle.hir_def_map.specs.WorldParts.{part_of};
 ghost use Rattle.hir_def_collector.specs.State.{core_in};
-ghost use Rattle.hir_def_collector.specs.Keys.{Environment, source_in};
+ghost use Rattle.hir_def_collector.specs.Calls.{IsMeantAt};
 ghost use Rattle.hir_def_collector.specs.Enums.{variant_of, variants_by_name, variants_of};
 ghost use Rattle.hir_def_collector.specs.TreeReads.{head_of};
 ghost use Rattle.hir_def_collector.specs.Steps.{visit};
-ghost use Rattle.hir_def_collector.specs.Moves.{Handles};
+ghost use Rattle.hir_def_collector.specs.Moves.{Handles, OnceGrown};
 ghost use Rattle.hir_def_collector.specs.Waiting.{IsNoted};
 
 use crate::collector::declaration::Declaration;
 use crate::collector::declare::declare;
 use crate::collector::def_collector::DefCollector;
 use crate::collector::site::{ItemHead, Site};
+use crate::collector::sources::source_at;
 use crate::collector::{CollectError, STEP_LIMIT};
+use crate::source_database::SourceDatabase;
 use hir_base::ids::{AdtId, EnumId, EnumVariantId, ItemLoc, ModuleDefId};
 use hir_base::name::Name;
 use hir_def_map::nameres::enum_variants::{EnumVariant, EnumVariants};
 use hir_def_map::world::part::WorldPart;
 use hir_item_tree::side_lists::VariantItem;
-use hir_item_tree::source_tree::SourceTree;
+use hir_item_tree::tree_id::TreeKey;
 use hir_scope::per_ns::PerNs;
+use hir_tables::Tables;
 use std::alloc::{AllocError, Global};
 
 /// A variant of an enum.
@@ -66,18 +69,20 @@ fn variants_of(
 /// Declares an enum, and keeps its variants, which it asks for.
 ///
 /// After rust-analyzer's `EnumVariants`.
-pub fn declare_enum(
+pub fn declare_enum<D: SourceDatabase>(
     run: &mut DefCollector,
+    db: &mut D,
     world: WorldPart<'_>,
-    source: &SourceTree,
+    locations: &Tables,
     site: &Site,
     head: ItemHead<'_>,
     name: &Name,
 ) -> Result<(), CollectError>
     requires enabled { is_enabled (head_of head).attributes ≡ true }
-    ensures ok { OnOk result ((env : Environment)
-        → source_in env.tables env.workspace (record { krate = (core_in run.old).map.id.krate; id = site.now.tree }) ≡ source.now
-        → Handles env (part_of world.entry) (core_in run.old) (core_in run.new) (visit site.now (leaf (head_of head.entry) (enumeration name.now))) []) }
+    requires meant { IsMeantAt locations.now site.now }
+    ensures same { D.workspace db.new ≡ D.workspace db.old }
+    ensures ok { OnOk result (OnceGrown locations.now (D.workspace db.old)
+        (λ env. Handles env (part_of world.entry) (core_in run.old) (core_in run.new) (visit site.now (leaf (head_of head.entry) (enumeration name.now))) [])) }
     ensures noted { OnOk result (IsNoted run.old run.new) }
     ensures many { result ≡ Err CollectError.TooMany → STEP_LIMIT ≤ (core_in run.old).count }
 {
@@ -90,6 +95,11 @@ pub fn declare_enum(
         },
     };
     let vis = run.visibility(world, site, head);
+    let key = TreeKey {
+        krate: run.map().id().krate,
+        id: site.tree,
+    };
+    let source = source_at(run.allocator(), db, locations, key)?;
     let variants = variants_of(run.allocator(), id, source.variants(head.id))?;
     run.add_enum(id, variants)?;
     let def = ModuleDefId::AdtId(AdtId::EnumId(id));

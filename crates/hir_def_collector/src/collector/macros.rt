@@ -2,15 +2,16 @@
 ghost use Rattle.std.specs.Prelude.{◌≡◌, ◌<◌, ◌≤◌, true, [], length, OnOk};
 ghost use Rattle.hir_item_tree.specs.Collected.{collected_of, is_enabled};
 ghost use Rattle.hir_item_tree.specs.KeptForest.{leaf, macro_def, macro_rules};
+ghost use Rattle.hir_def_map.specs.Macros.{with_macro_data};
 ghost use Rattle.hir_def_map.specs.Overlay.{Maps};
 ghost use Rattle.hir_def_map.specs.WorldParts.{part_of};
-ghost use Rattle.hir_def_collector.specs.State.{core_in};
+ghost use Rattle.hir_def_collector.specs.State.{core_in, with_map};
 ghost use Rattle.hir_def_collector.specs.ItemIds.{macro_loc, node_of};
 ghost use Rattle.hir_def_collector.specs.Keys.{Environment};
 ghost use Rattle.hir_def_collector.specs.Macros.{is_exported, is_macro_use};
 ghost use Rattle.hir_def_collector.specs.Reports.{is_unimplemented};
 ghost use Rattle.hir_def_collector.specs.Moves.{Handles, Makes, Walks, WalksTooFar};
-ghost use Rattle.hir_def_collector.specs.Steps.{closing, exporting, reporting, visit};
+ghost use Rattle.hir_def_collector.specs.Steps.{closing, exporting, macro_data_of, reporting, visit};
 ghost use Rattle.hir_def_collector.specs.TreeReads.{head_of};
 ghost use Rattle.hir_def_collector.specs.Waiting.{IsNoted};
 
@@ -18,6 +19,7 @@ use crate::collector::crate_attrs::says;
 use crate::collector::declaration::Declaration;
 use crate::collector::declare::bind;
 use crate::collector::def_collector::DefCollector;
+use crate::collector::exports::cloned;
 use crate::collector::site::{ItemHead, Site};
 use crate::collector::{CollectError, STEP_LIMIT};
 use hir_base::ast_id::{AstId, AstKind, SyntaxId};
@@ -25,6 +27,7 @@ use hir_base::ids::{ModuleDefId, ModuleId};
 use hir_base::macro_kind::{Macro2Id, MacroExpander, MacroId, MacroLoc, MacroRulesId};
 use hir_base::name::Name;
 use hir_def_map::nameres::diagnostics::DefDiagnostic;
+use hir_def_map::nameres::macro_data::MacroData;
 use hir_def_map::world::part::WorldPart;
 use hir_item_tree::attrs::AttrsOrCfg;
 use hir_item_tree::kinds::{Macro2, MacroRules};
@@ -102,6 +105,23 @@ fn report(
     run.tell(DefDiagnostic::unimplemented_builtin_macro(at, node))
 }
 
+/// Keeps the name of a macro, and the attributes that deriving with it brings into scope.
+fn describe(
+    run: &mut DefCollector,
+    makro: MacroId,
+    name: &Name,
+    helpers: &[Name],
+) -> Result<(), AllocError>
+    ensures ok { OnOk result (core_in run.new ≡ with_map (core_in run.old) (with_macro_data (core_in run.old).map makro (macro_data_of name.now helpers.now))) }
+    ensures noted { OnOk result (IsNoted run.old run.new) }
+{
+    let what = MacroData {
+        name: name.clone()?,
+        helpers: cloned(run.allocator(), helpers)?,
+    };
+    run.describe_macro(makro, what)
+}
+
 /// Binds a macro that is exported at the root of the map.
 fn export(
     run: &mut DefCollector,
@@ -139,6 +159,7 @@ pub fn define_rules(
     let makro = MacroId::MacroRulesId(MacroRulesId { loc });
     let node = macro_node(site.tree, AstKind::MacroRules, head.id);
     run.define_macro(node, makro)?;
+    describe(run, makro, item.name, item.helpers)?;
     run.define_textual(site.home, item.name.clone()?, makro)?;
     export(run, head, item.name, makro)?;
     report(run, loc.container, node, item.expander)?;
@@ -172,6 +193,7 @@ pub fn define_macro(
         items: PerNs::macros(makro, vis, None),
     };
     run.define_macro(node, makro)?;
+    describe(run, makro, item.name, item.helpers)?;
     bind(run, site.home, declaration)?;
     report(run, loc.container, node, item.expander)?;
     run.tick()?;

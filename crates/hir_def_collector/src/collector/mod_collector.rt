@@ -1,29 +1,29 @@
 //! The walk over the items of a tree.
-ghost use Rattle.std.specs.Prelude.{◌≡◌, ◌<◌, ◌≤◌, true, ◌∷◌, [], List, length, map, OnOk, IfOk};
+ghost use Rattle.std.specs.Prelude.{◌≡◌, ◌<◌, ◌≤◌, true, [], List, length, map, slice_get, OnOk, IfOk, IfSome};
 ghost use Rattle.std.specs.List.{All};
 ghost use Rattle.hir_base.specs.Cfg.{cfg_view};
 ghost use Rattle.hir_item_tree.specs.Collected.{is_enabled};
 ghost use Rattle.hir_item_tree.specs.KeptForest.{KeptItem, all_items, leaf, holder, constant, implementation, extern_block, inline_module, macro_call, outline_module};
-ghost use Rattle.hir_item_tree.specs.Kinds.{kind_content, kind_of};
+ghost use Rattle.hir_item_tree.specs.Kinds.{item_head, kind_content, kind_of};
 ghost use Rattle.hir_item_tree.specs.Rows.{held_numbers, item_of, items_at, numbers_of};
 ghost use Rattle.hir_tables.specs.Tables.{KeepsTables, TablesValue};
 ghost use Rattle.hir_def_map.specs.Overlay.{Maps};
 ghost use Rattle.hir_def_map.specs.declared.nameres.diagnostics.DefDiagnostic.{DefDiagnostic};
 ghost use Rattle.hir_def_map.specs.WorldParts.{part_of};
-ghost use Rattle.hir_def_collector.specs.Workspace.{Workspace};
-ghost use Rattle.hir_def_collector.specs.Keys.{Environment, source_in};
+ghost use Rattle.hir_def_collector.specs.Keys.{Environment};
 ghost use Rattle.hir_def_collector.specs.ItemIds.{module_id, node_of};
-ghost use Rattle.hir_def_collector.specs.Calls.{AreCallsPlaced};
+ghost use Rattle.hir_def_collector.specs.Calls.{AreCallsPlaced, IsMeantAt};
 ghost use Rattle.hir_def_collector.specs.ModuleFiles.{IsFileMeant};
 ghost use Rattle.hir_def_collector.specs.Items.{file_origin, inline_origin};
 ghost use Rattle.hir_def_collector.specs.Reports.{IsUnconfigured, IsUnresolvedModule};
-ghost use Rattle.hir_def_collector.specs.State.{core_in, visits};
+ghost use Rattle.hir_def_collector.specs.State.{core_in};
 ghost use Rattle.hir_def_collector.specs.Steps.{inside_file, visit};
-ghost use Rattle.hir_def_collector.specs.TreeReads.{head_of, visits_at};
+ghost use Rattle.hir_def_collector.specs.TreeReads.{head_of, visits_at, visits_behind};
 ghost use Rattle.hir_def_collector.specs.Derivation.{IsFull};
-ghost use Rattle.hir_def_collector.specs.Moves.{Drops, GoesInside, Handles, IsWritten, MayTake, OnceGrown, TakesFile, Tells, Walks, WalksTooFar, found_view, is_single, opened, tasks_of};
+ghost use Rattle.hir_def_collector.specs.Moves.{Drops, GoesInside, Handles, HandlesTooFar, MayTake, OnceGrown, Passes, PassesTooFar, TakesFile, Tells, Walks, WalksTooFar, found_view, is_single, opened, tasks_of};
 ghost use Rattle.hir_def_collector.specs.Waiting.{IsNoted};
 
+use crate::collector::attributes::{Visited, adt_of, pass_attributes};
 use crate::collector::declaration::Declaration;
 use crate::collector::declare::{
     declare, declare_const, declare_function, declare_static, declare_struct, declare_trait,
@@ -191,8 +191,7 @@ fn visit_inline<'a>(
     ensures ok { IfOk result (λ inside. (env : Environment) (items : List KeptItem) → Handles env (part_of world.entry) (core_in run.old) (core_in run.new)
         (visit site.now (holder (head_of head.entry) (inline_module name.now) (items_at items (numbers_of ids.entry.now)))) (tasks_of site.now.home items inside)) }
     ensures noted { OnOk result (IsNoted run.old run.new) }
-    ensures within { IfOk result (λ inside. (tables : TablesValue) (w : Workspace) →
-        GoesInside tables w (core_in run.old).map.id.krate (length (core_in run.new).map.modules) site.now (numbers_of ids.entry.now) inside) }
+    ensures within { IfOk result (λ inside. (tables : TablesValue) → GoesInside tables (length (core_in run.new).map.modules) site.now (numbers_of ids.entry.now) inside) }
     ensures many { result ≡ Err CollectError.TooMany → IsFull (core_in run.old).count (core_in run.old).map }
 {
     let path = path_attr(head.attrs.attrs.as_slice());
@@ -357,9 +356,9 @@ fn visit_outline<'a, D: SourceDatabase>(
     ensures ok { IfOk result (λ inside. OnceGrown locations.new (D.workspace db.old) (λ env. (items : List KeptItem) → Handles env (part_of world.entry) (core_in run.old) (core_in run.new)
         (visit site.now (leaf (head_of head.entry) (outline_module name.now))) (tasks_of site.now.home items inside))) }
     ensures noted { OnOk result (IsNoted run.old run.new) }
-    ensures within { IfOk result (λ inside. GoesInside locations.new (D.workspace db.old) (core_in run.old).map.id.krate (length (core_in run.new).map.modules) site.now [] inside) }
+    ensures within { IfOk result (λ inside. GoesInside locations.new (length (core_in run.new).map.modules) site.now [] inside) }
     ensures many { result ≡ Err CollectError.TooMany → OnceGrown locations.new (D.workspace db.old)
-        (λ env. WalksTooFar env (part_of world.entry) (core_in run.old) (visits (visit site.now (leaf (head_of head.entry) (outline_module name.now))) ∷ [])) }
+        (λ env. HandlesTooFar env (part_of world.entry) (core_in run.old) (visit site.now (leaf (head_of head.entry) (outline_module name.now)))) }
 {
     let path = path_attr(head.attrs.attrs.as_slice());
     let candidates = site.dir.candidates(run.allocator(), name, path)?;
@@ -391,8 +390,7 @@ fn enter<'a>(
     ensures ok { IfOk result (λ inside. (env : Environment) (finished : Maps) (items : List KeptItem) → Handles env finished (core_in run.old) (core_in run.new)
         (visit site.now (holder (head_of head.entry) extern_block (items_at items (numbers_of ids.entry.now)))) (tasks_of site.now.home items inside)) }
     ensures noted { OnOk result (IsNoted run.old run.new) }
-    ensures within { IfOk result (λ inside. (tables : TablesValue) (w : Workspace) →
-        GoesInside tables w (core_in run.old).map.id.krate (length (core_in run.new).map.modules) site.now (numbers_of ids.entry.now) inside) }
+    ensures within { IfOk result (λ inside. (tables : TablesValue) → GoesInside tables (length (core_in run.new).map.modules) site.now (numbers_of ids.entry.now) inside) }
     ensures many { result ≡ Err CollectError.TooMany → STEP_LIMIT ≤ (core_in run.old).count }
 {
     let id = ExternBlockId {
@@ -450,20 +448,22 @@ fn reach_call(
 }
 
 /// Handles an item that isn't disabled and holds no others, modules aside.
-fn visit_leaf(
+fn visit_leaf<D: SourceDatabase>(
     run: &mut DefCollector,
+    db: &mut D,
     world: WorldPart<'_>,
-    source: &SourceTree,
+    locations: &Tables,
     site: &Site,
     head: ItemHead<'_>,
     item: ModItemKind<'_>,
 ) -> Result<(), CollectError>
     requires in_range { site.now.home < length (core_in run.old).map.modules }
     requires enabled { is_enabled (head_of head).attributes ≡ true }
+    requires meant { IsMeantAt locations.now site.now }
     requires single { is_single item ≡ true }
-    ensures ok { OnOk result ((env : Environment)
-        → source_in env.tables env.workspace (record { krate = (core_in run.old).map.id.krate; id = site.now.tree }) ≡ source.now → (items : List KeptItem)
-        → Handles env (part_of world.entry) (core_in run.old) (core_in run.new) (visit site.now (item_of items (head_of head.entry) (kind_content item.entry))) []) }
+    ensures same { D.workspace db.new ≡ D.workspace db.old }
+    ensures ok { OnOk result (OnceGrown locations.now (D.workspace db.old) (λ env. (items : List KeptItem)
+        → Handles env (part_of world.entry) (core_in run.old) (core_in run.new) (visit site.now (item_of items (head_of head.entry) (kind_content item.entry))) [])) }
     ensures noted { OnOk result (IsNoted run.old run.new) }
     ensures many { result ≡ Err CollectError.TooMany → STEP_LIMIT ≤ (core_in run.old).count }
 {
@@ -472,7 +472,7 @@ fn visit_leaf(
         ModItemKind::Function(item) => declare_function(run, world, site, head, item.name),
         ModItemKind::Struct(item) => declare_struct(run, world, site, head, item),
         ModItemKind::Union(item) => declare_union(run, world, site, head, item.name),
-        ModItemKind::Enum(item) => declare_enum(run, world, source, site, head, item.name),
+        ModItemKind::Enum(item) => declare_enum(run, db, world, locations, site, head, item.name),
         ModItemKind::Const(item) => visit_const(run, world, site, head, item.name),
         ModItemKind::Static(item) => declare_static(run, world, site, head, item.name),
         ModItemKind::Trait(item) => declare_trait(run, world, site, head, item.name),
@@ -518,24 +518,22 @@ fn visit_item<'a, D: SourceDatabase>(
     db: &mut D,
     world: WorldPart<'_>,
     locations: &mut Tables,
-    source: &SourceTree,
     site: &Site,
     head: ItemHead<'_>,
     item: ModItemKind<'a>,
 ) -> Result<Inside<'a>, CollectError>
     requires in_range { site.now.home < length (core_in run.old).map.modules }
     requires enabled { is_enabled (head_of head).attributes ≡ true }
-    requires held { IsWritten locations.old (D.workspace db.old) (core_in run.old).map.id.krate site.now source.now }
+    requires meant { IsMeantAt locations.old site.now }
     ensures kept { KeepsTables locations.old locations.new }
     ensures placed { AreCallsPlaced locations.old → AreCallsPlaced locations.new }
     ensures same { D.workspace db.new ≡ D.workspace db.old }
     ensures ok { IfOk result (λ inside. OnceGrown locations.new (D.workspace db.old) (λ env. (items : List KeptItem) → Handles env (part_of world.entry) (core_in run.old) (core_in run.new)
         (visit site.now (item_of items (head_of head.entry) (kind_content item.entry))) (tasks_of site.now.home items inside))) }
     ensures noted { OnOk result (IsNoted run.old run.new) }
-    ensures within { IfOk result (λ inside. GoesInside locations.new (D.workspace db.old) (core_in run.old).map.id.krate (length (core_in run.new).map.modules) site.now
-        (held_numbers (kind_content item.entry)) inside) }
+    ensures within { IfOk result (λ inside. GoesInside locations.new (length (core_in run.new).map.modules) site.now (held_numbers (kind_content item.entry)) inside) }
     ensures many { result ≡ Err CollectError.TooMany → OnceGrown locations.new (D.workspace db.old) (λ env. (items : List KeptItem) →
-        WalksTooFar env (part_of world.entry) (core_in run.old) (visits (visit site.now (item_of items (head_of head.entry) (kind_content item.entry))) ∷ [])) }
+        HandlesTooFar env (part_of world.entry) (core_in run.old) (visit site.now (item_of items (head_of head.entry) (kind_content item.entry)))) }
 {
     match item {
         ModItemKind::Mod(item) => match item.kind {
@@ -544,7 +542,7 @@ fn visit_item<'a, D: SourceDatabase>(
         },
         ModItemKind::ExternBlock(item) => enter(run, site, head, item.children),
         other => {
-            visit_leaf(run, world, source, site, head, other)?;
+            visit_leaf(run, db, world, locations, site, head, other)?;
             Ok(Inside::Nothing)
         }
     }
@@ -583,28 +581,64 @@ fn counted(number: usize) -> usize
     number
 }
 
-/// Handles an item, and all that is in it.
+/// Goes through the attributes of an item that isn't disabled, behind the first so many: how many are done with where the
+/// item is next.
+fn pass(
+    run: &mut DefCollector,
+    source: &Rc<SourceTree>,
+    site: &Site,
+    id: ModItemId,
+    done: usize,
+) -> Result<Option<usize>, CollectError>
+    requires there { id.0 < length (all_items source.now.value.tree.items) }
+    requires enabled { IfSome (slice_get (all_items source.now.value.tree.items) id.0) (λ i. is_enabled (item_head i).attributes ≡ true) }
+    ensures ok { IfOk result (λ passed. (env : Environment) (finished : Maps) → IfSome (slice_get (all_items source.now.value.tree.items) id.0)
+        (λ i. Passes env finished (core_in run.old) (core_in run.new) (visit site.now i) done passed)) }
+    ensures noted { OnOk result (IsNoted run.old run.new) }
+    ensures many { result ≡ Err CollectError.TooMany → (env : Environment) (finished : Maps) → IfSome (slice_get (all_items source.now.value.tree.items) id.0)
+        (λ i. PassesTooFar env finished (core_in run.old) (visit site.now i) done) }
+{
+    let head = head_at(source.tree(), id);
+    let item = source.tree().index(id);
+    let visited = Visited {
+        site,
+        source,
+        id,
+        node: AstId {
+            file_id: site.tree.file,
+            block: site.tree.block,
+            kind: kind_of(item),
+            id: head.id,
+        },
+        attrs: head.attrs.attrs.as_slice(),
+        adt: adt_of(run, site, head, item),
+    };
+    pass_attributes(run, visited, done)
+}
+
+/// Handles an item of which so many attributes are done with, and all that is in it.
 #[cycle(walk)]
-fn walk_item<D: SourceDatabase>(
+pub fn walk_item<D: SourceDatabase>(
     run: &mut DefCollector,
     db: &mut D,
     world: WorldPart<'_>,
     locations: &mut Tables,
-    source: &SourceTree,
+    source: &Rc<SourceTree>,
     site: &Site,
     id: ModItemId,
+    done: usize,
 ) -> Result<(), CollectError>
     requires in_range { site.now.home < length (core_in run.old).map.modules }
-    requires held { IsWritten locations.old (D.workspace db.old) (core_in run.old).map.id.krate site.now source.now }
-    requires there { id.0 < length (all_items source.now.tree.items) }
+    requires meant { IsMeantAt locations.old site.now }
+    requires there { id.0 < length (all_items source.now.value.tree.items) }
     ensures kept { KeepsTables locations.old locations.new }
     ensures placed { AreCallsPlaced locations.old → AreCallsPlaced locations.new }
     ensures same { D.workspace db.new ≡ D.workspace db.old }
     ensures ok { OnOk result (OnceGrown locations.new (D.workspace db.old)
-        (λ env. Walks env (part_of world.entry) (core_in run.old) (core_in run.new) (visits_at source.now.tree site.now (id.0 ∷ [])))) }
+        (λ env. Walks env (part_of world.entry) (core_in run.old) (core_in run.new) (visits_behind source.now.value.tree site.now id.0 done))) }
     ensures noted { OnOk result (IsNoted run.old run.new) }
     ensures many { result ≡ Err CollectError.TooMany → OnceGrown locations.new (D.workspace db.old)
-        (λ env. WalksTooFar env (part_of world.entry) (core_in run.old) (visits_at source.now.tree site.now (id.0 ∷ []))) }
+        (λ env. WalksTooFar env (part_of world.entry) (core_in run.old) (visits_behind source.now.value.tree site.now id.0 done)) }
 {
     let head = head_at(source.tree(), id);
     let item = source.tree().index(id);
@@ -612,7 +646,10 @@ fn walk_item<D: SourceDatabase>(
         drop_item(run, site, head.id, item, cfg)?;
         return Ok(());
     }
-    let inside = visit_item(run, db, world, locations, source, site, head, item)?;
+    if pass(run, source, site, id, done)?.is_none() {
+        return Ok(());
+    }
+    let inside = visit_item(run, db, world, locations, site, head, item)?;
     match inside {
         Inside::Nothing => Ok(()),
         Inside::Held {
@@ -644,25 +681,25 @@ pub fn walk_all<D: SourceDatabase>(
     db: &mut D,
     world: WorldPart<'_>,
     locations: &mut Tables,
-    source: &SourceTree,
+    source: &Rc<SourceTree>,
     site: &Site,
     ids: &[ModItemId],
 ) -> Result<(), CollectError>
     requires in_range { site.now.home < length (core_in run.old).map.modules }
-    requires held { IsWritten locations.old (D.workspace db.old) (core_in run.old).map.id.krate site.now source.now }
-    requires there { All (λ n. n < length (all_items source.now.tree.items)) (numbers_of ids.now) }
+    requires meant { IsMeantAt locations.old site.now }
+    requires there { All (λ n. n < length (all_items source.now.value.tree.items)) (numbers_of ids.now) }
     ensures kept { KeepsTables locations.old locations.new }
     ensures placed { AreCallsPlaced locations.old → AreCallsPlaced locations.new }
     ensures same { D.workspace db.new ≡ D.workspace db.old }
     ensures ok { OnOk result (OnceGrown locations.new (D.workspace db.old)
-        (λ env. Walks env (part_of world.entry) (core_in run.old) (core_in run.new) (visits_at source.now.tree site.now (numbers_of ids.now)))) }
+        (λ env. Walks env (part_of world.entry) (core_in run.old) (core_in run.new) (visits_at source.now.value.tree site.now (numbers_of ids.now)))) }
     ensures noted { OnOk result (IsNoted run.old run.new) }
     ensures many { result ≡ Err CollectError.TooMany → OnceGrown locations.new (D.workspace db.old)
-        (λ env. WalksTooFar env (part_of world.entry) (core_in run.old) (visits_at source.now.tree site.now (numbers_of ids.now))) }
+        (λ env. WalksTooFar env (part_of world.entry) (core_in run.old) (visits_at source.now.value.tree site.now (numbers_of ids.now))) }
 {
     for id in ids {
         let id = ModItemId(counted(id.0));
-        walk_item(run, db, world, locations, source, site, id)?;
+        walk_item(run, db, world, locations, source, site, id, 0)?;
     }
     Ok(())
 }

@@ -13,12 +13,13 @@ use std::alloc::{AllocError, Global};
 use std::collections::BTreeMap;
 use std::marker::Model;
 
-/// A derive helper: its name, the derive macro that brings it, and the call or the builtin impl that this became.
+/// A derive helper: its name, the derive macro that brings it, and the call or the builtin impl that this became; none of
+/// a call that is too deep.
 #[derive(Drop, PartialEq, Eq)]
 pub struct DeriveHelper {
     pub name: Name,
     pub makro: MacroId,
-    pub call: Either<MacroCallId, BuiltinDeriveImplId>,
+    pub call: Option<Either<MacroCallId, BuiltinDeriveImplId>>,
 }
 
 /// The derive helpers of one item, in the order in which they come.

@@ -1,10 +1,11 @@
 //! The macros of a def map, the attributes that its derives bring, and what went wrong.
 ghost use Rattle.std.specs.Prelude.{◌≡◌, ◌++◌, ◌∷◌, [], option_map, OnOk, OnErr};
-ghost use Rattle.hir_def_map.specs.Macros.{exporting_function, helpers_at, macro_at, proc_macro_at, with_derive_helper, with_diagnostic, with_exported, with_macro_def};
+ghost use Rattle.hir_def_map.specs.Macros.{exporting_function, helpers_at, macro_at, macro_data_at, proc_macro_at, with_derive_helper, with_diagnostic, with_exported, with_macro_data, with_macro_def};
 
 use crate::nameres::DefMap;
 use crate::nameres::derive_helpers::{DeriveHelper, DeriveHelpers, push_helper};
 use crate::nameres::diagnostics::{DefDiagnostic, DefDiagnostics};
+use crate::nameres::macro_data::MacroData;
 use hir_base::ast_id::AstId;
 use hir_base::ids::FunctionId;
 use hir_base::macro_kind::{MacroId, ProcMacroId};
@@ -71,6 +72,22 @@ impl DefMap {
         ensures err { OnErr result (self.new ≡ self.old) }
     {
         self.proc_macros.insert(function, makro)?;
+        Ok(())
+    }
+
+    /// The name of a macro that the map defines, and the attributes that deriving with it brings.
+    pub fn macro_data(&self, makro: MacroId) -> Option<&MacroData>
+        ensures value { option_map (λ d. d.now) result ≡ macro_data_at self.now makro }
+    {
+        self.macro_data.get(&makro)
+    }
+
+    /// Keeps the name of a macro, and the attributes that deriving with it brings.
+    pub fn add_macro_data(&mut self, makro: MacroId, what: MacroData) -> Result<(), AllocError>
+        ensures ok { OnOk result (self.new ≡ with_macro_data self.old makro what) }
+        ensures err { OnErr result (self.new ≡ self.old) }
+    {
+        self.macro_data.insert(makro, what)?;
         Ok(())
     }
 

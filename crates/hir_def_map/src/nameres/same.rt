@@ -45,6 +45,7 @@ impl DefMap {
     {
         self.macro_ids == other.macro_ids
             && self.proc_macros == other.proc_macros
+            && self.macro_data == other.macro_data
             && self.derive_helpers == other.derive_helpers
     }
 

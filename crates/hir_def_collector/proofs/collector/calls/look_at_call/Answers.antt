@@ -2,14 +2,16 @@
 use Rattle.std.proofs.Common.{◌≡◌, ◌∙◌, Some, ap, refl, subst, sym}
 use Rattle.hir_base.specs.declared.ast_id.AstId.{AstId}
 use Rattle.hir_base.specs.declared.ids.MapId.{MapId}
+use Rattle.hir_base.specs.declared.macro_kind.CallStyle.{CallStyle}
 use Rattle.hir_base.specs.declared.macro_kind.MacroCallKind.{MacroCallKind}
 use Rattle.hir_tables.specs.Interning.{Interns}
 use Rattle.hir_tables.specs.SourcePlaces.{expansion_value}
 use Rattle.hir_tables.specs.Tables.{TablesValue}
 use Rattle.hir_tables.proofs.Growth.{KeepsTables-trans}
 use Rattle.hir_def_map.specs.State.{Map}
+use Rattle.hir_def_map.specs.WorldParts.{part_of}
 use Rattle.hir_def_collector.specs.declared.source_database.Key.TheVariants as keys
-use Rattle.hir_def_collector.specs.Calls.{AreCallsPlaced, Expanding, call_key, expansion_of_call}
+use Rattle.hir_def_collector.specs.Calls.{AreCallsPlaced, Expanding, call_key, call_style, expansion_of_call}
 use Rattle.hir_def_collector.specs.Keys.{input_at, source_in}
 use Rattle.hir_def_collector.specs.State.{Core, core_in, with_asked}
 use Rattle.hir_def_collector.specs.Workspace.{Workspace, entry_look, seen_of}
@@ -93,9 +95,10 @@ returns-clause-ok g c =
     let own : c.id.result ≡ old.map.id = c.id.ensures.value ∙ ap (λ (m : Map). m.id) c.map.ensures.value in
     let after_text = c.in_ok-text.ensures.same in
     let after_input = c.in_ok-input.ensures.same ∙ after_text in
-    let key = c.in_ok-key.ensures.value ∙ ap (λ (i : MapId). expansion_of_call i.krate c.args.makro x.text x.input) own in (
+    let key = c.in_ok-key.ensures.value ∙ ap (λ (s : CallStyle). expansion_of_call c.id.result.krate s c.args.makro x.text x.input) c.call_style.ensures.value
+    ∙ ap (λ (i : MapId). expansion_of_call i.krate (call_style c.args.call.now) c.args.makro x.text x.input) own in (
       x,
-      sees_call c.args.locations.now c.intern_entry.new.self c.intern_call.new.self w old (core_in c.ask-3.new.self) c.args.call.now c.args.makro x c.in_ok-source.source.value
+      sees_call c.args.locations.now c.intern_entry.new.self c.intern_call.new.self w (part_of c.args.world) old (core_in c.ask-3.new.self) c.args.call.now c.args.makro x c.in_ok-source.source.value
           c.intern_entry.ensures.kept c.intern_call.ensures.kept c.requires.meant (c.is_meant.ensures.meant c.if-not-is_meant.false)
           (c.in_ok-entry.ensures.found ∙ ap Some key)
           (c.in_ok-id.ensures.found ∙ ap (λ (k : MacroCallKind). Some (record { kind = k; entry = x.entry })) c.call_kind.ensures.value)

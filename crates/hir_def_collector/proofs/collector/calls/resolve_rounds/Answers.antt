@@ -1,18 +1,17 @@
--- Rounds, one after another, until no call is handled in one, or there were too many.
-use Rattle.std.proofs.Common.{rules, ◌≡◌, ◌∙◌, ap, length, refl, subst, sym, arith}
+-- Turns, one after another, until nothing that waits leads anywhere and no attribute waits, or there were too many rounds.
+use Rattle.std.proofs.Common.{rules, ◌≡◌, ◌∙◌, ◌<◌, ap, length, refl, subst, sym, false, arith}
 use Rattle.hir_base.specs.declared.ids.MapId.{MapId}
 use Rattle.hir_tables.proofs.Growth.{KeepsTables-trans}
 use Rattle.hir_def_map.specs.Overlay.{Maps}
 use Rattle.hir_def_map.specs.WorldParts.{part_of}
 use Rattle.hir_worklist.specs.Queue.{Queue}
 use Rattle.hir_import_resolution.specs.Inner.State.{IsApart}
-use Rattle.hir_import_resolution.specs.Rest.{IsAtRest}
-use Rattle.hir_def_collector.specs.CallMoves.{IsReady, TriesCalls, cut_off}
+use Rattle.hir_def_collector.specs.CallMoves.{ComesToRest, TakesTurn, cut_off, rested}
 use Rattle.hir_def_collector.specs.Derivation.{IsSpent}
 use Rattle.hir_def_collector.specs.Keys.{Environment, environment}
 use Rattle.hir_def_collector.specs.Moves.{OnceGrown}
 use Rattle.hir_def_collector.specs.Rounds as rounds
-use Rattle.hir_def_collector.specs.State.{Core, at_rest, core_in, import_state}
+use Rattle.hir_def_collector.specs.State.{Core, at_rest, core_in}
 use Rattle.hir_def_collector.specs.Steps as steps
 use Rattle.hir_def_collector.specs.Steps.{Steps}
 use Rattle.hir_def_collector.specs.Workspace.{Workspace}
@@ -20,14 +19,9 @@ use Rattle.hir_def_collector.proofs.Moves.{Steps-append, spent_after}
 use Rattle.hir_def_collector.proofs.Numbers.{tables_stay}
 use Rattle.hir_def_collector.proofs.Ready.{ready_after, ready_grown}
 use Rattle.hir_def_collector.proofs.Changes.{id-Steps}
-use Rattle.hir_def_collector.proofs.Tried.{rounds_steps}
-use Rattle.hir_def_collector.proofs.Queued.{of_round, rests_idle, rounds_next}
-use Rattle.hir_def_collector.proofs.Waiting.{keeps_waiting, up_to_date_first}
+use Rattle.hir_def_collector.proofs.Queued.{has_rounds_steps, rounds_next, rounds_then}
+use Rattle.hir_def_collector.proofs.Waiting.{stale_now, up_to_date_first}
 use Rattle.hir_def_collector.proofs.collector.calls.resolve_rounds.Goals as goal
-
--- steps that lead to where imports rest lead to where what has changed was queued
-settles_requeued : (env : Environment) (finished : Maps) (now settled requeued : Core) → requeued ≡ settled → Steps env finished (at_rest now) (at_rest settled) → Steps env finished (at_rest now) (at_rest requeued)
-settles_requeued env finished now settled requeued same steps = subst (λ (core : Core). Steps env finished (at_rest now) (at_rest core)) (sym same) steps
 
 pub rounds-init : goal.rounds-init
 rounds-init g c = record {
@@ -37,146 +31,137 @@ rounds-init g c = record {
   ready = c.requires.ready;
   own = refl;
   apart = c.new-queue.ensures.apart;
-  up_to_date = up_to_date_first (part_of c.args.world) c.new-queue.result (core_in c.args.run) c.new-queue.ensures.none;
+  stale = stale_now (part_of c.args.world) c.new-queue.result c.args.run (up_to_date_first (part_of c.args.world) c.new-queue.result (core_in c.args.run) c.new-queue.ensures.none);
   between = record { over = ap (λ (q : Queue). q.current) c.new-queue.ensures.none; outside = ap (λ (q : Queue). q.end) c.new-queue.ensures.none };
-  rounds = λ grown k. rounds.none (at_rest (core_in c.args.run)) steps.none;
+  rounds = λ grown k. record { last = at_rest (core_in c.args.run); rounds = rounds.none (at_rest (core_in c.args.run)) steps.none; after = steps.none };
+  first = record { inside = omega arith; none = λ j w. omega arith };
 }
 
--- ---- a round
+pub take_turn-requires-clause-apart : goal.take_turn-requires-clause-apart
+take_turn-requires-clause-apart g c = λ yes local.
+    subst (λ (own : MapId). IsApart (part_of c.args.world) own local) (sym c.rounds.invariant.own) (c.requires.apart yes local)
 
-pub settle-requires-clause-apart : goal.settle-requires-clause-apart
-settle-requires-clause-apart g c = λ yes.
-    let now = core_in c.rounds.run in
-    subst (λ (own : MapId). IsApart (part_of c.args.world) own now.local) (sym c.rounds.invariant.own) (c.requires.apart yes now.local)
+pub returns-in_err-take_turn-clause-kept : goal.returns-in_err-take_turn-clause-kept
+returns-in_err-take_turn-clause-kept g c =
+    KeepsTables-trans c.args.locations.now c.rounds.locations c.take_turn.new.locations c.rounds.invariant.kept c.in_err-take_turn.ensures.kept
 
-pub returns-in_err-run-clause-many : goal.returns-in_err-run-clause-many
-returns-in_err-run-clause-many g c = λ h grown k.
-    spent_after (rounds_steps (c.rounds.invariant.rounds grown k)) (c.in_err-run.ensures.many (search rules) (environment grown (g.D.SourceDatabase.workspace c.args.db.now)))
-
-pub requeue-requires-clause-apart : goal.requeue-requires-clause-apart
-requeue-requires-clause-apart g c = λ yes local.
-    let settled = core_in c.in_ok-run.run' in
-    let steps : Steps (environment c.rounds.locations (g.D.SourceDatabase.workspace c.args.db.now)) (part_of c.args.world) (at_rest (core_in c.rounds.run)) (at_rest settled) =
-    c.in_ok-run.ensures.ok (environment c.rounds.locations (g.D.SourceDatabase.workspace c.args.db.now)) in
-    subst (λ (own : MapId). IsApart (part_of c.args.world) own local) (sym (id-Steps steps ∙ c.rounds.invariant.own)) (c.requires.apart (sym c.rounds.invariant.apart ∙ yes) local)
-
-pub requeue-requires-clause-stale : goal.requeue-requires-clause-stale
-requeue-requires-clause-stale g c = record {
-  before = c.rounds.run;
-  up_to_date = c.rounds.invariant.up_to_date;
-  noted = c.in_ok-run.ensures.noted;
-  waits = keeps_waiting (core_in c.rounds.run) (core_in c.in_ok-run.run') (c.in_ok-run.ensures.ok (environment c.rounds.locations (g.D.SourceDatabase.workspace c.args.db.now))) c.rounds.invariant.ready.fated;
-}
-
-pub requeue-requires-clause-settled : goal.requeue-requires-clause-settled
-requeue-requires-clause-settled g c = c.in_ok-run.ensures.settled
-
-pub try_calls-requires-clause-ready : goal.try_calls-requires-clause-ready
-try_calls-requires-clause-ready g c =
-    subst (IsReady c.rounds.locations (part_of c.args.world)) (sym c.requeue.ensures.same)
-    (ready_after (c.in_ok-run.ensures.ok (environment c.rounds.locations (g.D.SourceDatabase.workspace c.args.db.now))) c.rounds.invariant.ready)
-
-pub try_calls-requires-clause-settled : goal.try_calls-requires-clause-settled
-try_calls-requires-clause-settled g c = subst (λ (core : Core). core.settled ≡ length core.calls) (sym c.requeue.ensures.same) c.in_ok-run.ensures.settled
-
-pub try_calls-requires-clause-apart : goal.try_calls-requires-clause-apart
-try_calls-requires-clause-apart g c = λ yes local.
-    let settled = core_in c.in_ok-run.run' in
-    let steps : Steps (environment c.rounds.locations (g.D.SourceDatabase.workspace c.args.db.now)) (part_of c.args.world) (at_rest (core_in c.rounds.run)) (at_rest settled) =
-    c.in_ok-run.ensures.ok (environment c.rounds.locations (g.D.SourceDatabase.workspace c.args.db.now)) in
-    subst (λ (own : MapId). IsApart (part_of c.args.world) own local) (sym (ap (λ (core : Core). core.map.id) c.requeue.ensures.same ∙ id-Steps steps ∙ c.rounds.invariant.own))
-    (c.requires.apart (sym c.rounds.invariant.apart ∙ sym c.in_ok-requeue.ensures.queue ∙ yes) local)
-
-pub returns-in_err-try_calls-clause-kept : goal.returns-in_err-try_calls-clause-kept
-returns-in_err-try_calls-clause-kept g c =
-    KeepsTables-trans c.args.locations.now c.rounds.locations c.try_calls.new.locations c.rounds.invariant.kept c.in_err-try_calls.ensures.kept
-
-pub returns-in_err-try_calls-clause-many : goal.returns-in_err-try_calls-clause-many
-returns-in_err-try_calls-clause-many g c = λ h grown k.
+pub returns-in_err-take_turn-clause-many : goal.returns-in_err-take_turn-clause-many
+returns-in_err-take_turn-clause-many g c = λ h grown k.
     let w = g.D.SourceDatabase.workspace c.args.db.now in
-    let part = part_of c.args.world in
-    let later = c.try_calls.new.locations in
-    let settled = core_in c.requeue.new.run in
-    let far : OnceGrown later w (λ env. IsSpent env part (at_rest settled)) =
-    subst (λ (v : Workspace). OnceGrown later v (λ env. IsSpent env part (at_rest settled))) c.rounds.invariant.same (c.in_err-try_calls.ensures.many (search rules)) in
-    spent_after (rounds_steps (c.rounds.invariant.rounds grown (KeepsTables-trans c.rounds.locations later grown c.in_err-try_calls.ensures.kept k)))
-    (spent_after (settles_requeued (environment grown w) part (core_in c.rounds.run) (core_in c.in_ok-run.run') settled c.requeue.ensures.same (c.in_ok-run.ensures.ok (environment grown w))) (far grown k))
+    let later = c.take_turn.new.locations in
+    let far : OnceGrown later w (λ env. IsSpent env (part_of c.args.world) (at_rest (core_in c.rounds.run))) =
+    subst (λ (v : Workspace). OnceGrown later v (λ env. IsSpent env (part_of c.args.world) (at_rest (core_in c.rounds.run)))) c.rounds.invariant.same (c.in_err-take_turn.ensures.many (search rules)) in
+    spent_after (has_rounds_steps (environment grown w) (part_of c.args.world) (core_in c.args.run) (at_rest (core_in c.rounds.run)) c.rounds.rounds (c.rounds.invariant.rounds grown (KeepsTables-trans c.rounds.locations later grown c.in_err-take_turn.ensures.kept k))) (far grown k)
 
-pub rounds-preserved : goal.rounds-preserved
-rounds-preserved g c =
+-- ---- behind a turn (the names of the goals of the arms, and of what is known in them, are guessed)
+
+pub rounds-preserved-in-Round : goal.rounds-preserved-in-Round
+rounds-preserved-in-Round g c =
     let w = g.D.SourceDatabase.workspace c.args.db.now in
     let part = part_of c.args.world in
     let old = core_in c.args.run in
     let now = core_in c.rounds.run in
-    let settled = core_in c.requeue.new.run in
-    let new = core_in c.try_calls.new.run in
-    let later = c.try_calls.new.locations in
-    let kept = c.in_ok-try_calls.ensures.kept in
-    let step : OnceGrown later w (λ env. Steps env part (at_rest settled) (at_rest new)) =
-    subst (λ (v : Workspace). OnceGrown later v (λ env. Steps env part (at_rest settled) (at_rest new))) c.rounds.invariant.same c.in_ok-try_calls.ensures.ok in
-    let tried : OnceGrown later w (λ env. TriesCalls env part settled new c.in_ok-try_calls.field-0) =
-    subst (λ (v : Workspace). OnceGrown later v (λ env. TriesCalls env part settled new c.in_ok-try_calls.field-0)) c.rounds.invariant.same c.in_ok-try_calls.ensures.tried in
-    let here : Steps (environment later w) part (at_rest now) (at_rest new) = Steps-append (settles_requeued (environment later w) part now (core_in c.in_ok-run.run') settled c.requeue.ensures.same (c.in_ok-run.ensures.ok (environment later w))) (step later (tables_stay later)) in
+    let new = core_in c.in_ok-take_turn.next in
+    let later = c.take_turn.new.locations in
+    let kept = c.in_ok-take_turn.ensures.kept in
+    let step : OnceGrown later w (λ env. Steps env part (at_rest now) (at_rest new)) =
+    subst (λ (v : Workspace). OnceGrown later v (λ env. Steps env part (at_rest now) (at_rest new))) c.rounds.invariant.same c.in_ok-take_turn.ensures.ok in
+    let turned : OnceGrown later w (λ env. TakesTurn env part now new c.rounds.first c.in_ok-take_turn.turn) =
+    subst (λ (v : Workspace). OnceGrown later v (λ env. TakesTurn env part now new c.rounds.first c.in_ok-take_turn.turn)) c.rounds.invariant.same c.in_ok-take_turn.ensures.turned in
+    let here : Steps (environment later w) part (at_rest now) (at_rest new) = step later (tables_stay later) in
     record {
       kept = KeepsTables-trans c.args.locations.now c.rounds.locations later c.rounds.invariant.kept kept;
-      same = c.in_ok-try_calls.ensures.same ∙ c.rounds.invariant.same;
-      placed = λ placed. c.in_ok-try_calls.ensures.placed (c.rounds.invariant.placed placed);
+      same = c.in_ok-take_turn.ensures.same ∙ c.rounds.invariant.same;
+      placed = λ placed. c.in_ok-take_turn.ensures.placed (c.rounds.invariant.placed placed);
       ready = ready_after here (ready_grown kept c.rounds.invariant.ready);
       own = id-Steps here ∙ c.rounds.invariant.own;
-      apart = c.in_ok-try_calls.ensures.queue ∙ c.in_ok-requeue.ensures.queue ∙ c.rounds.invariant.apart;
-      up_to_date = c.in_ok-try_calls.ensures.up_to_date;
-      between = c.in_ok-try_calls.ensures.between;
+      apart = c.in_ok-take_turn.ensures.queue ∙ c.rounds.invariant.apart;
+      stale = c.in_ok-take_turn.ensures.stale;
+      between = c.in_ok-take_turn.ensures.between;
       rounds = λ grown k.
-          rounds_next (environment grown w) part old now settled new c.rounds.rounds (c.rounds.invariant.rounds grown (KeepsTables-trans c.rounds.locations later grown kept k))
-          (settles_requeued (environment grown w) part now (core_in c.in_ok-run.run') settled c.requeue.ensures.same (c.in_ok-run.ensures.ok (environment grown w))) (of_round (environment grown w) part old settled new c.in_ok-try_calls.field-0 c.if-not-branch.false (tried grown k));
+          let before = c.rounds.invariant.rounds grown (KeepsTables-trans c.rounds.locations later grown kept k) in
+          let t = turned grown k in rounds_next (environment grown w) part old (at_rest now) t.begun new c.rounds.rounds before t.before t.round;
+      first = (turned later (tables_stay later)).none;
     }
 
--- ---- no call was handled
-
-pub returns-then-not-branch-clause-kept : goal.returns-then-not-branch-clause-kept
-returns-then-not-branch-clause-kept g c =
-    KeepsTables-trans c.args.locations.now c.rounds.locations c.try_calls.new.locations c.rounds.invariant.kept c.in_ok-try_calls.ensures.kept
-
-pub returns-then-not-branch-clause-ok : goal.returns-then-not-branch-clause-ok
-returns-then-not-branch-clause-ok g c = λ grown k.
+pub rounds-preserved-in-GaveUp : goal.rounds-preserved-in-GaveUp
+rounds-preserved-in-GaveUp g c =
     let w = g.D.SourceDatabase.workspace c.args.db.now in
     let part = part_of c.args.world in
-    let later = c.try_calls.new.locations in
-    let settled = core_in c.requeue.new.run in
-    let new = core_in c.try_calls.new.run in
-    let step : OnceGrown later w (λ env. Steps env part (at_rest settled) (at_rest new)) =
-    subst (λ (v : Workspace). OnceGrown later v (λ env. Steps env part (at_rest settled) (at_rest new))) c.rounds.invariant.same c.in_ok-try_calls.ensures.ok in
-    Steps-append (rounds_steps (c.rounds.invariant.rounds grown (KeepsTables-trans c.rounds.locations later grown c.in_ok-try_calls.ensures.kept k)))
-    (Steps-append (settles_requeued (environment grown w) part (core_in c.rounds.run) (core_in c.in_ok-run.run') settled c.requeue.ensures.same (c.in_ok-run.ensures.ok (environment grown w))) (step grown k))
+    let old = core_in c.args.run in
+    let now = core_in c.rounds.run in
+    let new = core_in c.in_ok-take_turn.next in
+    let later = c.take_turn.new.locations in
+    let kept = c.in_ok-take_turn.ensures.kept in
+    let step : OnceGrown later w (λ env. Steps env part (at_rest now) (at_rest new)) =
+    subst (λ (v : Workspace). OnceGrown later v (λ env. Steps env part (at_rest now) (at_rest new))) c.rounds.invariant.same c.in_ok-take_turn.ensures.ok in
+    let turned : OnceGrown later w (λ env. TakesTurn env part now new c.rounds.first c.in_ok-take_turn.turn) =
+    subst (λ (v : Workspace). OnceGrown later v (λ env. TakesTurn env part now new c.rounds.first c.in_ok-take_turn.turn)) c.rounds.invariant.same c.in_ok-take_turn.ensures.turned in
+    let here : Steps (environment later w) part (at_rest now) (at_rest new) = step later (tables_stay later) in
+    record {
+      kept = KeepsTables-trans c.args.locations.now c.rounds.locations later c.rounds.invariant.kept kept;
+      same = c.in_ok-take_turn.ensures.same ∙ c.rounds.invariant.same;
+      placed = λ placed. c.in_ok-take_turn.ensures.placed (c.rounds.invariant.placed placed);
+      ready = ready_after here (ready_grown kept c.rounds.invariant.ready);
+      own = id-Steps here ∙ c.rounds.invariant.own;
+      apart = c.in_ok-take_turn.ensures.queue ∙ c.rounds.invariant.apart;
+      stale = c.in_ok-take_turn.ensures.stale;
+      between = c.in_ok-take_turn.ensures.between;
+      rounds = λ grown k.
+          let before = c.rounds.invariant.rounds grown (KeepsTables-trans c.rounds.locations later grown kept k) in
+          rounds_then (environment grown w) part old (at_rest now) (at_rest new) c.rounds.rounds before (step grown k);
+      first = turned later (tables_stay later);
+    }
 
-pub returns-then-not-branch-clause-rests : goal.returns-then-not-branch-clause-rests
-returns-then-not-branch-clause-rests g c = λ grown k.
+-- the measure: steps are counted in each turn, and there were fewer than may be
+pub rounds-smaller : goal.rounds-smaller
+rounds-smaller g c = omega (arith, c.in_ok-take_turn.ensures.counts.0, c.in_ok-take_turn.ensures.counts.1)
+
+-- ---- nothing leads anywhere
+
+pub returns-in-Rests-clause-kept : goal.returns-in-Rests-clause-kept
+returns-in-Rests-clause-kept g c =
+    KeepsTables-trans c.args.locations.now c.rounds.locations c.take_turn.new.locations c.rounds.invariant.kept c.in_ok-take_turn.ensures.kept
+
+pub returns-in-Rests-clause-ok : goal.returns-in-Rests-clause-ok
+returns-in-Rests-clause-ok g c = λ grown k.
     let w = g.D.SourceDatabase.workspace c.args.db.now in
     let part = part_of c.args.world in
-    let later = c.try_calls.new.locations in
-    let settled = core_in c.requeue.new.run in
-    let new = core_in c.try_calls.new.run in
-    let tried : OnceGrown later w (λ env. TriesCalls env part settled new c.in_ok-try_calls.field-0) =
-    subst (λ (v : Workspace). OnceGrown later v (λ env. TriesCalls env part settled new c.in_ok-try_calls.field-0)) c.rounds.invariant.same c.in_ok-try_calls.ensures.tried in
-    rests_idle (environment grown w) part (core_in c.args.run) settled new c.in_ok-try_calls.field-0 c.if-not-branch.true (subst (λ (core : Core). IsAtRest part (import_state (at_rest core))) (sym c.requeue.ensures.same) c.in_ok-run.ensures.rests) (tried grown k)
+    let later = c.take_turn.new.locations in
+    let step : OnceGrown later w (λ env. Steps env part (at_rest (core_in c.rounds.run)) (at_rest (core_in c.in_ok-take_turn.next))) =
+    subst (λ (v : Workspace). OnceGrown later v (λ env. Steps env part (at_rest (core_in c.rounds.run)) (at_rest (core_in c.in_ok-take_turn.next)))) c.rounds.invariant.same c.in_ok-take_turn.ensures.ok in
+    Steps-append (has_rounds_steps (environment grown w) part (core_in c.args.run) (at_rest (core_in c.rounds.run)) c.rounds.rounds (c.rounds.invariant.rounds grown (KeepsTables-trans c.rounds.locations later grown c.in_ok-take_turn.ensures.kept k))) (step grown k)
+
+-- where a run rests doesn't say where it began
+rests_from : (env : Environment) (finished : Maps) (began old new : Core) → ComesToRest env finished old new false → ComesToRest env finished began new false
+rests_from env finished began old new (rested imports nowhere none) = rested imports nowhere none
+
+pub returns-in-Rests-clause-rests : goal.returns-in-Rests-clause-rests
+returns-in-Rests-clause-rests g c = λ grown k.
+    let w = g.D.SourceDatabase.workspace c.args.db.now in
+    let part = part_of c.args.world in
+    let later = c.take_turn.new.locations in
+    let turned : OnceGrown later w (λ env. ComesToRest env part (core_in c.rounds.run) (core_in c.in_ok-take_turn.next) false) =
+    subst (λ (v : Workspace). OnceGrown later v (λ env. ComesToRest env part (core_in c.rounds.run) (core_in c.in_ok-take_turn.next) false)) c.rounds.invariant.same c.in-Rests.ensures.turned in
+    rests_from (environment grown w) part (core_in c.args.run) (core_in c.rounds.run) (core_in c.in_ok-take_turn.next) (turned grown k)
 
 -- ---- there were too many rounds
 
-pub returns-in_err-run-2-clause-many : goal.returns-in_err-run-2-clause-many
-returns-in_err-run-2-clause-many g c = λ h grown k.
-    spent_after (rounds_steps (c.rounds.invariant.rounds grown k)) (c.in_err-run-2.ensures.many (search rules) (environment grown (g.D.SourceDatabase.workspace c.args.db.now)))
+pub returns-in_err-run-clause-many : goal.returns-in_err-run-clause-many
+returns-in_err-run-clause-many g c = λ h grown k.
+    spent_after (has_rounds_steps (environment grown (g.D.SourceDatabase.workspace c.args.db.now)) (part_of c.args.world) (core_in c.args.run) (at_rest (core_in c.rounds.run)) c.rounds.rounds (c.rounds.invariant.rounds grown k)) (c.in_err-run.ensures.many (search rules) (environment grown (g.D.SourceDatabase.workspace c.args.db.now)))
 
 pub returns-clause-ok : goal.returns-clause-ok
 returns-clause-ok g c = λ grown k.
-    Steps-append (rounds_steps (c.rounds.invariant.rounds grown k)) (c.in_ok-run-2.ensures.ok (environment grown (g.D.SourceDatabase.workspace c.args.db.now)))
+    Steps-append (has_rounds_steps (environment grown (g.D.SourceDatabase.workspace c.args.db.now)) (part_of c.args.world) (core_in c.args.run) (at_rest (core_in c.rounds.run)) c.rounds.rounds (c.rounds.invariant.rounds grown k)) (c.in_ok-run.ensures.ok (environment grown (g.D.SourceDatabase.workspace c.args.db.now)))
 
 pub returns-clause-rests : goal.returns-clause-rests
 returns-clause-rests g c = λ grown k.
-    cut_off c.in_ok-run-2.ensures.closed c.in_ok-run-2.ensures.sound.stands
-    (record {
+    cut_off c.in_ok-run.ensures.closed c.in_ok-run.ensures.sound.stands
+    (let before = c.rounds.invariant.rounds grown k in record {
       count = c.rounds.rounds;
-      last = at_rest (core_in c.rounds.run);
-      rounds = c.rounds.invariant.rounds grown k;
+      last = before.last;
+      rounds = before.rounds;
       many = omega (arith, c.rounds-test.false);
-      after = c.in_ok-run-2.ensures.ok (environment grown (g.D.SourceDatabase.workspace c.args.db.now));
+      after = Steps-append before.after (c.in_ok-run.ensures.ok (environment grown (g.D.SourceDatabase.workspace c.args.db.now)));
     })

@@ -1,13 +1,14 @@
-use Rattle.std.proofs.Common.{◌≡◌, ◌-◌, None}
+use Rattle.std.proofs.Common.{◌≡◌, ◌-◌}
 use Rattle.hir_tables.specs.Tables.{KeepsTables}
 use Rattle.hir_def_map.specs.WorldParts.{part_of}
 use Rattle.hir_call_queue.specs.Waking.{is_apart}
-use Rattle.hir_def_collector.specs.CallMoves.{IsReady}
+use Rattle.hir_def_collector.specs.CallMoves.{IsReady, NoneWaitsBefore}
+use Rattle.hir_def_collector.specs.declared.collector.TheConstants.{STEP_LIMIT}
 use Rattle.hir_def_collector.specs.Calls.{AreCallsPlaced}
 use Rattle.hir_def_collector.specs.Moves.{OnceGrown}
-use Rattle.hir_def_collector.specs.Rounds.{Rounds}
 use Rattle.hir_def_collector.specs.State.{at_rest, core_in}
-use Rattle.hir_def_collector.specs.Waiting.{IsBetweenPasses, IsUpToDate}
+use Rattle.hir_def_collector.specs.Waiting.{IsBetweenPasses, IsStale}
+use Rattle.hir_def_collector.proofs.Queued.{HasRounds}
 use Rattle.hir_def_collector.proofs.collector.calls.resolve_rounds.Given as goal
 
 abbrev pub invariant-rounds : goal.invariant-rounds
@@ -18,10 +19,11 @@ invariant-rounds g l = record {
   ready : IsReady l.locations (part_of l.world) (core_in l.run);
   own : (core_in l.run).map.id ≡ (core_in l.initial.run).map.id;
   apart : is_apart l.queue ≡ l.apart;
-  up_to_date : IsUpToDate (part_of l.world) l.queue (core_in l.run) None;
+  stale : IsStale (part_of l.world) l.queue l.run;
   between : IsBetweenPasses l.queue;
-  rounds : OnceGrown l.locations (g.D.SourceDatabase.workspace l.initial.db) (λ env. Rounds env (part_of l.world) (at_rest (core_in l.initial.run)) (at_rest (core_in l.run)) l.rounds);
+  rounds : OnceGrown l.locations (g.D.SourceDatabase.workspace l.initial.db) (λ env. HasRounds env (part_of l.world) (at_rest (core_in l.initial.run)) (at_rest (core_in l.run)) l.rounds);
+  first : NoneWaitsBefore (core_in l.run) l.first;
 }
 
 abbrev pub decreases-rounds : goal.decreases-rounds
-decreases-rounds g l = 8193 - l.rounds
+decreases-rounds g l = STEP_LIMIT - (core_in l.run).count

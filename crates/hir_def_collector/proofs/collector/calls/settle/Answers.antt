@@ -1,11 +1,14 @@
 -- Imports rest, and then calls may be expanded.
-use Rattle.std.proofs.Common.{rules, ◌∙◌, ap, length, subst, sym}
+use Rattle.std.proofs.Common.{rules, ◌≡◌, ◌∙◌, ◌+◌, ◌<◌, ◌≤◌, ap, arith, length, subst, sym}
 use Rattle.hir_def_map.specs.WorldParts.{part_of}
 use Rattle.hir_import_resolution.specs.Rest.{IsAtRest}
+use Rattle.hir_def_collector.specs.declared.collector.TheConstants.{STEP_LIMIT}
 use Rattle.hir_def_collector.specs.State.{Core, at_rest, core_in, import_state}
+use Rattle.hir_def_collector.proofs.Changes.{count-Steps}
 use Rattle.hir_def_collector.proofs.CallSteps.{rest_counted, rested, rested_past}
 use Rattle.hir_def_collector.proofs.Moves.{Steps-append, spent_after}
 use Rattle.hir_def_collector.proofs.Noted.{noted_follow}
+use Rattle.hir_def_collector.proofs.Walked.{nowhere}
 use Rattle.hir_def_collector.proofs.collector.calls.settle.Goals as goal
 
 pub returns-clause-ok : goal.returns-clause-ok
@@ -24,6 +27,14 @@ returns-in_err-rest-clause-many c = λ h env.
 
 pub returns-clause-settled : goal.returns-clause-settled
 returns-clause-settled c = ap (λ (n : Core). n.settled) c.in_ok-rest.ensures.ok ∙ sym (ap (λ (n : Core). length n.calls) c.in_ok-rest.ensures.ok)
+
+-- steps are counted, and there were fewer than may be
+pub returns-clause-counts : goal.returns-clause-counts
+returns-clause-counts c =
+    let before : (core_in c.args.run).count ≤ (core_in c.in_ok-run.run').count = count-Steps (c.in_ok-run.ensures.ok nowhere) in
+    let one : (core_in c.rest.new.self).count ≡ (core_in c.in_ok-run.run').count + 1 = ap (λ (n : Core). n.count) c.in_ok-rest.ensures.ok in
+    let below : (core_in c.in_ok-run.run').count < STEP_LIMIT = c.in_ok-rest.ensures.below in
+    (omega (arith, before, one), omega (arith, before, below))
 
 pub returns-clause-noted : goal.returns-clause-noted
 returns-clause-noted c = noted_follow c.in_ok-run.ensures.noted c.in_ok-rest.ensures.noted

@@ -24,7 +24,7 @@ returns-clause-up_to_date c =
     let watching : IsWatching (length core.map.modules) (call_reads (part_of c.args.world) core.local core.map d) c.args.i c.args.queue.now c.watch.new.self =
     subst (λ (n : ℕ). IsWatching n (call_reads (part_of c.args.world) core.local core.map d) c.args.i c.args.queue.now c.watch.new.self) count
     (subst (λ (slots : List Slot). IsWatching c.module_count.result slots c.args.i c.args.queue.now c.watch.new.self) c.call_slots.ensures.value c.in_ok-watch.ensures.watching) in
-    up_to_date_watched (part_of c.args.world) c.args.queue.now c.watch.new.self core c.args.i c.requires.up_to_date d waits (c.requires.nowhere.shallow d waits) (c.requires.nowhere.nowhere d waits) (c.requires.low d waits.call) c.requires.in_order watching
+    up_to_date_watched (part_of c.args.world) c.args.queue.now c.watch.new.self core c.args.i c.requires.up_to_date d waits c.requires.nowhere (c.requires.low d waits.call) c.requires.in_order watching
 
 pub returns-in_default-clause-stays : goal.returns-in_default-clause-stays
 returns-in_default-clause-stays c = goes_on_itself c.args.queue.now

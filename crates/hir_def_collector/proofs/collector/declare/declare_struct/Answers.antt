@@ -4,7 +4,7 @@ use Rattle.hir_def_collector.proofs.collector.declare.declare_struct.Goals as go
 
 pub returns-clause-ok : goal.returns-clause-ok
 returns-clause-ok c = λ env. record {
-  step = λ rest.
-      declared _ _ _ _ rest c.requires.enabled refl
+  step = λ done passed rest.
+      declared _ _ _ _ done passed rest c.requires.enabled refl refl
       (rw (c.in_ok-declare.ensures.ok, c.struct_items.ensures.value, c.constructor-constructor.ensures.value, c.visibility-own.ensures.value, c.module_id-at.ensures.value, c.in_ok-clone.ensures.value) refl);
 }

@@ -4,5 +4,5 @@ use Rattle.hir_def_collector.proofs.collector.declare.declare_type_alias.Goals a
 
 pub returns-clause-ok : goal.returns-clause-ok
 returns-clause-ok c = λ env. record {
-  step = λ rest. declared _ _ _ _ rest c.requires.enabled refl (rw (c.in_ok-declare_type.ensures.ok, c.container.ensures.value) refl);
+  step = λ done passed rest. declared _ _ _ _ done passed rest c.requires.enabled refl refl (rw (c.in_ok-declare_type.ensures.ok, c.container.ensures.value) refl);
 }

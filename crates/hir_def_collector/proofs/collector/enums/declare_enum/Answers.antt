@@ -11,8 +11,8 @@ pub returns-clause-ok : goal.returns-clause-ok
 returns-clause-ok c = λ env held.
     let found : Option (List VariantItem) = variants_of c.args.source.now c.args.head.id in
     record {
-      step = λ rest.
-          declared_enum _ _ c.args.site.now (head_of c.args.head) c.args.name.now found rest c.requires.enabled
+      step = λ done passed rest.
+          declared_enum _ _ c.args.site.now (head_of c.args.head) c.args.name.now found done passed rest c.requires.enabled
           (ap (λ (s : SourceTreeValue). of_variants (variants_of s c.args.head.id)) held)
           (rw (c.in_ok-declare.ensures.ok, c.types.ensures.value, c.visibility-vis.ensures.value, c.in_ok-add_enum.ensures.ok, c.in_ok-variants.ensures.value, c.variants.ensures.value, c.module_id.ensures.value, c.in_ok-clone.ensures.value) refl);
     }

@@ -7,8 +7,8 @@ use Rattle.hir_def_collector.proofs.collector.imports.reach_extern_crate.Goals a
 
 pub returns-clause-ok : goal.returns-clause-ok
 returns-clause-ok c = λ env. record {
-  step = λ rest.
-      made (reaches_crate c.args.site.now (head_of c.args.head) c.args.name.now c.args.alias.now rest) (record { next = refl; enabled = c.requires.enabled }) tt tt
+  step = λ done passed rest.
+      made (reaches_crate c.args.site.now (head_of c.args.head) c.args.name.now c.args.alias.now rest) (record { done = done; next = refl; enabled = c.requires.enabled; passed = passed }) tt tt
       (rw (c.in_ok-tick.ensures.ok, c.in_ok-list_extern_crate.ensures.ok, c.in_ok-reach.ensures.ok, c.in_ok-use_macros.ensures.ok, c.in_ok-add_extern.ensures.ok, c.in_ok-import.ensures.value, c.module_id.ensures.value) refl);
 }
 

@@ -11,8 +11,8 @@ use Rattle.hir_def_collector.proofs.collector.mod_collector.enter.Goals as goal
 
 pub returns-clause-ok : goal.returns-clause-ok
 returns-clause-ok c = λ env finished items. record {
-  step = λ rest.
-      made (enters_block c.args.site.now (head_of c.args.head) _ rest) (record { next = refl; enabled = c.requires.enabled }) tt tt
+  step = λ done passed rest.
+      made (enters_block c.args.site.now (head_of c.args.head) _ rest) (record { done = done; next = refl; enabled = c.requires.enabled; passed = passed }) tt tt
       (rw (append-nil, c.in_ok-tick.ensures.ok, c.in_ok-list_extern_block.ensures.ok, c.module_id.ensures.value, c.in_ok-dir.ensures.value) refl);
 }
 

@@ -8,7 +8,6 @@ pub returns-clause-accepted : goal.returns-clause-accepted
 returns-clause-accepted c =
     let few : length c.args.inputs.items ≤ 10000 = omega (arith, c.if-count-gt-MAX_CRATES.false, c.as_slice-count.ensures.len) in
     accepted_by crate_input_view c.args.inputs.items
-    (sym c.is_any_untaken.ensures.value ∙ c.if-is_any_untaken.false)
     c.in_default.ensures.value
     (sym c.has_long_path.ensures.value ∙ c.if-has_long_path.false)
     (sym c.has_deep_condition.ensures.value ∙ c.if-has_deep_condition.false)

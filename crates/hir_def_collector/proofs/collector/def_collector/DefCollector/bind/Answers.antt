@@ -27,6 +27,8 @@ bound_after r map names globs changed home name items in_map in_names edges brou
   calls = r.calls;
   fates = r.fates;
   settled = r.settled;
+  is_proc_macro = r.is_proc_macro;
+  exported = r.exported;
   asked = r.asked;
   count = r.count;
 }

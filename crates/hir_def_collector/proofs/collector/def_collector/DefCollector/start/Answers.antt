@@ -28,6 +28,8 @@ returns c =
             calls = c.new-5.ensures.items i;
             fates = c.new-6.ensures.items i;
             settled = 0;
+            is_proc_macro = c.args.is_proc_macro;
+            exported = c.new-7.ensures.items i;
             asked = asked i;
             count = 0;
           };

@@ -1,0 +1,231 @@
+-- One turn: imports rest, what is queued is tried, and where nothing was handled the first attribute that waits is given up.
+use Rattle.std.proofs.Common.{rules, ◌≡◌, ◌∙◌, ◌<◌, ◌≤◌, None, Some, ap, false, length, refl, subst, sym, true, arith}
+use Rattle.hir_base.specs.declared.ids.MapId.{MapId}
+use Rattle.hir_tables.proofs.Growth.{KeepsTables-trans}
+use Rattle.hir_def_map.specs.WorldParts.{part_of}
+use Rattle.hir_import_resolution.specs.Inner.State.{IsApart}
+use Rattle.hir_import_resolution.specs.Rest.{IsAtRest}
+use Rattle.hir_def_collector.specs.CallMoves.{IsReady, NoneWaitsBefore, TriesCalls}
+use Rattle.hir_def_collector.specs.Calls.{LeadsNowhere}
+use Rattle.hir_def_collector.specs.Derivation.{IsSpent}
+use Rattle.hir_def_collector.specs.Keys.{Environment, environment}
+use Rattle.hir_def_collector.specs.Moves.{OnceGrown}
+use Rattle.hir_def_collector.specs.State.{Core, at_rest, core_in, import_state}
+use Rattle.hir_def_collector.specs.Steps.{Steps}
+use Rattle.hir_def_collector.specs.Workspace.{Workspace}
+use Rattle.hir_def_collector.proofs.Changes.{count-Steps, id-Steps}
+use Rattle.hir_def_collector.proofs.GivingUp.{none_waits_later}
+use Rattle.hir_def_collector.proofs.Moves.{Steps-append, spent_after}
+use Rattle.hir_def_collector.proofs.Numbers.{tables_stay}
+use Rattle.hir_def_collector.proofs.Queued.{none_handled, of_round, rests_idle, settles_requeued}
+use Rattle.hir_def_collector.proofs.Ready.{ready_after, ready_grown}
+use Rattle.hir_def_collector.proofs.Waiting.{keeps_waiting, stale_later, stale_now}
+use Rattle.hir_def_collector.proofs.collector.calls.take_turn.Goals as goal
+
+-- what each goal below needs: `now` is where the turn begins, `settled` where imports rest and the queue is up to date, `tried` where what is queued was tried
+
+pub settle-requires-clause-apart : goal.settle-requires-clause-apart
+settle-requires-clause-apart g c = λ yes. c.requires.apart yes (core_in c.args.run).local
+
+pub requeue-requires-clause-apart : goal.requeue-requires-clause-apart
+requeue-requires-clause-apart g c = λ yes local.
+    let here = environment c.args.locations.now (g.D.SourceDatabase.workspace c.args.db.now) in
+    subst (λ (own : MapId). IsApart (part_of c.args.world) own local) (sym (id-Steps (c.in_ok-run.ensures.ok here))) (c.requires.apart (sym c.requires.queue ∙ yes) local)
+
+pub requeue-requires-clause-stale : goal.requeue-requires-clause-stale
+requeue-requires-clause-stale g c =
+    stale_later (part_of c.args.world) c.args.queue.now c.args.run c.in_ok-run.run' c.requires.stale c.in_ok-run.ensures.noted
+    (keeps_waiting (core_in c.args.run) (core_in c.in_ok-run.run') (c.in_ok-run.ensures.ok (environment c.args.locations.now (g.D.SourceDatabase.workspace c.args.db.now))) c.requires.ready.fated)
+
+pub requeue-requires-clause-settled : goal.requeue-requires-clause-settled
+requeue-requires-clause-settled g c = c.in_ok-run.ensures.settled
+
+pub try_calls-requires-clause-ready : goal.try_calls-requires-clause-ready
+try_calls-requires-clause-ready g c =
+    subst (IsReady c.args.locations.now (part_of c.args.world)) (sym c.requeue.ensures.same)
+    (ready_after (c.in_ok-run.ensures.ok (environment c.args.locations.now (g.D.SourceDatabase.workspace c.args.db.now))) c.requires.ready)
+
+pub try_calls-requires-clause-settled : goal.try_calls-requires-clause-settled
+try_calls-requires-clause-settled g c = subst (λ (core : Core). core.settled ≡ length core.calls) (sym c.requeue.ensures.same) c.in_ok-run.ensures.settled
+
+pub try_calls-requires-clause-apart : goal.try_calls-requires-clause-apart
+try_calls-requires-clause-apart g c = λ yes local.
+    let here = environment c.args.locations.now (g.D.SourceDatabase.workspace c.args.db.now) in
+    subst (λ (own : MapId). IsApart (part_of c.args.world) own local) (sym (ap (λ (core : Core). core.map.id) c.requeue.ensures.same ∙ id-Steps (c.in_ok-run.ensures.ok here)))
+    (c.requires.apart (sym c.requires.queue ∙ sym c.in_ok-requeue.ensures.queue ∙ yes) local)
+
+pub returns-in_err-try_calls-clause-many : goal.returns-in_err-try_calls-clause-many
+returns-in_err-try_calls-clause-many g c = λ h grown k.
+    let env = environment grown (g.D.SourceDatabase.workspace c.args.db.now) in
+    let part = part_of c.args.world in
+    spent_after (settles_requeued env part (core_in c.args.run) (core_in c.in_ok-run.run') (core_in c.requeue.new.run) c.requeue.ensures.same (c.in_ok-run.ensures.ok env))
+    (c.in_err-try_calls.ensures.many (search rules) grown k)
+
+-- ---- something was handled
+
+pub returns-then-branch-clause-ok : goal.returns-then-branch-clause-ok
+returns-then-branch-clause-ok g c = λ grown k.
+    let env = environment grown (g.D.SourceDatabase.workspace c.args.db.now) in
+    Steps-append (settles_requeued env (part_of c.args.world) (core_in c.args.run) (core_in c.in_ok-run.run') (core_in c.requeue.new.run) c.requeue.ensures.same (c.in_ok-run.ensures.ok env)) (c.in_ok-try_calls.ensures.ok grown k)
+
+pub returns-then-branch-clause-queue : goal.returns-then-branch-clause-queue
+returns-then-branch-clause-queue g c = c.in_ok-try_calls.ensures.queue ∙ c.in_ok-requeue.ensures.queue
+
+pub returns-then-branch-clause-stale : goal.returns-then-branch-clause-stale
+returns-then-branch-clause-stale g c = stale_now (part_of c.args.world) c.try_calls.new.queue c.try_calls.new.run c.in_ok-try_calls.ensures.up_to_date
+
+pub returns-then-branch-clause-counts : goal.returns-then-branch-clause-counts
+returns-then-branch-clause-counts g c =
+    let later = c.try_calls.new.locations in
+    let same = ap (λ (core : Core). core.count) c.requeue.ensures.same in
+    let more = count-Steps (c.in_ok-try_calls.ensures.ok later (tables_stay later)) in
+    (omega (arith, c.in_ok-run.ensures.counts.0, same, more), c.in_ok-run.ensures.counts.1)
+
+pub returns-then-branch-clause-turned : goal.returns-then-branch-clause-turned
+returns-then-branch-clause-turned g c = λ grown k.
+    let env = environment grown (g.D.SourceDatabase.workspace c.args.db.now) in
+    let part = part_of c.args.world in
+    let now = core_in c.args.run in
+    let settled = core_in c.requeue.new.run in
+    let new = core_in c.try_calls.new.run in
+    let before : Steps env part (at_rest now) (at_rest settled) = settles_requeued env part now (core_in c.in_ok-run.run') settled c.requeue.ensures.same (c.in_ok-run.ensures.ok env) in
+    record {
+      begun = settled;
+      before = before;
+      round = of_round env part now settled new c.in_ok-try_calls.field-0 c.if-branch.true (c.in_ok-try_calls.ensures.tried grown k);
+      none = none_waits_later now new c.args.first c.requires.ready.fated (Steps-append before (c.in_ok-try_calls.ensures.ok grown k)) c.requires.first;
+    }
+
+-- ---- nothing was: all is as it was where imports rest, and nothing that waits leads anywhere
+
+pub give_up-requires-clause-ready : goal.give_up-requires-clause-ready
+give_up-requires-clause-ready g c =
+    let later = c.try_calls.new.locations in
+    let env = environment later (g.D.SourceDatabase.workspace c.args.db.now) in
+    let part = part_of c.args.world in
+    ready_after (Steps-append (settles_requeued env part (core_in c.args.run) (core_in c.in_ok-run.run') (core_in c.requeue.new.run) c.requeue.ensures.same (c.in_ok-run.ensures.ok env)) (c.in_ok-try_calls.ensures.ok later (tables_stay later)))
+    (ready_grown c.in_ok-try_calls.ensures.kept c.requires.ready)
+
+pub give_up-requires-clause-rests : goal.give_up-requires-clause-rests
+give_up-requires-clause-rests g c =
+    let later = c.try_calls.new.locations in
+    let env = environment later (g.D.SourceDatabase.workspace c.args.db.now) in
+    let part = part_of c.args.world in
+    let idle = none_handled env part (core_in c.args.run) (core_in c.requeue.new.run) (core_in c.try_calls.new.run) c.in_ok-try_calls.field-0 c.if-branch.false (c.in_ok-try_calls.ensures.tried later (tables_stay later)) in
+    subst (λ (core : Core). IsAtRest part (import_state (at_rest core))) (sym (idle.0 ∙ c.requeue.ensures.same)) c.in_ok-run.ensures.rests
+
+pub give_up-requires-clause-nowhere : goal.give_up-requires-clause-nowhere
+give_up-requires-clause-nowhere g c = λ j.
+    let later = c.try_calls.new.locations in
+    let env = environment later (g.D.SourceDatabase.workspace c.args.db.now) in
+    let part = part_of c.args.world in
+    let idle = none_handled env part (core_in c.args.run) (core_in c.requeue.new.run) (core_in c.try_calls.new.run) c.in_ok-try_calls.field-0 c.if-branch.false (c.in_ok-try_calls.ensures.tried later (tables_stay later)) in
+    subst (λ (core : Core). LeadsNowhere part (at_rest core) j) (sym idle.0) (idle.1 j)
+
+pub give_up-requires-clause-first : goal.give_up-requires-clause-first
+give_up-requires-clause-first g c =
+    let later = c.try_calls.new.locations in
+    let env = environment later (g.D.SourceDatabase.workspace c.args.db.now) in
+    let part = part_of c.args.world in
+    none_waits_later (core_in c.args.run) (core_in c.try_calls.new.run) c.args.first c.requires.ready.fated
+    (Steps-append (settles_requeued env part (core_in c.args.run) (core_in c.in_ok-run.run') (core_in c.requeue.new.run) c.requeue.ensures.same (c.in_ok-run.ensures.ok env)) (c.in_ok-try_calls.ensures.ok later (tables_stay later)))
+    c.requires.first
+
+-- ---- an attribute was given up, or none waits (the names of what is known in the two arms are guessed)
+
+-- steps up to where what is queued was tried
+pub returns-in_err-give_up-clause-kept : goal.returns-in_err-give_up-clause-kept
+returns-in_err-give_up-clause-kept g c = KeepsTables-trans c.args.locations.now c.try_calls.new.locations c.give_up.new.locations c.in_ok-try_calls.ensures.kept c.in_err-give_up.ensures.kept
+
+pub returns-in_err-give_up-clause-many : goal.returns-in_err-give_up-clause-many
+returns-in_err-give_up-clause-many g c = λ h grown k.
+    let w = g.D.SourceDatabase.workspace c.args.db.now in
+    let env = environment grown w in
+    let part = part_of c.args.world in
+    let later = c.give_up.new.locations in
+    let far : OnceGrown later w (λ env. IsSpent env part (at_rest (core_in c.try_calls.new.run))) =
+    subst (λ (v : Workspace). OnceGrown later v (λ env. IsSpent env part (at_rest (core_in c.try_calls.new.run)))) c.in_ok-try_calls.ensures.same (c.in_err-give_up.ensures.many (search rules)) in
+    spent_after (Steps-append (settles_requeued env (part_of c.args.world) (core_in c.args.run) (core_in c.in_ok-run.run') (core_in c.requeue.new.run) c.requeue.ensures.same (c.in_ok-run.ensures.ok env)) (c.in_ok-try_calls.ensures.ok grown (KeepsTables-trans c.try_calls.new.locations later grown c.in_err-give_up.ensures.kept k))) (far grown k)
+
+pub returns-in-Some-clause-kept : goal.returns-in-Some-clause-kept
+returns-in-Some-clause-kept g c = KeepsTables-trans c.args.locations.now c.try_calls.new.locations c.give_up.new.locations c.in_ok-try_calls.ensures.kept c.in-Some.ensures.kept
+
+pub returns-in-Some-clause-ok : goal.returns-in-Some-clause-ok
+returns-in-Some-clause-ok g c = λ grown k.
+    let w = g.D.SourceDatabase.workspace c.args.db.now in
+    let env = environment grown w in
+    let part = part_of c.args.world in
+    let later = c.give_up.new.locations in
+    let last : OnceGrown later w (λ env. Steps env part (at_rest (core_in c.try_calls.new.run)) (at_rest (core_in c.give_up.new.run))) =
+    subst (λ (v : Workspace). OnceGrown later v (λ env. Steps env part (at_rest (core_in c.try_calls.new.run)) (at_rest (core_in c.give_up.new.run)))) c.in_ok-try_calls.ensures.same c.in-Some.ensures.ok in
+    Steps-append (Steps-append (settles_requeued env (part_of c.args.world) (core_in c.args.run) (core_in c.in_ok-run.run') (core_in c.requeue.new.run) c.requeue.ensures.same (c.in_ok-run.ensures.ok env)) (c.in_ok-try_calls.ensures.ok grown (KeepsTables-trans c.try_calls.new.locations later grown c.in-Some.ensures.kept k))) (last grown k)
+
+pub returns-in-Some-clause-queue : goal.returns-in-Some-clause-queue
+returns-in-Some-clause-queue g c = c.in_ok-try_calls.ensures.queue ∙ c.in_ok-requeue.ensures.queue
+
+-- what `give_up` notes is looked at in the next turn
+pub returns-in-Some-clause-stale : goal.returns-in-Some-clause-stale
+returns-in-Some-clause-stale g c =
+    let later = c.give_up.new.locations in
+    let part = part_of c.args.world in
+    let tried = core_in c.try_calls.new.run in
+    let fated = (ready_after (Steps-append (settles_requeued (environment c.try_calls.new.locations (g.D.SourceDatabase.workspace c.args.db.now)) (part_of c.args.world) (core_in c.args.run) (core_in c.in_ok-run.run') (core_in c.requeue.new.run) c.requeue.ensures.same (c.in_ok-run.ensures.ok (environment c.try_calls.new.locations (g.D.SourceDatabase.workspace c.args.db.now)))) (c.in_ok-try_calls.ensures.ok c.try_calls.new.locations (tables_stay c.try_calls.new.locations))) (ready_grown c.in_ok-try_calls.ensures.kept c.requires.ready)).fated in
+    stale_later part c.try_calls.new.queue c.try_calls.new.run c.give_up.new.run (stale_now part c.try_calls.new.queue c.try_calls.new.run c.in_ok-try_calls.ensures.up_to_date) c.in-Some.ensures.noted
+    (keeps_waiting tried (core_in c.give_up.new.run) (c.in-Some.ensures.ok later (tables_stay later)) fated)
+
+pub returns-in-Some-clause-counts : goal.returns-in-Some-clause-counts
+returns-in-Some-clause-counts g c =
+    let middle = c.try_calls.new.locations in
+    let later = c.give_up.new.locations in
+    let same = ap (λ (core : Core). core.count) c.requeue.ensures.same in
+    let more = count-Steps (c.in_ok-try_calls.ensures.ok middle (tables_stay middle)) in
+    let again = count-Steps (c.in-Some.ensures.ok later (tables_stay later)) in
+    (omega (arith, c.in_ok-run.ensures.counts.0, same, more, again), c.in_ok-run.ensures.counts.1)
+
+pub returns-in-None-clause-kept : goal.returns-in-None-clause-kept
+returns-in-None-clause-kept g c = KeepsTables-trans c.args.locations.now c.try_calls.new.locations c.give_up.new.locations c.in_ok-try_calls.ensures.kept c.in-None.ensures.kept
+
+pub returns-in-None-clause-ok : goal.returns-in-None-clause-ok
+returns-in-None-clause-ok g c = λ grown k.
+    let w = g.D.SourceDatabase.workspace c.args.db.now in
+    let env = environment grown w in
+    let part = part_of c.args.world in
+    let later = c.give_up.new.locations in
+    let last : OnceGrown later w (λ env. Steps env part (at_rest (core_in c.try_calls.new.run)) (at_rest (core_in c.give_up.new.run))) =
+    subst (λ (v : Workspace). OnceGrown later v (λ env. Steps env part (at_rest (core_in c.try_calls.new.run)) (at_rest (core_in c.give_up.new.run)))) c.in_ok-try_calls.ensures.same c.in-None.ensures.ok in
+    Steps-append (Steps-append (settles_requeued env (part_of c.args.world) (core_in c.args.run) (core_in c.in_ok-run.run') (core_in c.requeue.new.run) c.requeue.ensures.same (c.in_ok-run.ensures.ok env)) (c.in_ok-try_calls.ensures.ok grown (KeepsTables-trans c.try_calls.new.locations later grown c.in-None.ensures.kept k))) (last grown k)
+
+pub returns-in-None-clause-queue : goal.returns-in-None-clause-queue
+returns-in-None-clause-queue g c = c.in_ok-try_calls.ensures.queue ∙ c.in_ok-requeue.ensures.queue
+
+-- what `give_up` notes is looked at in the next turn
+pub returns-in-None-clause-stale : goal.returns-in-None-clause-stale
+returns-in-None-clause-stale g c =
+    let later = c.give_up.new.locations in
+    let part = part_of c.args.world in
+    let tried = core_in c.try_calls.new.run in
+    let fated = (ready_after (Steps-append (settles_requeued (environment c.try_calls.new.locations (g.D.SourceDatabase.workspace c.args.db.now)) (part_of c.args.world) (core_in c.args.run) (core_in c.in_ok-run.run') (core_in c.requeue.new.run) c.requeue.ensures.same (c.in_ok-run.ensures.ok (environment c.try_calls.new.locations (g.D.SourceDatabase.workspace c.args.db.now)))) (c.in_ok-try_calls.ensures.ok c.try_calls.new.locations (tables_stay c.try_calls.new.locations))) (ready_grown c.in_ok-try_calls.ensures.kept c.requires.ready)).fated in
+    stale_later part c.try_calls.new.queue c.try_calls.new.run c.give_up.new.run (stale_now part c.try_calls.new.queue c.try_calls.new.run c.in_ok-try_calls.ensures.up_to_date) c.in-None.ensures.noted
+    (keeps_waiting tried (core_in c.give_up.new.run) (c.in-None.ensures.ok later (tables_stay later)) fated)
+
+pub returns-in-None-clause-counts : goal.returns-in-None-clause-counts
+returns-in-None-clause-counts g c =
+    let middle = c.try_calls.new.locations in
+    let later = c.give_up.new.locations in
+    let same = ap (λ (core : Core). core.count) c.requeue.ensures.same in
+    let more = count-Steps (c.in_ok-try_calls.ensures.ok middle (tables_stay middle)) in
+    let again = count-Steps (c.in-None.ensures.ok later (tables_stay later)) in
+    (omega (arith, c.in_ok-run.ensures.counts.0, same, more, again), c.in_ok-run.ensures.counts.1)
+
+pub returns-in-Some-clause-turned : goal.returns-in-Some-clause-turned
+returns-in-Some-clause-turned g c = λ grown k. c.in-Some.ensures.given
+
+pub returns-in-None-clause-turned : goal.returns-in-None-clause-turned
+returns-in-None-clause-turned g c = λ grown k.
+    let middle = c.try_calls.new.locations in
+    let env = environment middle (g.D.SourceDatabase.workspace c.args.db.now) in
+    let part = part_of c.args.world in
+    let settled = core_in c.requeue.new.run in
+    let idle = none_handled env part (core_in c.args.run) settled (core_in c.try_calls.new.run) c.in_ok-try_calls.field-0 c.if-branch.false (c.in_ok-try_calls.ensures.tried middle (tables_stay middle)) in
+    rests_idle (environment grown (g.D.SourceDatabase.workspace c.args.db.now)) part (core_in c.args.run) settled (core_in c.try_calls.new.run) (core_in c.give_up.new.run)
+    (subst (λ (core : Core). IsAtRest part (import_state (at_rest core))) (sym c.requeue.ensures.same) c.in_ok-run.ensures.rests) idle.0 idle.1 c.in-None.ensures.given.0 c.in-None.ensures.given.1

@@ -1,0 +1,13 @@
+-- What is listed isn't read by paths.
+use Rattle.std.proofs.Common.{refl, subst}
+use Rattle.hir_def_collector.specs.contracts.collector.def_collector.DefCollector.{the_view}
+use Rattle.hir_def_collector.specs.State.{Run}
+use Rattle.hir_def_collector.specs.Waiting.{IsNoted}
+use Rattle.hir_def_collector.proofs.Noted.{noted_derived}
+use Rattle.hir_def_collector.proofs.collector.def_collector.waiting.DefCollector.list_derived.Goals as goal
+
+pub returns-clause-noted : goal.returns-clause-noted
+returns-clause-noted c =
+    let before : Run = the_view c.self.inside in
+    let after : Run = record before { map = record c.self.inside.map { modules = c.scope_mut.new.self.modules } } in
+    subst (λ (r : Run). IsNoted r after) c.self.view_is (noted_derived before after refl refl c.args.home c.args.imp c.in_ok-define_builtin_derive_impl.ensures.ok)
