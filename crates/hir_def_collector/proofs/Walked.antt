@@ -1,10 +1,10 @@
 -- The walk, step by step.
-use Rattle.std.proofs.Common.{◌≡◌, ◌∙◌, ℕ, zero, suc, ◌+◌, ◌<◌, ◌≤◌, true, false, List, [], ◌∷◌, ◌++◌, length, drop, get_or, slice_get, slice_index_or, Option, Some, None, refl, sym, ap, subst, arith, append-nil, append_assoc}
+use Rattle.std.proofs.Common.{◌≡◌, ◌∙◌, ℕ, zero, suc, ◌+◌, ◌<◌, ◌≤◌, true, false, List, [], ◌∷◌, ◌++◌, length, drop, get_or, map, slice_get, slice_index_or, Option, Some, None, refl, sym, ap, subst, arith, append-nil, append_assoc}
 use Rattle.std.specs.List.{All}
 use Rattle.std.specs.Option.{IfSome}
 use Rattle.std.specs.Prelude.{is_some}
 use Rattle.std.proofs.lemmas.List.Elements.{All-head, All-tail}
-use Rattle.hir_item_tree.specs.Collected.{is_enabled}
+use Rattle.hir_item_tree.specs.Collected.{is_enabled, numbered}
 use Rattle.hir_item_tree.specs.ItemTree.{Tree}
 use Rattle.hir_base.specs.Cfg.{Cfg}
 use Rattle.hir_def_map.specs.declared.nameres.diagnostics.DefDiagnostic.{DefDiagnostic}
@@ -21,6 +21,9 @@ use Rattle.hir_item_tree.specs.KeptForest.{Head, KeptItem, KeptForest, all_items
 use Rattle.hir_item_tree.specs.Rows.{Content, alone, with_items, numbers_of, items_at, item_of, and_found}
 use Rattle.hir_item_tree.specs.declared.rows.ModItemId.{ModItemId}
 use Rattle.hir_def_map.specs.Overlay.{Maps}
+use Rattle.hir_def_map.specs.State.{Map}
+use Rattle.hir_def_collector.specs.declared.collector.attributes.Visited.{Visited}
+use Rattle.hir_def_collector.specs.Attributes.{adt_of}
 use Rattle.hir_def_collector.specs.declared.collector.site.Site.{Site}
 use Rattle.hir_def_collector.specs.Keys.{Environment, absent_source}
 use Rattle.hir_def_collector.specs.State.{Task, Visit, visits, closes, Core, at_rest, joined, visits_over, counted, with_map}
@@ -31,7 +34,7 @@ use Rattle.hir_def_collector.specs.TreeReads.{visits_at, visits_behind, visits_f
 use Rattle.hir_def_collector.specs.Reports.{IsUnconfigured}
 use Rattle.hir_def_collector.specs.ItemIds.{module_id, node_of}
 use Rattle.hir_def_collector.specs.Derivation.{IsFull, IsSpent, counted_out}
-use Rattle.hir_def_collector.specs.Moves.{Drops, Handles, HandlesTooFar, IsPassed, Passes, PassesTooFar, Walks, WalksTooFar, is_single}
+use Rattle.hir_def_collector.specs.Moves.{Drops, Handles, HandlesTooFar, IsPassed, IsVisited, Passes, PassesTooFar, Walks, WalksTooFar, is_single}
 use Rattle.hir_def_collector.proofs.Lists.{drop_at, get_there}
 use Rattle.hir_def_collector.proofs.Moves.{Steps-append, Steps-one, Steps-first, spent_after}
 use Rattle.hir_def_collector.proofs.Made.{Goes, made}
@@ -381,6 +384,33 @@ pub far_item : (env : Environment) (finished : Maps) (site : Site) (items : List
     → is_outline (item_of items h (kind_content item)) ≡ false → IsFull old.count old.map → HandlesTooFar env finished old (visit site (item_of items h (kind_content item)))
 far_item env finished site items h item old on here full =
     far_here site (item_of items h (kind_content item)) old (ap (λ (g : Head). is_enabled g.attributes) (head_same items h (kind_content item)) ∙ on) here full
+
+-- an item of a tree whose attributes are gone through
+module _ (m : Map) (visited : Visited) (h : Head) (item : ModItemKind) where
+  abbrev all : List KeptItem
+  all = all_items visited.source.now.value.tree.items
+
+  abbrev one : KeptItem
+  one = item_of all h (kind_content item)
+
+  module _ (there : visited.id.0 < length all) (head : IfSome (slice_get all visited.id.0) (λ i. h ≡ item_head i)) (content : IfSome (slice_get all visited.id.0) (λ i. item_of all (item_head i) (kind_content item) ≡ i)) where
+    kept_one : slice_get all visited.id.0 ≡ Some one
+    kept_one =
+        let i = get_there all visited.id.0 there in
+        i.1 ∙ ap Some (sym (one_whole visited.source.now.value.tree visited.id.0 h (kind_content item) there head content i.0 i.1))
+
+    pub holds_at_one : (P : KeptItem → Type 0) → P one → IfSome (slice_get all visited.id.0) P
+    holds_at_one P holds = subst (λ (o : Option KeptItem). IfSome o P) (sym kept_one) holds
+
+    pub visited_one : IfSome (slice_get all visited.id.0) (λ i. is_enabled (item_head i).attributes ≡ true) → visited.node ≡ node_of visited.site.now.tree (kind_of item) h.id
+        → map numbered visited.attrs.now ≡ h.attributes.attributes → visited.adt ≡ adt_of m visited.site.now one → IsVisited m visited one
+    visited_one enabled node attributes adt = record {
+      kept = kept_one;
+      node = node ∙ ap (λ (k : AstKind). node_of visited.site.now.tree k h.id) (sym (kind_same all h item)) ∙ ap (λ (g : Head). node_of visited.site.now.tree (item_kind one) g.id) (sym (head_same all h (kind_content item)));
+      enabled = found (slice_get all visited.id.0) one (λ i. is_enabled (item_head i).attributes ≡ true) kept_one enabled;
+      attributes = attributes ∙ ap (λ (g : Head). g.attributes.attributes) (sym (head_same all h (kind_content item)));
+      adt = adt;
+    }
 
 -- an item of a tree that is disabled
 module _ (site : Site) (tree : Tree) (n done : ℕ) (h : Head) (item : ModItemKind) (condition : Cfg)
