@@ -62,10 +62,9 @@ impl Changed {
     pub fn add_prelude(&mut self, name: &Name) -> Result<(), AllocError>
         ensures ok { OnOk result (self.new ≡ with_preludes name.now self.old) }
     {
-        if self.all {
-            return Ok(());
+        if !self.all {
+            self.slots.push(Slot::Preludes(name.clone()?))?;
         }
-        self.slots.push(Slot::Preludes(name.clone()?))?;
         Ok(())
     }
 
