@@ -50,7 +50,7 @@ use Rattle.hir_def_collector.specs.Macros.{is_macro_use, macro_declaration}
 use Rattle.hir_def_collector.specs.ModuleFiles.{IsNumbered, ModuleFile, Search, file_key, file_readings, file_tree, module_file, tried_in}
 use Rattle.hir_def_collector.specs.Start.{Beginning}
 use Rattle.hir_def_collector.specs.State.{Core, State, Task, Visit, behind, visits, import_state, visits_over}
-use Rattle.hir_def_collector.specs.Steps.{Rule, drops_item, awaits_attribute, lists_derives, faults_derive, exports_macro, reaches_call, rests, expands_call, drops_call, drops_reached, derives_builtin, skips_attribute, falls_back, defines_rules, defines_macro, closes_module, declares_item, declares_enum, lists_constant, lists_impl, opens_module, opens_file, drops_file, misses_file, enters_block, reaches_imports, reaches_crate, resolves_imports, Drops, Expands, HasAttribute, IsItemOf, IsNext, LooksFor, May, Numbered, Opens, Sees, acts, after, asking, attribute_at, declaring, inside_block, inside_file, inside_module, keys_read, macro_data_of, module_declaration, path_of, reads, search_readings, visit, visit_behind, visits_in_file, visits_inside}
+use Rattle.hir_def_collector.specs.Steps.{Rule, drops_item, awaits_attribute, lists_derives, faults_derive, exports_macro, reaches_call, rests, expands_call, drops_call, drops_reached, derives_builtin, skips_attribute, falls_back, defines_rules, defines_macro, closes_module, declares_item, declares_enum, lists_constant, lists_impl, opens_module, opens_file, drops_file, misses_file, enters_block, reaches_imports, reaches_crate, resolves_imports, Drops, Expands, HasAttribute, IsItemOf, IsNext, LooksFor, May, Numbered, Sees, acts, after, asking, attribute_at, declaring, inside_block, inside_file, inside_module, keys_read, macro_data_of, module_declaration, path_of, reads, search_readings, visit, visit_behind, visits_in_file, visits_inside}
 use Rattle.hir_def_collector.specs.Workspace.{TreeLook, Workspace}
 use Rattle.hir_def_collector.proofs.InRange.{IsInRange, VisitsBelow, call_below, next_below}
 use Rattle.hir_def_collector.proofs.ModuleFiles.{found_read}

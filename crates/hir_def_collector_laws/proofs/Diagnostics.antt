@@ -8,7 +8,7 @@ use Rattle.hir_base.specs.declared.ids.Crate.{Crate}
 use Rattle.hir_base.specs.declared.ids.MapId.{MapId}
 use Rattle.hir_base.specs.declared.ids.ModuleId.{ModuleId}
 use Rattle.hir_item_tree.specs.Collected.{Numbered}
-use Rattle.hir_item_tree.specs.KeptForest.{KeptItem, extern_crate, import, leaf, macro_call, macro_def, macro_rules, outline_module}
+use Rattle.hir_item_tree.specs.KeptForest.{KeptItem, extern_crate, import, leaf, macro_call}
 use Rattle.hir_item_tree.specs.Kinds.{item_head, item_kind}
 use Rattle.hir_tables.specs.Tables.{TablesValue}
 use Rattle.hir_def_map.specs.Diagnostics.{call_node, diagnostic_view, node_of as node_told}

@@ -1,7 +1,6 @@
 -- What the map of a run has that its last state has: the root of a procedural-macro crate shows less.
-use Rattle.std.proofs.Common.{◌≡◌, ℕ, Bool, true, false, cond, List, length, refl}
+use Rattle.std.proofs.Common.{◌≡◌, Bool, true, false, cond, length, refl}
 use Rattle.hir_def_map.specs.State.{Map, with_module_scope, with_scope}
-use Rattle.hir_def_map.specs.declared.nameres.diagnostics.DefDiagnostic.{DefDiagnostic}
 use Rattle.hir_def_map.proofs.Grown.{length-changed}
 use Rattle.hir_def_collector.specs.Ended.{ended, exporting_scope}
 use Rattle.hir_def_collector.specs.State.{Core}

@@ -36,7 +36,7 @@ use Rattle.hir_def_collector.proofs.Changes.{asked-Step}
 use Rattle.hir_def_collector.proofs.Grows.{Grows-Step}
 use Rattle.hir_def_collector.proofs.Holds.{in_range-start}
 use Rattle.hir_def_collector.proofs.InRange.{IsInRange, in_range-Steps}
-use Rattle.hir_def_collector_laws.specs.Calls.{HasAttributeAt, IsCall, IsCallBy, NoCallIsWritten}
+use Rattle.hir_def_collector_laws.specs.Calls.{HasAttributeAt, IsCallBy, NoCallIsWritten}
 use Rattle.hir_def_collector_laws.specs.Declares.{HaveNoCall}
 use Rattle.hir_def_collector_laws.specs.Expansions.{Expansion, IsDone, IsExpansion, expanded, expanded_in, resumed}
 use Rattle.hir_def_collector_laws.specs.Modules.{ListsAll, ListsItsItems, ModulesListTheirItems, ModulesListTheirItemsAlone, items_of, of_root}
