@@ -1,6 +1,6 @@
 -- Back over one step: what the next item declares is what it lists, and what the items that come next in it declare; and what an
 -- expansion declares is what its items do, which come next, or the item that goes on.
-use Rattle.std.proofs.Common.{◌≡◌, ◌∙◌, ◌<◌, ◌≤◌, ◌⊎◌, inl, inr, ◌+◌, ℕ, zero, suc, drop, List, [], ◌∷◌, ◌++◌, length, ◌||◌, Bool, true, false, Option, None, Some, map as list_map, refl, sym, ap, subst, arith, Contains, append-nil}
+use Rattle.std.proofs.Common.{◌≡◌, ◌∙◌, ◌<◌, ◌≤◌, ◌⊎◌, inl, inr, ◌+◌, ℕ, zero, suc, drop, slice_get, List, [], ◌∷◌, ◌++◌, length, ◌||◌, Bool, true, false, Option, None, Some, map as list_map, refl, sym, ap, subst, arith, Contains, append-nil}
 use Rattle.std.proofs.lemmas.List.Elements.{Contains-append_right}
 use Rattle.either.specs.declared.Either.TheVariants as either
 use Rattle.hir_base.specs.Cfg.{Cfg}
@@ -238,10 +238,10 @@ module _ (tables : TablesValue) (w : Workspace) (finished : Maps) (from : Beginn
         let r : Rule = enters_block site head items rest in
         let inner : Site = inside_block m site head in
         let first : ForEach (visits_over inner items) = earlier (visits_over inner items) rest q.listed in
-        let last : ForEach rest = others (visits_over inner items) rest q.listed in
+        let later_defs : ForEach rest = others (visits_over inner items) rest q.listed in
         let defs : List ModuleDefId = altogether inner items first in
-        back_same tables w finished from answer last es (asking s r) (acts finished s r) q (defs, last) refl
-        (λ k. gathered_both k (visits_over inner items) rest q.listed ∙ ap (λ (xs : List ModuleDefId). xs ++ gathered k rest last) (gathered_at k inner items first))
+        back_same tables w finished from answer last es (asking s r) (acts finished s r) q (defs, later_defs) refl
+        (λ k. gathered_both k (visits_over inner items) rest q.listed ∙ ap (λ (xs : List ModuleDefId). xs ++ gathered k rest later_defs) (gathered_at k inner items first))
         (λ more g.
         let declares : Declares tables w finished answer last more items inner defs =
         declare_altogether tables w finished from answer last more inner items first (earlier_declare tables w finished from answer last more (visits_over inner items) rest q.listed g) in

@@ -480,7 +480,7 @@ module _ (rs : List ImportDirective) where
   fine-act s (lists_derive home imp) f fine = record {
     modules = fine_changed s.core.map.modules home (with_module_scope (with_builtin_derive imp)) (λ v g. record { types = g.types; values = g.values; macros = g.macros; traits = g.traits; alone = g.alone }) f.modules;
   }
-  fine-act s (exports f makro) f fine = record { modules = f.modules }
+  fine-act s (exports function_of makro) f fine = record { modules = f.modules }
   fine-act s (uses_macros macros by) f fine = record { modules = f.modules }
   fine-act s (tells d) f fine = record { modules = f.modules }
   fine-act s (goes_on vs) f fine = record { modules = f.modules }

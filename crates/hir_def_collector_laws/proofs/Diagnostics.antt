@@ -146,7 +146,7 @@ module _ (tables : TablesValue) (w : Workspace) (from : Beginning) (answer : Col
   told-act s (describes makro what) f fine = record { each = f.each }
   told-act s (helps node helper) f fine = record { each = f.each }
   told-act s (lists_derive home imp) f fine = record { each = f.each }
-  told-act s (exports f makro) f fine = record { each = f.each }
+  told-act s (exports function_of makro) f fine = record { each = f.each }
   told-act s (uses_macros macros by) f fine = record { each = f.each }
   told-act s (tells d) f fine = record { each = told_more s.core.map.diagnostics (d ∷ []) f.each (one_told d fine) }
   told-act s (goes_on vs) f fine = record { each = f.each }
@@ -193,8 +193,8 @@ module _ (tables : TablesValue) (w : Workspace) (from : Beginning) (answer : Col
 
     -- and a `derive` that is reported
     fault_told : (v : Visit) (rest : List Task) → s.agenda ≡ visits v ∷ rest → (a : Numbered) (report : DefDiagnostic) → IsFaulty s v a report → IsTold report
-    fault_told v rest next a report (no_target none is) = next_told v rest next report (ap (λ (d : DefDiagnostic). d.in_module) is) (ap (λ (d : DefDiagnostic). node_told (diagnostic_view d).kind) is)
-    fault_told v rest next a report (no_paths adt target none is) = next_told v rest next report (ap (λ (d : DefDiagnostic). d.in_module) is) (ap (λ (d : DefDiagnostic). node_told (diagnostic_view d).kind) is)
+    fault_told v rest next a report (no_target missing is) = next_told v rest next report (ap (λ (d : DefDiagnostic). d.in_module) is) (ap (λ (d : DefDiagnostic). node_told (diagnostic_view d).kind) is)
+    fault_told v rest next a report (no_paths adt target missing is) = next_told v rest next report (ap (λ (d : DefDiagnostic). d.in_module) is) (ap (λ (d : DefDiagnostic). node_told (diagnostic_view d).kind) is)
 
     fine_rule : (r : Rule) → May finished s r → AllFine IsFine (asking s r) (acts finished s r)
     fine_rule (drops_item v report rest) may =

@@ -134,41 +134,41 @@ module _ (last : Core) (m : Map) where
   done_more : (e : Expansion) (es : List Expansion) (d : MacroDirective) → IsDone m es d → IsDone m (e ∷ es) d
   done_more e es d (among x h is) = among x (later e es x h) is
   done_more e es d (too_deep deep) = too_deep deep
-  done_more e es d (builtin makro imp none is listed) = builtin makro imp none is listed
+  done_more e es d (builtin makro imp lone is listed) = builtin makro imp lone is listed
 
   went_more : (e : Expansion) (es : List Expansion) (d : MacroDirective) → WentOn es d → WentOn (e ∷ es) d
   went_more e es d p = (p.0, later e es p.0 p.1, p.2)
 
   -- what holds of some holds of more
   from_more : (P : List Expansion → Type 0) → ((e : Expansion) (es : List Expansion) → P es → P (e ∷ es)) → (r : Rule) (defs : List ModuleDefId) (es : List Expansion) → P es → P (from_rule r defs es)
-  from_more P more (drops_item v report rest) defs es p = p
-  from_more P more (declares_item v c rest) defs es p = p
-  from_more P more (declares_enum site head name found rest) defs es p = p
-  from_more P more (lists_constant site head rest) defs es p = p
-  from_more P more (lists_impl site head of_trait rest) defs es p = p
-  from_more P more (opens_module site head name items rest) defs es p = p
-  from_more P more (opens_file site head name search file rest) defs es p = p
-  from_more P more (drops_file site head name search report rest) defs es p = p
-  from_more P more (misses_file site head name search report rest) defs es p = p
-  from_more P more (enters_block site head items rest) defs es p = p
-  from_more P more (reaches_imports site head tree rest) defs es p = p
-  from_more P more (reaches_crate site head name alias rest) defs es p = p
-  from_more P more (defines_rules site head name expander helpers rest) defs es p = p
-  from_more P more (defines_macro site head name expander helpers rest) defs es p = p
-  from_more P more (closes_module parent child rest) defs es p = p
-  from_more P more (awaits_attribute v a k rest) defs es p = p
-  from_more P more (lists_derives v at a adt paths rest) defs es p = p
-  from_more P more (faults_derive v at report rest) defs es p = p
-  from_more P more (exports_macro site head name c e rest) defs es p = p
-  from_more P more (reaches_call site head path rest) defs es p = p
-  from_more P more rests defs es p = p
-  from_more P more (expands_call i call makro x) defs es p = more _ es p
-  from_more P more (drops_call i call) defs es p = p
-  from_more P more (drops_reached i call makro) defs es p = p
-  from_more P more (derives_builtin i call makro imp) defs es p = p
-  from_more P more (skips_attribute i call k item) defs es p = more _ es p
-  from_more P more (falls_back i call k item) defs es p = more _ es p
-  from_more P more (resolves_imports rule) defs es p = p
+  from_more P besides (drops_item v report rest) defs es p = p
+  from_more P besides (declares_item v c rest) defs es p = p
+  from_more P besides (declares_enum site head name found rest) defs es p = p
+  from_more P besides (lists_constant site head rest) defs es p = p
+  from_more P besides (lists_impl site head of_trait rest) defs es p = p
+  from_more P besides (opens_module site head name items rest) defs es p = p
+  from_more P besides (opens_file site head name looked file rest) defs es p = p
+  from_more P besides (drops_file site head name looked report rest) defs es p = p
+  from_more P besides (misses_file site head name looked report rest) defs es p = p
+  from_more P besides (enters_block site head items rest) defs es p = p
+  from_more P besides (reaches_imports site head tree rest) defs es p = p
+  from_more P besides (reaches_crate site head name alias rest) defs es p = p
+  from_more P besides (defines_rules site head name expander helpers rest) defs es p = p
+  from_more P besides (defines_macro site head name expander helpers rest) defs es p = p
+  from_more P besides (closes_module parent child rest) defs es p = p
+  from_more P besides (awaits_attribute v a k rest) defs es p = p
+  from_more P besides (lists_derives v at a adt paths rest) defs es p = p
+  from_more P besides (faults_derive v at report rest) defs es p = p
+  from_more P besides (exports_macro site head name c e rest) defs es p = p
+  from_more P besides (reaches_call site head path rest) defs es p = p
+  from_more P besides rests defs es p = p
+  from_more P besides (expands_call i call makro x) defs es p = besides _ es p
+  from_more P besides (drops_call i call) defs es p = p
+  from_more P besides (drops_reached i call makro) defs es p = p
+  from_more P besides (derives_builtin i call makro imp) defs es p = p
+  from_more P besides (skips_attribute i call k item) defs es p = besides _ es p
+  from_more P besides (falls_back i call k item) defs es p = besides _ es p
+  from_more P besides (resolves_imports rule) defs es p = p
 
   module _ (finished : Maps) (old : State) (inside : IsInRange old) (deep : old.core.map.crate_data.recursion_limit ≡ m.crate_data.recursion_limit)
       (stays : (i : ℕ) (d : MacroDirective) → slice_get old.core.calls i ≡ Some d → slice_get last.calls i ≡ Some d) (es : List Expansion) where

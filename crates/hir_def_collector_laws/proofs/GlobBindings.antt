@@ -144,7 +144,7 @@ noted-act s (defines node makro) f fine = record { modules = f.modules }
 noted-act s (describes makro what) f fine = record { modules = f.modules }
 noted-act s (helps node helper) f fine = record { modules = f.modules }
 noted-act s (lists_derive home imp) f fine = record { modules = noted_rescoped s.core.map.modules home (with_module_scope (with_builtin_derive imp)) (λ m. record { types = refl; values = refl; macros = refl }) f.modules }
-noted-act s (exports f makro) f fine = record { modules = f.modules }
+noted-act s (exports function_of makro) f fine = record { modules = f.modules }
 noted-act s (uses_macros macros by) f fine = record { modules = f.modules }
 noted-act s (tells d) f fine = record { modules = f.modules }
 noted-act s (goes_on vs) f fine = record { modules = f.modules }

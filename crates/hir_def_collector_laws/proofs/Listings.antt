@@ -275,15 +275,6 @@ expanding_makes_none node [] at d error = failing_makes_none at d error
 expanding_makes_none node (h ∷ hs) at d error = omega (arith, expanding_makes_none node hs at d error)
 
 -- nor do they change what comes next
-pub bringing_agenda : (t : State) (node : AstId) (helpers : List DeriveHelper) → (perform t (bringing node helpers)).agenda ≡ t.agenda
-bringing_agenda t node [] = refl
-bringing_agenda t node (h ∷ hs) = bringing_agenda (act t (helps node h)) node hs
-
-pub expanding_agenda : (t : State) (node : AstId) (helpers : List DeriveHelper) (at : ModuleId) (d : MacroDirective) (error : Option (List ℕ))
-    → (perform t (bringing node helpers ++ failing at d error)).agenda ≡ t.agenda
-expanding_agenda t node [] at d error = failing_agenda t at d error
-expanding_agenda t node (h ∷ hs) at d error = expanding_agenda (act t (helps node h)) node hs at d error
-
 pub macro_agenda : (t : State) (head : Head) (name : List ℕ) (makro : MacroId) (at : ModuleId) (node : AstId) (expander : MacroExpander)
     → (perform t (exporting head name makro ++ reporting at node expander)).agenda ≡ t.agenda
 macro_agenda t head name makro at node expander = go (is_exported head.attributes) (is_unimplemented expander)
@@ -305,6 +296,15 @@ reporting_agenda t at node expander = go (is_unimplemented expander)
 pub failing_agenda : (t : State) (at : ModuleId) (d : MacroDirective) (error : Option (List ℕ)) → (perform t (failing at d error)).agenda ≡ t.agenda
 failing_agenda t at d None = refl
 failing_agenda t at d (Some text) = refl
+
+pub bringing_agenda : (t : State) (node : AstId) (helpers : List DeriveHelper) → (perform t (bringing node helpers)).agenda ≡ t.agenda
+bringing_agenda t node [] = refl
+bringing_agenda t node (h ∷ hs) = bringing_agenda (act t (helps node h)) node hs
+
+pub expanding_agenda : (t : State) (node : AstId) (helpers : List DeriveHelper) (at : ModuleId) (d : MacroDirective) (error : Option (List ℕ))
+    → (perform t (bringing node helpers ++ failing at d error)).agenda ≡ t.agenda
+expanding_agenda t node [] at d error = failing_agenda t at d error
+expanding_agenda t node (h ∷ hs) at d error = expanding_agenda (act t (helps node h)) node hs at d error
 
 -- ---- what stays of modules, and of the map
 

@@ -98,8 +98,8 @@ module _ (tables : TablesValue) (w : Workspace) (finished : Maps) (from : Beginn
     done : AreDone end answer.map es s
     proc : s.core.is_proc_macro ≡ end.is_proc_macro
 
-  among_later : {ds es : List MacroDirective} → ((i : ℕ) (d : MacroDirective) → slice_get ds i ≡ Some d → slice_get es i ≡ Some d) → (d : MacroDirective) → Contains ds d → Contains es d
-  among_later {ds = ds} {es = es} stays d h = let at = placed ds d h in standing es at.0 d (stays at.0 d at.1)
+  among_later : (ds es : List MacroDirective) → ((i : ℕ) (d : MacroDirective) → slice_get ds i ≡ Some d → slice_get es i ≡ Some d) → (d : MacroDirective) → Contains ds d → Contains es d
+  among_later ds es stays d h = let at = placed ds d h in standing es at.0 d (stays at.0 d at.1)
     where
       placed : (xs : List MacroDirective) (x : MacroDirective) → Contains xs x → (i : ℕ) × (slice_get xs i ≡ Some x)
       placed [] x (n, below, is) = absurd (omega arith)
@@ -116,7 +116,7 @@ module _ (tables : TablesValue) (w : Workspace) (finished : Maps) (from : Beginn
       let stay : StayHelpers old.core.map answer.map = λ node path h. now.helpers node path (StayHelpers-perform (acts finished old step.rule) (asking old step.rule) node path h) in
       let proc : old.core.is_proc_macro ≡ end.is_proc_macro = sym (proc-Step step) ∙ q.proc in
       let kept : (d : MacroDirective) → Contains (after finished old step.rule).core.calls d → Contains end.calls d =
-      subst (λ (t : State). (d : MacroDirective) → Contains t.core.calls d → Contains end.calls d) step.is (λ d h. among_later q.done.stays d h) in
+      subst (λ (t : State). (d : MacroDirective) → Contains t.core.calls d → Contains end.calls d) step.is (λ d h. among_later _ end.calls q.done.stays d h) in
       let quiet : QuietAfter tables w finished from answer end q.es old inside f same stay proc (after finished old step.rule) =
       subst (λ (t : State). QuietAfter tables w finished from answer end q.es old inside f same stay proc t) step.is q.quiet in
       let sooner : IsSooner tables w finished from answer end q.es old inside f same stay proc step.rule =

@@ -44,6 +44,9 @@ among_dropped (y ∷ ys) (suc n) x h = later y ys x (among_dropped ys n x h)
 
 -- ---- the one that is looked up
 
+same_pair : (p q : ℕ × Numbered) → Some p ≡ Some q → p ≡ q
+same_pair p q e = cc
+
 -- an attribute, at a place, for which something is looked up, where these are all behind the first so many
 record IsFirst (m : Map) (node : AstId) (all : List Numbered) (from : ℕ) (xs : List Numbered) (at : ℕ) (a : Numbered) : Type 0 where
   low : from ≤ at
@@ -66,8 +69,9 @@ module _ (m : Map) (node : AstId) (all : List Numbered) (at : ℕ) (a : Numbered
           each next y (zero, under, is) = inl (subst (λ (z : Numbered). is_passed m node z ≡ true) is passed)
           each next y (suc n, under, is) = next.others y (n, omega (arith, under), is)
       go false unpassed below f =
-          let here : from ≡ at = cc in
-          let same : x ≡ a = cc in
+          let pair = same_pair (from, x) (at, a) f in
+          let here : from ≡ at = ap (λ (p : ℕ × Numbered). p.0) pair in
+          let same : x ≡ a = ap (λ (p : ℕ × Numbered). p.1) pair in
           record {
             low = omega (arith, here);
             among = subst (λ (z : Numbered). Contains (x ∷ xs) z) same (at_first x xs);
@@ -222,17 +226,16 @@ StayHelpers-ended c = ended_by c (λ (m : Map). StayHelpers c.map m) (λ node pa
 
 -- ---- what is passed stays so
 
-or_more : (a t u h k : Bool) → t ≡ u → (h ≡ true → k ≡ true) → a || (t || h) ≡ true → a || (u || k) ≡ true
+or_more : (a t u h k : Bool) → t ≡ u → (h ≡ true → k ≡ true) → (a || t) || h ≡ true → (a || u) || k ≡ true
 or_more true t u h k same more f = refl
 or_more false true true h k same more f = refl
 or_more false true false h k same more f = absurd (let no : ⊥ = cc in no)
 or_more false false true h k same more f = refl
 or_more false false false h k same more f = more f
 
-or_first : (a t h : Bool) → a || t ≡ true → a || (t || h) ≡ true
-or_first true t h f = refl
-or_first false true h f = refl
-or_first false false h f = absurd (let no : ⊥ = cc in no)
+or_first : (b h : Bool) → b ≡ true → b || h ≡ true
+or_first true h f = refl
+or_first false h f = absurd (let no : ⊥ = cc in no)
 
 pub passed_later : (m n : Map) → m.crate_data ≡ n.crate_data → StayHelpers m n → (node : AstId) (a : Numbered) → is_passed m node a ≡ true → is_passed n node a ≡ true
 passed_later m n same stay node a e =
@@ -242,8 +245,7 @@ passed_later m n same stay node a e =
 
 -- an attribute that is always passed is
 pub always_passed : (m : Map) (node : AstId) (a : Numbered) → is_always_passed m.crate_data.registered_tools a ≡ true → is_passed m node a ≡ true
-always_passed m node a e =
-    or_first (is_inert a.meta.path.kind a.meta.path.segments) (is_tool m.crate_data.registered_tools a.meta.path.kind a.meta.path.segments) (is_helper m node a.meta.path) e
+always_passed m node a e = or_first (is_always_passed m.crate_data.registered_tools a) (is_helper m node a.meta.path) e
 
 -- what isn't passed isn't always passed
 pub not_always : (m : Map) (node : AstId) (a : Numbered) → is_passed m node a ≡ false → is_always_passed m.crate_data.registered_tools a ≡ false

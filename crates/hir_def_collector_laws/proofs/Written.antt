@@ -242,8 +242,8 @@ module _ (tables : TablesValue) (w : Workspace) (from : Beginning) (answer : Col
   derives_written : (site : Site) (node : AstId) (id : AttrId) (adt : AdtId) (i : KeptItem) (a : Numbered) → HasAttributeAt tables w answer site node id i a → is_derive a ≡ true
       → adt_of answer.map site i ≡ Some adt → (paths : List Path) → paths_in a.meta.input ≡ Some paths → (index place : ℕ) → index ≡ count_of place → (left : List Path)
       → ((n : ℕ) (path : Path) → slice_get left n ≡ Some path → slice_get paths (place + n) ≡ Some path) → AreCalls (derives_from site node id adt index left)
-  derives_written site node id adt i a at derives target paths lists index place counted [] all = tt
-  derives_written site node id adt i a at derives target paths lists index place counted (path ∷ left) all = (
+  derives_written site node id adt i a at derives target paths listed index place counted [] all = tt
+  derives_written site node id adt i a at derives target paths listed index place counted (path ∷ left) all = (
     record {
       by = record {
         item = i;
@@ -252,13 +252,13 @@ module _ (tables : TablesValue) (w : Workspace) (from : Beginning) (answer : Col
         derives = derives;
         target = target;
         paths = paths;
-        lists = lists;
+        lists = listed;
         place = place;
         path_is = subst (λ (n : ℕ). slice_get paths n ≡ Some path) (omega arith) (all 0 path refl);
         index_is = counted;
       };
     },
-    derives_written site node id adt i a at derives target paths lists (count_of (index + 1)) (place + 1) (omega (arith, counted)) left
+    derives_written site node id adt i a at derives target paths listed (count_of (index + 1)) (place + 1) (omega (arith, counted)) left
         (λ n p e. subst (λ (k : ℕ). slice_get paths k ≡ Some p) (omega arith) (all (suc n) p e)),
   )
 
@@ -360,7 +360,7 @@ module _ (tables : TablesValue) (w : Workspace) (from : Beginning) (answer : Col
   written-act s (describes makro what) f fine = same_but s _ (Keeps-act s (describes makro what)) refl refl refl refl f
   written-act s (helps node helper) f fine = same_but s _ (Keeps-act s (helps node helper)) refl refl refl refl f
   written-act s (lists_derive home imp) f fine = same_but s _ (Keeps-act s (lists_derive home imp)) refl refl refl refl f
-  written-act s (exports f makro) f fine = same_but s _ (Keeps-act s (exports f makro)) refl refl refl refl f
+  written-act s (exports function_of makro) f fine = same_but s _ (Keeps-act s (exports function_of makro)) refl refl refl refl f
   written-act s (uses_macros macros by) f fine = same_but s _ (Keeps-act s (uses_macros macros by)) refl refl refl refl f
   written-act s (tells d) f fine = same_but s _ (Keeps-act s (tells d)) refl refl refl refl f
   written-act s (goes_on vs) f fine = record { id = f.id; crate_data = f.crate_data; dependencies = f.dependencies; visits = fine; imports = f.imports; calls = f.calls; globs = f.globs }
