@@ -85,10 +85,10 @@ def memory(program, commands):
         return int(done.stdout) / 1024
 
 
-def refresh(session, begin, at, path):
-    """Seconds of processor of a refresh after these commands, and the most memory of the session; a path has to lead to
-    a struct then."""
-    parts = [begin, [{"do": "refresh"}], [{"do": "resolve", "at": at, "path": path}]]
+def refresh(session, begin, at, path, edits=()):
+    """Seconds of processor of a refresh after these commands, with the edits before it if there are some, and the most
+    memory of the session; a path has to lead to a struct then."""
+    parts = [begin, [*edits, {"do": "refresh"}], [{"do": "resolve", "at": at, "path": path}]]
     seconds, replies = best_parts(session, parts, 3)
     if '"kind":"Struct"' not in replies[-1]:
         sys.exit(f"{path} is {replies[-1]}")
