@@ -1,5 +1,6 @@
 -- The attributes of an item, one after another.
-use Rattle.std.proofs.Common.{◌≡◌, ◌∙◌, ℕ, zero, suc, ◌+◌, ◌<◌, ◌≤◌, Bool, true, false, List, [], ◌∷◌, ◌++◌, length, map, drop, slice_get, Option, Some, None, option_map, cond, inl, refl, sym, ap, subst, arith}
+use Rattle.std.proofs.Common.{◌≡◌, ◌∙◌, ℕ, zero, suc, ◌+◌, ◌<◌, ◌≤◌, Bool, true, false, List, [], ◌∷◌, ◌++◌, length, map, drop, get_or, slice_get, Option, Some, None, option_map, cond, inl, refl, sym, ap, subst, arith}
+use Rattle.std.proofs.lemmas.List.{drop_all}
 use Rattle.std.proofs.lemmas.Option.{slice_get-map}
 use Rattle.hir_base.specs.ModPath.{Path}
 use Rattle.hir_base.specs.declared.ast_id.AstId.{AstId}
@@ -27,13 +28,24 @@ use Rattle.hir_def_collector.specs.Reports.{invalid_target, malformed_derive}
 use Rattle.hir_def_collector.specs.State.{Core, State, Task, Visit, visits, counted, joined, visit, behind, with_calls, with_map}
 use Rattle.hir_def_collector.specs.Steps.{HasAttribute, Step, Steps, attribute_at, awaits_attribute, derives_from, faults_derive, lists_derives, none, no_paths as lists_none, no_target as is_no_target}
 use Rattle.hir_def_collector.proofs.Changes.{id-Steps}
-use Rattle.hir_def_collector.proofs.Lists.{drop_none, drop_some}
+use Rattle.hir_def_collector.proofs.Lists.{drop_some}
 use Rattle.hir_def_collector.proofs.Made.{Goes, goes, made}
 use Rattle.hir_def_collector.proofs.Moves.{Steps-append, Steps-one, spent_after}
 
 -- ---- which is next
 
-abbrev place_of : Option (ℕ × Attribute) → Option ℕ
+-- what stands at a place
+pub item_there : {A : Type 0} (xs : List A) (i : ℕ) (a : A) → i < length xs → a ≡ get_or xs i a → slice_get xs i ≡ Some a
+item_there [] i a inside e = absurd (omega arith)
+item_there (x ∷ xs) zero a inside e = ap (λ (y : _). Some y) (sym e)
+item_there (x ∷ xs) (suc i) a inside e = item_there xs i a (omega arith) e
+
+pub item_is : {A : Type 0} (xs : List A) (i : ℕ) (a b : A) → slice_get xs i ≡ Some a → b ≡ get_or xs i b → b ≡ a
+item_is [] i a b there e = absurd (let no : ⊥ = cc in no)
+item_is (x ∷ xs) zero a b there e = let same : x ≡ a = cc in e ∙ same
+item_is (x ∷ xs) (suc i) a b there e = item_is xs i a b there e
+
+abbrev pub place_of : Option (ℕ × Attribute) → Option ℕ
 place_of found = option_map (λ (n : ℕ × Attribute). n.0) found
 
 nothing_there : (found : Option (ℕ × Attribute)) → place_of found ≡ None → found ≡ None
@@ -52,8 +64,8 @@ module _ (m : Map) (node : AstId) where
       ap (first_looked_up m node at) (drop_some attributes at a there) ∙ ap (λ (b : Bool). cond b (first_looked_up m node (suc at) (drop (suc at) attributes)) (Some (at, a))) stopped
 
   -- past the last
-  pub none_left : (attributes : List Attribute) (at : ℕ) → slice_get attributes at ≡ None → first_looked_up m node at (drop at attributes) ≡ None
-  none_left attributes at gone = ap (first_looked_up m node at) (drop_none attributes at gone)
+  pub none_left : (attributes : List Attribute) (at : ℕ) → length attributes ≤ at → first_looked_up m node at (drop at attributes) ≡ None
+  none_left attributes at over = ap (first_looked_up m node at) (drop_all at attributes over)
 
   -- the one at a place, among those behind the first so many
   record IsFirst (k : ℕ) (left : List Attribute) (at : ℕ) : Type 0 where
