@@ -92,7 +92,7 @@ tree_read own d (macros.ProcMacroId id) x = (2, (let here : 2 < 3 = omega arith 
 node_by_kind : (node : AstId) (kind : MacroDirectiveKind) → call_node (kind_by node kind) ≡ node
 node_by_kind node (FnLike path) = refl
 node_by_kind node (Derive path attr index adt) = refl
-node_by_kind node (Attr path attr item) = refl
+node_by_kind node (Attr path attr waited) = refl
 
 -- changes leave the map's id, and those of imports what was reported
 id-perform : (cs : List Change) (s : State) → (perform s cs).core.map.id ≡ s.core.map.id
@@ -292,9 +292,9 @@ module _ (unwritten : HirFileId → Option BlockId → Bool) where
 
     -- a `derive` on what can't have one, or without paths, is reported so
     derive_reported : (v : Visit) (rest : List Task) → s.agenda ≡ visits v ∷ rest → (a : Attribute) (d : DefDiagnostic) → IsFaulty s v a d → IsReport s.core.map.id (length s.core.map.modules) d
-    derive_reported v rest next a d (no_target none is) =
+    derive_reported v rest next a d (no_target targetless is) =
         subst (IsReport s.core.map.id (length s.core.map.modules)) (sym is) (record { own = refl; below = low v rest next; written = file v rest next })
-    derive_reported v rest next a d (no_paths adt target lists is) =
+    derive_reported v rest next a d (no_paths adt target pathless is) =
         subst (IsReport s.core.map.id (length s.core.map.modules)) (sym is) (record { own = refl; below = low v rest next; written = file v rest next })
 
     -- an item that is left out is reported so

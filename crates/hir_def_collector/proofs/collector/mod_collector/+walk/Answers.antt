@@ -698,3 +698,6 @@ walk_item-returns-in_ok-close-in-Held-clause-noted g t c = noted_follow c.in_ok-
 
 pub walk_item-returns-in_ok-close-in-File-clause-noted : goal.walk_item-returns-in_ok-close-in-File-clause-noted
 walk_item-returns-in_ok-close-in-File-clause-noted g t c = noted_follow c.in_ok-pass.ensures.noted (noted_follow c.in_ok-inside.ensures.noted (noted_follow c.in_ok-walk_all-in-File.ensures.noted c.in_ok-close-in-File.ensures.noted))
+
+pub walk_item-returns-in-Nothing-clause-noted : goal.walk_item-returns-in-Nothing-clause-noted
+walk_item-returns-in-Nothing-clause-noted g t c = noted_follow c.in_ok-pass.ensures.noted c.in_ok-inside.ensures.noted
