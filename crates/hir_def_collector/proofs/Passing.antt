@@ -155,7 +155,7 @@ module _ (env : Environment) (finished : Maps) (old : Core) (v : Visited) (item 
       → HandlesAttribute env finished old new (visit v.site.now item) from []
   awaited new looked_up e = record {
     step = λ rest.
-        made (awaits_attribute here a (waiting_behind v (at + 1)) rest) (record { has = has rest; looked_up = looked_up; behind_it = omega arith; kept = is.kept }) tt tt
+        made (awaits_attribute here a (waiting_behind v (at + 1)) rest) (record { at = at; has = has rest; looked_up = looked_up; behind_it = omega arith; kept = is.kept }) tt tt
         (ap (λ (c : Core). joined c rest) e ∙ ap (λ (node : AstId). joined (counted (with_calls old (attribute_at v.site.now node (attr_id a) a.meta.path (waiting_behind v (at + 1)) ∷ []))) rest) is.node);
   }
 
@@ -167,17 +167,17 @@ module _ (env : Environment) (finished : Maps) (old : Core) (v : Visited) (item 
         (ap (λ (c : Core). joined c (visits (behind here (suc at)) ∷ rest)) (e ∙ ap counted becomes)
         ∙ ap (λ (node : AstId). joined (counted (with_calls old (derives_from v.site.now node (attr_id a) target 0 paths))) (visits (behind here (suc at)) ∷ rest)) is.node);
   }
-  taken mid new derives (no_target no becomes) e = record {
+  taken mid new derives (no_target none_is becomes) e = record {
     step = λ rest.
         made (faults_derive here at (invalid_target (module_id old.map v.site.now.home) (item_node v.site.now item) (attr_id a)) rest)
-        (record { attribute = a; has = has rest; derives = derives; faulty = is_no_target (sym is.adt ∙ no) refl }) tt tt
+        (record { attribute = a; has = has rest; derives = derives; faulty = is_no_target (sym is.adt ∙ none_is) refl }) tt tt
         (ap (λ (c : Core). joined c (visits (behind here (suc at)) ∷ rest)) (e ∙ ap counted becomes)
         ∙ ap (λ (node : AstId). joined (counted (with_map old (with_diagnostic old.map (invalid_target (module_id old.map v.site.now.home) node (attr_id a))))) (visits (behind here (suc at)) ∷ rest)) is.node);
   }
-  taken mid new derives (no_paths target of_target no becomes) e = record {
+  taken mid new derives (no_paths target of_target none_is becomes) e = record {
     step = λ rest.
         made (faults_derive here at (malformed_derive (module_id old.map v.site.now.home) (item_node v.site.now item) (attr_id a)) rest)
-        (record { attribute = a; has = has rest; derives = derives; faulty = lists_none target (sym is.adt ∙ of_target) no refl }) tt tt
+        (record { attribute = a; has = has rest; derives = derives; faulty = lists_none target (sym is.adt ∙ of_target) none_is refl }) tt tt
         (ap (λ (c : Core). joined c (visits (behind here (suc at)) ∷ rest)) (e ∙ ap counted becomes)
         ∙ ap (λ (node : AstId). joined (counted (with_map old (with_diagnostic old.map (malformed_derive (module_id old.map v.site.now.home) node (attr_id a))))) (visits (behind here (suc at)) ∷ rest)) is.node);
   }
@@ -200,13 +200,13 @@ module _ (env : Environment) (finished : Maps) (old : Core) (v : Visited) (item 
 
       by_name : (derives : Bool) → is_derive a ≡ derives → Goes env finished (before rest)
       by_name true e = by_target e (adt_of old.map v.site.now item) refl
-      by_name false e = goes (awaits_attribute here a (waiting_behind v (suc at)) rest) (record { has = has rest; looked_up = e; behind_it = refl; kept = is.kept }) tt tt
+      by_name false e = goes (awaits_attribute here a (waiting_behind v (suc at)) rest) (record { at = at; has = has rest; looked_up = e; behind_it = refl; kept = is.kept }) tt tt
 
 -- what is taken leaves what is counted
 pub count_taken : (site : Site) (node : AstId) (a : Attribute) (adt : Option AdtId) (old new : Core) → TakesDerive site node a adt old new → new.count ≡ old.count
 count_taken site node a adt old new (listed target paths of_target of_paths is) = ap (λ (c : Core). c.count) is
-count_taken site node a adt old new (no_target no is) = ap (λ (c : Core). c.count) is
-count_taken site node a adt old new (no_paths target of_target no is) = ap (λ (c : Core). c.count) is
+count_taken site node a adt old new (no_target none_is is) = ap (λ (c : Core). c.count) is
+count_taken site node a adt old new (no_paths target of_target none_is is) = ap (λ (c : Core). c.count) is
 
 -- ---- one after another
 
