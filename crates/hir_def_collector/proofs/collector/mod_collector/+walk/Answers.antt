@@ -206,9 +206,9 @@ walk_item-returns-then-is_none-clause-ok g t c = λ grown k.
     let v : Visit = visit site (item_of (all_items tree.items) h (kind_content item)) in
     let is : visits_behind tree site n done ≡ visits (behind v done) ∷ [] = visits_one tree n h (kind_content item) c.requires.there heads contents site done in
     let passed = core_in c.pass.new.run in
-    let waits = holds_of_one tree n h (kind_content item) c.requires.there heads contents (λ (i : KeptItem). Passes (environment grown w) part (core_in c.args.run.now) passed (visit site i) done c.in_ok-pass.field) (c.in_ok-pass.ensures.ok (environment grown w) part) in
+    let waits = holds_of_one tree n h (kind_content item) c.requires.there heads contents (λ (i : KeptItem). Passes (environment grown w) part (core_in c.args.run.now) passed (visit site i) done c.in_ok-pass.field-0) (c.in_ok-pass.ensures.ok (environment grown w) part) in
     Walks-waits (core_in c.args.run.now) passed v done (visits_behind tree site n done) is
-    (subst (λ (o : Option ℕ). Passes (environment grown w) part (core_in c.args.run.now) passed v done o) (past_none c.in_ok-pass.field (c.is_none.ensures ∙ ap not c.if-is_none.true)) waits)
+    (subst (λ (o : Option ℕ). Passes (environment grown w) part (core_in c.args.run.now) passed v done o) (past_none c.in_ok-pass.field-0 (c.is_none.ensures ∙ ap not c.if-is_none.true)) waits)
 
 pub walk_item-visit_item-requires-clause-in_range : goal.walk_item-visit_item-requires-clause-in_range
 walk_item-visit_item-requires-clause-in_range g t c =
@@ -226,8 +226,8 @@ walk_item-visit_item-requires-clause-in_range g t c =
     subst (λ (t : Tree). IfSome (slice_get (all_items t.items) n) (λ i. item_of (all_items t.items) (item_head i) (kind_content item) ≡ i)) (c.tree-2.ensures.value ∙ ap (λ (s : SourceTreeValue). s.tree) c.deref-2.ensures) c.index-item.ensures.value in
     let v : Visit = visit site (item_of (all_items tree.items) h (kind_content item)) in
     let passed = core_in c.pass.new.run in
-    let passes = holds_of_one tree n h (kind_content item) c.requires.there heads contents (λ (i : KeptItem). Passes nowhere part (core_in c.args.run.now) passed (visit site i) done c.in_ok-pass.field) (c.in_ok-pass.ensures.ok nowhere part) in
-    there_behind (core_in c.args.run.now) passed v done c.in_ok-pass.field site.home passes c.requires.in_range
+    let passes = holds_of_one tree n h (kind_content item) c.requires.there heads contents (λ (i : KeptItem). Passes nowhere part (core_in c.args.run.now) passed (visit site i) done c.in_ok-pass.field-0) (c.in_ok-pass.ensures.ok nowhere part) in
+    there_behind (core_in c.args.run.now) passed v done c.in_ok-pass.field-0 site.home passes c.requires.in_range
 
 pub walk_item-returns-in_err-inside-clause-many : goal.walk_item-returns-in_err-inside-clause-many
 walk_item-returns-in_err-inside-clause-many g t c = λ far_off grown k.
@@ -246,10 +246,10 @@ walk_item-returns-in_err-inside-clause-many g t c = λ far_off grown k.
     let v : Visit = visit site (item_of (all_items tree.items) h (kind_content item)) in
     let is : visits_behind tree site n done ≡ visits (behind v done) ∷ [] = visits_one tree n h (kind_content item) c.requires.there heads contents site done in
     let passed = core_in c.pass.new.run in
-    let past = past_one c.in_ok-pass.field (c.is_none.ensures ∙ ap not c.if-is_none.false) in
+    let past = past_one c.in_ok-pass.field-0 (c.is_none.ensures ∙ ap not c.if-is_none.false) in
     let passes : (env : Environment) → Passes env part (core_in c.args.run.now) passed v done (Some past.0) =
     λ env. subst (λ (o : Option ℕ). Passes env part (core_in c.args.run.now) passed v done o) past.1
-    (holds_of_one tree n h (kind_content item) c.requires.there heads contents (λ (i : KeptItem). Passes env part (core_in c.args.run.now) passed (visit site i) done c.in_ok-pass.field) (c.in_ok-pass.ensures.ok env part)) in
+    (holds_of_one tree n h (kind_content item) c.requires.there heads contents (λ (i : KeptItem). Passes env part (core_in c.args.run.now) passed (visit site i) done c.in_ok-pass.field-0) (c.in_ok-pass.ensures.ok env part)) in
     WalksTooFar-passed (core_in c.args.run.now) passed v done past.0 (visits_behind tree site n done) is (passes (environment grown w))
     (WalksTooFar-here passed v past.0 (passes (environment grown w)).goes.0 (c.in_err-inside.ensures.many (search rules) grown k (all_items tree.items)))
 
@@ -270,10 +270,10 @@ walk_item-walk_all-requires g t c =
     let v : Visit = visit site (item_of (all_items tree.items) h (kind_content item)) in
     let is : visits_behind tree site n done ≡ visits (behind v done) ∷ [] = visits_one tree n h (kind_content item) c.requires.there heads contents site done in
     let passed = core_in c.pass.new.run in
-    let past = past_one c.in_ok-pass.field (c.is_none.ensures ∙ ap not c.if-is_none.false) in
+    let past = past_one c.in_ok-pass.field-0 (c.is_none.ensures ∙ ap not c.if-is_none.false) in
     let passes : (env : Environment) → Passes env part (core_in c.args.run.now) passed v done (Some past.0) =
     λ env. subst (λ (o : Option ℕ). Passes env part (core_in c.args.run.now) passed v done o) past.1
-    (holds_of_one tree n h (kind_content item) c.requires.there heads contents (λ (i : KeptItem). Passes env part (core_in c.args.run.now) passed (visit site i) done c.in_ok-pass.field) (c.in_ok-pass.ensures.ok env part)) in
+    (holds_of_one tree n h (kind_content item) c.requires.there heads contents (λ (i : KeptItem). Passes env part (core_in c.args.run.now) passed (visit site i) done c.in_ok-pass.field-0) (c.in_ok-pass.ensures.ok env part)) in
     let now = c.visit_item.new.locations in
     let mid = core_in c.visit_item.new.run in
     let inner = c.in-Held.inner in
@@ -313,10 +313,10 @@ walk_item-returns-in_err-walk_all-in-Held-clause-many g t c = λ far_off grown k
     let v : Visit = visit site (item_of (all_items tree.items) h (kind_content item)) in
     let is : visits_behind tree site n done ≡ visits (behind v done) ∷ [] = visits_one tree n h (kind_content item) c.requires.there heads contents site done in
     let passed = core_in c.pass.new.run in
-    let past = past_one c.in_ok-pass.field (c.is_none.ensures ∙ ap not c.if-is_none.false) in
+    let past = past_one c.in_ok-pass.field-0 (c.is_none.ensures ∙ ap not c.if-is_none.false) in
     let passes : (env : Environment) → Passes env part (core_in c.args.run.now) passed v done (Some past.0) =
     λ env. subst (λ (o : Option ℕ). Passes env part (core_in c.args.run.now) passed v done o) past.1
-    (holds_of_one tree n h (kind_content item) c.requires.there heads contents (λ (i : KeptItem). Passes env part (core_in c.args.run.now) passed (visit site i) done c.in_ok-pass.field) (c.in_ok-pass.ensures.ok env part)) in
+    (holds_of_one tree n h (kind_content item) c.requires.there heads contents (λ (i : KeptItem). Passes env part (core_in c.args.run.now) passed (visit site i) done c.in_ok-pass.field-0) (c.in_ok-pass.ensures.ok env part)) in
     let now = c.visit_item.new.locations in
     let mid = core_in c.visit_item.new.run in
     let inner = c.in-Held.inner in
@@ -355,10 +355,10 @@ walk_item-returns-in_err-walk_all-in-File-clause-many g t c = λ far_off grown k
     let v : Visit = visit site (item_of (all_items tree.items) h (kind_content item)) in
     let is : visits_behind tree site n done ≡ visits (behind v done) ∷ [] = visits_one tree n h (kind_content item) c.requires.there heads contents site done in
     let passed = core_in c.pass.new.run in
-    let past = past_one c.in_ok-pass.field (c.is_none.ensures ∙ ap not c.if-is_none.false) in
+    let past = past_one c.in_ok-pass.field-0 (c.is_none.ensures ∙ ap not c.if-is_none.false) in
     let passes : (env : Environment) → Passes env part (core_in c.args.run.now) passed v done (Some past.0) =
     λ env. subst (λ (o : Option ℕ). Passes env part (core_in c.args.run.now) passed v done o) past.1
-    (holds_of_one tree n h (kind_content item) c.requires.there heads contents (λ (i : KeptItem). Passes env part (core_in c.args.run.now) passed (visit site i) done c.in_ok-pass.field) (c.in_ok-pass.ensures.ok env part)) in
+    (holds_of_one tree n h (kind_content item) c.requires.there heads contents (λ (i : KeptItem). Passes env part (core_in c.args.run.now) passed (visit site i) done c.in_ok-pass.field-0) (c.in_ok-pass.ensures.ok env part)) in
     let now = c.visit_item.new.locations in
     let mid = core_in c.visit_item.new.run in
     let inner = c.in-File.inner in
@@ -393,10 +393,10 @@ walk_item-walk_all-requires-in-File g t c =
     let v : Visit = visit site (item_of (all_items tree.items) h (kind_content item)) in
     let is : visits_behind tree site n done ≡ visits (behind v done) ∷ [] = visits_one tree n h (kind_content item) c.requires.there heads contents site done in
     let passed = core_in c.pass.new.run in
-    let past = past_one c.in_ok-pass.field (c.is_none.ensures ∙ ap not c.if-is_none.false) in
+    let past = past_one c.in_ok-pass.field-0 (c.is_none.ensures ∙ ap not c.if-is_none.false) in
     let passes : (env : Environment) → Passes env part (core_in c.args.run.now) passed v done (Some past.0) =
     λ env. subst (λ (o : Option ℕ). Passes env part (core_in c.args.run.now) passed v done o) past.1
-    (holds_of_one tree n h (kind_content item) c.requires.there heads contents (λ (i : KeptItem). Passes env part (core_in c.args.run.now) passed (visit site i) done c.in_ok-pass.field) (c.in_ok-pass.ensures.ok env part)) in
+    (holds_of_one tree n h (kind_content item) c.requires.there heads contents (λ (i : KeptItem). Passes env part (core_in c.args.run.now) passed (visit site i) done c.in_ok-pass.field-0) (c.in_ok-pass.ensures.ok env part)) in
     let now = c.visit_item.new.locations in
     let mid = core_in c.visit_item.new.run in
     let inner = c.in-File.inner in
@@ -441,10 +441,10 @@ walk_item-returns-in_ok-close-in-Held-clause-ok g t c = λ grown k.
     let v : Visit = visit site (item_of (all_items tree.items) h (kind_content item)) in
     let is : visits_behind tree site n done ≡ visits (behind v done) ∷ [] = visits_one tree n h (kind_content item) c.requires.there heads contents site done in
     let passed = core_in c.pass.new.run in
-    let past = past_one c.in_ok-pass.field (c.is_none.ensures ∙ ap not c.if-is_none.false) in
+    let past = past_one c.in_ok-pass.field-0 (c.is_none.ensures ∙ ap not c.if-is_none.false) in
     let passes : (env : Environment) → Passes env part (core_in c.args.run.now) passed v done (Some past.0) =
     λ env. subst (λ (o : Option ℕ). Passes env part (core_in c.args.run.now) passed v done o) past.1
-    (holds_of_one tree n h (kind_content item) c.requires.there heads contents (λ (i : KeptItem). Passes env part (core_in c.args.run.now) passed (visit site i) done c.in_ok-pass.field) (c.in_ok-pass.ensures.ok env part)) in
+    (holds_of_one tree n h (kind_content item) c.requires.there heads contents (λ (i : KeptItem). Passes env part (core_in c.args.run.now) passed (visit site i) done c.in_ok-pass.field-0) (c.in_ok-pass.ensures.ok env part)) in
     let now = c.visit_item.new.locations in
     let mid = core_in c.visit_item.new.run in
     let inner = c.in-Held.inner in
@@ -477,10 +477,10 @@ walk_item-returns-in_err-close-in-Held-clause-many g t c = λ far_off grown k.
     let v : Visit = visit site (item_of (all_items tree.items) h (kind_content item)) in
     let is : visits_behind tree site n done ≡ visits (behind v done) ∷ [] = visits_one tree n h (kind_content item) c.requires.there heads contents site done in
     let passed = core_in c.pass.new.run in
-    let past = past_one c.in_ok-pass.field (c.is_none.ensures ∙ ap not c.if-is_none.false) in
+    let past = past_one c.in_ok-pass.field-0 (c.is_none.ensures ∙ ap not c.if-is_none.false) in
     let passes : (env : Environment) → Passes env part (core_in c.args.run.now) passed v done (Some past.0) =
     λ env. subst (λ (o : Option ℕ). Passes env part (core_in c.args.run.now) passed v done o) past.1
-    (holds_of_one tree n h (kind_content item) c.requires.there heads contents (λ (i : KeptItem). Passes env part (core_in c.args.run.now) passed (visit site i) done c.in_ok-pass.field) (c.in_ok-pass.ensures.ok env part)) in
+    (holds_of_one tree n h (kind_content item) c.requires.there heads contents (λ (i : KeptItem). Passes env part (core_in c.args.run.now) passed (visit site i) done c.in_ok-pass.field-0) (c.in_ok-pass.ensures.ok env part)) in
     let now = c.visit_item.new.locations in
     let mid = core_in c.visit_item.new.run in
     let inner = c.in-Held.inner in
@@ -513,10 +513,10 @@ walk_item-close-requires g t c =
     let v : Visit = visit site (item_of (all_items tree.items) h (kind_content item)) in
     let is : visits_behind tree site n done ≡ visits (behind v done) ∷ [] = visits_one tree n h (kind_content item) c.requires.there heads contents site done in
     let passed = core_in c.pass.new.run in
-    let past = past_one c.in_ok-pass.field (c.is_none.ensures ∙ ap not c.if-is_none.false) in
+    let past = past_one c.in_ok-pass.field-0 (c.is_none.ensures ∙ ap not c.if-is_none.false) in
     let passes : (env : Environment) → Passes env part (core_in c.args.run.now) passed v done (Some past.0) =
     λ env. subst (λ (o : Option ℕ). Passes env part (core_in c.args.run.now) passed v done o) past.1
-    (holds_of_one tree n h (kind_content item) c.requires.there heads contents (λ (i : KeptItem). Passes env part (core_in c.args.run.now) passed (visit site i) done c.in_ok-pass.field) (c.in_ok-pass.ensures.ok env part)) in
+    (holds_of_one tree n h (kind_content item) c.requires.there heads contents (λ (i : KeptItem). Passes env part (core_in c.args.run.now) passed (visit site i) done c.in_ok-pass.field-0) (c.in_ok-pass.ensures.ok env part)) in
     let now = c.visit_item.new.locations in
     let last = c.walk_all.new.locations in
     let mid = core_in c.visit_item.new.run in
@@ -565,10 +565,10 @@ walk_item-returns-in_ok-close-in-File-clause-ok g t c = λ grown k.
     let v : Visit = visit site (item_of (all_items tree.items) h (kind_content item)) in
     let is : visits_behind tree site n done ≡ visits (behind v done) ∷ [] = visits_one tree n h (kind_content item) c.requires.there heads contents site done in
     let passed = core_in c.pass.new.run in
-    let past = past_one c.in_ok-pass.field (c.is_none.ensures ∙ ap not c.if-is_none.false) in
+    let past = past_one c.in_ok-pass.field-0 (c.is_none.ensures ∙ ap not c.if-is_none.false) in
     let passes : (env : Environment) → Passes env part (core_in c.args.run.now) passed v done (Some past.0) =
     λ env. subst (λ (o : Option ℕ). Passes env part (core_in c.args.run.now) passed v done o) past.1
-    (holds_of_one tree n h (kind_content item) c.requires.there heads contents (λ (i : KeptItem). Passes env part (core_in c.args.run.now) passed (visit site i) done c.in_ok-pass.field) (c.in_ok-pass.ensures.ok env part)) in
+    (holds_of_one tree n h (kind_content item) c.requires.there heads contents (λ (i : KeptItem). Passes env part (core_in c.args.run.now) passed (visit site i) done c.in_ok-pass.field-0) (c.in_ok-pass.ensures.ok env part)) in
     let now = c.visit_item.new.locations in
     let mid = core_in c.visit_item.new.run in
     let inner = c.in-File.inner in
@@ -604,10 +604,10 @@ walk_item-returns-in_err-close-in-File-clause-many g t c = λ far_off grown k.
     let v : Visit = visit site (item_of (all_items tree.items) h (kind_content item)) in
     let is : visits_behind tree site n done ≡ visits (behind v done) ∷ [] = visits_one tree n h (kind_content item) c.requires.there heads contents site done in
     let passed = core_in c.pass.new.run in
-    let past = past_one c.in_ok-pass.field (c.is_none.ensures ∙ ap not c.if-is_none.false) in
+    let past = past_one c.in_ok-pass.field-0 (c.is_none.ensures ∙ ap not c.if-is_none.false) in
     let passes : (env : Environment) → Passes env part (core_in c.args.run.now) passed v done (Some past.0) =
     λ env. subst (λ (o : Option ℕ). Passes env part (core_in c.args.run.now) passed v done o) past.1
-    (holds_of_one tree n h (kind_content item) c.requires.there heads contents (λ (i : KeptItem). Passes env part (core_in c.args.run.now) passed (visit site i) done c.in_ok-pass.field) (c.in_ok-pass.ensures.ok env part)) in
+    (holds_of_one tree n h (kind_content item) c.requires.there heads contents (λ (i : KeptItem). Passes env part (core_in c.args.run.now) passed (visit site i) done c.in_ok-pass.field-0) (c.in_ok-pass.ensures.ok env part)) in
     let now = c.visit_item.new.locations in
     let mid = core_in c.visit_item.new.run in
     let inner = c.in-File.inner in
@@ -643,10 +643,10 @@ walk_item-close-requires-in-File g t c =
     let v : Visit = visit site (item_of (all_items tree.items) h (kind_content item)) in
     let is : visits_behind tree site n done ≡ visits (behind v done) ∷ [] = visits_one tree n h (kind_content item) c.requires.there heads contents site done in
     let passed = core_in c.pass.new.run in
-    let past = past_one c.in_ok-pass.field (c.is_none.ensures ∙ ap not c.if-is_none.false) in
+    let past = past_one c.in_ok-pass.field-0 (c.is_none.ensures ∙ ap not c.if-is_none.false) in
     let passes : (env : Environment) → Passes env part (core_in c.args.run.now) passed v done (Some past.0) =
     λ env. subst (λ (o : Option ℕ). Passes env part (core_in c.args.run.now) passed v done o) past.1
-    (holds_of_one tree n h (kind_content item) c.requires.there heads contents (λ (i : KeptItem). Passes env part (core_in c.args.run.now) passed (visit site i) done c.in_ok-pass.field) (c.in_ok-pass.ensures.ok env part)) in
+    (holds_of_one tree n h (kind_content item) c.requires.there heads contents (λ (i : KeptItem). Passes env part (core_in c.args.run.now) passed (visit site i) done c.in_ok-pass.field-0) (c.in_ok-pass.ensures.ok env part)) in
     let now = c.visit_item.new.locations in
     let last = c.walk_all-in-File.new.locations in
     let mid = core_in c.visit_item.new.run in
@@ -684,10 +684,10 @@ walk_item-returns-in-Nothing-clause-ok g t c = λ grown k.
     let v : Visit = visit site (item_of (all_items tree.items) h (kind_content item)) in
     let is : visits_behind tree site n done ≡ visits (behind v done) ∷ [] = visits_one tree n h (kind_content item) c.requires.there heads contents site done in
     let passed = core_in c.pass.new.run in
-    let past = past_one c.in_ok-pass.field (c.is_none.ensures ∙ ap not c.if-is_none.false) in
+    let past = past_one c.in_ok-pass.field-0 (c.is_none.ensures ∙ ap not c.if-is_none.false) in
     let passes : (env : Environment) → Passes env part (core_in c.args.run.now) passed v done (Some past.0) =
     λ env. subst (λ (o : Option ℕ). Passes env part (core_in c.args.run.now) passed v done o) past.1
-    (holds_of_one tree n h (kind_content item) c.requires.there heads contents (λ (i : KeptItem). Passes env part (core_in c.args.run.now) passed (visit site i) done c.in_ok-pass.field) (c.in_ok-pass.ensures.ok env part)) in
+    (holds_of_one tree n h (kind_content item) c.requires.there heads contents (λ (i : KeptItem). Passes env part (core_in c.args.run.now) passed (visit site i) done c.in_ok-pass.field-0) (c.in_ok-pass.ensures.ok env part)) in
     let first : Handles (environment grown w) part passed (core_in c.visit_item.new.run) v [] =
     subst (λ (o : Inside). Handles (environment grown w) part passed (core_in c.visit_item.new.run) v (tasks_of site.home (all_items tree.items) o)) c.in-Nothing.is
     (c.in_ok-inside.ensures.ok grown k (all_items tree.items)) in
