@@ -21,6 +21,10 @@ nothing = record { all = false; slots = [] }
 abbrev pub with_slot : ℕ → List ℕ → ChangedValue → ChangedValue
 with_slot at name c = cond c.all c (record c { slots = c.slots ++ of_module at name ∷ [] })
 
+-- the slot of a name in the preludes besides
+abbrev pub with_preludes : List ℕ → ChangedValue → ChangedValue
+with_preludes name c = cond c.all c (record c { slots = c.slots ++ of_preludes name ∷ [] })
+
 -- a slot isn't among them
 pub record IsUntouched (changed : ChangedValue) (slot : PathSlot) : Type 0 where
   pub some : changed.all ≡ false

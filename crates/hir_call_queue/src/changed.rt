@@ -1,6 +1,6 @@
 //! Which slots may have changed.
 ghost use Rattle.std.specs.Prelude.{◌≡◌, OnOk};
-ghost use Rattle.hir_call_queue.specs.Changes.{everything, nothing, with_slot};
+ghost use Rattle.hir_call_queue.specs.Changes.{everything, nothing, with_preludes, with_slot};
 
 use hir_base::name::Name;
 use hir_def_map::nameres::path_resolution::slots::Slot;
@@ -55,6 +55,16 @@ impl Changed {
             return Ok(());
         }
         self.slots.push(Slot::Module(at, name.clone()?))?;
+        Ok(())
+    }
+
+    /// Adds the slot of a name in the preludes.
+    pub fn add_prelude(&mut self, name: &Name) -> Result<(), AllocError>
+        ensures ok { OnOk result (self.new ≡ with_preludes name.now self.old) }
+    {
+        if !self.all {
+            self.slots.push(Slot::Preludes(name.clone()?))?;
+        }
         Ok(())
     }
 

@@ -1,16 +1,24 @@
 -- Where nothing is to be done about what waits, and what is given up.
-use Rattle.std.proofs.Common.{◌≡◌, ◌∙◌, ◌⊎◌, ℕ, ◌+◌, ◌<◌, ◌≤◌, true, false, List, length, slice_get, slice_set, None, Some, inl, inr, sym, ap, subst, arith}
+use Rattle.std.proofs.Common.{◌≡◌, ◌∙◌, ◌⊎◌, ℕ, ◌+◌, ◌<◌, ◌≤◌, true, false, List, Option, length, slice_get, slice_set, None, Some, inl, inr, refl, sym, ap, subst, arith}
 use Rattle.std.proofs.lemmas.Bool.{cases_lt}
+use Rattle.hir_base.specs.declared.ast_id.AstId.{AstId}
+use Rattle.hir_base.specs.declared.macro_kind.MacroId.{MacroId}
+use Rattle.hir_base.specs.declared.macro_kind.MacroId.TheVariants.{Macro2Id, MacroRulesId, ProcMacroId}
 use Rattle.hir_def_map.specs.Overlay.{Maps}
+use Rattle.hir_def_map.specs.State.{Map}
 use Rattle.hir_def_collector.specs.declared.collector.macro_directive.Fate.{Fate}
 use Rattle.hir_def_collector.specs.declared.collector.macro_directive.Fate.TheVariants.{GivenUp, Waits}
 use Rattle.hir_def_collector.specs.declared.collector.macro_directive.MacroDirective.{MacroDirective}
-use Rattle.hir_def_collector.specs.declared.collector.calls.Due.TheVariants.{Nothing}
-use Rattle.hir_def_collector.specs.CallMoves.{IsAttributeWaiting, IsDueOf, NoneWaitsBefore}
-use Rattle.hir_def_collector.specs.Calls.{IsWaiting, LeadsNowhere, called_macro, is_call, is_inert_now}
+use Rattle.hir_def_collector.specs.declared.collector.macro_directive.MacroDirectiveKind.{MacroDirectiveKind}
+use Rattle.hir_def_collector.specs.declared.collector.macro_directive.MacroDirectiveKind.TheVariants.{Attr, Derive, FnLike}
+use Rattle.hir_def_collector.specs.declared.collector.calls.Due.{Due}
+use Rattle.hir_def_collector.specs.declared.collector.calls.Due.TheVariants.{Derives, Nothing, Reaches, Skips}
+use Rattle.hir_def_collector.specs.declared.collector.macro_directive.WaitingItem.{WaitingItem}
+use Rattle.hir_def_collector.specs.CallMoves.{FindsBuiltin, IsAttributeWaiting, IsDueOf, IsFirstWaiting, NoneWaitsBefore}
+use Rattle.hir_def_collector.specs.Calls.{IsWaiting, LeadsNowhere, builtin_impl, called_macro, expands_by, is_call, is_inert_by, is_inert_now, item_in, waiting_item}
 use Rattle.hir_def_collector.specs.Keys.{Environment}
-use Rattle.hir_def_collector.specs.State.{Core, at_rest}
-use Rattle.hir_def_collector.specs.Steps.{Steps}
+use Rattle.hir_def_collector.specs.State.{Core, Task, at_rest, joined}
+use Rattle.hir_def_collector.specs.Steps.{Steps, by_builtin}
 use Rattle.hir_def_collector.proofs.Bound.{number_same_or_not}
 use Rattle.hir_def_collector.proofs.Lists.{get_set_other, get_set_same, length_set}
 use Rattle.hir_def_collector.proofs.Tried.{calls_longer, waiting_before}
@@ -38,9 +46,9 @@ nothing_due finished c i here at due = record {
         cc
 
 -- no attribute waits before the next place, where the one at this place was given up and none waited before it
-pub none_before : {env : Environment} {finished : Maps} (old mid new : Core) (i : ℕ) → length old.fates ≡ length old.calls → NoneWaitsBefore old i → i < length old.fates
-    → mid.calls ≡ old.calls → mid.fates ≡ slice_set old.fates i GivenUp → Steps env finished (at_rest mid) (at_rest new) → NoneWaitsBefore new (i + 1)
-none_before {env} {finished} old mid new i paired first inside calls fates steps = record {
+pub none_before : {env : Environment} {finished : Maps} (old mid new : Core) (i : ℕ) (tasks : List Task) → length old.fates ≡ length old.calls → NoneWaitsBefore old i → i < length old.fates
+    → mid.calls ≡ old.calls → mid.fates ≡ slice_set old.fates i GivenUp → Steps env finished (joined mid tasks) (at_rest new) → NoneWaitsBefore new (i + 1)
+none_before {env} {finished} old mid new i tasks paired first inside calls fates steps = record {
   inside = let more : length mid.calls ≤ length new.calls = calls_longer steps in omega (arith, inside, paired, longer, more);
   none = λ j w. go j w (cases_lt j (i + 1));
 }
@@ -53,10 +61,10 @@ none_before {env} {finished} old mid new i paired first inside calls fates steps
     longer = ap (λ (ds : List MacroDirective). length ds) calls
 
     -- one that waits before it waited there already
-    earlier : (j : ℕ) (w : IsAttributeWaiting new j) → j < i + 1 → IsWaiting (at_rest mid) j w.call
+    earlier : (j : ℕ) (w : IsAttributeWaiting new j) → j < i + 1 → IsWaiting (joined mid tasks) j w.call
     earlier j w low = waiting_before steps mid_paired w.waits (omega (arith, low, inside, paired, longer))
 
-    not_here : (j : ℕ) (d : MacroDirective) → j ≡ i → IsWaiting (at_rest mid) j d → ⊥
+    not_here : (j : ℕ) (d : MacroDirective) → j ≡ i → IsWaiting (joined mid tasks) j d → ⊥
     not_here j d here waits =
         let given : slice_get mid.fates j ≡ Some GivenUp =
         ap (λ (fs : List Fate). slice_get fs j) fates ∙ subst (λ (k : ℕ). slice_get (slice_set old.fates i GivenUp) k ≡ Some GivenUp) (sym here) (get_set_same old.fates i GivenUp inside) in
@@ -64,7 +72,7 @@ none_before {env} {finished} old mid new i paired first inside calls fates steps
         let no : ⊥ = cc in no
 
     -- and before it none did
-    not_before : (j : ℕ) (w : IsAttributeWaiting new j) → j < i → IsWaiting (at_rest mid) j w.call → ⊥
+    not_before : (j : ℕ) (w : IsAttributeWaiting new j) → j < i → IsWaiting (joined mid tasks) j w.call → ⊥
     not_before j w low waits =
         let was : IsWaiting (at_rest old) j w.call = record {
           call = subst (λ (ds : List MacroDirective). slice_get ds j ≡ Some w.call) calls waits.call;
@@ -94,3 +102,43 @@ none_waits_later old new first paired steps before = record {
     go j w (inl low) =
         before.none j (record { call = w.call; waits = waiting_before steps paired w.waits (omega (arith, low, before.inside)); item = w.item; is_item = w.is_item })
     go j w (inr high) = high
+
+-- where the first attribute waits, what waits has an item
+pub has_item : (c : Core) (i : ℕ) (d : MacroDirective) → IsFirstWaiting c i → IsWaiting (at_rest c) i d → waiting_item d ≡ None → ⊥
+has_item c i d first waits none =
+    let here : slice_get c.calls i ≡ Some d = waits.call in
+    let there : slice_get c.calls i ≡ Some first.waits.call = first.waits.waits.call in
+    let same : d ≡ first.waits.call = cc in
+    let item : waiting_item d ≡ Some first.waits.item = subst (λ (x : MacroDirective). waiting_item x ≡ Some first.waits.item) (sym same) first.waits.is_item in
+    let no : ⊥ = cc in no
+
+-- what reaches a macro without an expansion, and has no item, is a path of a derive, which stands for an impl
+pub has_impl : (makro : MacroId) (kind : MacroDirectiveKind) → expands_by kind makro ≡ false → item_in kind ≡ None → builtin_impl makro kind ≡ None → ⊥
+has_impl (Macro2Id id) (FnLike path) builtin item none = let no : ⊥ = cc in no
+has_impl (MacroRulesId id) (FnLike path) builtin item none = let no : ⊥ = cc in no
+has_impl (ProcMacroId id) (FnLike path) builtin item none = let no : ⊥ = cc in no
+has_impl makro (Derive path attr index adt) builtin item none = let no : ⊥ = cc in no
+has_impl makro (Attr path attr k) builtin item none = let no : ⊥ = cc in no
+
+-- what is inert by now is an attribute, and has an item
+pub inert_item : (m : Map) (node : AstId) (kind : MacroDirectiveKind) → is_inert_by m node kind ≡ true → (k : WaitingItem) × (item_in kind ≡ Some k)
+inert_item m node (FnLike path) inert = absurd (let no : ⊥ = cc in no)
+inert_item m node (Derive path attr index adt) inert = absurd (let no : ⊥ = cc in no)
+inert_item m node (Attr path attr k) inert = (k, refl)
+
+-- what is to be done about what reaches a macro without an expansion
+module _ (finished : Maps) (c : Core) (d : MacroDirective) (makro : MacroId) (due : Due) (finds : FindsBuiltin finished c d makro)
+    (derives : waiting_item d ≡ None → due ≡ Derives makro) (skips : (k : WaitingItem) → waiting_item d ≡ Some k → due ≡ Skips) where
+  pub due_builtin : IsDueOf finished c d due
+  due_builtin = go (waiting_item d) refl
+    where
+      go : (o : Option WaitingItem) → waiting_item d ≡ o → IsDueOf finished c d due
+      go None e = subst (IsDueOf finished c d) (sym (derives e)) (finds, e)
+      go (Some k) e = subst (IsDueOf finished c d) (sym (skips k e)) (k, e, by_builtin makro finds.reaches finds.builtin)
+
+  pub reaches_none : (other : MacroId) → due ≡ Reaches other → ⊥
+  reaches_none other reaches = go (waiting_item d) refl
+    where
+      go : (o : Option WaitingItem) → waiting_item d ≡ o → ⊥
+      go None e = let is : due ≡ Derives makro = derives e in let no : ⊥ = cc in no
+      go (Some k) e = let is : due ≡ Skips = skips k e in let no : ⊥ = cc in no

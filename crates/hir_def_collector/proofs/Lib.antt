@@ -48,6 +48,7 @@ pub mod Meaning
 pub mod CallSteps
 pub mod Helping
 pub mod Deriving
+pub mod Passing
 pub mod EnumMacros
 pub mod CallReads
 pub mod Noted

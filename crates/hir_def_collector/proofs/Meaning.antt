@@ -101,7 +101,7 @@ module _ (tables : TablesValue) where
   no_file = λ id e. absurd (let no : ⊥ = cc in no)
 
   -- those of the site with which a run begins
-  root_meant : (tree : TreeId) → IsSome (source_of tables tree) → IsMeantAt tables (root_site tree)
+  pub root_meant : (tree : TreeId) → IsSome (source_of tables tree) → IsMeantAt tables (root_site tree)
   root_meant tree there = record { tree = there; file = go tree.file tree.block there }
     where
       go : (f : HirFileId) (b : Option BlockId) → IsSome (place_under tables f b) → IsFileMeant tables (own_file f b)

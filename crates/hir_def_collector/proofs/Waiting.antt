@@ -8,8 +8,8 @@ use Rattle.hir_base.specs.declared.ast_id.AstId.{AstId}
 use Rattle.hir_base.specs.declared.ids.MapId.{MapId}
 use Rattle.hir_def_map.specs.Overlay.{Maps}
 use Rattle.hir_def_map.specs.State.{CrateData, IsInOrder, Map}
-use Rattle.hir_def_map.specs.declared.nameres.derive_helpers.DeriveHelper.{DeriveHelper}
 use Rattle.hir_def_map.specs.declared.nameres.path_resolution.slots.Slot.{Slot as PathSlot}
+use Rattle.hir_def_map.specs.declared.nameres.path_resolution.slots.Slot.TheVariants.{Preludes as of_preludes}
 use Rattle.hir_worklist.proofs.Idle.{idle-closed, idle-opened, idle-taken}
 use Rattle.hir_worklist.specs.Moves.{Takes, closed, empty_queue, opened}
 use Rattle.hir_worklist.specs.Queue.{IsIdle, Queue, count_of, is_unfinished}
@@ -22,15 +22,12 @@ use Rattle.hir_call_queue.specs.Waking.{AreWatching, IsWatching, IsWoken, is_apa
 use Rattle.hir_call_queue.specs.declared.queue.CallQueue.{CallQueue}
 use Rattle.hir_def_collector.specs.declared.collector.macro_directive.Fate.TheVariants.{Handled, Waits}
 use Rattle.hir_def_collector.specs.declared.collector.macro_directive.MacroDirective.{MacroDirective}
-use Rattle.hir_def_collector.specs.declared.collector.macro_directive.MacroDirectiveKind.{MacroDirectiveKind}
-use Rattle.hir_def_collector.specs.declared.collector.macro_directive.MacroDirectiveKind.TheVariants.{Attr, Derive, FnLike}
-use Rattle.hir_def_collector.specs.Attributes.{is_helper}
-use Rattle.hir_def_collector.specs.Calls.{IsWaiting, LeadsNowhere, called_macro, is_call, is_inert_by, is_inert_now}
+use Rattle.hir_def_collector.specs.Calls.{IsWaiting, LeadsNowhere, called_macro, is_call, is_inert_now}
 use Rattle.hir_def_collector.specs.Keys.{Environment}
 use Rattle.hir_def_collector.specs.State.{Core, Run, at_rest, core_in}
 use Rattle.hir_def_collector.specs.Steps.{Steps}
-use Rattle.hir_def_collector.specs.Waiting.{IsNoted, IsStale, IsUpToDate, KeepsWaiting, LiesApart, StandsStill, call_reads}
-use Rattle.hir_def_collector.proofs.CallReads.{agree_itself, agree_later, modules_kept_itself, stands_nowhere}
+use Rattle.hir_def_collector.specs.Waiting.{IsNoted, IsStale, IsUpToDate, KeepsWaiting, LiesApart, StandsStill, call_reads, is_helped}
+use Rattle.hir_def_collector.proofs.CallReads.{agree_itself, agree_later, inert_by_kind, modules_kept_itself, stands_nowhere}
 use Rattle.hir_def_collector.proofs.Noted.{modules_kept_later, noted_follow, noted_itself, there_later}
 use Rattle.hir_def_collector.proofs.Tried.{calls_longer, waiting_before}
 
@@ -144,15 +141,6 @@ module _ (finished : Maps) (q : CallQueue) (before now : Run) (waits : KeepsWait
       go a p d true e idle waiting = absurd (over d (subst (λ (k : ℕ). IsWaiting (at_rest (core_in now)) k d) (sym (same_place i p e)) waiting))
       go a p d false e idle waiting = up.stands a p d idle (other_place i p e) (waits.before p d (inside_of up.count p idle) waiting)
 
--- where helpers are the same, what was inert is inert
-inert_alike : (old new : Map) (d : MacroDirective) → new.derive_helpers ≡ old.derive_helpers → is_inert_now new d ≡ is_inert_now old d
-inert_alike old new d same = go d.kind
-  where
-    go : (kind : MacroDirectiveKind) → is_inert_by new d.ast_id kind ≡ is_inert_by old d.ast_id kind
-    go (FnLike path) = refl
-    go (Derive path attr index adt) = refl
-    go (Attr path attr item) = ap (λ (helpers : List (AstId × List DeriveHelper)). is_helper (record old { derive_helpers = helpers }) d.ast_id path) same
-
 -- what has read what has changed is queued
 module _ (finished : Maps) (q r : CallQueue) (before now : Run) (noted : IsNoted before now) (waits : KeepsWaiting (core_in before) (core_in now)) (woken : IsWoken now.changed q r) (apart : LiesApart finished r (core_in now)) where
   was_apart : is_apart r ≡ true → is_apart q ≡ true
@@ -184,15 +172,23 @@ module _ (finished : Maps) (q r : CallQueue) (before now : Run) (noted : IsNoted
         go true a = let same = same_limit (woken.some (was_apart a) p idle) in let before_low = m.shallow p d (woken.idle p idle) waiting call in omega (arith, same, before_low)
         go false a = absurd (woken.alone (sym woken.on.apart ∙ a) p idle)
 
-    same_helpers : now.changed.all ≡ false → (core_in now).map.derive_helpers ≡ (core_in before).map.derive_helpers
+    same_helper : (node : AstId) (name : List ℕ) → IsUntouched now.changed (of_preludes name) → is_helped (core_in now).map node name ≡ is_helped (core_in before).map node name
     unfolding core_in
-    same_helpers some = noted.helpers some
+    same_helper node name e = noted.helpers node name e
+
+    -- what stands still has read, of each name that would be a helper, what is noted where one comes into scope
+    inert_alike : is_apart r ≡ true → (p : ℕ) (d : MacroDirective) → IsIdle (worklist_of r) p → StandsStill finished (core_in before) d (m.seen p) → is_inert_now (core_in now).map d ≡ is_inert_now (core_in before).map d
+    inert_alike a p d idle s =
+        inert_by_kind finished s.local s.map (core_in before).map (core_in now).map d.ast_id d.site.home d.kind
+        (λ name has.
+        same_helper d.ast_id name
+        (woken.untouched (was_apart a) m.seen (m.watched (was_apart a)) p idle (of_preludes name) (subst (λ (slots : List PathSlot). Contains slots (of_preludes name)) (sym s.read) has)))
 
     active_now : (p : ℕ) (d : MacroDirective) → IsIdle (worklist_of r) p → IsWaiting (at_rest (core_in now)) p d → is_inert_now (core_in now).map d ≡ false
     active_now p d idle waiting = go (is_apart r) refl
       where
         go : (b : Bool) → is_apart r ≡ b → is_inert_now (core_in now).map d ≡ false
-        go true a = inert_alike (core_in before).map (core_in now).map d (same_helpers (woken.some (was_apart a) p idle)) ∙ m.active p d (woken.idle p idle) waiting
+        go true a = inert_alike a p d idle (m.stands (was_apart a) p d (woken.idle p idle) waiting) ∙ m.active p d (woken.idle p idle) waiting
         go false a = absurd (woken.alone (sym woken.on.apart ∙ a) p idle)
 
     up_to_date_by : IsUpToDate finished r (core_in now) None

@@ -1,9 +1,10 @@
 -- The walk, step by step.
-use Rattle.std.proofs.Common.{◌≡◌, ◌∙◌, ℕ, zero, suc, ◌+◌, ◌<◌, ◌≤◌, true, false, List, [], ◌∷◌, ◌++◌, length, drop, get_or, slice_get, slice_index_or, Option, Some, None, refl, sym, ap, subst, arith, append-nil, append_assoc}
+use Rattle.std.proofs.Common.{◌≡◌, ◌∙◌, ℕ, zero, suc, ◌+◌, ◌<◌, ◌≤◌, true, false, List, [], ◌∷◌, ◌++◌, length, drop, get_or, map, slice_get, slice_index_or, Option, Some, None, refl, sym, ap, subst, arith, append-nil, append_assoc}
 use Rattle.std.specs.List.{All}
 use Rattle.std.specs.Option.{IfSome}
+use Rattle.std.specs.Prelude.{is_some}
 use Rattle.std.proofs.lemmas.List.Elements.{All-head, All-tail}
-use Rattle.hir_item_tree.specs.Collected.{is_enabled}
+use Rattle.hir_item_tree.specs.Collected.{is_enabled, numbered}
 use Rattle.hir_item_tree.specs.ItemTree.{Tree}
 use Rattle.hir_base.specs.Cfg.{Cfg}
 use Rattle.hir_def_map.specs.declared.nameres.diagnostics.DefDiagnostic.{DefDiagnostic}
@@ -20,6 +21,9 @@ use Rattle.hir_item_tree.specs.KeptForest.{Head, KeptItem, KeptForest, all_items
 use Rattle.hir_item_tree.specs.Rows.{Content, alone, with_items, numbers_of, items_at, item_of, and_found}
 use Rattle.hir_item_tree.specs.declared.rows.ModItemId.{ModItemId}
 use Rattle.hir_def_map.specs.Overlay.{Maps}
+use Rattle.hir_def_map.specs.State.{Map}
+use Rattle.hir_def_collector.specs.declared.collector.attributes.Visited.{Visited}
+use Rattle.hir_def_collector.specs.Attributes.{adt_of}
 use Rattle.hir_def_collector.specs.declared.collector.site.Site.{Site}
 use Rattle.hir_def_collector.specs.Keys.{Environment, absent_source}
 use Rattle.hir_def_collector.specs.State.{Task, Visit, visits, closes, Core, at_rest, joined, visits_over, counted, with_map}
@@ -30,7 +34,7 @@ use Rattle.hir_def_collector.specs.TreeReads.{visits_at, visits_behind, visits_f
 use Rattle.hir_def_collector.specs.Reports.{IsUnconfigured}
 use Rattle.hir_def_collector.specs.ItemIds.{module_id, node_of}
 use Rattle.hir_def_collector.specs.Derivation.{IsFull, IsSpent, counted_out}
-use Rattle.hir_def_collector.specs.Moves.{Drops, Handles, HandlesTooFar, IsPassed, Passes, PassesTooFar, Walks, WalksTooFar, is_single}
+use Rattle.hir_def_collector.specs.Moves.{Drops, Handles, HandlesTooFar, IsPassed, IsVisited, Passes, PassesTooFar, Walks, WalksTooFar, is_single}
 use Rattle.hir_def_collector.proofs.Lists.{drop_at, get_there}
 use Rattle.hir_def_collector.proofs.Moves.{Steps-append, Steps-one, Steps-first, spent_after}
 use Rattle.hir_def_collector.proofs.Made.{Goes, made}
@@ -161,18 +165,35 @@ still_there-counted old new n is h = rw is h
 found : {A : Type 0} (o : Option A) (x : A) (P : A → Type 0) → o ≡ Some x → IfSome o P → P x
 found o x P e h = let p : IfSome (Some x) P = subst (λ (q : Option _). IfSome q P) e h in p
 
-module _ (tree : Tree) (site : Site) (n done : ℕ) (h : Head) (c : Content) where
+module _ (tree : Tree) (n : ℕ) (h : Head) (c : Content) (there : n < length (all_items tree.items)) (head : IfSome (slice_get (all_items tree.items) n) (λ i. h ≡ item_head i))
+    (content : IfSome (slice_get (all_items tree.items) n) (λ i. item_of (all_items tree.items) (item_head i) c ≡ i)) where
   -- the item of a number, by its head and content
-  pub visits_one : n < length (all_items tree.items) → IfSome (slice_get (all_items tree.items) n) (λ i. h ≡ item_head i)
-      → IfSome (slice_get (all_items tree.items) n) (λ i. item_of (all_items tree.items) (item_head i) c ≡ i)
-      → visits_behind tree site n done ≡ visits (behind (visit site (item_of (all_items tree.items) h c)) done) ∷ []
-  visits_one there head content =
+  one_whole : (i : KeptItem) → slice_get (all_items tree.items) n ≡ Some i → item_of (all_items tree.items) h c ≡ i
+  one_whole i at =
+      let items = all_items tree.items in
+      let same_head : h ≡ item_head i = found (slice_get items n) i (λ i. h ≡ item_head i) at head in
+      let same : item_of items (item_head i) c ≡ i = found (slice_get items n) i (λ i. item_of items (item_head i) c ≡ i) at content in
+      ap (λ (g : Head). item_of items g c) same_head ∙ same
+
+  pub visits_one : (site : Site) (done : ℕ) → visits_behind tree site n done ≡ visits (behind (visit site (item_of (all_items tree.items) h c)) done) ∷ []
+  visits_one site done =
+      let i = get_there (all_items tree.items) n there in
+      ap (λ (o : Option KeptItem). one_found site done o) i.1 ∙ ap (λ (x : KeptItem). visits (behind (visit site x) done) ∷ []) (sym (one_whole i.0 i.1))
+
+  -- whether it is disabled
+  pub enabled_one : is_enabled h.attributes ≡ true → IfSome (slice_get (all_items tree.items) n) (λ i. is_enabled (item_head i).attributes ≡ true)
+  enabled_one on =
       let items = all_items tree.items in
       let i = get_there items n there in
       let same_head : h ≡ item_head i.0 = found (slice_get items n) i.0 (λ i. h ≡ item_head i) i.1 head in
-      let same : item_of items (item_head i.0) c ≡ i.0 = found (slice_get items n) i.0 (λ i. item_of items (item_head i) c ≡ i) i.1 content in
-      let whole : item_of items h c ≡ i.0 = ap (λ (g : Head). item_of items g c) same_head ∙ same in
-      ap (λ (o : Option KeptItem). one_found site done o) i.1 ∙ ap (λ (x : KeptItem). visits (behind (visit site x) done) ∷ []) (sym whole)
+      let here : is_enabled (item_head i.0).attributes ≡ true = subst (λ (g : Head). is_enabled g.attributes ≡ true) same_head on in
+      subst (λ (o : Option KeptItem). IfSome o (λ i. is_enabled (item_head i).attributes ≡ true)) (sym i.1) here
+
+  -- what holds of it
+  pub holds_of_one : (P : KeptItem → Type 0) → IfSome (slice_get (all_items tree.items) n) P → P (item_of (all_items tree.items) h c)
+  holds_of_one P holds =
+      let i = get_there (all_items tree.items) n there in
+      subst P (sym (one_whole i.0 i.1)) (found (slice_get (all_items tree.items) n) i.0 P i.1 holds)
 
 -- the item of a number alone is one that is visited from its first attribute on
 pub visits_alone : (tree : Tree) (site : Site) (n : ℕ) → visits_at tree site (n ∷ []) ≡ visits_behind tree site n 0
@@ -215,10 +236,34 @@ WalksTooFar-passed {env} {finished} old mid v from done vs e passes far = record
 pub WalksTooFar-here : {env : Environment} {finished : Maps} (old : Core) (v : Visit) (done : ℕ) → IsPassed old v done → HandlesTooFar env finished old v → WalksTooFar env finished old (visits (behind v done) ∷ [])
 WalksTooFar-here old v done passed far = record { spent = λ rest. far.spent done passed rest }
 
+-- steps through attributes take no module away
+pub there_behind : {env : Environment} {finished : Maps} (old new : Core) (v : Visit) (from : ℕ) (done : Option ℕ) (n : ℕ) → Passes env finished old new v from done → n < length old.map.modules → n < length new.map.modules
+there_behind old new v from None n passes h = let longer : length old.map.modules ≤ length new.map.modules = (Grows-Steps (passes.goes [])).longer in omega arith
+there_behind old new v from (Some done) n passes h = let longer : length old.map.modules ≤ length new.map.modules = (Grows-Steps (passes.goes.1 [])).longer in omega arith
+
+-- how many are done with where the item is next
+pub past_one : (o : Option ℕ) → is_some o ≡ true → (done : ℕ) × (o ≡ Some done)
+past_one None h = absurd (let no : ⊥ = cc in no)
+past_one (Some done) h = (done, refl)
+
+pub past_none : (o : Option ℕ) → is_some o ≡ false → o ≡ None
+past_none None h = refl
+past_none (Some done) h = absurd (let no : ⊥ = cc in no)
+
 -- steps through those inside lead too far
 pub WalksTooFar-inside : {env : Environment} {finished : Maps} (old mid : Core) (v : Visit) (done : ℕ) (inside : List Task) → IsPassed old v done → Handles env finished old mid v inside
     → WalksTooFar env finished mid inside → WalksTooFar env finished old (visits (behind v done) ∷ [])
 WalksTooFar-inside {env} {finished} old mid v done inside passed handles far = record { spent = λ rest. spent_after (Steps-one (handles.step done passed rest)) (far.spent rest) }
+
+-- steps through attributes of the item, the one that handles it, and those through what is inside
+pub Walks-through : {env : Environment} {finished : Maps} (old passed mid new : Core) (v : Visit) (from done : ℕ) (vs inside : List Task) → vs ≡ visits (behind v from) ∷ []
+    → Passes env finished old passed v from (Some done) → Handles env finished passed mid v inside → Walks env finished mid new inside → Walks env finished old new vs
+Walks-through old passed mid new v from done vs inside e passes handles walks = Walks-passed old passed new v from done vs e passes (Walks-first passed mid new v done inside passes.goes.0 handles walks)
+
+pub WalksTooFar-through : {env : Environment} {finished : Maps} (old passed mid : Core) (v : Visit) (from done : ℕ) (vs inside : List Task) → vs ≡ visits (behind v from) ∷ []
+    → Passes env finished old passed v from (Some done) → Handles env finished passed mid v inside → WalksTooFar env finished mid inside → WalksTooFar env finished old vs
+WalksTooFar-through old passed mid v from done vs inside e passes handles far =
+    WalksTooFar-passed old passed v from done vs e passes (WalksTooFar-inside passed mid v done inside passes.goes.0 handles far)
 
 -- tasks that are done one after another
 pub Walks-append : {env : Environment} {finished : Maps} (old mid new : Core) (inside behind : List Task) → Walks env finished old mid inside → Walks env finished mid new behind
@@ -339,6 +384,33 @@ pub far_item : (env : Environment) (finished : Maps) (site : Site) (items : List
     → is_outline (item_of items h (kind_content item)) ≡ false → IsFull old.count old.map → HandlesTooFar env finished old (visit site (item_of items h (kind_content item)))
 far_item env finished site items h item old on here full =
     far_here site (item_of items h (kind_content item)) old (ap (λ (g : Head). is_enabled g.attributes) (head_same items h (kind_content item)) ∙ on) here full
+
+-- an item of a tree whose attributes are gone through
+module _ (m : Map) (visited : Visited) (h : Head) (item : ModItemKind) where
+  abbrev all : List KeptItem
+  all = all_items visited.source.now.value.tree.items
+
+  abbrev one : KeptItem
+  one = item_of all h (kind_content item)
+
+  module _ (there : visited.id.0 < length all) (head : IfSome (slice_get all visited.id.0) (λ i. h ≡ item_head i)) (content : IfSome (slice_get all visited.id.0) (λ i. item_of all (item_head i) (kind_content item) ≡ i)) where
+    kept_one : slice_get all visited.id.0 ≡ Some one
+    kept_one =
+        let i = get_there all visited.id.0 there in
+        i.1 ∙ ap Some (sym (one_whole visited.source.now.value.tree visited.id.0 h (kind_content item) there head content i.0 i.1))
+
+    pub holds_at_one : (P : KeptItem → Type 0) → P one → IfSome (slice_get all visited.id.0) P
+    holds_at_one P holds = subst (λ (o : Option KeptItem). IfSome o P) (sym kept_one) holds
+
+    pub visited_one : IfSome (slice_get all visited.id.0) (λ i. is_enabled (item_head i).attributes ≡ true) → visited.node ≡ node_of visited.site.now.tree (kind_of item) h.id
+        → map numbered visited.attrs.now ≡ h.attributes.attributes → visited.adt ≡ adt_of m visited.site.now one → IsVisited m visited one
+    visited_one enabled node attributes adt = record {
+      kept = kept_one;
+      node = node ∙ ap (λ (k : AstKind). node_of visited.site.now.tree k h.id) (sym (kind_same all h item)) ∙ ap (λ (g : Head). node_of visited.site.now.tree (item_kind one) g.id) (sym (head_same all h (kind_content item)));
+      enabled = found (slice_get all visited.id.0) one (λ i. is_enabled (item_head i).attributes ≡ true) kept_one enabled;
+      attributes = attributes ∙ ap (λ (g : Head). g.attributes.attributes) (sym (head_same all h (kind_content item)));
+      adt = adt;
+    }
 
 -- an item of a tree that is disabled
 module _ (site : Site) (tree : Tree) (n done : ℕ) (h : Head) (item : ModItemKind) (condition : Cfg)

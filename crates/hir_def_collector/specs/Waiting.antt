@@ -1,10 +1,13 @@
 -- Which calls wait, and when is it in vain to try them?
-use Rattle.std.specs.Prelude.{◌≡◌, ◌≢◌, ℕ, ◌<◌, ◌≤◌, true, false, [], List, Option, None, Some, length, option_map}
+use Rattle.std.specs.Prelude.{◌≡◌, ◌≢◌, ℕ, ◌<◌, ◌≤◌, Bool, true, false, [], List, Option, None, Some, length, option_map, unwrap_or}
 use Rattle.std.specs.List.{All}
+use Rattle.hir_base.specs.declared.ast_id.AstId.{AstId}
+use Rattle.hir_def_map.specs.Macros.{helpers_at}
 use Rattle.hir_def_map.specs.Overlay.{Maps}
 use Rattle.hir_def_map.specs.Scoping.Slots.{reads}
 use Rattle.hir_def_map.specs.State.{IsInOrder, Local, Map, ModuleValue, module_at, numbered, parent_at}
 use Rattle.hir_def_map.specs.declared.nameres.path_resolution.slots.Slot.{Slot as PathSlot}
+use Rattle.hir_def_map.specs.declared.nameres.path_resolution.slots.Slot.TheVariants.{Preludes as of_preludes}
 use Rattle.hir_def_map_laws.specs.ReadLaw.{AgreeAt}
 use Rattle.hir_worklist.specs.Queue.{IsIdle, count_of, is_unfinished}
 use Rattle.hir_worklist.specs.Settling.{AreWatched}
@@ -14,6 +17,7 @@ use Rattle.hir_call_queue.specs.Changes.{IsThere, IsUntouched}
 use Rattle.hir_call_queue.specs.Waking.{is_apart, watchers_of, worklist_of}
 use Rattle.hir_call_queue.specs.declared.queue.CallQueue.{CallQueue}
 use Rattle.hir_def_collector.specs.declared.collector.macro_directive.MacroDirective.{MacroDirective}
+use Rattle.hir_def_collector.specs.Attributes.{is_named_by}
 use Rattle.hir_def_collector.specs.Calls.{IsWaiting, by_style, called_macro, is_call, is_inert_now, path_of_call, style_of}
 use Rattle.hir_def_collector.specs.State.{Core, Run, at_rest, core_in}
 
@@ -28,14 +32,18 @@ pub record KeepsModules (old new : Map) : Type 0 where
   pub parents : (at : ℕ) (m : ModuleValue) → module_at old at ≡ Some m → parent_at new at ≡ m.parent
   pub count : length old.modules ≤ length new.modules
 
--- what has changed of a run is noted: any other slot of a module that was there stands for what it stood for, and helpers are noted by everything
+-- whether a helper of a name is in scope on a node
+abbrev pub is_helped : Map → AstId → List ℕ → Bool
+is_helped m node name = is_named_by (unwrap_or (helpers_at m node) []) name
+
+-- what has changed of a run is noted: any other slot of a module that was there stands for what it stood for, and helpers that came into scope are noted by the slots of their names in the preludes, which attributes of those names read
 pub record IsNoted (old new : Run) : Type 0 where
   -- what was noted is noted still
   pub some : new.changed.all ≡ false → old.changed.all ≡ false
   pub noted : (slot : PathSlot) → IsUntouched new.changed slot → IsUntouched old.changed slot
   pub keeps : new.changed.all ≡ false → KeepsModules old.map new.map
   pub others : (slot : PathSlot) → IsUntouched new.changed slot → IsThere (length old.map.modules) slot → AgreeAt old.map old.local new.map new.local slot
-  pub helpers : new.changed.all ≡ false → new.map.derive_helpers ≡ old.map.derive_helpers
+  pub helpers : (node : AstId) (name : List ℕ) → IsUntouched new.changed (of_preludes name) → is_helped new.map node name ≡ is_helped old.map node name
 
 -- ---- what waits
 

@@ -18,7 +18,7 @@ use Rattle.hir_def_collector.specs.Changes.{Change, makes, act, perform}
 use Rattle.hir_def_collector.specs.Derivation.{CollectedValue}
 use Rattle.hir_def_collector.specs.ItemIds.{module_id}
 use Rattle.hir_def_collector.specs.Start.{Beginning}
-use Rattle.hir_def_collector.specs.State.{State, Task, visits, closes, visits_over}
+use Rattle.hir_def_collector.specs.State.{Core, State, Task, behind, visits, closes, visits_over}
 use Rattle.hir_def_collector.specs.Steps.{closing, visit}
 use Rattle.hir_def_collector.specs.Workspace.{Workspace}
 use Rattle.hir_def_collector.proofs.InRange.{VisitsBelow}
@@ -26,6 +26,7 @@ use Rattle.hir_def_collector_laws.specs.Declares.{Declares, DeclaresOne, HaveNoC
 use Rattle.hir_def_collector_laws.specs.Expansions.{Expansion, IsExpansion, at_home, expanded_in}
 use Rattle.hir_def_collector_laws.specs.Modules.{ListsItsItems}
 use Rattle.hir_def_collector_laws.proofs.Lists.{at_home-above, at_home-below, at_home-both, at_home-nothing, at_home-same}
+use Rattle.hir_def_collector_laws.proofs.Passed.{StayHelpers, StayHelpers-perform}
 use Rattle.hir_def_collector_laws.proofs.Listings.{Stays, StaysAt, Stays-perform, Stays-trans, added-perform, all_added, all_made, data-perform, id-perform, length-perform, made_there}
 
 -- ---- definitions of visits
@@ -85,17 +86,17 @@ gathered_unclosed k [] rest parent child p = refl
 gathered_unclosed k (visits v ∷ xs) rest parent child p = ap (λ (zs : List ModuleDefId). at_home v.site.home k p.0 ++ zs) (gathered_unclosed k xs rest parent child p.1)
 gathered_unclosed k (closes a b ∷ xs) rest parent child p = gathered_unclosed k xs rest parent child p
 
-module _ (tables : TablesValue) (w : Workspace) (finished : Maps) (from : Beginning) (answer : CollectedValue) where
+module _ (tables : TablesValue) (w : Workspace) (finished : Maps) (from : Beginning) (answer : CollectedValue) (last : Core) where
   -- ---- what visits declare
 
   -- each visit declares its definitions
   abbrev pub AllDeclare : (ℕ → List ModuleDefId) → (vs : List Task) → ForEach vs → Type 0
   AllDeclare more [] p = Unit {0}
-  AllDeclare more (visits v ∷ ts) p = DeclaresOne tables w finished answer more v.item v.site p.0 × AllDeclare more ts p.1
+  AllDeclare more (visits v ∷ ts) p = DeclaresOne tables w finished answer last more v.item v.done v.site p.0 × AllDeclare more ts p.1
   AllDeclare more (closes parent child ∷ ts) p = AllDeclare more ts p
 
   pub declare_altogether : (more : ℕ → List ModuleDefId) (s : Site) (is : KeptForest) (p : ForEach (visits_over s is)) → AllDeclare more (visits_over s is) p
-      → Declares tables w finished answer more is s (altogether s is p)
+      → Declares tables w finished answer last more is s (altogether s is p)
   declare_altogether more s no_items p f = refl
   declare_altogether more s (item i is) p f = (p.0, altogether s is p.1, f.0, declare_altogether more s is p.1 f.1, refl)
 
@@ -124,14 +125,15 @@ module _ (tables : TablesValue) (w : Workspace) (finished : Maps) (from : Beginn
   -- what holds where this is what expansions declare in each module
   pub record Holds (more : ℕ → List ModuleDefId) (es : List Expansion) (n : ℕ) (vs : List Task) (listed : ForEach vs) : Type 0 where
     pub pending : AllDeclare more vs listed
-    pub modules : (k : ℕ) → n ≤ k → k < length answer.map.modules → ListsItsItems tables w finished from answer more k
-    pub expanded : (e : Expansion) → Contains es e → IsExpansion tables w finished answer more e
+    pub modules : (k : ℕ) → n ≤ k → k < length answer.map.modules → ListsItsItems tables w finished from answer last more k
+    pub expanded : (e : Expansion) → Contains es e → IsExpansion tables w finished answer last more e
 
   pub record IsAhead (es : List Expansion) (m : Map) (vs : List Task) : Type 0 where
     pub id : m.id ≡ answer.map.id
     pub crate_data : m.crate_data ≡ answer.map.crate_data
     pub fewer : length m.modules ≤ length answer.map.modules
     pub stays : Stays m answer.map
+    pub helpers : StayHelpers m answer.map
     pub listed : ForEach vs
     pub lists : (k : ℕ) → k < length m.modules → declarations_of (module_at answer.map k) ≡ declarations_of (module_at m k) ++ (gathered k vs listed ++ expanded_in es k)
     -- whatever expansions declare in modules that are there already
@@ -144,6 +146,7 @@ module _ (tables : TablesValue) (w : Workspace) (finished : Maps) (from : Beginn
     crate_data = q.crate_data;
     fewer = q.fewer;
     stays = q.stays;
+    helpers = q.helpers;
     listed = unclosed xs rest parent child q.listed;
     lists = λ k low. q.lists k low ∙ ap (λ (zs : List ModuleDefId). declarations_of (module_at m k) ++ (zs ++ expanded_in es k)) (gathered_unclosed k xs rest parent child q.listed);
     holds = λ more agrees.
@@ -176,6 +179,7 @@ module _ (tables : TablesValue) (w : Workspace) (finished : Maps) (from : Beginn
           crate_data = sym (data-perform cs s) ∙ q.crate_data;
           fewer = omega (arith, grown, q.fewer);
           stays = Stays-trans before after answer.map (Stays-perform cs s) q.stays;
+          helpers = λ node path h. q.helpers node path (StayHelpers-perform cs s node path h);
           listed = listed;
           lists = λ k low.
               q.lists k (omega (arith, grown, low))
@@ -204,9 +208,9 @@ module _ (tables : TablesValue) (w : Workspace) (finished : Maps) (from : Beginn
         record { pending = declare more h.pending; modules = λ k past below. h.modules k (omega (arith, grown, none_made, past)) below; expanded = h.expanded })
 
     -- an item that lists what it declares
-    pub back_one : (site : Site) (i : KeptItem) (rest : List Task) (defs : List ModuleDefId) → ((more : ℕ → List ModuleDefId) → DeclaresOne tables w finished answer more i site defs) → all_made cs ≡ 0
-        → ((k : ℕ) → all_added cs k ≡ at_home site.home k defs) → IsAhead es after rest → IsAhead es before (visits (visit site i) ∷ rest)
-    back_one site i rest defs declares none_made adds q =
+    pub back_one : (site : Site) (i : KeptItem) (done : ℕ) (rest : List Task) (defs : List ModuleDefId) → ((more : ℕ → List ModuleDefId) → DeclaresOne tables w finished answer last more i done site defs) → all_made cs ≡ 0
+        → ((k : ℕ) → all_added cs k ≡ at_home site.home k defs) → IsAhead es after rest → IsAhead es before (visits (behind (visit site i) done) ∷ rest)
+    back_one site i done rest defs declares none_made adds q =
         back_same q (defs, q.listed) none_made (λ k. ap (λ (xs : List ModuleDefId). xs ++ gathered k rest q.listed) (adds k)) (λ more f. (declares more, f))
 
   -- ---- a module that is made
@@ -259,12 +263,12 @@ module _ (tables : TablesValue) (w : Workspace) (finished : Maps) (from : Beginn
           ∙ ap (λ (xs : List ModuleDefId). xs ++ (gathered number next q.listed ++ expanded_in es number))
           (added-perform cs made number inside_made ∙ ap (λ (o : Option ModuleValue). declarations_of o ++ all_added cs number) there ∙ adds number ∙ at_home-below home number _ low)
 
-      pub back_made : (site : Site) (i : KeptItem) (rest : List Task) → site.home ≡ home
-          → ((more : ℕ → List ModuleDefId) → Agrees more es number → AllDeclare more next q.listed → DeclaresOne tables w finished answer more i site (module_alone answer.map number))
-          → ((more : ℕ → List ModuleDefId) → Agrees more es number → AllDeclare more next q.listed → ListsItsItems tables w finished from answer more number)
+      pub back_made : (site : Site) (i : KeptItem) (done : ℕ) (rest : List Task) → site.home ≡ home
+          → ((more : ℕ → List ModuleDefId) → Agrees more es number → AllDeclare more next q.listed → DeclaresOne tables w finished answer last more i done site (module_alone answer.map number))
+          → ((more : ℕ → List ModuleDefId) → Agrees more es number → AllDeclare more next q.listed → ListsItsItems tables w finished from answer last more number)
           → (listed : ForEach rest) → ((k : ℕ) → k < number → gathered k next q.listed ≡ gathered k rest listed) → ((more : ℕ → List ModuleDefId) → AllDeclare more next q.listed → AllDeclare more rest listed)
-          → IsAhead es old_map (visits (visit site i) ∷ rest)
-      back_made site i rest same declares lists listed gathers declare =
+          → IsAhead es old_map (visits (behind (visit site i) done) ∷ rest)
+      back_made site i done rest same declares lists listed gathers declare =
           back es s (makes home name origin vis ∷ cs) q (module_alone answer.map number, listed)
           (λ k below.
           ap (λ (xs : List ModuleDefId). xs ++ gathered k next q.listed)
@@ -277,7 +281,7 @@ module _ (tables : TablesValue) (w : Workspace) (finished : Maps) (from : Beginn
             pending = (declares more agrees h.pending, declare more h.pending);
             modules = λ k past below. elim (cases_lt number k) [
               | inl later ↦ h.modules k (omega (arith, one_more, later)) below
-              | inr here ↦ subst (λ (n : ℕ). ListsItsItems tables w finished from answer more n) (omega (arith, past, here)) (lists more agrees h.pending)
+              | inr here ↦ subst (λ (n : ℕ). ListsItsItems tables w finished from answer last more n) (omega (arith, past, here)) (lists more agrees h.pending)
             ];
             expanded = h.expanded;
           })
@@ -302,8 +306,8 @@ module _ (tables : TablesValue) (w : Workspace) (finished : Maps) (from : Beginn
           ∙ ap (λ (h : ℕ). at_home h number inside_defs) here
           ∙ at_home-same number inside_defs
 
-      pub items_listed : (HaveNoCall items → expanded_in es number ≡ []) → (more : ℕ → List ModuleDefId) → Agrees more es number → AllDeclare more (visits_over inner items ++ rest) q.listed
-          → ListsFirst answer.map more number items (λ own. Declares tables w finished answer more items inner own)
+      pub items_listed : (HaveNoCall answer.map.crate_data.registered_tools items → expanded_in es number ≡ []) → (more : ℕ → List ModuleDefId) → Agrees more es number → AllDeclare more (visits_over inner items ++ rest) q.listed
+          → ListsFirst answer.map more number items (λ own. Declares tables w finished answer last more items inner own)
       items_listed quiet more agrees f =
           let same : more number ≡ expanded_in es number = agrees number (omega arith) in
           record {

@@ -1,15 +1,17 @@
 -- What a name stands for was declared, or was brought by an import that is written.
 use Rattle.std.specs.BTreeMap.{is_at}
 use Rattle.std.specs.Cmp.Lexicographic.{slice_cmp}
-use Rattle.std.specs.Map.{lookup}
+use Rattle.std.specs.Map.{lookup, remove_entry}
 use Rattle.std.specs.Ordering.{nat_cmp}
 use Rattle.std.proofs.Common.{◌≡◌, ◌∙◌, ℕ, List, [], ◌∷◌, ◌++◌, Bool, true, false, cond, Option, None, Some, IsSome, is_some, map as list_map, slice_get, refl, sym, ap, subst, Contains}
+use Rattle.std.proofs.lemmas.Cmp.{nat_list_cmp_total}
 use Rattle.std.proofs.lemmas.List.Elements.{Contains-append_left}
 use Rattle.hir_base.specs.contracts.ids.ModuleDefIdPartialEq.TheImpl as module_def
 use Rattle.hir_base.specs.contracts.ids.TraitIdPartialEq.TheImpl as trait_id
 use Rattle.hir_base.specs.contracts.macro_kind.MacroIdPartialEq.TheImpl as makro
 use Rattle.hir_base.specs.declared.ids.Crate.{Crate}
 use Rattle.hir_base.specs.declared.ids.ModuleDefId.{ModuleDefId}
+use Rattle.hir_base.specs.declared.ids.ModuleDefId.TheVariants as definitions
 use Rattle.hir_base.specs.declared.ids.ModuleId.{ModuleId}
 use Rattle.hir_base.specs.declared.ids.TraitId.{TraitId}
 use Rattle.hir_base.specs.declared.macro_kind.MacroId.{MacroId}
@@ -28,7 +30,7 @@ use Rattle.hir_textual_scope.specs.Macros.{with_macro}
 use Rattle.hir_textual_scope.specs.declared.textual_scope.TextualMacro.{TextualMacro}
 use Rattle.hir_scope.specs.Scope.{ScopeValue, empty_scope}
 use Rattle.hir_scope.specs.Scope.Push.{pushed_scope, taken_candidates, with_unresolved, written_scope}
-use Rattle.hir_scope.specs.Scope.Updates.{unnamed_import}
+use Rattle.hir_scope.specs.Scope.Updates.{censored_item, censored_macro, is_definition, unnamed_import}
 use Rattle.hir_scope.specs.declared.imports.GlobId.{GlobId}
 use Rattle.hir_scope.specs.declared.imports.ImportId.{ImportId}
 use Rattle.hir_scope.specs.declared.imports.ImportOrExternCrate.{ImportOrExternCrate}
@@ -59,20 +61,23 @@ use Rattle.hir_import_resolution.specs.declared.directive.ImportDirective.{Impor
 use Rattle.hir_import_resolution.specs.declared.directive.ImportSource.{ImportSource}
 use Rattle.hir_import_resolution.specs.declared.directive.ImportSource.TheVariants as sources
 use Rattle.hir_def_collector.specs.Calls.{error_of}
-use Rattle.hir_def_collector.specs.Changes.{Change, lists, makes, gives_variants, begins_paths, reaches, awaits, ends, settles, changes_imports, adds_textual, takes_textual, defines, describes, helps, lists_derive, exports, uses_macros, tells, goes_on, act, perform}
+use Rattle.hir_def_collector.specs.Changes.{Change, lists, makes, gives_variants, begins_paths, reaches, awaits, ends, settles, changes_imports, adds_textual, takes_textual, defines, describes, helps, lists_derive, exports, uses_macros, tells, goes_on, act, perform, with_builtin_derive}
+use Rattle.hir_def_collector.specs.declared.collector.exports.ExportedFunction.{ExportedFunction}
 use Rattle.hir_def_collector.specs.Derivation.{CollectedValue, Ends}
+use Rattle.hir_def_collector.specs.Ended.{ended, exporting_scope, without_function, without_functions}
 use Rattle.hir_def_collector.specs.ItemIds.{module_id}
 use Rattle.hir_def_collector.specs.Keys.{Environment, environment}
 use Rattle.hir_def_collector.specs.Macros.{textual_at}
 use Rattle.hir_def_collector.specs.Start.{Beginning, krate_of}
-use Rattle.hir_def_collector.specs.State.{State, import_state}
+use Rattle.hir_def_collector.specs.State.{Core, State, import_state}
 use Rattle.hir_def_collector.specs.Steps.{Rule, drops_item, awaits_attribute, lists_derives, faults_derive, exports_macro, reaches_call, rests, expands_call, drops_call, drops_reached, derives_builtin, skips_attribute, falls_back, defines_rules, defines_macro, closes_module, declares_item, declares_enum, lists_constant, lists_impl, opens_module, opens_file, drops_file, misses_file, enters_block, reaches_imports, reaches_crate, resolves_imports, May, Step, Steps, acts, asking, more, none}
 use Rattle.hir_def_collector.specs.Workspace.{Workspace}
 use Rattle.hir_def_collector.proofs.Asks.{still_asked-Step}
-use Rattle.hir_def_collector.proofs.Changes.{AllFine, fine_failing, fine_macro, fine_reporting, perform_keeps}
+use Rattle.hir_def_collector.proofs.Changes.{AllFine, fine_bringing, fine_expanding, fine_macro, fine_reporting, perform_keeps}
 use Rattle.hir_def_collector.proofs.ImportEdits.{Edit, copy_at, copy_where, edit, edit_of, edited, follow_at, follow_where, imports_after, keeps_unnamed, map_after, pushes_to, redefines, revises}
 use Rattle.hir_def_collector_laws.specs.Imports.{AreBrought, BindingsAreWritten, Brings, BringsValue, HasImport, IsTraitBrought, IsUnderscoreImport, UnnamedTraitsAreWritten}
-use Rattle.hir_def_collector_laws.proofs.Entries.{AllValues, all_among, all_found, all_last, all_set, all_with_entry}
+use Rattle.hir_def_collector_laws.proofs.Ended.{ended_by}
+use Rattle.hir_def_collector_laws.proofs.Entries.{AllValues, AloneKeys, all_among, all_found, all_last, all_mapped, all_removed, all_set, all_with_entry, alone_mapped, alone_removed, alone_set, alone_with_entry}
 use Rattle.hir_def_collector_laws.proofs.Imports.{answer_asked, answer_here, first_written, import_written}
 use Rattle.hir_def_collector_laws.proofs.Lists.{standing}
 use Rattle.hir_def_collector_laws.proofs.ModuleLists.{IsChanged, IsOfLonger, changed-at, changed_one, newest, of_longer, older, other_one}
@@ -93,6 +98,10 @@ grown-act s (changes_imports c) r h = subst (λ (rs : List ImportDirective). Con
 grown-act s (adds_textual home name makro) r h = h
 grown-act s (takes_textual home from_) r h = h
 grown-act s (defines node makro) r h = h
+grown-act s (describes makro what) r h = h
+grown-act s (helps node helper) r h = h
+grown-act s (lists_derive home imp) r h = h
+grown-act s (exports f makro) r h = h
 grown-act s (uses_macros macros by) r h = h
 grown-act s (tells d) r h = h
 grown-act s (goes_on vs) r h = h
@@ -198,6 +207,8 @@ module _ (rs : List ImportDirective) where
     pub values : AllValues (IsFineValueItem home) s.values
     pub macros : AllValues (IsFineMacro home) s.macros
     pub traits : AllValues (IsFineTrait home) s.unnamed_traits
+    -- and no name has two values
+    pub alone : AloneKeys (slice_cmp nat_cmp) nat_list_cmp_total s.values
 
   module _ (home : ℕ) (globs : GlobNames) (place : Place) (items : PerNs) (by : Option ImportOrExternCrate) (fine : IsFineWay home by) where
     types_pushed : (s : ScopeValue) → IsFineScope home s → AllValues (IsFineType home) (pushed_scope globs place items by s).types
@@ -228,6 +239,21 @@ module _ (rs : List ImportDirective) where
 
         go : (b : Bool) → AllValues (IsFineValueItem home) (cond b (with_unresolved s place.1) (written_scope place.1 (taken_candidates s globs place items by) s)).values
         go true = f.values
+        go false = offered items.values
+
+    values_alone : (s : ScopeValue) → IsFineScope home s → AloneKeys (slice_cmp nat_cmp) nat_list_cmp_total (pushed_scope globs place items by s).values
+    values_alone s f = go (is_nothing items)
+      where
+        bound : (i : Item ModuleDefId ImportOrGlob) (b : Bool) → AloneKeys (slice_cmp nat_cmp) nat_list_cmp_total (written_items place.1 (cond b (value_candidate (Some i) by) None) s.values)
+        bound i true = alone_with_entry (slice_cmp nat_cmp) nat_list_cmp_total s.values place.1 (record { def = i.def; vis = i.vis; import = value_import by }) f.alone
+        bound i false = f.alone
+
+        offered : (o : Option (Item ModuleDefId ImportOrGlob)) → AloneKeys (slice_cmp nat_cmp) nat_list_cmp_total (written_items place.1 (taken module_def.ghosts.eq glob_import.ghosts.eq s.values globs.values place (value_candidate o by)) s.values)
+        offered None = f.alone
+        offered (Some i) = bound i (takes_slot module_def.ghosts.eq glob_import.ghosts.eq (has_place globs.values place) (item_at s.values place.1) (record { item = record { def = i.def; vis = i.vis; import = value_import by }; is_glob = is_glob by }))
+
+        go : (b : Bool) → AloneKeys (slice_cmp nat_cmp) nat_list_cmp_total (cond b (with_unresolved s place.1) (written_scope place.1 (taken_candidates s globs place items by) s)).values
+        go true = f.alone
         go false = offered items.values
 
     macros_pushed : (s : ScopeValue) → IsFineScope home s → AllValues (IsFineMacro home) (pushed_scope globs place items by s).macros
@@ -261,10 +287,18 @@ module _ (rs : List ImportDirective) where
         go None e = f
         go (Some i) e = all_set P (is_at (slice_cmp nat_cmp name)) items (new i) f (keeps i (all_found P (is_at (slice_cmp nat_cmp name)) items i f e))
 
+  rewritten_alone : (new : Item ModuleDefId ImportOrGlob → Item ModuleDefId ImportOrGlob) (items : List (List ℕ × Item ModuleDefId ImportOrGlob)) (name : List ℕ)
+      → AloneKeys (slice_cmp nat_cmp) nat_list_cmp_total items → AloneKeys (slice_cmp nat_cmp) nat_list_cmp_total (rewritten new items name (item_at items name))
+  rewritten_alone new items name f = go (item_at items name)
+    where
+      go : (o : Option (Item ModuleDefId ImportOrGlob)) → AloneKeys (slice_cmp nat_cmp) nat_list_cmp_total (rewritten new items name o)
+      go None = f
+      go (Some i) = alone_set (slice_cmp nat_cmp) nat_list_cmp_total (is_at (slice_cmp nat_cmp name)) items (new i) f
+
   redefined_fine : (name : List ℕ) (def : ItemInNs) (vis : Visibility) (home : ℕ) (s : ScopeValue) → IsFineScope home s → IsFineScope home (redefined name def vis s)
-  redefined_fine name (in_ns.Types def) vis home s f = record { types = rewritten_fine (IsFineType home) (with_item_definition def vis) (λ i p. p) s.types name f.types; values = f.values; macros = f.macros; traits = f.traits }
-  redefined_fine name (in_ns.Values def) vis home s f = record { types = f.types; values = rewritten_fine (IsFineValueItem home) (with_item_definition def vis) (λ i p. p) s.values name f.values; macros = f.macros; traits = f.traits }
-  redefined_fine name (in_ns.Macros def) vis home s f = record { types = f.types; values = f.values; macros = rewritten_fine (IsFineMacro home) (with_item_definition def vis) (λ i p. p) s.macros name f.macros; traits = f.traits }
+  redefined_fine name (in_ns.Types def) vis home s f = record { types = rewritten_fine (IsFineType home) (with_item_definition def vis) (λ i p. p) s.types name f.types; values = f.values; macros = f.macros; traits = f.traits; alone = f.alone }
+  redefined_fine name (in_ns.Values def) vis home s f = record { types = f.types; values = rewritten_fine (IsFineValueItem home) (with_item_definition def vis) (λ i p. p) s.values name f.values; macros = f.macros; traits = f.traits; alone = rewritten_alone (with_item_definition def vis) s.values name f.alone }
+  redefined_fine name (in_ns.Macros def) vis home s f = record { types = f.types; values = f.values; macros = rewritten_fine (IsFineMacro home) (with_item_definition def vis) (λ i p. p) s.macros name f.macros; traits = f.traits; alone = f.alone }
 
   -- a trait that is kept without a name
   kept_import_fine : (home : ℕ) (by : Option ImportId) → IsFineKept home by → (o : Option (Item (Unit {0}) ImportId)) → ((i : Item (Unit {0}) ImportId) → o ≡ Some i → IsFineTrait home i) → IsFineKept home (unnamed_import o by)
@@ -278,12 +312,13 @@ module _ (rs : List ImportDirective) where
     macros = f.macros;
     traits = all_last (IsFineTrait home) trait_id.ghosts.eq s.unnamed_traits id _ f.traits
         (kept_import_fine home by fine (lookup (trait_id.ghosts.eq id) s.unnamed_traits) (λ i e. all_found (IsFineTrait home) (trait_id.ghosts.eq id) s.unnamed_traits i f.traits e));
+    alone = f.alone;
   }
 
   revised_fine : (home : ℕ) (key : Key) (vis : Visibility) → OneIsGlob home → (s : ScopeValue) → IsFineScope home s → IsFineScope home (revised key vis s)
-  revised_fine home (Types name) vis fine s f = record { types = rewritten_fine (IsFineType home) (with_item_visibility vis) (λ i p. p) s.types name f.types; values = f.values; macros = f.macros; traits = f.traits }
-  revised_fine home (Values name) vis fine s f = record { types = f.types; values = rewritten_fine (IsFineValueItem home) (with_item_visibility vis) (λ i p. p) s.values name f.values; macros = f.macros; traits = f.traits }
-  revised_fine home (Macros name) vis fine s f = record { types = f.types; values = f.values; macros = rewritten_fine (IsFineMacro home) (with_item_visibility vis) (λ i p. p) s.macros name f.macros; traits = f.traits }
+  revised_fine home (Types name) vis fine s f = record { types = rewritten_fine (IsFineType home) (with_item_visibility vis) (λ i p. p) s.types name f.types; values = f.values; macros = f.macros; traits = f.traits; alone = f.alone }
+  revised_fine home (Values name) vis fine s f = record { types = f.types; values = rewritten_fine (IsFineValueItem home) (with_item_visibility vis) (λ i p. p) s.values name f.values; macros = f.macros; traits = f.traits; alone = rewritten_alone (with_item_visibility vis) s.values name f.alone }
+  revised_fine home (Macros name) vis fine s f = record { types = f.types; values = f.values; macros = rewritten_fine (IsFineMacro home) (with_item_visibility vis) (λ i p. p) s.macros name f.macros; traits = f.traits; alone = f.alone }
   revised_fine home (Unnamed id) vis fine s f = trait_fine home id vis None fine s f
 
   -- what brings it is an import of the module
@@ -299,6 +334,7 @@ module _ (rs : List ImportDirective) where
     values = values_pushed home globs (m, name) items by fine s f;
     macros = macros_pushed home globs (m, name) items by fine s f;
     traits = traits_pushed home globs (m, name) items by fine s f;
+    alone = values_alone home globs (m, name) items by fine s f;
   }
   edit_fine m home (keeps_unnamed id vis by) fine s f = trait_fine home id vis by fine s f
   edit_fine m home (redefines name def vis) fine s f = redefined_fine name def vis home s f
@@ -320,7 +356,7 @@ module _ (rs : List ImportDirective) where
       go number m (other_one ne there) = f.each number m there
 
   fine_empty : (home : ℕ) → IsFineScope home empty_scope
-  fine_empty home = record { types = tt; values = tt; macros = tt; traits = tt }
+  fine_empty home = record { types = tt; values = tt; macros = tt; traits = tt; alone = tt }
 
   fine_longer : (ms : List ModuleValue) (new : ModuleValue) → new.scope ≡ empty_scope → AreFine ms → AreFine (ms ++ new ∷ [])
   fine_longer ms new empty f = record { each = λ number m e. go number m (of_longer ms new number m e) }
@@ -330,12 +366,12 @@ module _ (rs : List ImportDirective) where
       go number m (newest h) = subst (λ (s : ScopeValue). IsFineScope number s) (sym (ap (λ (v : ModuleValue). v.scope) h ∙ empty)) (fine_empty number)
 
   fine_listed : (home : ℕ) (d : Listing) (s : ScopeValue) → IsFineScope home s → IsFineScope home (listed d s)
-  fine_listed home (listings.Def def) s f = record { types = f.types; values = f.values; macros = f.macros; traits = f.traits }
-  fine_listed home (listings.Use use_) s f = record { types = f.types; values = f.values; macros = f.macros; traits = f.traits }
-  fine_listed home (listings.ExternCrate extern_crate) s f = record { types = f.types; values = f.values; macros = f.macros; traits = f.traits }
-  fine_listed home (listings.Impl imp is_trait_impl) s f = record { types = f.types; values = f.values; macros = f.macros; traits = f.traits }
-  fine_listed home (listings.ExternBlock extern_block) s f = record { types = f.types; values = f.values; macros = f.macros; traits = f.traits }
-  fine_listed home (listings.UnnamedConst konst) s f = record { types = f.types; values = f.values; macros = f.macros; traits = f.traits }
+  fine_listed home (listings.Def def) s f = record { types = f.types; values = f.values; macros = f.macros; traits = f.traits; alone = f.alone }
+  fine_listed home (listings.Use use_) s f = record { types = f.types; values = f.values; macros = f.macros; traits = f.traits; alone = f.alone }
+  fine_listed home (listings.ExternCrate extern_crate) s f = record { types = f.types; values = f.values; macros = f.macros; traits = f.traits; alone = f.alone }
+  fine_listed home (listings.Impl imp is_trait_impl) s f = record { types = f.types; values = f.values; macros = f.macros; traits = f.traits; alone = f.alone }
+  fine_listed home (listings.ExternBlock extern_block) s f = record { types = f.types; values = f.values; macros = f.macros; traits = f.traits; alone = f.alone }
+  fine_listed home (listings.UnnamedConst konst) s f = record { types = f.types; values = f.values; macros = f.macros; traits = f.traits; alone = f.alone }
 
   abbrev AreFineEdits : Option (ℕ × Edit) → Type 0
   AreFineEdits None = Unit {0}
@@ -370,6 +406,10 @@ module _ (rs : List ImportDirective) where
   IsFineChange s (adds_textual home name makro) = Unit {0}
   IsFineChange s (takes_textual home from_) = Unit {0}
   IsFineChange s (defines node makro) = Unit {0}
+  IsFineChange s (describes makro what) = Unit {0}
+  IsFineChange s (helps node helper) = Unit {0}
+  IsFineChange s (lists_derive home imp) = Unit {0}
+  IsFineChange s (exports f makro) = Unit {0}
   IsFineChange s (uses_macros macros by) = Unit {0}
   IsFineChange s (tells d) = Unit {0}
   IsFineChange s (goes_on vs) = Unit {0}
@@ -415,7 +455,7 @@ module _ (rs : List ImportDirective) where
       → AreFine (changed_at ms home (with_module_scope (λ (x : ScopeValue). record x { legacy_macros = change x.legacy_macros })))
   textual_fine ms home change f =
       fine_changed ms home (with_module_scope (λ (x : ScopeValue). record x { legacy_macros = change x.legacy_macros }))
-      (λ v g. record { types = g.types; values = g.values; macros = g.macros; traits = g.traits }) f
+      (λ v g. record { types = g.types; values = g.values; macros = g.macros; traits = g.traits; alone = g.alone }) f
 
   fine-act : (s : State) (c : Change) → IsFineState s → IsFineChange s c → IsFineState (act s c)
   fine-act s (lists home d) f fine = record { modules = fine_changed s.core.map.modules home (with_module_scope (listed d)) (λ v g. fine_listed home d v.scope g) f.modules }
@@ -435,6 +475,12 @@ module _ (rs : List ImportDirective) where
   fine-act s (adds_textual home name makro) f fine = record { modules = textual_fine s.core.map.modules home (λ macros. with_macro macros name makro) f.modules }
   fine-act s (takes_textual home from_) f fine = record { modules = textual_fine s.core.map.modules home (λ _. textual_at s.core.map from_) f.modules }
   fine-act s (defines node makro) f fine = record { modules = f.modules }
+  fine-act s (describes makro what) f fine = record { modules = f.modules }
+  fine-act s (helps node helper) f fine = record { modules = f.modules }
+  fine-act s (lists_derive home imp) f fine = record {
+    modules = fine_changed s.core.map.modules home (with_module_scope (with_builtin_derive imp)) (λ v g. record { types = g.types; values = g.values; macros = g.macros; traits = g.traits; alone = g.alone }) f.modules;
+  }
+  fine-act s (exports function_of makro) f fine = record { modules = f.modules }
   fine-act s (uses_macros macros by) f fine = record { modules = f.modules }
   fine-act s (tells d) f fine = record { modules = f.modules }
   fine-act s (goes_on vs) f fine = record { modules = f.modules }
@@ -503,14 +549,57 @@ module _ (rs : List ImportDirective) where
     fine_rule (enters_block site head items rest) may = (tt, (tt, tt))
     fine_rule (reaches_imports site head tree rest) may = (tt, (tt, (tt, tt)))
     fine_rule (reaches_crate site head name alias rest) may = (tt, (tt, (tt, (tt, (tt, tt)))))
-    fine_rule (defines_rules site head name expander helpers rest) may = (tt, (tt, (tt, fine_macro IsFineChange _ _ expander (λ t. tt) head name _ (λ t. none_fine 0) _)))
-    fine_rule (defines_macro site head name expander helpers rest) may = (tt, (tt, (tt, (none_fine site.home, fine_reporting IsFineChange _ _ expander (λ t. tt) _))))
+    fine_rule (defines_rules site head name expander helpers rest) may = (tt, (tt, (tt, (tt, fine_macro IsFineChange _ _ expander (λ t. tt) head name _ (λ t. none_fine 0) _))))
+    fine_rule (defines_macro site head name expander helpers rest) may = (tt, (tt, (tt, (tt, (none_fine site.home, fine_reporting IsFineChange _ _ expander (λ t. tt) _)))))
     fine_rule (closes_module parent child rest) may = (tt, (tt, tt))
+    fine_rule (awaits_attribute v a k rest) may = (tt, (tt, tt))
+    fine_rule (lists_derives v at a adt paths rest) may = (tt, (tt, tt))
+    fine_rule (faults_derive v at report rest) may = (tt, (tt, tt))
+    fine_rule (exports_macro site head name d e rest) may = (tt, (tt, (tt, (tt, (none_fine site.home, (tt, (none_fine site.home, tt)))))))
     fine_rule (reaches_call site head path rest) may = (tt, (tt, tt))
     fine_rule rests may = (tt, tt)
-    fine_rule (expands_call i d makro x) may = (tt, (tt, fine_failing IsFineChange _ d (error_of x.there) (λ t text. tt) _))
+    fine_rule (expands_call i d makro x) may = (tt, (tt, fine_expanding IsFineChange _ (λ t helper. tt) _ _ d (error_of x.there) (λ t text. tt) _))
     fine_rule (drops_call i d) may = (tt, tt)
+    fine_rule (drops_reached i d makro) may = (tt, fine_bringing IsFineChange _ (λ t helper. tt) _ _)
+    fine_rule (derives_builtin i d makro imp) may = (tt, (tt, fine_bringing IsFineChange _ (λ t helper. tt) _ _))
+    fine_rule (skips_attribute i d k waited) may = (tt, (tt, tt))
+    fine_rule (falls_back i d k waited) may = (tt, (tt, (tt, tt)))
     fine_rule (resolves_imports rule) may = imports_all (import_acts finished (import_state s) rule) (asking s (resolves_imports rule)) (rule_all rule may)
+
+  -- ---- what others see of the root of a procedural-macro crate
+
+  pub fine_without : (home : ℕ) (fs : List ExportedFunction) (s : ScopeValue) → IsFineScope home s → IsFineScope home (without_functions fs s)
+  fine_without home [] s f = f
+  fine_without home (x ∷ xs) s f =
+      fine_without home xs (without_function x.name x.id s)
+      (record {
+        types = f.types;
+        values = (removed (is_definition module_def.ghosts.eq (definitions.FunctionId x.id) (item_at s.values x.name))).0;
+        macros = f.macros;
+        traits = f.traits;
+        alone = (removed (is_definition module_def.ghosts.eq (definitions.FunctionId x.id) (item_at s.values x.name))).1;
+      })
+    where
+      removed : (b : Bool) → AllValues (IsFineValueItem home) (cond b (remove_entry (is_at (slice_cmp nat_cmp x.name)) s.values) s.values)
+          × AloneKeys (slice_cmp nat_cmp) nat_list_cmp_total (cond b (remove_entry (is_at (slice_cmp nat_cmp x.name)) s.values) s.values)
+      removed true = (all_removed (IsFineValueItem home) (is_at (slice_cmp nat_cmp x.name)) s.values f.values, alone_removed (slice_cmp nat_cmp) nat_list_cmp_total (is_at (slice_cmp nat_cmp x.name)) s.values f.alone)
+      removed false = (f.values, f.alone)
+
+  fine_exporting : (home : ℕ) (krate : Crate) (fs : List ExportedFunction) (s : ScopeValue) → IsFineScope home s → IsFineScope home (exporting_scope krate fs s)
+  fine_exporting home krate fs s f =
+      let left : IsFineScope home (without_functions fs s) = fine_without home fs s f in
+      record {
+        types = all_mapped (IsFineType home) (censored_item krate) (λ i p. p) (without_functions fs s).types left.types;
+        values = all_mapped (IsFineValueItem home) (censored_item krate) (λ i p. p) (without_functions fs s).values left.values;
+        macros = all_mapped (IsFineMacro home) (censored_macro krate) (λ i p. p) (without_functions fs s).macros left.macros;
+        traits = all_mapped (IsFineTrait home) (censored_item krate) (λ i p. p) (without_functions fs s).unnamed_traits left.traits;
+        alone = alone_mapped (slice_cmp nat_cmp) nat_list_cmp_total (censored_item krate) (without_functions fs s).values left.alone;
+      }
+
+  pub fine_ended : (c : Core) → AreFine c.map.modules → AreFine (ended c).modules
+  fine_ended c f =
+      ended_by c (λ (m : Map). AreFine m.modules) f
+      (fine_changed c.map.modules 0 (with_module_scope (exporting_scope c.map.id.krate c.exported)) (λ v g. fine_exporting 0 c.map.id.krate c.exported v.scope g) f)
 
 module _ (tables : TablesValue) (w : Workspace) (from : Beginning) (answer : CollectedValue) (rs : List ImportDirective) where
   fine-Steps : {finished : Maps} {begun last : State} → answer.map.id.krate ≡ krate_of from.start → IsAllWritten tables w from answer begun → AreAsked tables w from answer last
@@ -534,13 +623,13 @@ module _ (tables : TablesValue) (w : Workspace) (finished : Maps) (from : Beginn
   abbrev found_imports : List ImportDirective
   found_imports = e.last.core.reached
 
-  fine_last : IsFineState found_imports e.last
+  pub fine_last : IsFineState found_imports e.last
   fine_last =
       fine-Steps tables w from answer found_imports (answer_here tables w finished from answer e) (first_written tables w finished from answer e) (answer_asked tables w finished from answer e) (λ r h. h)
       (record { modules = fine_longer found_imports [] _ refl (record { each = λ number m h. absurd (let no : ⊥ = cc in no) }) }) e.derived
 
   fine_answer : AreFine found_imports answer.map.modules
-  fine_answer = subst (λ (m : Map). AreFine found_imports m.modules) (sym e.map_is) fine_last.modules
+  fine_answer = subst (λ (m : Map). AreFine found_imports m.modules) (sym e.map_is) (fine_ended found_imports e.last.core fine_last.modules)
 
   has_import : (number : ℕ) (way : ImportOrExternCrate) → OneBrings found_imports number way → HasImport tables w from answer (λ r. Brings r way × (r.home ≡ number))
   has_import number way one = record { directive = one.directive; is_import = import_written tables w finished from answer e one.directive one.among; is_such = (one.is, one.written_in) }

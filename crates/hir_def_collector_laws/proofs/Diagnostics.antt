@@ -3,13 +3,15 @@ use Rattle.std.proofs.Common.{◌≡◌, ◌∙◌, ◌<◌, ◌≤◌, ℕ, zer
 use Rattle.std.proofs.lemmas.List.Elements.{Contains-append_cases}
 use Rattle.hir_base.specs.declared.ast_id.AstId.{AstId}
 use Rattle.hir_base.specs.declared.ast_id.AstKind.TheVariants as nodes
+use Rattle.hir_base.specs.declared.ast_id.AttrId.{AttrId}
 use Rattle.hir_base.specs.declared.ids.Crate.{Crate}
 use Rattle.hir_base.specs.declared.ids.MapId.{MapId}
 use Rattle.hir_base.specs.declared.ids.ModuleId.{ModuleId}
-use Rattle.hir_item_tree.specs.KeptForest.{extern_crate, import, leaf, macro_call, macro_def, macro_rules, outline_module}
+use Rattle.hir_item_tree.specs.Collected.{Numbered}
+use Rattle.hir_item_tree.specs.KeptForest.{KeptItem, extern_crate, import, leaf, macro_call}
 use Rattle.hir_item_tree.specs.Kinds.{item_head, item_kind}
 use Rattle.hir_tables.specs.Tables.{TablesValue}
-use Rattle.hir_def_map.specs.Diagnostics.{diagnostic_view, node_of as node_told}
+use Rattle.hir_def_map.specs.Diagnostics.{call_node, diagnostic_view, node_of as node_told}
 use Rattle.hir_def_map.specs.Overlay.{Maps}
 use Rattle.hir_def_map.specs.State.{Map, numbered}
 use Rattle.hir_def_map.specs.declared.nameres.diagnostics.DefDiagnostic.{DefDiagnostic}
@@ -22,7 +24,10 @@ use Rattle.hir_import_resolution.specs.declared.directive.ImportSource.TheVarian
 use Rattle.hir_def_collector.specs.declared.collector.macro_directive.Fate.{Fate}
 use Rattle.hir_def_collector.specs.declared.collector.macro_directive.Fate.TheVariants as fates
 use Rattle.hir_def_collector.specs.declared.collector.macro_directive.MacroDirective.{MacroDirective}
-use Rattle.hir_def_collector.specs.Calls.{error_of, path_of_call}
+use Rattle.hir_def_collector.specs.declared.collector.macro_directive.MacroDirectiveKind.{MacroDirectiveKind}
+use Rattle.hir_def_collector.specs.declared.collector.macro_directive.MacroDirectiveKind.TheVariants.{Attr, Derive, FnLike}
+use Rattle.hir_def_collector.specs.Attributes.{item_node}
+use Rattle.hir_def_collector.specs.Calls.{call_kind, error_of, kind_by, path_of_call}
 use Rattle.hir_def_collector.specs.Changes.{Change, lists, makes, gives_variants, begins_paths, reaches, awaits, ends, settles, changes_imports, adds_textual, takes_textual, defines, describes, helps, lists_derive, exports, uses_macros, tells, goes_on, act}
 use Rattle.hir_def_collector.specs.Derivation.{CollectedValue, Ends}
 use Rattle.hir_def_collector.specs.ItemIds.{module_id, node_of}
@@ -30,18 +35,19 @@ use Rattle.hir_def_collector.specs.Keys.{environment}
 use Rattle.hir_def_collector.specs.Reports.{begins_with, call_report, crates_among, failed_call, leftover_diagnostics, report_by, reports_of, unimplemented_macro, unresolved_among, unresolved_calls}
 use Rattle.hir_def_collector.specs.Start.{Beginning, begin_of, krate_of, read_by}
 use Rattle.hir_def_collector.specs.State.{State, Task, Visit, visits, import_state}
-use Rattle.hir_def_collector.specs.Steps.{Rule, drops_item, awaits_attribute, lists_derives, faults_derive, exports_macro, reaches_call, rests, expands_call, drops_call, drops_reached, derives_builtin, skips_attribute, falls_back, defines_rules, defines_macro, closes_module, declares_item, declares_enum, lists_constant, lists_impl, opens_module, opens_file, drops_file, misses_file, enters_block, reaches_imports, reaches_crate, resolves_imports, May, Steps, acts, asking, call_at, more, none, visit}
+use Rattle.hir_def_collector.specs.Steps.{Rule, drops_item, awaits_attribute, lists_derives, faults_derive, exports_macro, reaches_call, rests, expands_call, drops_call, drops_reached, derives_builtin, skips_attribute, falls_back, defines_rules, defines_macro, closes_module, declares_item, declares_enum, lists_constant, lists_impl, opens_module, opens_file, drops_file, misses_file, enters_block, reaches_imports, reaches_crate, resolves_imports, IsFaulty, May, Steps, no_paths, no_target, acts, asking, call_at, more, none}
 use Rattle.hir_def_collector.specs.Workspace.{Workspace}
 use Rattle.hir_def_collector.proofs.Asks.{only, still_asked-Step}
-use Rattle.hir_def_collector.proofs.Changes.{AllFine, all_fine, fine_failing, fine_macro, fine_reporting, perform_keeps}
+use Rattle.hir_def_collector.proofs.Changes.{AllFine, all_fine, fine_bringing, fine_expanding, fine_macro, fine_reporting, perform_keeps}
 use Rattle.hir_def_collector.proofs.Grows.{Grows-Step}
 use Rattle.hir_def_collector.proofs.Holds.{in_range-start}
 use Rattle.hir_def_collector.proofs.ImportEdits.{Edit, edit_of, edited, map_after}
 use Rattle.hir_def_collector.proofs.InRange.{ImportsBelow, IsInRange, call_below, in_range-Steps, next_home}
-use Rattle.hir_def_collector_laws.specs.Calls.{IsCall}
+use Rattle.hir_def_collector_laws.specs.Calls.{HasAttributeAt, IsCall, IsCallBy}
 use Rattle.hir_def_collector_laws.specs.Diagnostics.{DiagnosticsAreOfItems, IsOfItem, IsToldOfItem}
 use Rattle.hir_def_collector_laws.specs.Imports.{IsImport, IsOfSource}
 use Rattle.hir_def_collector_laws.specs.Written.{IsWritten}
+use Rattle.hir_def_collector_laws.proofs.Ended.{same_diagnostics, same_id, same_length}
 use Rattle.hir_def_collector_laws.proofs.Imports.{answer_asked, answer_here, call_there, first_written, import_written}
 use Rattle.hir_def_collector_laws.proofs.Lists.{at_first, later, standing}
 use Rattle.hir_def_collector_laws.proofs.Written.{AreAsked, IsAllWritten, call_among, placed_next, written-Steps}
@@ -70,9 +76,29 @@ module _ (tables : TablesValue) (w : Workspace) (from : Beginning) (answer : Col
 
   -- a call stands on the node of an item
   call_item : (d : MacroDirective) → IsCall tables w answer d → IsOfItem tables w answer d.ast_id
-  call_item d c =
-      let item : IsOfItem tables w answer (call_at d.site c.head c.path).ast_id = record { item = leaf c.head (macro_call c.path); written = c.written; kind = refl; id = refl } in
-      subst (λ (x : MacroDirective). IsOfItem tables w answer x.ast_id) (sym c.is) item
+  call_item d c = go d.kind c.by
+    where
+      -- an item with an attribute
+      item_with : (id : AttrId) (i : KeptItem) (a : Numbered) → HasAttributeAt tables w answer d.site d.ast_id id i a → IsOfItem tables w answer d.ast_id
+      item_with id i a at =
+          let item : IsOfItem tables w answer (item_node d.site i) = record { item = i; written = at.written; kind = refl; id = refl } in
+          subst (λ (node : AstId). IsOfItem tables w answer node) (sym at.node_is) item
+
+      go : (kind : MacroDirectiveKind) → IsCallBy tables w answer d kind → IsOfItem tables w answer d.ast_id
+      go (FnLike path) by =
+          let item : IsOfItem tables w answer (call_at d.site by.head by.path).ast_id = record { item = leaf by.head (macro_call by.path); written = by.written; kind = refl; id = refl } in
+          subst (λ (x : MacroDirective). IsOfItem tables w answer x.ast_id) (sym by.is) item
+      go (Derive path attr index adt) by = item_with attr by.item by.attribute by.at
+      go (Attr path attr k) by = item_with attr by.item by.attribute by.at
+
+  -- and is reported as one
+  call_node_is : (d : MacroDirective) → call_node (call_kind d) ≡ d.ast_id
+  call_node_is d = go d.kind
+    where
+      go : (kind : MacroDirectiveKind) → call_node (kind_by d.ast_id kind) ≡ d.ast_id
+      go (FnLike path) = refl
+      go (Derive path attr index adt) = refl
+      go (Attr path attr k) = refl
 
   -- ---- changes
 
@@ -90,6 +116,10 @@ module _ (tables : TablesValue) (w : Workspace) (from : Beginning) (answer : Col
   IsFine s (adds_textual home name makro) = Unit {0}
   IsFine s (takes_textual home from_) = Unit {0}
   IsFine s (defines node makro) = Unit {0}
+  IsFine s (describes makro what) = Unit {0}
+  IsFine s (helps node helper) = Unit {0}
+  IsFine s (lists_derive home imp) = Unit {0}
+  IsFine s (exports f makro) = Unit {0}
   IsFine s (uses_macros macros by) = Unit {0}
   IsFine s (tells d) = IsTold d
   IsFine s (goes_on vs) = Unit {0}
@@ -113,6 +143,10 @@ module _ (tables : TablesValue) (w : Workspace) (from : Beginning) (answer : Col
   told-act s (adds_textual home name makro) f fine = record { each = f.each }
   told-act s (takes_textual home from_) f fine = record { each = f.each }
   told-act s (defines node makro) f fine = record { each = f.each }
+  told-act s (describes makro what) f fine = record { each = f.each }
+  told-act s (helps node helper) f fine = record { each = f.each }
+  told-act s (lists_derive home imp) f fine = record { each = f.each }
+  told-act s (exports function_of makro) f fine = record { each = f.each }
   told-act s (uses_macros macros by) f fine = record { each = f.each }
   told-act s (tells d) f fine = record { each = told_more s.core.map.diagnostics (d ∷ []) f.each (one_told d fine) }
   told-act s (goes_on vs) f fine = record { each = f.each }
@@ -145,6 +179,23 @@ module _ (tables : TablesValue) (w : Workspace) (from : Beginning) (answer : Col
           of_item = call_item d (call_among tables w from answer s.core.calls d written.calls (standing s.core.calls i d at));
         }
 
+    -- an attribute that is given up
+    given_up_told : (d : MacroDirective) (i : ℕ) → slice_get s.core.calls i ≡ Some d → IsTold (call_report s.core.map.id d)
+    given_up_told d i at =
+        let home : d.site.home < length s.core.map.modules = call_below (length s.core.map.modules) s.core.calls i d in_range.calls at in
+        let item : IsOfItem tables w answer d.ast_id = call_item d (call_among tables w from answer s.core.calls d written.calls (standing s.core.calls i d at)) in
+        record {
+          number = d.site.home;
+          there = omega arith;
+          module_is = ap (λ (id : MapId). numbered id d.site.home) written.id;
+          of_item = subst (λ (node : AstId). IsOfItem tables w answer node) (sym (call_node_is d)) item;
+        }
+
+    -- and a `derive` that is reported
+    fault_told : (v : Visit) (rest : List Task) → s.agenda ≡ visits v ∷ rest → (a : Numbered) (report : DefDiagnostic) → IsFaulty s v a report → IsTold report
+    fault_told v rest next a report (no_target missing is) = next_told v rest next report (ap (λ (d : DefDiagnostic). d.in_module) is) (ap (λ (d : DefDiagnostic). node_told (diagnostic_view d).kind) is)
+    fault_told v rest next a report (no_paths adt target missing is) = next_told v rest next report (ap (λ (d : DefDiagnostic). d.in_module) is) (ap (λ (d : DefDiagnostic). node_told (diagnostic_view d).kind) is)
+
     fine_rule : (r : Rule) → May finished s r → AllFine IsFine (asking s r) (acts finished s r)
     fine_rule (drops_item v report rest) may =
         (tt, (next_told v rest may.next report (ap (λ (d : DefDiagnostic). d.in_module) may.reported.is) (ap (λ (d : DefDiagnostic). node_told (diagnostic_view d).kind) may.reported.is), tt))
@@ -156,12 +207,12 @@ module _ (tables : TablesValue) (w : Workspace) (from : Beginning) (answer : Col
     fine_rule (opens_file site head name search file rest) may = (tt, (tt, (tt, (tt, (tt, tt)))))
     fine_rule (drops_file site head name search report rest) may =
         let speaks : IsTold report =
-        next_told (visit site (leaf head (outline_module name))) rest may.looks.here.next report (ap (λ (d : DefDiagnostic). d.in_module) may.reported.is)
+        next_told _ rest may.looks.here.next report (ap (λ (d : DefDiagnostic). d.in_module) may.reported.is)
         (ap (λ (d : DefDiagnostic). node_told (diagnostic_view d).kind) may.reported.is) in
         (tt, (speaks, tt))
     fine_rule (misses_file site head name search report rest) may =
         let speaks : IsTold report =
-        next_told (visit site (leaf head (outline_module name))) rest may.looks.here.next report (ap (λ (d : DefDiagnostic). d.in_module) may.reported.is)
+        next_told _ rest may.looks.here.next report (ap (λ (d : DefDiagnostic). d.in_module) may.reported.is)
         (ap (λ (d : DefDiagnostic). node_told (diagnostic_view d).kind) may.reported.is) in
         (tt, (tt, (tt, (tt, (tt, (speaks, tt))))))
     fine_rule (enters_block site head items rest) may = (tt, (tt, tt))
@@ -169,17 +220,25 @@ module _ (tables : TablesValue) (w : Workspace) (from : Beginning) (answer : Col
     fine_rule (reaches_crate site head name alias rest) may = (tt, (tt, (tt, (tt, (tt, tt)))))
     fine_rule (defines_rules site head name expander helpers rest) may =
         let speaks : IsTold (unimplemented_macro (module_id s.core.map site.home) (node_of site.tree nodes.MacroRules head.id)) =
-        next_told (visit site (leaf head (macro_rules name expander helpers))) rest may.next (unimplemented_macro (module_id s.core.map site.home) (node_of site.tree nodes.MacroRules head.id)) refl refl in
-        (tt, (tt, (tt, fine_macro IsFine _ _ expander (λ t. speaks) head name _ (λ t. tt) _)))
+        next_told _ rest may.next (unimplemented_macro (module_id s.core.map site.home) (node_of site.tree nodes.MacroRules head.id)) refl refl in
+        (tt, (tt, (tt, (tt, fine_macro IsFine _ _ expander (λ t. speaks) head name _ (λ t. tt) _))))
     fine_rule (defines_macro site head name expander helpers rest) may =
         let speaks : IsTold (unimplemented_macro (module_id s.core.map site.home) (node_of site.tree nodes.MacroDef head.id)) =
-        next_told (visit site (leaf head (macro_def name expander helpers))) rest may.next (unimplemented_macro (module_id s.core.map site.home) (node_of site.tree nodes.MacroDef head.id)) refl refl in
-        (tt, (tt, (tt, (tt, fine_reporting IsFine _ _ expander (λ t. speaks) _))))
+        next_told _ rest may.next (unimplemented_macro (module_id s.core.map site.home) (node_of site.tree nodes.MacroDef head.id)) refl refl in
+        (tt, (tt, (tt, (tt, (tt, fine_reporting IsFine _ _ expander (λ t. speaks) _)))))
     fine_rule (closes_module parent child rest) may = (tt, (tt, tt))
+    fine_rule (awaits_attribute v a k rest) may = (tt, (tt, tt))
+    fine_rule (lists_derives v at a adt paths rest) may = (tt, (tt, tt))
+    fine_rule (faults_derive v at report rest) may = (tt, (fault_told v rest may.has.on.next may.attribute report may.faulty, tt))
+    fine_rule (exports_macro site head name d e rest) may = (tt, (tt, (tt, (tt, (tt, (tt, (tt, tt)))))))
     fine_rule (reaches_call site head path rest) may = (tt, (tt, tt))
     fine_rule rests may = (tt, tt)
-    fine_rule (expands_call i d makro x) may = (tt, (tt, fine_failing IsFine (module_id s.core.map d.site.home) d (error_of x.there) (λ t text. call_told d i may.due.waiting.call text) _))
+    fine_rule (expands_call i d makro x) may = (tt, (tt, fine_expanding IsFine _ (λ t helper. tt) _ (module_id s.core.map d.site.home) d (error_of x.there) (λ t text. call_told d i may.called.due.waiting.call text) _))
     fine_rule (drops_call i d) may = (tt, tt)
+    fine_rule (drops_reached i d makro) may = (tt, fine_bringing IsFine _ (λ t helper. tt) _ _)
+    fine_rule (derives_builtin i d makro imp) may = (tt, (tt, fine_bringing IsFine _ (λ t helper. tt) _ _))
+    fine_rule (skips_attribute i d k waited) may = (tt, (tt, tt))
+    fine_rule (falls_back i d k waited) may = (tt, (given_up_told d i may.waiting.call, (tt, tt)))
     fine_rule (resolves_imports rule) may = all_fine IsFine (λ t c. tt) (import_acts finished (import_state s) rule) (asking s (resolves_imports rule))
 
   -- ---- steps
@@ -234,7 +293,12 @@ module _ (tables : TablesValue) (w : Workspace) (from : Beginning) (answer : Col
 
   -- a call that waits
   told_call : (d : MacroDirective) → IsCall tables w answer d → d.site.home < length answer.map.modules → IsTold (call_report answer.map.id d)
-  told_call d c there = record { number = d.site.home; there = there; module_is = refl; of_item = call_item d c }
+  told_call d c there = record {
+    number = d.site.home;
+    there = there;
+    module_is = refl;
+    of_item = subst (λ (node : AstId). IsOfItem tables w answer node) (sym (call_node_is d)) (call_item d c);
+  }
 
   told_calls : (ds : List MacroDirective) (fs : List Fate) → AreCallsThere ds → AllTold (unresolved_calls answer.map.id ds fs)
   told_calls [] fs f = none_told
@@ -243,6 +307,7 @@ module _ (tables : TablesValue) (w : Workspace) (from : Beginning) (answer : Col
       let first = f d (at_first d ds) in
       told_more (call_report answer.map.id d ∷ []) (unresolved_calls answer.map.id ds fs) (one_told (call_report answer.map.id d) (told_call d first.0 first.1)) (told_calls ds fs (λ e h. f e (later d ds e h)))
   told_calls (d ∷ ds) (fates.Handled ∷ fs) f = told_calls ds fs (λ e h. f e (later d ds e h))
+  told_calls (d ∷ ds) (fates.GivenUp ∷ fs) f = told_calls ds fs (λ e h. f e (later d ds e h))
 
   abbrev AreImportsThere : List ImportDirective → Type 0
   AreImportsThere rs = (r : ImportDirective) → Contains rs r → IsImport tables w from answer r × (r.home < length answer.map.modules)
@@ -272,7 +337,7 @@ import_below n (x ∷ xs) r f (suc k, below, is) = import_below n xs r f.1 (k, o
 
 module _ (tables : TablesValue) (w : Workspace) (finished : Maps) (from : Beginning) (answer : CollectedValue) (e : Ends tables w finished from answer) where
   same_count : length answer.map.modules ≡ length e.last.core.map.modules
-  same_count = ap (λ (m : Map). length m.modules) e.map_is
+  same_count = ap (λ (m : Map). length m.modules) e.map_is ∙ same_length e.last.core
 
   begun_in_range : IsInRange (begin_of tables w finished from)
   begun_in_range = in_range-start tables w (read_by w finished from.start) from
@@ -290,7 +355,7 @@ module _ (tables : TablesValue) (w : Workspace) (finished : Maps) (from : Beginn
 
   -- the map of the answer is that of the last state
   last_id : e.last.core.map.id ≡ answer.map.id
-  last_id = sym (ap (λ (m : Map). m.id) e.map_is)
+  last_id = sym (ap (λ (m : Map). m.id) e.map_is ∙ same_id e.last.core)
 
   leftover_told : AllTold tables w from answer (leftover_diagnostics e.last.core.map e.last.core.reached e.last.core.taken)
   leftover_told =
@@ -307,7 +372,7 @@ module _ (tables : TablesValue) (w : Workspace) (finished : Maps) (from : Beginn
   all_told =
       let calls : List DefDiagnostic = unresolved_calls e.last.core.map.id e.last.core.calls e.last.core.fates in
       let imports : List DefDiagnostic = leftover_diagnostics e.last.core.map e.last.core.reached e.last.core.taken in
-      subst (λ (ds : List DefDiagnostic). AllTold tables w from answer ds) (sym (ap (λ (m : Map). m.diagnostics) e.map_is))
+      subst (λ (ds : List DefDiagnostic). AllTold tables w from answer ds) (sym (ap (λ (m : Map). m.diagnostics) e.map_is ∙ ap (λ (ds : List DefDiagnostic). ds ++ (calls ++ imports)) (same_diagnostics e.last.core)))
       (told_more tables w from answer e.last.core.map.diagnostics (calls ++ imports) last_told.each (told_more tables w from answer calls imports calls_told leftover_told))
 
 pub diagnostics_are_of_items : DiagnosticsAreOfItems

@@ -1,9 +1,17 @@
 -- What a glob brought came along an edge, and is what that edge's source shows.
-use Rattle.std.proofs.Common.{◌≡◌, ◌≢◌, ◌∙◌, ℕ, ◌==◌, ◌||◌, not, List, [], Bool, true, false, cond, Option, None, Some, map as list_map, slice_get, unwrap_or, refl, sym, ap, subst, true≢false}
+use Rattle.std.proofs.Common.{◌≡◌, ◌≢◌, ◌∙◌, ℕ, zero, suc, ◌==◌, ◌||◌, not, List, [], ◌∷◌, Bool, true, false, cond, Option, None, Some, map as list_map, slice_get, unwrap_or, refl, sym, ap, subst, true≢false}
+use Rattle.std.proofs.lemmas.Cmp.{nat_list_cmp_total}
+use Rattle.std.specs.Prelude.{option_and_then, option_map}
+use Rattle.std.specs.BTreeMap.{is_at}
 use Rattle.std.specs.Cmp.{first_so, second_so, unsigned_Decides}
+use Rattle.std.specs.Cmp.Lexicographic.{slice_cmp}
+use Rattle.std.specs.Map.{remove_entry}
+use Rattle.std.specs.Ordering.{nat_cmp}
 use Rattle.hir_base.specs.declared.ids.MapId.{MapId}
 use Rattle.hir_base.specs.declared.ids.Crate.{Crate}
+use Rattle.hir_base.specs.contracts.ids.ModuleDefIdPartialEq.TheImpl as module_def
 use Rattle.hir_base.specs.declared.ids.ModuleDefId.{ModuleDefId}
+use Rattle.hir_base.specs.declared.ids.ModuleDefId.TheVariants as definitions
 use Rattle.hir_base.specs.declared.ids.TraitId.{TraitId}
 use Rattle.hir_base.specs.declared.macro_kind.MacroId.{MacroId}
 use Rattle.hir_scope.specs.Entries.{item_at}
@@ -13,6 +21,7 @@ use Rattle.hir_scope.specs.Imports.{glob_of}
 use Rattle.hir_scope.specs.ModuleTree.{same_crate}
 use Rattle.hir_scope.specs.PerNs.{Item}
 use Rattle.hir_scope.specs.Scope.{ScopeValue}
+use Rattle.hir_scope.specs.Scope.Updates.{censored_item, censored_macro, is_definition}
 use Rattle.hir_scope.specs.contracts.item_in_ns.ItemInNsEq.TheImpl.Laws.{laws-law as item_laws}
 use Rattle.hir_scope.specs.declared.imports.GlobId.{GlobId}
 use Rattle.hir_scope.specs.declared.imports.ImportOrExternCrate.{ImportOrExternCrate}
@@ -42,19 +51,25 @@ use Rattle.hir_import_resolution.specs.Names.{ScopesValue, bound_at, bound_by, b
 use Rattle.hir_import_resolution.specs.Rules.{Rule as ImportRule, May as MayImport, goes_along, takes_glob, takes_import}
 use Rattle.hir_import_resolution.specs.State.{glob_state, scopes_of}
 use Rattle.hir_import_resolution.specs.Visibilities.{greater_in, lesser_in}
+use Rattle.hir_import_resolution.specs.declared.directive.ImportDirective.{ImportDirective}
 use Rattle.hir_import_resolution.specs.declared.directive.ImportSource.{ImportSource}
 use Rattle.hir_import_resolution.specs.declared.directive.ImportSource.TheVariants as sources
 use Rattle.hir_def_collector.specs.Calls.{error_of}
-use Rattle.hir_def_collector.specs.Changes.{Change, lists, makes, gives_variants, begins_paths, reaches, awaits, ends, settles, changes_imports, adds_textual, takes_textual, defines, describes, helps, lists_derive, exports, uses_macros, tells, goes_on, act, perform}
+use Rattle.hir_def_collector.specs.Changes.{Change, lists, makes, gives_variants, begins_paths, reaches, awaits, ends, settles, changes_imports, adds_textual, takes_textual, defines, describes, helps, lists_derive, exports, uses_macros, tells, goes_on, act, perform, with_builtin_derive}
+use Rattle.hir_def_collector.specs.declared.collector.exports.ExportedFunction.{ExportedFunction}
 use Rattle.hir_def_collector.specs.Derivation.{CollectedValue, Ends}
+use Rattle.hir_def_collector.specs.Ended.{ended, exporting_scope, without_function, without_functions}
 use Rattle.hir_def_collector.specs.ItemIds.{module_id}
 use Rattle.hir_def_collector.specs.Keys.{Environment}
 use Rattle.hir_def_collector.specs.Start.{Beginning, read_by}
-use Rattle.hir_def_collector.specs.State.{State, import_state}
+use Rattle.hir_def_collector.specs.State.{Core, State, import_state}
 use Rattle.hir_def_collector.specs.Steps.{Rule, drops_item, awaits_attribute, lists_derives, faults_derive, exports_macro, reaches_call, rests, expands_call, drops_call, drops_reached, derives_builtin, skips_attribute, falls_back, defines_rules, defines_macro, closes_module, declares_item, declares_enum, lists_constant, lists_impl, opens_module, opens_file, drops_file, misses_file, enters_block, reaches_imports, reaches_crate, resolves_imports, May, Steps, acts, asking, more, none}
 use Rattle.hir_def_collector.specs.Workspace.{Workspace}
-use Rattle.hir_def_collector.proofs.Changes.{AllFine, fine_failing, fine_macro, fine_reporting, perform_keeps}
+use Rattle.hir_def_collector.proofs.Changes.{AllFine, fine_bringing, fine_expanding, fine_macro, fine_reporting, perform_keeps}
 use Rattle.hir_def_collector_laws.specs.Globs.{AlsoShows, GlobsBringWhatIsShown, IsAsShown, IsBrought, WasSeen, glob_at, glob_by, glob_of_value, is_open_in, view_in}
+use Rattle.hir_def_collector_laws.proofs.Bindings.{AreFine, IsFineScope, fine_last, fine_without}
+use Rattle.hir_def_collector_laws.proofs.Ended.{ended_by}
+use Rattle.hir_def_collector_laws.proofs.Entries.{found_mapped, found_removed}
 use Rattle.hir_def_collector_laws.proofs.Exact.{exact_bound, exact_visibility}
 use Rattle.hir_def_collector_laws.proofs.Noted.{GivesAll, HasNote, IsAsOpen, KeepsEdges, keeps_recorded}
 use Rattle.hir_def_collector_laws.proofs.NotedScopes.{AreNoted, IsNotedScope, noted_explicit, noted_followed_macro, noted_followed_type, noted_followed_value, noted_longer, noted_macro, noted_raised_macro, noted_raised_type, noted_raised_value, noted_recorded, noted_rescoped, noted_traits, noted_type, noted_value, same_listed}
@@ -86,6 +101,10 @@ IsFine s (changes_imports c) = IsFineImport s c
 IsFine s (adds_textual home name makro) = Unit {0}
 IsFine s (takes_textual home from_) = Unit {0}
 IsFine s (defines node makro) = Unit {0}
+IsFine s (describes makro what) = Unit {0}
+IsFine s (helps node helper) = Unit {0}
+IsFine s (lists_derive home imp) = Unit {0}
+IsFine s (exports f makro) = Unit {0}
 IsFine s (uses_macros macros by) = Unit {0}
 IsFine s (tells d) = Unit {0}
 IsFine s (goes_on vs) = Unit {0}
@@ -122,6 +141,10 @@ noted-act s (changes_imports c) f fine = noted-imports s c f fine
 noted-act s (adds_textual home name makro) f fine = record { modules = noted_rescoped s.core.map.modules home (with_module_scope _) (λ m. record { types = refl; values = refl; macros = refl }) f.modules }
 noted-act s (takes_textual home from_) f fine = record { modules = noted_rescoped s.core.map.modules home (with_module_scope _) (λ m. record { types = refl; values = refl; macros = refl }) f.modules }
 noted-act s (defines node makro) f fine = record { modules = f.modules }
+noted-act s (describes makro what) f fine = record { modules = f.modules }
+noted-act s (helps node helper) f fine = record { modules = f.modules }
+noted-act s (lists_derive home imp) f fine = record { modules = noted_rescoped s.core.map.modules home (with_module_scope (with_builtin_derive imp)) (λ m. record { types = refl; values = refl; macros = refl }) f.modules }
+noted-act s (exports function_of makro) f fine = record { modules = f.modules }
 noted-act s (uses_macros macros by) f fine = record { modules = f.modules }
 noted-act s (tells d) f fine = record { modules = f.modules }
 noted-act s (goes_on vs) f fine = record { modules = f.modules }
@@ -312,14 +335,22 @@ module _ (finished : Maps) (s : State) (f : IsNotedState s) where
   rule_noted (reaches_imports site head tree rest) may = by_changes (reaches_imports site head tree rest) (tt, (tt, (tt, tt)))
   rule_noted (reaches_crate site head name alias rest) may = by_changes (reaches_crate site head name alias rest) (tt, (tt, (tt, (tt, (tt, tt)))))
   rule_noted (defines_rules site head name expander helpers rest) may =
-      by_changes (defines_rules site head name expander helpers rest) (tt, (tt, (tt, fine_macro IsFine _ _ expander (λ t. tt) head name _ (λ t. refl) _)))
+      by_changes (defines_rules site head name expander helpers rest) (tt, (tt, (tt, (tt, fine_macro IsFine _ _ expander (λ t. tt) head name _ (λ t. refl) _))))
   rule_noted (defines_macro site head name expander helpers rest) may =
-      by_changes (defines_macro site head name expander helpers rest) (tt, (tt, (tt, (refl, fine_reporting IsFine _ _ expander (λ t. tt) _))))
+      by_changes (defines_macro site head name expander helpers rest) (tt, (tt, (tt, (tt, (refl, fine_reporting IsFine _ _ expander (λ t. tt) _)))))
   rule_noted (closes_module parent child rest) may = by_changes (closes_module parent child rest) (tt, (tt, tt))
+  rule_noted (awaits_attribute v a k rest) may = by_changes (awaits_attribute v a k rest) (tt, (tt, tt))
+  rule_noted (lists_derives v at a adt paths rest) may = by_changes (lists_derives v at a adt paths rest) (tt, (tt, tt))
+  rule_noted (faults_derive v at report rest) may = by_changes (faults_derive v at report rest) (tt, (tt, tt))
+  rule_noted (exports_macro site head name d e rest) may = by_changes (exports_macro site head name d e rest) (tt, (tt, (tt, (tt, (refl, (tt, (refl, tt)))))))
   rule_noted (reaches_call site head path rest) may = by_changes (reaches_call site head path rest) (tt, (tt, tt))
   rule_noted rests may = by_changes rests (tt, tt)
-  rule_noted (expands_call i d makro x) may = by_changes (expands_call i d makro x) (tt, (tt, fine_failing IsFine _ d (error_of x.there) (λ t text. tt) _))
+  rule_noted (expands_call i d makro x) may = by_changes (expands_call i d makro x) (tt, (tt, fine_expanding IsFine _ (λ t helper. tt) _ _ d (error_of x.there) (λ t text. tt) _))
   rule_noted (drops_call i d) may = by_changes (drops_call i d) (tt, tt)
+  rule_noted (drops_reached i d makro) may = by_changes (drops_reached i d makro) (tt, fine_bringing IsFine _ (λ t helper. tt) _ _)
+  rule_noted (derives_builtin i d makro imp) may = by_changes (derives_builtin i d makro imp) (tt, (tt, fine_bringing IsFine _ (λ t helper. tt) _ _))
+  rule_noted (skips_attribute i d k waited) may = by_changes (skips_attribute i d k waited) (tt, (tt, tt))
+  rule_noted (falls_back i d k waited) may = by_changes (falls_back i d k waited) (tt, (tt, (tt, tt)))
   rule_noted (resolves_imports rule) may = import_noted rule may
 
 noted-Steps : {env : Environment} {finished : Maps} {begun last : State} → IsNotedState begun → Steps env finished begun last → IsNotedState last
@@ -399,6 +430,67 @@ other_may last place key name apart = go (last.edge == place) refl
     go true e = absurd (apart ((unsigned_Decides last.edge place).0 e))
     go false e = λ i. name i || not (e i)
 
+-- ---- what others see of the root of a procedural-macro crate
+
+-- items that are seen by fewer are brought by the same globs
+glob_censored : {D I : Type 0} (glob : I → Option GlobId) (new : Item D I → Item D I) → ((i : Item D I) → (new i).import ≡ i.import) → (o : Option (Item D I)) → glob_by glob (option_map new o) ≡ glob_by glob o
+glob_censored glob new keeps None = refl
+glob_censored {I = I} glob new keeps (Some i) = ap (λ (way : Option I). option_and_then glob way) (keeps i)
+
+glob_mapped : {D I : Type 0} (glob : I → Option GlobId) (new : Item D I → Item D I) → ((i : Item D I) → (new i).import ≡ i.import) → (items : List (List ℕ × Item D I)) (name : List ℕ)
+    → glob_by glob (item_at (list_map (λ (e : List ℕ × Item D I). (e.0, new e.1)) items) name) ≡ glob_by glob (item_at items name)
+glob_mapped glob new keeps items name = ap (glob_by glob) (found_mapped (is_at (slice_cmp nat_cmp name)) new items) ∙ glob_censored glob new keeps (item_at items name)
+
+-- a value that is found without some functions is found with them
+found_without : (rs : List ImportDirective) (home : ℕ) (fs : List ExportedFunction) (s : ScopeValue) → IsFineScope rs home s → (name : List ℕ) (i : Item ModuleDefId ImportOrGlob)
+    → item_at (without_functions fs s).values name ≡ Some i → item_at s.values name ≡ Some i
+found_without rs home [] s f name i e = e
+found_without rs home (x ∷ xs) s f name i e =
+    back (is_definition module_def.ghosts.eq (definitions.FunctionId x.id) (item_at s.values x.name))
+    (found_without rs home xs (without_function x.name x.id s) (fine_without rs home (x ∷ []) s f) name i e)
+  where
+    back : (b : Bool) → item_at (cond b (remove_entry (is_at (slice_cmp nat_cmp x.name)) s.values) s.values) name ≡ Some i → item_at s.values name ≡ Some i
+    back true h = found_removed (slice_cmp nat_cmp) nat_list_cmp_total x.name name s.values i f.alone h
+    back false h = h
+
+same_types : (fs : List ExportedFunction) (s : ScopeValue) → (without_functions fs s).types ≡ s.types
+same_types [] s = refl
+same_types (f ∷ fs) s = same_types fs (without_function f.name f.id s)
+
+same_macros : (fs : List ExportedFunction) (s : ScopeValue) → (without_functions fs s).macros ≡ s.macros
+same_macros [] s = refl
+same_macros (f ∷ fs) s = same_macros fs (without_function f.name f.id s)
+
+module _ (rs : List ImportDirective) (krate : Crate) (fs : List ExportedFunction) (v : ModuleValue) (f : IsFineScope rs 0 v.scope) where
+  abbrev less : ModuleValue
+  less = with_module_scope (exporting_scope krate fs) v
+
+  value_before : (name : List ℕ) (id : GlobId) (o : Option (Item ModuleDefId ImportOrGlob)) → item_at (without_functions fs v.scope).values name ≡ o → glob_by glob_of_value o ≡ Some id
+      → glob_by glob_of_value (item_at v.scope.values name) ≡ Some id
+  value_before name id None at e = absurd (let no : ⊥ = cc in no)
+  value_before name id (Some i) at e = ap (glob_by glob_of_value) (found_without rs 0 fs v.scope f name i at) ∙ e
+
+  glob_less : (key : Key) (id : GlobId) → glob_at (entry_of (Some less)) key ≡ Some id → glob_at (entry_of (Some v)) key ≡ Some id
+  glob_less (Types name) id e =
+      ap (λ (items : List (List ℕ × Item ModuleDefId ImportOrExternCrate)). glob_by glob_of (item_at items name)) (sym (same_types fs v.scope))
+      ∙ sym (glob_mapped glob_of (censored_item krate) (λ i. refl) (without_functions fs v.scope).types name) ∙ e
+  glob_less (Values name) id e =
+      value_before name id (item_at (without_functions fs v.scope).values name) refl (sym (glob_mapped glob_of_value (censored_item krate) (λ i. refl) (without_functions fs v.scope).values name) ∙ e)
+  glob_less (Macros name) id e =
+      ap (λ (items : List (List ℕ × Item MacroId ImportOrExternCrate)). glob_by glob_of (item_at items name)) (sym (same_macros fs v.scope))
+      ∙ sym (glob_mapped glob_of (censored_macro krate) (λ i. refl) (without_functions fs v.scope).macros name) ∙ e
+  glob_less (Unnamed tr) id e = absurd (let no : ⊥ = cc in no)
+
+glob_ended : (rs : List ImportDirective) (c : Core) → AreFine rs c.map.modules → (number : ℕ) (key : Key) (id : GlobId) → glob_at (entry_at (ended c) number) key ≡ Some id → glob_at (entry_at c.map number) key ≡ Some id
+glob_ended rs c f number key id =
+    ended_by c (λ (m : Map). glob_at (entry_at m number) key ≡ Some id → glob_at (entry_at c.map number) key ≡ Some id) (λ h. h) (go number c.map.modules (λ v at. f.each 0 v at))
+  where
+    go : (k : ℕ) (ms : List ModuleValue) → ((v : ModuleValue) → slice_get ms 0 ≡ Some v → IsFineScope rs 0 v.scope)
+        → glob_at (entry_of (slice_get (changed_at ms 0 (with_module_scope (exporting_scope c.map.id.krate c.exported))) k)) key ≡ Some id → glob_at (entry_of (slice_get ms k)) key ≡ Some id
+    go k [] fine e = e
+    go zero (v ∷ vs) fine e = glob_less rs c.map.id.krate c.exported v (fine v refl) key id e
+    go (suc k) (v ∷ vs) fine e = e
+
 module _ (tables : TablesValue) (w : Workspace) (finished : Maps) (from : Beginning) (answer : CollectedValue) (e : Ends tables w finished from answer) where
   noted_last : IsNotedState e.last
   noted_last = noted-Steps (record { modules = noted_longer [] _ refl (record { each = λ number m h. absurd (let no : ⊥ = cc in no) }) }) e.derived
@@ -408,7 +500,9 @@ module _ (tables : TablesValue) (w : Workspace) (finished : Maps) (from : Beginn
     v = view_in (read_by w finished from.start) e.last
 
     in_last : glob_at (entry_at e.last.core.map number) key ≡ Some id
-    in_last = subst (λ (m : Map). glob_at (entry_at m number) key ≡ Some id) e.map_is is
+    in_last =
+        glob_ended e.last.core.reached e.last.core (fine_last tables w finished from answer e).modules number key id
+        (subst (λ (m : Map). glob_at (entry_at m number) key ≡ Some id) e.map_is is)
 
     along_edge : CameAlong e.last number key id (bound_at (entry_of (module_at e.last.core.map number)) (trait_vis (module_at e.last.core.map number)) key)
     along_edge = brought_in e.last e.last.core.map.id e.last.core.globs.names number (module_at e.last.core.map number) (λ m at. noted_last.modules.each number m at) key id in_last

@@ -1,5 +1,5 @@
 -- So is each import that is left over, each glob and each call.
-use Rattle.std.proofs.Common.{◌≡◌, ◌<◌, ℕ, zero, suc, List, [], ◌∷◌, length, Some, Bool, true, false, cond, sym, ap, subst, arith, Contains}
+use Rattle.std.proofs.Common.{◌≡◌, ◌∙◌, ◌<◌, ℕ, zero, suc, List, [], ◌∷◌, length, Some, Bool, true, false, cond, sym, ap, subst, arith, Contains}
 use Rattle.std.proofs.lemmas.List.Elements.{Contains-append_left}
 use Rattle.hir_base.specs.declared.ids.MapId.{MapId}
 use Rattle.hir_scope.specs.declared.imports.ImportOrExternCrate.{ImportOrExternCrate}
@@ -16,10 +16,12 @@ use Rattle.hir_def_collector.specs.Keys.{map_keys}
 use Rattle.hir_def_collector.specs.Start.{Beginning, begin_of, krate_of, read_by}
 use Rattle.hir_def_collector.specs.Workspace.{Workspace, transitive_dependencies_in}
 use Rattle.hir_def_collector.proofs.Asks.{still_asked}
+use Rattle.hir_def_collector.proofs.Changes.{data-Steps}
 use Rattle.hir_def_collector.proofs.Holds.{in_range-start}
 use Rattle.hir_def_collector.proofs.InRange.{CallsBelow, in_range-Steps}
 use Rattle.hir_def_collector_laws.specs.Calls.{CallsAreWritten, IsCall}
 use Rattle.hir_def_collector_laws.specs.Imports.{GlobsAreWritten, HasImport, ImportsAreWritten, IsImport, LeftoversAreWritten}
+use Rattle.hir_def_collector_laws.proofs.Ended.{same_data, same_length}
 use Rattle.hir_def_collector_laws.proofs.Lists.{at_first, later}
 use Rattle.hir_def_collector_laws.proofs.Written.{AreAsked, IsAllWritten, IsOfGlob, call_among, import_among, written-start, written-Steps}
 
@@ -54,8 +56,11 @@ module _ (tables : TablesValue) (w : Workspace) (finished : Maps) (from : Beginn
   pub answer_asked : AreAsked tables w from answer e.last
   answer_asked key h = subst (λ (ks : List Key). Contains ks key) (sym e.asked_is) (Contains-append_left e.last.core.asked (map_keys (transitive_dependencies_in w (krate_of from.start))) key h)
 
+  same_crate : (begin_of tables w finished from).core.map.crate_data ≡ answer.map.crate_data
+  same_crate = sym (ap (λ (m : Map). m.crate_data) e.map_is ∙ same_data e.last.core ∙ data-Steps e.derived)
+
   pub first_written : IsAllWritten tables w from answer (begin_of tables w finished from)
-  first_written = written-start tables w from answer (read_by w finished from.start) answer_here e.own (λ key h. answer_asked key (still_asked e.derived key h))
+  first_written = written-start tables w from answer (read_by w finished from.start) answer_here e.own same_crate (λ key h. answer_asked key (still_asked e.derived key h))
 
   written : IsAllWritten tables w from answer e.last
   written = written-Steps tables w from answer answer_here e.derived answer_asked first_written
@@ -66,7 +71,7 @@ module _ (tables : TablesValue) (w : Workspace) (finished : Maps) (from : Beginn
   -- so is each call, and it stands in a module that is there
   pub call_there : (d : MacroDirective) → Contains e.last.core.calls d → IsCall tables w answer d × (d.site.home < length answer.map.modules)
   call_there d h =
-      let same : length answer.map.modules ≡ length e.last.core.map.modules = ap (λ (m : Map). length m.modules) e.map_is in
+      let same : length answer.map.modules ≡ length e.last.core.map.modules = ap (λ (m : Map). length m.modules) e.map_is ∙ same_length e.last.core in
       let below : d.site.home < length e.last.core.map.modules =
       call_home (length e.last.core.map.modules) e.last.core.calls d (in_range-Steps e.derived (in_range-start tables w (read_by w finished from.start) from)).calls h in
       (call_among tables w from answer e.last.core.calls d written.calls h, omega (arith, same, below))

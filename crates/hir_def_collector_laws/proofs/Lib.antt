@@ -1,9 +1,11 @@
 pub mod Lists
+pub mod Entries
 pub mod Found
+pub mod Ended
+pub mod Passed
 -- ---- imports
 pub mod Written
 pub mod Imports
-pub mod Entries
 pub mod ModuleLists
 pub mod Bindings
 -- ---- what globs brought
@@ -14,6 +16,7 @@ pub mod NotedScopes
 pub mod GlobBindings
 -- ---- definitions
 pub mod Listings
+pub mod BuiltinDerives
 pub mod Quiet
 pub mod Done
 pub mod Ahead

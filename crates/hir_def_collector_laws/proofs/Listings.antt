@@ -11,25 +11,31 @@ use Rattle.hir_scope.specs.Scope.{ScopeValue}
 use Rattle.hir_scope.specs.declared.visibility.Visibility.TheVariants as visibilities
 use Rattle.hir_def_map.specs.Declaration.{listed}
 use Rattle.hir_def_map.specs.State.{Map, ModuleValue, changed_at, module_at, new_id, new_module, numbered, with_child, with_module, with_module_scope, with_scope}
+use Rattle.hir_def_map.specs.Overlay.{Maps}
 use Rattle.hir_def_map.specs.declared.nameres.declaration.Declaration.{Declaration as Listing}
 use Rattle.hir_def_map.specs.declared.nameres.declaration.Declaration.TheVariants as listings
+use Rattle.hir_def_map.specs.declared.nameres.derive_helpers.DeriveHelper.{DeriveHelper}
 use Rattle.hir_def_map.proofs.Grown.{length-changed}
 use Rattle.hir_def_map.proofs.StaysWellFormed.{length-made}
 use Rattle.hir_import_resolution.specs.Changes.{Change as ImportChange, pushes}
 use Rattle.hir_def_collector.specs.declared.collector.macro_directive.MacroDirective.{MacroDirective}
 use Rattle.hir_def_collector.specs.Causes.{declarations_of}
-use Rattle.hir_def_collector.specs.Changes.{Change, lists, makes, gives_variants, begins_paths, reaches, awaits, ends, settles, changes_imports, adds_textual, takes_textual, defines, describes, helps, lists_derive, exports, uses_macros, tells, goes_on, act, perform}
+use Rattle.hir_def_collector.specs.Changes.{Change, lists, makes, gives_variants, begins_paths, reaches, awaits, ends, settles, changes_imports, adds_textual, takes_textual, defines, describes, helps, lists_derive, exports, uses_macros, tells, goes_on, act, perform, with_builtin_derive}
 use Rattle.hir_def_collector.specs.ItemIds.{module_id}
 use Rattle.hir_def_collector.specs.Macros.{is_exported}
 use Rattle.hir_def_collector.specs.Reports.{is_unimplemented, unimplemented_macro}
-use Rattle.hir_def_collector.specs.State.{State, import_state}
-use Rattle.hir_def_collector.specs.Steps.{exporting, failing, reporting}
+use Rattle.hir_def_collector.specs.declared.collector.exports.ExportedFunction.{ExportedFunction}
+use Rattle.hir_def_collector.specs.Ended.{ended, exporting_scope, without_function, without_functions}
+use Rattle.hir_def_collector.specs.Keys.{Environment}
+use Rattle.hir_def_collector.specs.State.{Core, State, import_state}
+use Rattle.hir_def_collector.specs.Steps.{Step, acts, asking, bringing, exporting, failing, reporting}
 use Rattle.hir_def_collector.proofs.Bound.{keeps-edit}
 use Rattle.hir_def_collector.proofs.Changes.{Keeps-act}
 use Rattle.hir_def_collector.proofs.Grows.{Grows-act}
 use Rattle.hir_def_collector.proofs.ImportEdits.{Edit, edit, edit_of, edited, map_after}
 use Rattle.hir_def_collector.proofs.Lists.{get_left}
 use Rattle.hir_def_collector_laws.specs.Expansions.{at_home}
+use Rattle.hir_def_collector_laws.proofs.Ended.{ended_by}
 
 -- ---- what is listed
 
@@ -73,6 +79,10 @@ added (changes_imports c) k = []
 added (adds_textual home name makro) k = []
 added (takes_textual home from_) k = []
 added (defines node makro) k = []
+added (describes makro what) k = []
+added (helps node helper) k = []
+added (lists_derive home imp) k = []
+added (exports f makro) k = []
 added (uses_macros macros by) k = []
 added (tells d) k = []
 added (goes_on tasks) k = []
@@ -120,6 +130,10 @@ added-act s (changes_imports c) k low =
 added-act s (adds_textual home name makro) k low = added-scope s.core.map home _ (λ x. refl) k
 added-act s (takes_textual home from_) k low = added-scope s.core.map home _ (λ x. refl) k
 added-act s (defines node makro) k low = same_list (declarations_of (module_at s.core.map k)) refl
+added-act s (describes makro what) k low = same_list (declarations_of (module_at s.core.map k)) refl
+added-act s (helps node helper) k low = same_list (declarations_of (module_at s.core.map k)) refl
+added-act s (lists_derive home imp) k low = added-scope s.core.map home (with_builtin_derive imp) (λ x. refl) k
+added-act s (exports f makro) k low = same_list (declarations_of (module_at s.core.map k)) refl
 added-act s (uses_macros macros by) k low = same_list (declarations_of (module_at s.core.map k)) refl
 added-act s (tells d) k low = same_list (declarations_of (module_at s.core.map k)) refl
 added-act s (goes_on tasks) k low = same_list (declarations_of (module_at s.core.map k)) refl
@@ -159,6 +173,15 @@ pub failing_unlisted : (at : ModuleId) (d : MacroDirective) (error : Option (Lis
 failing_unlisted at d None k = refl
 failing_unlisted at d (Some text) k = refl
 
+-- helpers that a derive brings list nothing either
+pub bringing_unlisted : (node : AstId) (helpers : List DeriveHelper) (k : ℕ) → all_added (bringing node helpers) k ≡ []
+bringing_unlisted node [] k = refl
+bringing_unlisted node (h ∷ hs) k = bringing_unlisted node hs k
+
+pub expanding_unlisted : (node : AstId) (helpers : List DeriveHelper) (at : ModuleId) (d : MacroDirective) (error : Option (List ℕ)) (k : ℕ) → all_added (bringing node helpers ++ failing at d error) k ≡ []
+expanding_unlisted node [] at d error k = failing_unlisted at d error k
+expanding_unlisted node (h ∷ hs) at d error k = expanding_unlisted node hs at d error k
+
 -- ---- how many modules there are
 
 abbrev pub made_by : Change → ℕ
@@ -174,6 +197,10 @@ made_by (changes_imports c) = 0
 made_by (adds_textual home name makro) = 0
 made_by (takes_textual home from_) = 0
 made_by (defines node makro) = 0
+made_by (describes makro what) = 0
+made_by (helps node helper) = 0
+made_by (lists_derive home imp) = 0
+made_by (exports f makro) = 0
 made_by (uses_macros macros by) = 0
 made_by (tells d) = 0
 made_by (goes_on tasks) = 0
@@ -202,6 +229,10 @@ length-act s (changes_imports c) = ap (λ (m : Map). length m.modules) (map_afte
 length-act s (adds_textual home name makro) = length-scope s.core.map home _
 length-act s (takes_textual home from_) = length-scope s.core.map home _
 length-act s (defines node makro) = omega arith
+length-act s (describes makro what) = omega arith
+length-act s (helps node helper) = omega arith
+length-act s (lists_derive home imp) = length-scope s.core.map home (with_builtin_derive imp)
+length-act s (exports f makro) = omega arith
 length-act s (uses_macros macros by) = omega arith
 length-act s (tells d) = omega arith
 length-act s (goes_on tasks) = omega arith
@@ -235,6 +266,14 @@ pub failing_makes_none : (at : ModuleId) (d : MacroDirective) (error : Option (L
 failing_makes_none at d None = refl
 failing_makes_none at d (Some text) = refl
 
+pub bringing_makes_none : (node : AstId) (helpers : List DeriveHelper) → all_made (bringing node helpers) ≡ 0
+bringing_makes_none node [] = refl
+bringing_makes_none node (h ∷ hs) = omega (arith, bringing_makes_none node hs)
+
+pub expanding_makes_none : (node : AstId) (helpers : List DeriveHelper) (at : ModuleId) (d : MacroDirective) (error : Option (List ℕ)) → all_made (bringing node helpers ++ failing at d error) ≡ 0
+expanding_makes_none node [] at d error = failing_makes_none at d error
+expanding_makes_none node (h ∷ hs) at d error = omega (arith, expanding_makes_none node hs at d error)
+
 -- nor do they change what comes next
 pub macro_agenda : (t : State) (head : Head) (name : List ℕ) (makro : MacroId) (at : ModuleId) (node : AstId) (expander : MacroExpander)
     → (perform t (exporting head name makro ++ reporting at node expander)).agenda ≡ t.agenda
@@ -257,6 +296,15 @@ reporting_agenda t at node expander = go (is_unimplemented expander)
 pub failing_agenda : (t : State) (at : ModuleId) (d : MacroDirective) (error : Option (List ℕ)) → (perform t (failing at d error)).agenda ≡ t.agenda
 failing_agenda t at d None = refl
 failing_agenda t at d (Some text) = refl
+
+pub bringing_agenda : (t : State) (node : AstId) (helpers : List DeriveHelper) → (perform t (bringing node helpers)).agenda ≡ t.agenda
+bringing_agenda t node [] = refl
+bringing_agenda t node (h ∷ hs) = bringing_agenda (act t (helps node h)) node hs
+
+pub expanding_agenda : (t : State) (node : AstId) (helpers : List DeriveHelper) (at : ModuleId) (d : MacroDirective) (error : Option (List ℕ))
+    → (perform t (bringing node helpers ++ failing at d error)).agenda ≡ t.agenda
+expanding_agenda t node [] at d error = failing_agenda t at d error
+expanding_agenda t node (h ∷ hs) at d error = expanding_agenda (act t (helps node h)) node hs at d error
 
 -- ---- what stays of modules, and of the map
 
@@ -310,6 +358,10 @@ Stays-act s (changes_imports c) = subst (λ (m : Map). Stays s.core.map m) (sym 
 Stays-act s (adds_textual home name makro) = Stays-scope s.core.map home _
 Stays-act s (takes_textual home from_) = Stays-scope s.core.map home _
 Stays-act s (defines node makro) = λ k v e. record { value = v; there = e; origin = refl; parent = refl }
+Stays-act s (describes makro what) = λ k v e. record { value = v; there = e; origin = refl; parent = refl }
+Stays-act s (helps node helper) = λ k v e. record { value = v; there = e; origin = refl; parent = refl }
+Stays-act s (lists_derive home imp) = Stays-scope s.core.map home (with_builtin_derive imp)
+Stays-act s (exports f makro) = λ k v e. record { value = v; there = e; origin = refl; parent = refl }
 Stays-act s (uses_macros macros by) = λ k v e. record { value = v; there = e; origin = refl; parent = refl }
 Stays-act s (tells d) = λ k v e. record { value = v; there = e; origin = refl; parent = refl }
 Stays-act s (goes_on tasks) = Stays-same s.core.map
@@ -343,3 +395,48 @@ made_there m home name new =
     let changed : List ModuleValue = changed_at m.modules home (with_child name (new_id m)) in
     let as_long : length changed ≡ length m.modules = length-changed m.modules home (with_child name (new_id m)) in
     subst (λ (k : ℕ). slice_get (changed ++ new ∷ []) k ≡ Some new) as_long (new_there changed new)
+
+-- ---- what others see of the root of a procedural-macro crate
+
+without_lists : (fs : List ExportedFunction) (s : ScopeValue) → (without_functions fs s).declarations ≡ s.declarations
+without_lists [] s = refl
+without_lists (f ∷ fs) s = without_lists fs (without_function f.name f.id s)
+
+pub listed-ended : (c : Core) (k : ℕ) → declarations_of (module_at (ended c) k) ≡ declarations_of (module_at c.map k)
+listed-ended c k =
+    ended_by c (λ (m : Map). declarations_of (module_at m k) ≡ declarations_of (module_at c.map k)) refl
+    (unlisted c.map.modules 0 (with_module_scope (exporting_scope c.map.id.krate c.exported)) (λ v. without_lists c.exported v.scope) k)
+
+pub Stays-ended : (c : Core) → Stays c.map (ended c)
+Stays-ended c = ended_by c (λ (m : Map). Stays c.map m) (Stays-same c.map) (Stays-scope c.map 0 (exporting_scope c.map.id.krate c.exported))
+
+-- ---- whether the crate is a procedural macro's
+
+proc-act : (s : State) (c : Change) → (act s c).core.is_proc_macro ≡ s.core.is_proc_macro
+proc-act s (lists home d) = refl
+proc-act s (makes home name origin visibility) = refl
+proc-act s (gives_variants id variants) = refl
+proc-act s (begins_paths r) = refl
+proc-act s (reaches rs) = refl
+proc-act s (awaits calls) = refl
+proc-act s (ends i fate) = refl
+proc-act s settles = refl
+proc-act s (changes_imports c) = refl
+proc-act s (adds_textual home name makro) = refl
+proc-act s (takes_textual home from_) = refl
+proc-act s (defines node makro) = refl
+proc-act s (describes makro what) = refl
+proc-act s (helps node helper) = refl
+proc-act s (lists_derive home imp) = refl
+proc-act s (exports f makro) = refl
+proc-act s (uses_macros macros by) = refl
+proc-act s (tells d) = refl
+proc-act s (goes_on tasks) = refl
+
+proc-perform : (cs : List Change) (s : State) → (perform s cs).core.is_proc_macro ≡ s.core.is_proc_macro
+proc-perform [] s = refl
+proc-perform (c ∷ cs) s = proc-perform cs (act s c) ∙ proc-act s c
+
+pub proc-Step : {env : Environment} {finished : Maps} {old new : State} → Step env finished old new → new.core.is_proc_macro ≡ old.core.is_proc_macro
+proc-Step {finished = finished} {old = old} step =
+    ap (λ (s : State). s.core.is_proc_macro) step.is ∙ proc-perform (acts finished old step.rule) (asking old step.rule)

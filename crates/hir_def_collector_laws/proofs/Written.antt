@@ -1,14 +1,20 @@
 -- Each import and each call of a run is written in a tree that was asked for.
-use Rattle.std.proofs.Common.{◌≡◌, ◌∙◌, ◌<◌, ◌||◌, ℕ, zero, suc, List, [], ◌∷◌, ◌++◌, length, Bool, true, false, Option, None, Some, map as list_map, inl, inr, refl, sym, ap, subst, arith, append_assoc, Contains}
+use Rattle.std.proofs.Common.{◌≡◌, ◌∙◌, ◌<◌, ◌||◌, ◌+◌, ℕ, zero, suc, slice_get, List, [], ◌∷◌, ◌++◌, length, Bool, true, false, Option, None, Some, map as list_map, inl, inr, refl, sym, ap, subst, arith, append_assoc, Contains}
 use Rattle.std.proofs.lemmas.List.Elements.{Contains-append_cases, Contains-append_left, Contains-append_right}
+use Rattle.hir_base.specs.ModPath.{Path}
+use Rattle.hir_base.specs.declared.ast_id.AstId.{AstId}
+use Rattle.hir_base.specs.declared.ast_id.AttrId.{AttrId}
+use Rattle.hir_base.specs.declared.ids.AdtId.{AdtId}
 use Rattle.hir_base.specs.declared.ids.Crate.{Crate}
 use Rattle.hir_base.specs.declared.ids.MapId.{MapId}
 use Rattle.hir_base.specs.declared.ids.UseId.{UseId}
 use Rattle.hir_base.specs.declared.macro_kind.MacroId.{MacroId}
-use Rattle.hir_item_tree.specs.Collected.{is_enabled}
+use Rattle.hir_item_tree.specs.Collected.{Numbered, is_enabled}
 use Rattle.hir_item_tree.specs.Imports.{imports_of}
 use Rattle.hir_item_tree.specs.ItemTree.{Tree}
-use Rattle.hir_item_tree.specs.KeptForest.{Head, Holder, KeptItem, KeptForest, extern_crate, holder, import, inline_module, item, leaf, no_items}
+use Rattle.hir_item_tree.specs.KeptForest.{Head, Holder, KeptItem, KeptForest, Leaf, constant, enumeration, extern_crate, function, holder, implementation, import, inline_module, item, leaf, macro_call, macro_def, macro_rules, no_items, outline_module, static_item, structure, trait_item, type_alias, union_structure}
+use Rattle.hir_item_tree.specs.Kinds.{item_head}
+use Rattle.hir_use_tree.specs.UseTree.{count_of}
 use Rattle.hir_item_tree.specs.UseTree.{UseTree}
 use Rattle.hir_item_tree.specs.declared.shape.ExternCrateName.{ExternCrateName}
 use Rattle.hir_item_tree.specs.declared.tree_id.TreeId.{TreeId}
@@ -19,7 +25,7 @@ use Rattle.hir_mod_dir.specs.Directory.{Directory}
 use Rattle.hir_mod_dir.specs.ModuleFiles.{inline_directory}
 use Rattle.hir_tables.specs.Tables.{TablesValue}
 use Rattle.hir_def_map.specs.Overlay.{Maps}
-use Rattle.hir_def_map.specs.State.{Map, numbered}
+use Rattle.hir_def_map.specs.State.{CrateData, Map, numbered}
 use Rattle.hir_glob_imports.specs.Rules.{Act, brings, copies, follows, raises}
 use Rattle.hir_glob_imports.specs.View.{View}
 use Rattle.hir_glob_imports.specs.Waves.{Records, widens, stays, adds}
@@ -29,11 +35,15 @@ use Rattle.hir_import_resolution.specs.Directives.{glob_of}
 use Rattle.hir_import_resolution.specs.Rules.{Rule as ImportRule, May as MayImport, acts as import_acts, goes_along, takes_glob, takes_import}
 use Rattle.hir_import_resolution.specs.declared.directive.ImportDirective.{ImportDirective}
 use Rattle.hir_def_collector.specs.declared.collector.macro_directive.MacroDirective.{MacroDirective}
+use Rattle.hir_def_collector.specs.declared.collector.macro_directive.MacroDirectiveKind.{MacroDirectiveKind}
+use Rattle.hir_def_collector.specs.declared.collector.macro_directive.MacroDirectiveKind.TheVariants.{Attr, Derive, FnLike}
+use Rattle.hir_def_collector.specs.declared.collector.macro_directive.WaitingItem.{WaitingItem}
 use Rattle.hir_def_collector.specs.declared.collector.site.Site.{Site}
 use Rattle.hir_def_collector.specs.declared.source_database.Dependency.{Dependency}
 use Rattle.hir_def_collector.specs.declared.source_database.Key.{Key}
 use Rattle.hir_def_collector.specs.declared.source_database.Key.TheVariants as keys
-use Rattle.hir_def_collector.specs.Calls.{Expanding, call_key, call_site, call_tree, error_of, expansion_readings, text_readings}
+use Rattle.hir_def_collector.specs.Attributes.{adt_by, adt_of, attr_id, is_always_passed, is_derive, item_node, paths_in}
+use Rattle.hir_def_collector.specs.Calls.{Expanding, call_key, call_site, call_tree, error_of, expansion_readings, item_in, item_kept, text_readings}
 use Rattle.hir_def_collector.specs.Changes.{Change, lists, makes, gives_variants, begins_paths, reaches, awaits, ends, settles, changes_imports, adds_textual, takes_textual, defines, describes, helps, lists_derive, exports, uses_macros, tells, goes_on, act}
 use Rattle.hir_def_collector.specs.Derivation.{CollectedValue}
 use Rattle.hir_def_collector.specs.Imports.{crate_import, crate_named, reached_import}
@@ -42,17 +52,41 @@ use Rattle.hir_def_collector.specs.Macros.{is_macro_use}
 use Rattle.hir_def_collector.specs.ModuleFiles.{ModuleFile, Search, file_key, file_tree}
 use Rattle.hir_def_collector.specs.Start.{Beginning, krate_of, root_key, root_site, root_tree, start_of, tree_visits}
 use Rattle.hir_def_collector.specs.State.{State, Task, Visit, visits, closes, import_state, visits_over}
-use Rattle.hir_def_collector.specs.Steps.{Rule, drops_item, awaits_attribute, lists_derives, faults_derive, exports_macro, reaches_call, rests, expands_call, drops_call, drops_reached, derives_builtin, skips_attribute, falls_back, defines_rules, defines_macro, closes_module, closing, declares_item, declares_enum, lists_constant, lists_impl, opens_module, opens_file, drops_file, misses_file, enters_block, reaches_imports, reaches_crate, resolves_imports, May, Opens, Sees, Step, Steps, acts, asking, inside_block, inside_file, inside_module, keys_read, more, none, path_of, reads, search_readings, visits_in_file, visits_inside}
+use Rattle.hir_def_collector.specs.Steps.{Rule, drops_item, awaits_attribute, lists_derives, faults_derive, exports_macro, reaches_call, rests, expands_call, drops_call, drops_reached, derives_builtin, skips_attribute, falls_back, defines_rules, defines_macro, closes_module, closing, declares_item, declares_enum, lists_constant, lists_impl, opens_module, opens_file, drops_file, misses_file, enters_block, reaches_imports, reaches_crate, resolves_imports, HasAttribute, IsItemOf, May, Opens, Sees, Step, Steps, acts, asking, derives_from, inside_block, inside_file, inside_module, keys_read, more, none, path_of, reads, search_readings, visits_in_file, visits_inside}
 use Rattle.hir_def_collector.specs.Workspace.{TreeLook, Workspace, dependencies_in}
 use Rattle.hir_def_collector.proofs.Asks.{only, still_asked-Step}
-use Rattle.hir_def_collector.proofs.Changes.{AllFine, Keeps, Keeps-act, asked-Step, fine_failing, fine_macro, fine_reporting, perform_keeps}
+use Rattle.hir_def_collector.proofs.Changes.{AllFine, Keeps, Keeps-act, asked-Step, fine_bringing, fine_expanding, fine_macro, fine_reporting, perform_keeps}
 use Rattle.hir_def_collector.proofs.ImportEdits.{imports_after}
 use Rattle.hir_def_collector.proofs.ModuleFiles.{found_read}
-use Rattle.hir_def_collector_laws.specs.Calls.{IsCall}
+use Rattle.hir_def_collector_laws.specs.Calls.{HasAttributeAt, IsCall, IsCallBy}
 use Rattle.hir_def_collector_laws.specs.Imports.{IsImport}
 use Rattle.hir_def_collector_laws.specs.Written.{IsIn, IsWritten, behind, first, inside}
 use Rattle.hir_def_collector_laws.proofs.Found.{expansion_read, expansion_seen, found_seen}
 use Rattle.hir_def_collector_laws.proofs.Lists.{at_first, later, replaced, standing}
+use Rattle.hir_def_collector_laws.proofs.Passed.{IsLookedUp, looked_up, not_always}
+
+-- ---- which struct, enum or union an item is doesn't hang on more than the map's id
+
+same_adt_by : (m n : Map) → m.id ≡ n.id → (s : Site) (h : Head) (l : Leaf) → adt_by m s h l ≡ adt_by n s h l
+same_adt_by m n e s h (structure name shape fields) = ap (λ (x : MapId). adt_by (record m { id = x }) s h (structure name shape fields)) e
+same_adt_by m n e s h (union_structure name fields) = ap (λ (x : MapId). adt_by (record m { id = x }) s h (union_structure name fields)) e
+same_adt_by m n e s h (enumeration name) = ap (λ (x : MapId). adt_by (record m { id = x }) s h (enumeration name)) e
+same_adt_by m n e s h (import tree) = refl
+same_adt_by m n e s h (extern_crate name alias) = refl
+same_adt_by m n e s h (function name) = refl
+same_adt_by m n e s h (constant name) = refl
+same_adt_by m n e s h (static_item name) = refl
+same_adt_by m n e s h (trait_item name) = refl
+same_adt_by m n e s h (implementation of_trait) = refl
+same_adt_by m n e s h (type_alias name) = refl
+same_adt_by m n e s h (outline_module name) = refl
+same_adt_by m n e s h (macro_call path) = refl
+same_adt_by m n e s h (macro_rules name expander helpers) = refl
+same_adt_by m n e s h (macro_def name expander helpers) = refl
+
+same_adt : (m n : Map) → m.id ≡ n.id → (s : Site) (i : KeptItem) → adt_of m s i ≡ adt_of n s i
+same_adt m n e s (leaf head l) = same_adt_by m n e s head l
+same_adt m n e s (holder head k items) = refl
 
 -- ---- items in items
 
@@ -99,6 +133,7 @@ module _ (tables : TablesValue) (w : Workspace) (from : Beginning) (answer : Col
 
   pub record IsAllWritten (s : State) : Type 0 where
     pub id : s.core.map.id ≡ own
+    pub crate_data : s.core.map.crate_data ≡ answer.map.crate_data
     pub dependencies : s.core.dependencies ≡ dependencies_in w (krate_of from.start)
     pub visits : ArePlaced s.agenda
     pub imports : AreImports s.core.reached
@@ -201,6 +236,32 @@ module _ (tables : TablesValue) (w : Workspace) (from : Beginning) (answer : Col
           };
         })
 
+  -- ---- derives of one item
+
+  -- each path that a derive lists is at its place
+  derives_written : (site : Site) (node : AstId) (id : AttrId) (adt : AdtId) (i : KeptItem) (a : Numbered) → HasAttributeAt tables w answer site node id i a → is_derive a ≡ true
+      → adt_of answer.map site i ≡ Some adt → (paths : List Path) → paths_in a.meta.input ≡ Some paths → (index place : ℕ) → index ≡ count_of place → (left : List Path)
+      → ((n : ℕ) (path : Path) → slice_get left n ≡ Some path → slice_get paths (place + n) ≡ Some path) → AreCalls (derives_from site node id adt index left)
+  derives_written site node id adt i a at derives target paths listed index place counted [] all = tt
+  derives_written site node id adt i a at derives target paths listed index place counted (path ∷ left) all = (
+    record {
+      by = record {
+        item = i;
+        attribute = a;
+        at = at;
+        derives = derives;
+        target = target;
+        paths = paths;
+        lists = listed;
+        place = place;
+        path_is = subst (λ (n : ℕ). slice_get paths n ≡ Some path) (omega arith) (all 0 path refl);
+        index_is = counted;
+      };
+    },
+    derives_written site node id adt i a at derives target paths listed (count_of (index + 1)) (place + 1) (omega (arith, counted)) left
+        (λ n p e. subst (λ (k : ℕ). slice_get paths k ≡ Some p) (omega arith) (all (suc n) p e)),
+  )
+
   -- ---- changes
 
   -- what comes next and what is found is written
@@ -224,6 +285,10 @@ module _ (tables : TablesValue) (w : Workspace) (from : Beginning) (answer : Col
   IsFine s (adds_textual home name makro) = Unit {0}
   IsFine s (takes_textual home from_) = Unit {0}
   IsFine s (defines node makro) = Unit {0}
+  IsFine s (describes makro what) = Unit {0}
+  IsFine s (helps node helper) = Unit {0}
+  IsFine s (lists_derive home imp) = Unit {0}
+  IsFine s (exports f makro) = Unit {0}
   IsFine s (uses_macros macros by) = Unit {0}
   IsFine s (tells d) = Unit {0}
   IsFine s (goes_on vs) = ArePlaced vs
@@ -237,6 +302,7 @@ module _ (tables : TablesValue) (w : Workspace) (from : Beginning) (answer : Col
   same_but : (s t : State) → Keeps s t → t.agenda ≡ s.agenda → t.core.reached ≡ s.core.reached → t.core.globs.edges ≡ s.core.globs.edges → t.core.calls ≡ s.core.calls → IsAllWritten s → IsAllWritten t
   same_but s t keeps agenda reached edges calls f = record {
     id = keeps.id ∙ f.id;
+    crate_data = keeps.crate_data ∙ f.crate_data;
     dependencies = keeps.dependencies ∙ f.dependencies;
     visits = subst ArePlaced (sym agenda) f.visits;
     imports = subst AreImports (sym reached) f.imports;
@@ -252,7 +318,7 @@ module _ (tables : TablesValue) (w : Workspace) (from : Beginning) (answer : Col
   written-imports s (takes i t) f fine = same_but s _ (Keeps-act s (changes_imports (takes i t))) refl refl refl refl f
   written-imports s (records edges) f fine =
       let keeps : Keeps s (act s (changes_imports (records edges))) = Keeps-act s (changes_imports (records edges)) in
-      record { id = keeps.id ∙ f.id; dependencies = keeps.dependencies ∙ f.dependencies; visits = f.visits; imports = f.imports; calls = f.calls; globs = fine }
+      record { id = keeps.id ∙ f.id; crate_data = keeps.crate_data ∙ f.crate_data; dependencies = keeps.dependencies ∙ f.dependencies; visits = f.visits; imports = f.imports; calls = f.calls; globs = fine }
   written-imports s (along finished a) f fine =
       same_but s _ (Keeps-act s (changes_imports (along finished a))) refl (imports_after (import_state s) (along finished a)) (edges_along finished a) refl f
     where
@@ -269,6 +335,7 @@ module _ (tables : TablesValue) (w : Workspace) (from : Beginning) (answer : Col
   written-act s (begins_paths r) f fine = same_but s _ (Keeps-act s (begins_paths r)) refl refl refl refl f
   written-act s (reaches rs) f fine = record {
     id = f.id;
+    crate_data = f.crate_data;
     dependencies = f.dependencies;
     visits = f.visits;
     imports = imports_joined s.core.reached rs f.imports fine;
@@ -277,6 +344,7 @@ module _ (tables : TablesValue) (w : Workspace) (from : Beginning) (answer : Col
   }
   written-act s (awaits calls) f fine = record {
     id = f.id;
+    crate_data = f.crate_data;
     dependencies = f.dependencies;
     visits = f.visits;
     imports = f.imports;
@@ -289,9 +357,13 @@ module _ (tables : TablesValue) (w : Workspace) (from : Beginning) (answer : Col
   written-act s (adds_textual home name makro) f fine = same_but s _ (Keeps-act s (adds_textual home name makro)) refl refl refl refl f
   written-act s (takes_textual home from_) f fine = same_but s _ (Keeps-act s (takes_textual home from_)) refl refl refl refl f
   written-act s (defines node makro) f fine = same_but s _ (Keeps-act s (defines node makro)) refl refl refl refl f
+  written-act s (describes makro what) f fine = same_but s _ (Keeps-act s (describes makro what)) refl refl refl refl f
+  written-act s (helps node helper) f fine = same_but s _ (Keeps-act s (helps node helper)) refl refl refl refl f
+  written-act s (lists_derive home imp) f fine = same_but s _ (Keeps-act s (lists_derive home imp)) refl refl refl refl f
+  written-act s (exports function_of makro) f fine = same_but s _ (Keeps-act s (exports function_of makro)) refl refl refl refl f
   written-act s (uses_macros macros by) f fine = same_but s _ (Keeps-act s (uses_macros macros by)) refl refl refl refl f
   written-act s (tells d) f fine = same_but s _ (Keeps-act s (tells d)) refl refl refl refl f
-  written-act s (goes_on vs) f fine = record { id = f.id; dependencies = f.dependencies; visits = fine; imports = f.imports; calls = f.calls; globs = f.globs }
+  written-act s (goes_on vs) f fine = record { id = f.id; crate_data = f.crate_data; dependencies = f.dependencies; visits = fine; imports = f.imports; calls = f.calls; globs = f.globs }
 
   -- ---- rules
 
@@ -339,6 +411,33 @@ module _ (tables : TablesValue) (w : Workspace) (from : Beginning) (answer : Col
           within = subst (λ (t : TreeLook). IsIn i t.tree.items) (sym is) h;
         })
 
+    -- an attribute of the next item for which something is looked up
+    attribute_there : (v : Visit) (rest : List Task) (at : ℕ) (a : Numbered) → HasAttribute s v at a rest → HasAttributeAt tables w answer v.site (item_node v.site v.item) (attr_id a) v.item a
+    attribute_there v rest at a has =
+        let found : IsLookedUp s.core.map (item_node v.site v.item) (item_head v.item).attributes.attributes v.done at a =
+        looked_up s.core.map (item_node v.site v.item) (item_head v.item).attributes.attributes v.done at a has.active in
+        record {
+          written = next v rest has.on.next;
+          enabled = has.on.enabled;
+          node_is = refl;
+          has = found.among;
+          number = refl;
+          unpassed = subst (λ (c : CrateData). is_always_passed c.registered_tools a ≡ false) f.crate_data (not_always s.core.map (item_node v.site v.item) a found.unpassed);
+        }
+
+    -- an item that waits is written where it waits
+    item_placed : (d : MacroDirective) (k : WaitingItem) (waited : KeptItem) → IsItemOf d k waited → IsCall tables w answer d → Placed own d.site.tree waited
+    item_placed d k waited of call = go d.kind of.waits call.by
+      where
+        go : (kind : MacroDirectiveKind) → item_in kind ≡ Some k → IsCallBy tables w answer d kind → Placed own d.site.tree waited
+        go (FnLike path) e by = absurd (let no : ⊥ = cc in no)
+        go (Derive path attr index adt) e by = absurd (let no : ⊥ = cc in no)
+        go (Attr path attr other) e by =
+            let same : other ≡ k = cc in
+            let kept : item_kept other ≡ Some by.item = by.kept in
+            let is : by.item ≡ waited = let here : item_kept other ≡ Some waited = ap item_kept same ∙ of.kept in cc in
+            subst (λ (i : KeptItem). Placed own d.site.tree i) is by.at.written
+
     along_fine : (acts : List Act) (t : State) → AllFine IsFine t (list_map changes_imports (list_map (along finished) acts))
     along_fine [] t = tt
     along_fine (a ∷ acts) t = (tt, along_fine acts (act t (changes_imports (along finished a))))
@@ -373,7 +472,7 @@ module _ (tables : TablesValue) (w : Workspace) (from : Beginning) (answer : Col
     all_fine : (r : Rule) → May finished s r → Sees (environment tables w) finished (reads s r)
         → ((key : TreeKey) → Contains (keys_read (reads s r)) (keys.Tree key) → Contains answer.asked (keys.Tree key)) → AllFine IsFine (asking s r) (acts finished s r)
     all_fine (drops_item v report rest) may sees read = (left v rest may.next, (tt, tt))
-    all_fine (declares_item v d rest) may sees read = (left v rest may.here.next, (tt, (tt, tt)))
+    all_fine (declares_item v d rest) may sees read = (left _ rest may.here.next, (tt, (tt, tt)))
     all_fine (declares_enum site head name found rest) may sees read = (left _ rest may.next, (tt, (tt, (tt, tt))))
     all_fine (lists_constant site head rest) may sees read = (left _ rest may.next, (tt, tt))
     all_fine (lists_impl site head of_trait rest) may sees read = (left _ rest may.next, (tt, tt))
@@ -392,15 +491,30 @@ module _ (tables : TablesValue) (w : Workspace) (from : Beginning) (answer : Col
         (left _ rest may.next, (all_leaves site head may.enabled s.core.map.id f.id tree (next _ rest may.next), (tt, tt)))
     all_fine (reaches_crate site head name alias rest) may sees read =
         (left _ rest may.next, (tt, (tt, ((one_crate site head may.enabled s.core.map f.id here name alias (next _ rest may.next) s.core.dependencies f.dependencies, tt), (tt, tt)))))
-    all_fine (defines_rules site head name expander helpers rest) may sees read = (left _ rest may.next, (tt, (tt, fine_macro IsFine _ _ expander (λ t. tt) head name _ (λ t. tt) _)))
-    all_fine (defines_macro site head name expander helpers rest) may sees read = (left _ rest may.next, (tt, (tt, (tt, fine_reporting IsFine _ _ expander (λ t. tt) _))))
+    all_fine (defines_rules site head name expander helpers rest) may sees read = (left _ rest may.next, (tt, (tt, (tt, fine_macro IsFine _ _ expander (λ t. tt) head name _ (λ t. tt) _))))
+    all_fine (defines_macro site head name expander helpers rest) may sees read = (left _ rest may.next, (tt, (tt, (tt, (tt, fine_reporting IsFine _ _ expander (λ t. tt) _)))))
     all_fine (closes_module parent child rest) may sees read = (subst ArePlaced may f.visits, (tt, tt))
+    all_fine (awaits_attribute v a k rest) may sees read =
+        let at : HasAttributeAt tables w answer v.site (item_node v.site v.item) (attr_id a) v.item a = attribute_there v rest may.at a may.has in
+        (left v rest may.has.on.next, ((record { by = record { item = v.item; kept = may.kept; attribute = a; at = at; looked_up = may.looked_up; path_is = refl } }, tt), tt))
+    all_fine (lists_derives v at a adt paths rest) may sees read =
+        let here : HasAttributeAt tables w answer v.site (item_node v.site v.item) (attr_id a) v.item a = attribute_there v rest at a may.has in
+        let target : adt_of answer.map v.site v.item ≡ Some adt = sym (same_adt s.core.map answer.map f.id v.site v.item) ∙ may.target in (
+          (next v rest may.has.on.next, left v rest may.has.on.next),
+          (derives_written v.site (item_node v.site v.item) (attr_id a) adt v.item a here may.derives target paths may.lists 0 0 refl paths (λ n path e. subst (λ (k : ℕ). slice_get paths k ≡ Some path) (omega arith) e), tt),
+        )
+    all_fine (faults_derive v at report rest) may sees read = ((next v rest may.has.on.next, left v rest may.has.on.next), (tt, tt))
+    all_fine (exports_macro site head name d e rest) may sees read = (left _ rest may.here.next, (tt, (tt, (tt, (tt, (tt, (tt, tt)))))))
     all_fine (reaches_call site head path rest) may sees read =
-        (left _ rest may.next, ((record { head = head; path = path; written = next _ rest may.next; enabled = may.enabled; is = refl }, tt), tt))
+        (left _ rest may.next, ((record { by = record { head = head; path = path; written = next _ rest may.next; enabled = may.enabled; is = refl } }, tt), tt))
     all_fine rests may sees read = (tt, tt)
     all_fine (expands_call i d makro x) may sees read =
-        (tt, (placed_visits (call_site d x.id) x.tree.tree.items (call_inside d makro x sees read), fine_failing IsFine _ d (error_of x.there) (λ t text. tt) _))
+        (tt, (placed_visits (call_site d x.id) x.tree.tree.items (call_inside d makro x sees read), fine_expanding IsFine _ (λ t helper. tt) _ _ d (error_of x.there) (λ t text. tt) _))
     all_fine (drops_call i d) may sees read = (tt, tt)
+    all_fine (drops_reached i d makro) may sees read = (tt, fine_bringing IsFine _ (λ t helper. tt) _ _)
+    all_fine (derives_builtin i d makro imp) may sees read = (tt, (tt, fine_bringing IsFine _ (λ t helper. tt) _ _))
+    all_fine (skips_attribute i d k waited) may sees read = (tt, ((item_placed d k waited may.of (call_among s.core.calls d f.calls (standing s.core.calls i d may.due.waiting.call)), tt), tt))
+    all_fine (falls_back i d k waited) may sees read = (tt, (tt, ((item_placed d k waited may.of (call_among s.core.calls d f.calls (standing s.core.calls i d may.waiting.call)), tt), tt)))
     all_fine (resolves_imports rule) may sees read = imports_fine rule may
 
   -- ---- steps
@@ -413,9 +527,9 @@ module _ (tables : TablesValue) (w : Workspace) (from : Beginning) (answer : Col
   written-Step {finished = finished} {old = old} here step asked f =
       let read : (key : TreeKey) → Contains (keys_read (reads old step.rule)) (keys.Tree key) → Contains answer.asked (keys.Tree key) =
       λ key h. asked (keys.Tree key) (subst (λ (ks : List Key). Contains ks (keys.Tree key)) (sym (asked-Step step)) (Contains-append_right old.core.asked (keys_read (reads old step.rule)) (keys.Tree key) h)) in
-      let begun : IsAllWritten (asking old step.rule) = record { id = f.id; dependencies = f.dependencies; visits = f.visits; imports = f.imports; calls = f.calls; globs = f.globs } in
+      let begun : IsAllWritten (asking old step.rule) = record { id = f.id; crate_data = f.crate_data; dependencies = f.dependencies; visits = f.visits; imports = f.imports; calls = f.calls; globs = f.globs } in
       let done = perform_keeps IsAllWritten IsFine written-act (acts finished old step.rule) (asking old step.rule) begun (all_fine here finished old f step.rule step.may step.sees read) in
-      subst IsAllWritten (sym step.is) (record { id = done.id; dependencies = done.dependencies; visits = done.visits; imports = done.imports; calls = done.calls; globs = done.globs })
+      subst IsAllWritten (sym step.is) (record { id = done.id; crate_data = done.crate_data; dependencies = done.dependencies; visits = done.visits; imports = done.imports; calls = done.calls; globs = done.globs })
 
   pub written-Steps : {finished : Maps} {first_state last : State} → own.krate ≡ krate_of from.start → Steps (environment tables w) finished first_state last → AreAsked last → IsAllWritten first_state → IsAllWritten last
   written-Steps here none asked f = f
@@ -424,9 +538,11 @@ module _ (tables : TablesValue) (w : Workspace) (from : Beginning) (answer : Col
 
   -- ---- where a run begins
 
-  pub written-start : (finished : Maps) → own.krate ≡ krate_of from.start → own ≡ (start_of tables w finished from).core.map.id → AreAsked (start_of tables w finished from) → IsAllWritten (start_of tables w finished from)
-  written-start finished here same asked = record {
+  pub written-start : (finished : Maps) → own.krate ≡ krate_of from.start → own ≡ (start_of tables w finished from).core.map.id
+      → (start_of tables w finished from).core.map.crate_data ≡ answer.map.crate_data → AreAsked (start_of tables w finished from) → IsAllWritten (start_of tables w finished from)
+  written-start finished here same same_crate asked = record {
     id = sym same;
+    crate_data = same_crate;
     dependencies = refl;
     visits = go (is_enabled (root_tree tables w from).attributes) refl;
     imports = tt;

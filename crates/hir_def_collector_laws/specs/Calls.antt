@@ -16,7 +16,7 @@ use Rattle.hir_def_collector.specs.declared.collector.macro_directive.MacroDirec
 use Rattle.hir_def_collector.specs.declared.collector.macro_directive.MacroDirectiveKind.TheVariants.{Attr, Derive, FnLike}
 use Rattle.hir_def_collector.specs.declared.collector.macro_directive.WaitingItem.{WaitingItem}
 use Rattle.hir_def_collector.specs.declared.collector.site.Site.{Site}
-use Rattle.hir_def_collector.specs.Attributes.{AreAlwaysPassed, adt_of, attr_id, is_derive, item_node, paths_in}
+use Rattle.hir_def_collector.specs.Attributes.{AreAlwaysPassed, adt_of, attr_id, is_always_passed, is_derive, item_node, paths_in}
 use Rattle.hir_def_collector.specs.Calls.{item_kept}
 use Rattle.hir_def_collector.specs.Derivation.{CollectedValue, Ends}
 use Rattle.hir_def_collector.specs.Start.{Beginning}
@@ -32,13 +32,14 @@ pub record IsCallItem (tables : TablesValue) (w : Workspace) (answer : Collected
   pub enabled : is_enabled head.attributes ≡ true
   pub is : d ≡ call_at d.site head path
 
--- an enabled item with an attribute of this number is written in the tree of a site, and this is its node
+-- an enabled item with an attribute of this number is written in the tree of a site, and this is its node; the attribute isn't one that is passed wherever it stands
 pub record HasAttributeAt (tables : TablesValue) (w : Workspace) (answer : CollectedValue) (site : Site) (node : AstId) (id : AttrId) (item : KeptItem) (a : Numbered) : Type 0 where
   pub written : IsWritten tables w answer.asked (key_of answer site.tree) item
   pub enabled : is_enabled (item_head item).attributes ≡ true
   pub node_is : node ≡ item_node site item
   pub has : Contains (item_head item).attributes.attributes a
   pub number : id ≡ attr_id a
+  pub unpassed : is_always_passed answer.map.crate_data.registered_tools a ≡ false
 
 -- a path of a derive is one that a `derive` on a struct, enum or union lists at its place
 pub record IsDerivePath (tables : TablesValue) (w : Workspace) (answer : CollectedValue) (d : MacroDirective) (path : Path) (id : AttrId) (index : ℕ) (adt : AdtId) : Type 0 where

@@ -1,5 +1,5 @@
 -- A run reports only what the sources write that it asked for, in modules of its map.
-use Rattle.std.specs.Prelude.{◌≡◌, ◌<◌, ◌≤◌, ℕ, zero, suc, slice_get, Bool, true, false, List, [], ◌∷◌, ◌++◌, length, Contains, Option, None, Some, cond, map as list_map, if◌then◌else◌}
+use Rattle.std.specs.Prelude.{◌≡◌, ◌<◌, ◌≤◌, ◌+◌, ℕ, zero, suc, slice_get, Bool, true, false, List, [], ◌∷◌, ◌++◌, length, Contains, Option, None, Some, cond, map as list_map, if◌then◌else◌}
 use Rattle.std.specs.List.{list_any}
 use Rattle.std.proofs.Common.{◌||◌, ap, refl, subst, sym, ◌∙◌, arith}
 use Rattle.std.proofs.lemmas.List.Elements.{Contains-append_left, Contains-append_right}
@@ -8,29 +8,34 @@ use Rattle.hir_base.specs.ModPath.{Path}
 use Rattle.hir_base.specs.declared.ast_id.AstId.{AstId}
 use Rattle.hir_base.specs.declared.ast_id.AstKind.{AstKind}
 use Rattle.hir_base.specs.declared.ast_id.AstKind.TheVariants as nodes
+use Rattle.hir_base.specs.declared.ast_id.AttrId.{AttrId}
 use Rattle.hir_base.specs.declared.ast_id.BlockId.{BlockId}
 use Rattle.hir_base.specs.declared.ast_id.HirFileId.{HirFileId}
 use Rattle.hir_base.specs.declared.ast_id.SyntaxId.{SyntaxId}
+use Rattle.hir_base.specs.declared.ids.AdtId.{AdtId}
 use Rattle.hir_base.specs.declared.ids.Crate.{Crate}
 use Rattle.hir_base.specs.declared.macro_kind.MacroId.{MacroId}
 use Rattle.hir_base.specs.declared.macro_kind.MacroId.TheVariants as macros
 use Rattle.hir_base.specs.declared.ids.MapId.{MapId}
 use Rattle.hir_base.specs.declared.macro_kind.MacroExpander.{MacroExpander}
-use Rattle.hir_item_tree.specs.Collected.{is_enabled}
+use Rattle.hir_item_tree.specs.Collected.{Numbered as Attribute, is_enabled}
 use Rattle.hir_item_tree.specs.Imports.{imports_of}
 use Rattle.hir_item_tree.specs.KeptForest.{Head, KeptForest, item, no_items}
 use Rattle.hir_item_tree.specs.Kinds.{item_head, item_kind}
 use Rattle.hir_item_tree.specs.declared.tree_id.TreeKey.{TreeKey}
+use Rattle.hir_use_tree.specs.UseTree.{count_of}
 use Rattle.hir_use_tree.specs.declared.imports.Import.{Import}
 use Rattle.hir_mod_dir.specs.Directory.{Directory}
 use Rattle.hir_mod_dir.specs.ModuleFiles.{inline_directory}
 use Rattle.hir_tables.specs.Tables.{TablesValue}
 use Rattle.hir_scope.specs.PerNs.{macros_only}
 use Rattle.hir_scope.specs.declared.visibility.Visibility.TheVariants as visibilities
+use Rattle.hir_def_map.proofs.Grown.{length-changed}
 use Rattle.hir_def_map.proofs.NoneOf.{neither, not_first, not_second}
-use Rattle.hir_def_map.specs.Diagnostics.{diagnostic_view, node_of as node_about}
+use Rattle.hir_def_map.specs.Diagnostics.{call_node, diagnostic_view, node_of as node_about}
 use Rattle.hir_def_map.specs.Overlay.{Maps}
-use Rattle.hir_def_map.specs.State.{Map, numbered}
+use Rattle.hir_def_map.specs.State.{Map, numbered, with_module_scope, with_scope}
+use Rattle.hir_def_map.specs.declared.nameres.derive_helpers.DeriveHelper.{DeriveHelper}
 use Rattle.hir_def_map.specs.declared.nameres.diagnostics.DefDiagnostic.{DefDiagnostic}
 use Rattle.hir_def_map.specs.declared.nameres.diagnostics.DefDiagnosticKind.TheVariants as kinds
 use Rattle.hir_import_resolution.specs.Changes.{pushes}
@@ -40,28 +45,32 @@ use Rattle.hir_import_resolution.specs.State.{ImportState}
 use Rattle.hir_import_resolution.specs.declared.directive.ImportDirective.{ImportDirective}
 use Rattle.hir_import_resolution.specs.declared.directive.ImportSource.{ImportSource}
 use Rattle.hir_import_resolution.specs.declared.directive.ImportSource.TheVariants as sources
-use Rattle.hir_def_collector.specs.Calls.{Expanding, call_key, call_site, error_of, expansion_readings, text_readings}
-use Rattle.hir_def_collector.specs.Changes.{Change, adds_textual, takes_textual, defines, uses_macros, lists, makes, gives_variants, begins_paths, reaches, awaits, ends, settles, changes_imports, tells, goes_on, act, perform}
-use Rattle.hir_def_collector.specs.Derivation.{CollectedValue, Ends}
+use Rattle.hir_def_collector.specs.Attributes.{attr_id, item_node}
+use Rattle.hir_def_collector.specs.Calls.{Expanding, call_key, call_site, error_of, expansion_readings, kind_by, text_readings}
+use Rattle.hir_def_collector.specs.Changes.{Change, adds_textual, takes_textual, defines, describes, helps, lists_derive, exports, uses_macros, lists, makes, gives_variants, begins_paths, reaches, awaits, ends, settles, changes_imports, tells, goes_on, act, perform}
+use Rattle.hir_def_collector.specs.Derivation.{CollectedValue, Ends, leftover_reports}
+use Rattle.hir_def_collector.specs.Ended.{ended, exporting_scope}
 use Rattle.hir_def_collector.specs.Imports.{reached_import}
 use Rattle.hir_def_collector.specs.ItemIds.{macro_def_id, macro_rules_id, module_id, node_of, use_id}
 use Rattle.hir_def_collector.specs.Items.{inline_origin, own_visibility}
 use Rattle.hir_def_collector.specs.Keys.{Environment, environment, map_keys}
 use Rattle.hir_def_collector.specs.Macros.{is_exported, is_macro_use, macro_declaration}
 use Rattle.hir_def_collector.specs.ModuleFiles.{file_key}
-use Rattle.hir_def_collector.specs.Reports.{IsUnconfigured, begins_with, crates_among, is_unimplemented, leftover_diagnostics, report_by, reports_of, unimplemented_macro, unresolved_among, unresolved_calls}
+use Rattle.hir_def_collector.specs.Reports.{IsUnconfigured, begins_with, call_report, crates_among, is_unimplemented, leftover_diagnostics, report_by, reports_of, unimplemented_macro, unresolved_among, unresolved_calls, with_diagnostics}
 use Rattle.hir_def_collector.specs.Start.{Beginning, begin_of, krate_of, read_by, root_key, root_site, root_tree, start_of, tree_key}
-use Rattle.hir_def_collector.specs.State.{State, Task, Visit, visits, closes, import_state, visits_over}
-use Rattle.hir_def_collector.specs.Steps.{Rule, drops_item, defines_rules, defines_macro, closes_module, closing, declaring, exporting, failing, reporting, declares_item, declares_enum, lists_constant, lists_impl, opens_module, opens_file, drops_file, misses_file, enters_block, reaches_imports, reaches_crate, reaches_call, rests, expands_call, drops_call, resolves_imports, May, acts, asking, inside_block, inside_file, inside_module, keys_read, making, path_of, reads, visits_inside, Step, Steps, none, more}
+use Rattle.hir_def_collector.specs.State.{Core, State, Task, Visit, behind, visits, closes, import_state, visits_over}
+use Rattle.hir_def_collector.specs.Steps.{IsFaulty, no_target, no_paths, Rule, drops_item, defines_rules, defines_macro, closes_module, closing, declaring, exporting, failing, reporting, declares_item, declares_enum, lists_constant, lists_impl, opens_module, opens_file, drops_file, misses_file, enters_block, reaches_imports, reaches_crate, awaits_attribute, lists_derives, faults_derive, exports_macro, reaches_call, rests, expands_call, drops_call, drops_reached, derives_builtin, skips_attribute, falls_back, resolves_imports, May, acts, asking, bringing, derives_from, macro_data_of, inside_block, inside_file, inside_module, keys_read, making, path_of, reads, visits_inside, Step, Steps, none, more}
 use Rattle.hir_def_collector.specs.Workspace.{Workspace, transitive_dependencies_in}
 use Rattle.hir_def_collector.specs.declared.collector.macro_directive.Fate.{Fate}
 use Rattle.hir_def_collector.specs.declared.collector.macro_directive.Fate.TheVariants as fates
 use Rattle.hir_def_collector.specs.declared.collector.macro_directive.MacroDirective.{MacroDirective}
+use Rattle.hir_def_collector.specs.declared.collector.macro_directive.MacroDirectiveKind.{MacroDirectiveKind}
+use Rattle.hir_def_collector.specs.declared.collector.macro_directive.MacroDirectiveKind.TheVariants.{Attr, Derive, FnLike}
 use Rattle.hir_def_collector.specs.declared.collector.site.Site.{Site}
 use Rattle.hir_def_collector.specs.declared.source_database.Key.{Key}
 use Rattle.hir_def_collector.specs.declared.source_database.Key.TheVariants as keys
 use Rattle.hir_def_collector.proofs.Asks.{still_asked, still_asked-Step}
-use Rattle.hir_def_collector.proofs.Changes.{AllFine, Keeps-act, all_fine, asked-Step, fine-append, perform_keeps}
+use Rattle.hir_def_collector.proofs.Changes.{AllFine, Keeps-act, all_fine, asked-Step, fine-append, fine_bringing, perform_keeps}
 use Rattle.hir_def_collector.proofs.Grows.{Grows-act, Grows-perform}
 use Rattle.hir_def_collector.proofs.Holds.{in_range-start}
 use Rattle.hir_def_collector.proofs.ImportEdits.{Edit, edit_of, edited, imports_after, map_after}
@@ -78,6 +87,12 @@ tree_read : (own : Crate) (d : MacroDirective) (makro : MacroId) (x : Expanding)
 tree_read own d (macros.Macro2Id id) x = (3, (let here : 3 < 4 = omega arith in here), refl)
 tree_read own d (macros.MacroRulesId id) x = (3, (let here : 3 < 4 = omega arith in here), refl)
 tree_read own d (macros.ProcMacroId id) x = (2, (let here : 2 < 3 = omega arith in here), refl)
+
+-- what is reported of a call, a path of a derive or an attribute is about its node
+node_by_kind : (node : AstId) (kind : MacroDirectiveKind) → call_node (kind_by node kind) ≡ node
+node_by_kind node (FnLike path) = refl
+node_by_kind node (Derive path attr index adt) = refl
+node_by_kind node (Attr path attr waited) = refl
 
 -- changes leave the map's id, and those of imports what was reported
 id-perform : (cs : List Change) (s : State) → (perform s cs).core.map.id ≡ s.core.map.id
@@ -110,10 +125,11 @@ module _ (unwritten : HirFileId → Option BlockId → Bool) where
   abbrev on_reached : ImportDirective → Bool
   on_reached r = of_source r.source
 
-  -- a call is of one of so many modules, and on something of which the test doesn't hold
+  -- a call is of one of so many modules, and the test doesn't hold of what it stands on, nor of where it is written
   record IsCall (count : ℕ) (d : MacroDirective) : Type 0 where
     below : d.site.home < count
     written : unwritten d.ast_id.file_id d.ast_id.block ≡ false
+    site : unwritten d.site.tree.file d.site.tree.block ≡ false
 
   abbrev AreCalls : ℕ → List MacroDirective → Type 0
   AreCalls count [] = Unit {0}
@@ -146,7 +162,7 @@ module _ (unwritten : HirFileId → Option BlockId → Bool) where
   calls_more n k low [] f = tt
   calls_more n k low (d ∷ ds) f =
       let first : IsCall n d = f.0 in
-      (record { below = (let below : d.site.home < n = first.below in omega arith); written = first.written }, calls_more n k low ds f.1)
+      (record { below = (let below : d.site.home < n = first.below in omega arith); written = first.written; site = first.site }, calls_more n k low ds f.1)
 
   calls_joined : (n : ℕ) (ds es : List MacroDirective) → AreCalls n ds → AreCalls n es → AreCalls n (ds ++ es)
   calls_joined n [] es f g = g
@@ -156,6 +172,21 @@ module _ (unwritten : HirFileId → Option BlockId → Bool) where
   call_there n [] i d f e = absurd cc
   call_there n (x ∷ xs) zero d f e = let same : x ≡ d = cc in subst (IsCall n) same f.0
   call_there n (x ∷ xs) (suc i) d f e = call_there n xs i d f.1 e
+
+  -- the paths of a derive are written where it is
+  derives_clear : (n : ℕ) (site : Site) (node : AstId) (attr : AttrId) (adt : AdtId) → site.home < n → unwritten node.file_id node.block ≡ false → unwritten site.tree.file site.tree.block ≡ false
+      → (index : ℕ) (paths : List Path) → AreCalls n (derives_from site node attr adt index paths)
+  derives_clear n site node attr adt low on own index [] = tt
+  derives_clear n site node attr adt low on own index (path ∷ paths) =
+      (record { below = low; written = on; site = own }, derives_clear n site node attr adt low on own (count_of (index + 1)) paths)
+
+  -- what is told of one that reaches no macro
+  call_reported : (id : MapId) (n : ℕ) (d : MacroDirective) → IsCall n d → IsReport id n (call_report id d)
+  call_reported id n d call = record {
+    own = refl;
+    below = call.below;
+    written = subst (λ (node : AstId). unwritten node.file_id node.block ≡ false) (sym (node_by_kind d.ast_id d.kind)) call.written;
+  }
 
   site_visits : (s : Site) → unwritten s.tree.file s.tree.block ≡ false → (is : KeptForest) → list_any on_site (visits_over s is) ≡ false
   site_visits s f no_items = refl
@@ -183,6 +214,10 @@ module _ (unwritten : HirFileId → Option BlockId → Bool) where
   StaysReported s (adds_textual home name makro) = Unit {0}
   StaysReported s (takes_textual home from) = Unit {0}
   StaysReported s (defines node makro) = Unit {0}
+  StaysReported s (describes makro what) = Unit {0}
+  StaysReported s (helps node helper) = Unit {0}
+  StaysReported s (lists_derive home imp) = Unit {0}
+  StaysReported s (exports f makro) = Unit {0}
   StaysReported s (uses_macros macros by) = Unit {0}
   StaysReported s (tells d) = IsReport s.core.map.id (length s.core.map.modules) d
   StaysReported s (goes_on vs) = list_any on_site vs ≡ false
@@ -222,6 +257,10 @@ module _ (unwritten : HirFileId → Option BlockId → Bool) where
   reported-act s (adds_textual home name makro) p fine = grown_reported s (adds_textual home name makro) refl refl refl refl refl p
   reported-act s (takes_textual home from) p fine = grown_reported s (takes_textual home from) refl refl refl refl refl p
   reported-act s (defines node makro) p fine = record { reports = p.reports; visits = p.visits; reached = p.reached; calls = p.calls }
+  reported-act s (describes makro what) p fine = record { reports = p.reports; visits = p.visits; reached = p.reached; calls = p.calls }
+  reported-act s (helps node helper) p fine = record { reports = p.reports; visits = p.visits; reached = p.reached; calls = p.calls }
+  reported-act s (lists_derive home imp) p fine = grown_reported s (lists_derive home imp) refl refl refl refl refl p
+  reported-act s (exports f makro) p fine = record { reports = p.reports; visits = p.visits; reached = p.reached; calls = p.calls }
   reported-act s (uses_macros macros by) p fine = record { reports = p.reports; visits = p.visits; reached = p.reached; calls = p.calls }
   reported-act s (tells d) p fine = record {
     reports = reports_joined s.core.map.id (length s.core.map.modules) s.core.map.diagnostics (d ∷ []) p.reports (fine, tt);
@@ -246,6 +285,17 @@ module _ (unwritten : HirFileId → Option BlockId → Bool) where
 
     low : (v : Visit) (rest : List Task) → s.agenda ≡ visits v ∷ rest → v.site.home < length s.core.map.modules
     low v rest next = next_home s inside v rest next
+
+    -- the next item again, where more of its attributes are done with
+    again : (v : Visit) (done : ℕ) (rest : List Task) → s.agenda ≡ visits v ∷ rest → list_any on_site (visits (behind v done) ∷ rest) ≡ false
+    again v done rest next = next_clear v rest next
+
+    -- a `derive` on what can't have one, or without paths, is reported so
+    derive_reported : (v : Visit) (rest : List Task) → s.agenda ≡ visits v ∷ rest → (a : Attribute) (d : DefDiagnostic) → IsFaulty s v a d → IsReport s.core.map.id (length s.core.map.modules) d
+    derive_reported v rest next a d (no_target targetless is) =
+        subst (IsReport s.core.map.id (length s.core.map.modules)) (sym is) (record { own = refl; below = low v rest next; written = file v rest next })
+    derive_reported v rest next a d (no_paths adt target pathless is) =
+        subst (IsReport s.core.map.id (length s.core.map.modules)) (sym is) (record { own = refl; below = low v rest next; written = file v rest next })
 
     -- an item that is left out is reported so
     unconfigured : (v : Visit) (rest : List Task) → s.agenda ≡ visits v ∷ rest → (kind : AstKind) (at : SyntaxId) (condition : Cfg) (d : DefDiagnostic)
@@ -306,12 +356,25 @@ module _ (unwritten : HirFileId → Option BlockId → Bool) where
         let here : d.site.home < length s.core.map.modules = call.below in
         (record { own = sym same; below = (let within : d.site.home < length t.core.map.modules = omega arith in within); written = call.written }, tt)
 
+    -- behind the helpers that it brings
+    expanding_reported : (t : State) (d : MacroDirective) (helpers : List DeriveHelper) (error : Option (List ℕ)) → t.core.map.id ≡ s.core.map.id
+        → length s.core.map.modules ≤ length t.core.map.modules → IsCall (length s.core.map.modules) d
+        → AllFine StaysReported t (bringing d.ast_id helpers ++ failing (module_id s.core.map d.site.home) d error)
+    expanding_reported t d helpers error same longer call =
+        let later : State = perform t (bringing d.ast_id helpers) in
+        let more : length t.core.map.modules ≤ length later.core.map.modules = (Grows-perform (bringing d.ast_id helpers) t).longer in
+        fine-append StaysReported (bringing d.ast_id helpers) (failing (module_id s.core.map d.site.home) d error) t (fine_bringing StaysReported d.ast_id (λ u helper. tt) helpers t)
+        (failing_reported later d error (id-perform (bringing d.ast_id helpers) t ∙ same) (omega (arith, longer, more)) call)
+
+    waiting_call : (i : ℕ) (d : MacroDirective) → slice_get s.core.calls i ≡ Some d → IsCall (length s.core.map.modules) d
+    waiting_call i d at = call_there (length s.core.map.modules) s.core.calls i d p.calls at
+
     -- the sources that a rule reads are clear of the test too
     stays_reported : (finished : Maps) (r : Rule) → May finished s r → ((key : TreeKey) → Contains (keys_read (reads s r)) (keys.Tree key) → unwritten key.id.file key.id.block ≡ false)
         → AllFine StaysReported (asking s r) (acts finished s r)
     stays_reported finished (drops_item v report rest) may read =
         (left v rest may.next, (unconfigured v rest may.next (item_kind v.item) (item_head v.item).id may.condition report may.reported, tt))
-    stays_reported finished (declares_item v d rest) may read = (left v rest may.here.next, (tt, (tt, tt)))
+    stays_reported finished (declares_item v d rest) may read = (left _ rest may.here.next, (tt, (tt, tt)))
     stays_reported finished (declares_enum site head name found rest) may read = (left _ rest may.next, (tt, (tt, (tt, tt))))
     stays_reported finished (lists_constant site head rest) may read = (left _ rest may.next, (tt, tt))
     stays_reported finished (lists_impl site head of_trait rest) may read = (left _ rest may.next, (tt, tt))
@@ -345,30 +408,49 @@ module _ (unwritten : HirFileId → Option BlockId → Bool) where
     stays_reported finished (defines_rules site head name expander helpers rest) may read =
         let makro : MacroId = macro_rules_id s.core.map site head.id expander in
         let node : AstId = node_of site.tree nodes.MacroRules head.id in
-        let defined : State = perform (asking s (defines_rules site head name expander helpers rest)) (goes_on rest ∷ defines node makro ∷ adds_textual site.home name makro ∷ []) in
+        let defined : State = perform (asking s (defines_rules site head name expander helpers rest)) (goes_on rest ∷ defines node makro ∷ describes makro (macro_data_of name helpers) ∷ adds_textual site.home name makro ∷ []) in
         let longer : length s.core.map.modules ≤ length defined.core.map.modules =
-        (Grows-perform (goes_on rest ∷ defines node makro ∷ adds_textual site.home name makro ∷ []) (asking s (defines_rules site head name expander helpers rest))).longer in
-        (left _ rest may.next, (tt, (tt, rules_reported defined site head name makro node expander refl longer (low _ rest may.next) (file _ rest may.next))))
+        (Grows-perform (goes_on rest ∷ defines node makro ∷ describes makro (macro_data_of name helpers) ∷ adds_textual site.home name makro ∷ []) (asking s (defines_rules site head name expander helpers rest))).longer in
+        (left _ rest may.next, (tt, (tt, (tt, rules_reported defined site head name makro node expander refl longer (low _ rest may.next) (file _ rest may.next)))))
     stays_reported finished (defines_macro site head name expander helpers rest) may read =
         let makro : MacroId = macro_def_id s.core.map site head.id expander in
         let node : AstId = node_of site.tree nodes.MacroDef head.id in
-        let changes : List Change = goes_on rest ∷ defines node makro ∷ declaring site.home (macro_declaration name makro (own_visibility finished s.core.local s.core.map site head)) in
+        let changes : List Change = goes_on rest ∷ defines node makro ∷ describes makro (macro_data_of name helpers) ∷ declaring site.home (macro_declaration name makro (own_visibility finished s.core.local s.core.map site head)) in
         let before : State = asking s (defines_macro site head name expander helpers rest) in
         let longer : length s.core.map.modules ≤ length (perform before changes).core.map.modules = (Grows-perform changes before).longer in
-        (left _ rest may.next, (tt, (tt, (tt, macro_reported (perform before changes) site node expander (id-perform changes before) longer (low _ rest may.next) (file _ rest may.next)))))
+        (left _ rest may.next, (tt, (tt, (tt, (tt, macro_reported (perform before changes) site node expander (id-perform changes before) longer (low _ rest may.next) (file _ rest may.next))))))
     stays_reported finished (closes_module parent child rest) may read = (subst (λ (ts : List Task). list_any on_site ts ≡ false) may p.visits, (tt, tt))
+    stays_reported finished (awaits_attribute v a k rest) may read =
+        let next = may.has.on.next in
+        (left v rest next, ((record { below = low v rest next; written = file v rest next; site = file v rest next }, tt), tt))
+    stays_reported finished (lists_derives v at a adt paths rest) may read =
+        let next = may.has.on.next in
+        let own : unwritten v.site.tree.file v.site.tree.block ≡ false = file v rest next in
+        (again v (suc at) rest next, (derives_clear (length s.core.map.modules) v.site (item_node v.site v.item) (attr_id a) adt (low v rest next) own own 0 paths, tt))
+    stays_reported finished (faults_derive v at report rest) may read =
+        let next = may.has.on.next in
+        (again v (suc at) rest next, (derive_reported v rest next may.attribute report may.faulty, tt))
+    stays_reported finished (exports_macro site head name d e rest) may read = (left _ rest may.here.next, (tt, (tt, (tt, (tt, (tt, (tt, tt)))))))
     stays_reported finished (reaches_call site head path rest) may read =
-        (left _ rest may.next, ((record { below = low _ rest may.next; written = file _ rest may.next }, tt), tt))
+        (left _ rest may.next, ((record { below = low _ rest may.next; written = file _ rest may.next; site = file _ rest may.next }, tt), tt))
     stays_reported finished rests may read = (tt, tt)
     stays_reported finished (expands_call i d makro x) may read =
         let own : Crate = s.core.map.id.krate in
         let within : Site = call_site d x.id in
         let clear : unwritten within.tree.file within.tree.block ≡ false = read (call_key own x.id) (tree_read own d makro x) in
-        let call : IsCall (length s.core.map.modules) d = call_there (length s.core.map.modules) s.core.calls i d p.calls may.due.waiting.call in
+        let call : IsCall (length s.core.map.modules) d = waiting_call i d may.called.due.waiting.call in
         let after : State = perform (asking s (expands_call i d makro x)) (ends i fates.Handled ∷ goes_on (visits_over within x.tree.tree.items) ∷ []) in
         let longer : length s.core.map.modules ≤ length s.core.map.modules = omega arith in
-        (tt, (site_visits within clear x.tree.tree.items, failing_reported after d (error_of x.there) refl longer call))
+        (tt, (site_visits within clear x.tree.tree.items, expanding_reported after d _ (error_of x.there) refl longer call))
     stays_reported finished (drops_call i d) may read = (tt, tt)
+    stays_reported finished (drops_reached i d makro) may read = (tt, fine_bringing StaysReported _ (λ t helper. tt) _ _)
+    stays_reported finished (derives_builtin i d makro imp) may read = (tt, (tt, fine_bringing StaysReported _ (λ t helper. tt) _ _))
+    stays_reported finished (skips_attribute i d k waited) may read =
+        let call : IsCall (length s.core.map.modules) d = waiting_call i d may.due.waiting.call in
+        (tt, (neither (unwritten d.site.tree.file d.site.tree.block) false call.site refl, tt))
+    stays_reported finished (falls_back i d k waited) may read =
+        let call : IsCall (length s.core.map.modules) d = waiting_call i d may.waiting.call in
+        (tt, (call_reported s.core.map.id (length s.core.map.modules) d call, (neither (unwritten d.site.tree.file d.site.tree.block) false call.site refl, tt)))
     stays_reported finished (resolves_imports rule) may read = all_fine StaysReported (λ t c. tt) (import_acts finished (import_state s) rule) s
 
     reported-Step : (env : Environment) (finished : Maps) (new : State) → Step env finished s new → AreClear new → IsReported new
@@ -400,9 +482,9 @@ module _ (unwritten : HirFileId → Option BlockId → Bool) where
   calls_reported : (id : MapId) (n : ℕ) (ds : List MacroDirective) (fs : List Fate) → AreCalls n ds → AreReports id n (unresolved_calls id ds fs)
   calls_reported id n [] fs f = tt
   calls_reported id n (d ∷ ds) [] f = tt
-  calls_reported id n (d ∷ ds) (fates.Waits ∷ fs) f =
-      let call : IsCall n d = f.0 in (record { own = refl; below = call.below; written = call.written }, calls_reported id n ds fs f.1)
+  calls_reported id n (d ∷ ds) (fates.Waits ∷ fs) f = (call_reported id n d f.0, calls_reported id n ds fs f.1)
   calls_reported id n (d ∷ ds) (fates.Handled ∷ fs) f = calls_reported id n ds fs f.1
+  calls_reported id n (d ∷ ds) (fates.GivenUp ∷ fs) f = calls_reported id n ds fs f.1
 
   -- the imports that are left over are among those that were reached
   unresolved_clear : (rs : List ImportDirective) (ts : List TakenValue) → list_any on_reached rs ≡ false → list_any on_reached (unresolved_among rs ts) ≡ false
@@ -440,6 +522,22 @@ module _ (unwritten : HirFileId → Option BlockId → Bool) where
       (import_reported id n names r.home r.source r.path g.0 (not_first (on_reached r) (list_any on_reached rs) f))
       (imports_reported id n names rs (not_second (on_reached r) (list_any on_reached rs) f) g.1)
 
+  -- what others see of a map has its diagnostics
+  ended_reported : (c : Core) (ds : List DefDiagnostic) → AreReports c.map.id (length c.map.modules) (c.map.diagnostics ++ ds)
+      → AreReports (with_diagnostics (ended c) ds).id (length (with_diagnostics (ended c) ds).modules) (with_diagnostics (ended c) ds).diagnostics
+  ended_reported c ds all = go c.is_proc_macro
+    where
+      changed : Map
+      changed = with_scope c.map 0 (exporting_scope c.map.id.krate c.exported)
+
+      longer : length c.map.modules ≤ length changed.modules
+      longer = let same : length changed.modules ≡ length c.map.modules = length-changed c.map.modules 0 (with_module_scope (exporting_scope c.map.id.krate c.exported)) in omega arith
+
+      go : (b : Bool)
+          → AreReports (with_diagnostics (cond b changed c.map) ds).id (length (with_diagnostics (cond b changed c.map) ds).modules) (with_diagnostics (cond b changed c.map) ds).diagnostics
+      go true = reports_more c.map.id (length c.map.modules) (length changed.modules) longer (c.map.diagnostics ++ ds) all
+      go false = all
+
   -- where the test holds of no source that was asked for, each diagnostic is of a module of the map, and about something of which it doesn't hold
   pub ends_reported : (tables : TablesValue) (w : Workspace) (all : Maps) (from : Beginning) (answer : CollectedValue) → Ends tables w all from answer
       → ((key : TreeKey) → Contains answer.asked (keys.Tree key) → unwritten key.id.file key.id.block ≡ false)
@@ -463,5 +561,6 @@ module _ (unwritten : HirFileId → Option BlockId → Bool) where
       (unresolved_below n e.last.core.reached e.last.core.taken below.imports) in
       let waiting : AreReports m.id n (unresolved_calls m.id e.last.core.calls e.last.core.fates) = calls_reported m.id n e.last.core.calls e.last.core.fates end.calls in
       subst (λ (x : Map). AreReports x.id (length x.modules) x.diagnostics) (sym e.map_is)
-      (reports_joined m.id n m.diagnostics (unresolved_calls m.id e.last.core.calls e.last.core.fates ++ leftover_diagnostics m e.last.core.reached e.last.core.taken) end.reports
-      (reports_joined m.id n (unresolved_calls m.id e.last.core.calls e.last.core.fates) (leftover_diagnostics m e.last.core.reached e.last.core.taken) waiting leftover))
+      (ended_reported e.last.core (leftover_reports e.last.core)
+      (reports_joined m.id n m.diagnostics (leftover_reports e.last.core) end.reports
+      (reports_joined m.id n (unresolved_calls m.id e.last.core.calls e.last.core.fates) (leftover_diagnostics m e.last.core.reached e.last.core.taken) waiting leftover)))

@@ -102,6 +102,7 @@ fn is_passed(map: &DefMap, node: AstId, attr: &Attr) -> bool
 fn next_attribute(map: &DefMap, node: AstId, attrs: &[Attr], done: usize) -> Option<usize>
     ensures value { result ≡ option_map (λ next. next.0) (next_among map.now node done (list_map numbered attrs.now)) }
     ensures there { IfSome result (λ at. at < length attrs.now) }
+    ensures behind { IfSome result (λ at. done ≤ at) }
 {
     let mut at = done;
     while at < attrs.len() {

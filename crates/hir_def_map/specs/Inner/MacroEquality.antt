@@ -1,5 +1,5 @@
 -- When do two maps have the same diagnostics, the same derive helpers, and the same kept of a macro?
-use Rattle.std.specs.Prelude.{ℕ, Bool, List, nat_eq}
+use Rattle.std.specs.Prelude.{Bool, List, nat_eq}
 use Rattle.std.specs.Ordering.{on, eq_of_both}
 use Rattle.std.specs.Cmp.{IsEquivalence, on_equiv, and_equiv}
 use Rattle.std.specs.Cmp.Lexicographic.{pointwise, lists_equiv, nat_list_eq_equiv}

@@ -4,6 +4,7 @@ use Rattle.std.specs.List.{All}
 use Rattle.hir_base.specs.declared.ast_id.FileId.{FileId}
 use Rattle.hir_item_tree.specs.Collected.{is_enabled}
 use Rattle.hir_item_tree.specs.ItemTree.{Tree}
+use Rattle.hir_item_tree.specs.SourceTree.{SourceTreeValue}
 use Rattle.hir_item_tree.specs.KeptForest.{all_items}
 use Rattle.hir_item_tree.specs.Rows.{items_at, numbers_of}
 use Rattle.hir_item_tree.specs.declared.rows.ModItemId.{ModItemId}
@@ -15,7 +16,7 @@ use Rattle.hir_def_collector.specs.Moves.{Walks, WalksTooFar}
 use Rattle.hir_def_collector.specs.Start.{root_site}
 use Rattle.hir_def_collector.specs.TreeReads.{visits_at}
 use Rattle.hir_def_collector.proofs.Numbers.{tables_stay}
-use Rattle.hir_def_collector.proofs.Outline.{root_meant}
+use Rattle.hir_def_collector.proofs.Meaning.{root_meant}
 use Rattle.hir_def_collector.proofs.Walked.{spent_present, walks_disabled, walks_present}
 use Rattle.hir_def_collector.proofs.collector.walk_root.Goals as goal
 use Rattle.hir_def_collector.specs.State.{core_in}
@@ -23,34 +24,32 @@ use Rattle.hir_def_collector.specs.State.{core_in}
 pub returns-then-not-is_enabled_at_top-clause-kept : goal.returns-then-not-is_enabled_at_top-clause-kept
 returns-then-not-is_enabled_at_top-clause-kept g c = tables_stay c.args.locations.now
 
-pub walk_all-requires-clause-held : goal.walk_all-requires-clause-held
-walk_all-requires-clause-held g c =
+pub walk_all-requires-clause-meant : goal.walk_all-requires-clause-meant
+walk_all-requires-clause-meant g c =
     let tables = c.args.locations.now in
-    let w = g.D.SourceDatabase.workspace c.args.db.now in
-    let krate = (core_in c.args.run.now).map.id.krate in
-    record { held = c.requires.held; file = subst (λ (f : Option FileId). IsFileMeant tables f) (sym c.file_of_tree.ensures.value) (root_meant tables w krate c.args.id c.args.source.now c.requires.held) }
+    record { tree = c.requires.meant; file = subst (λ (f : Option FileId). IsFileMeant tables f) (sym c.file_of_tree.ensures.value) (root_meant tables c.args.id c.requires.meant).file }
 
 pub returns-then-not-is_enabled_at_top-clause-ok : goal.returns-then-not-is_enabled_at_top-clause-ok
 returns-then-not-is_enabled_at_top-clause-ok g c = λ grown k.
-    let off : is_enabled c.args.source.now.tree.attributes ≡ false =
-    ap (λ (t : Tree). is_enabled t.attributes) (sym c.tree.ensures.value) ∙ sym c.is_enabled_at_top.ensures.value ∙ c.if-not-is_enabled_at_top.true in
-    walks_disabled (environment grown (g.D.SourceDatabase.workspace c.args.db.now)) (part_of c.args.world) (root_site c.args.id) c.args.source.now.tree (core_in c.args.run.now) off
+    let off : is_enabled c.args.source.now.value.tree.attributes ≡ false =
+    ap (λ (t : Tree). is_enabled t.attributes) (sym (c.tree.ensures.value ∙ ap (λ (s : SourceTreeValue). s.tree) c.deref.ensures)) ∙ sym c.is_enabled_at_top.ensures.value ∙ c.if-not-is_enabled_at_top.true in
+    walks_disabled (environment grown (g.D.SourceDatabase.workspace c.args.db.now)) (part_of c.args.world) (root_site c.args.id) c.args.source.now.value.tree (core_in c.args.run.now) off
 
 pub walk_all-requires-clause-there : goal.walk_all-requires-clause-there
 walk_all-requires-clause-there g c =
-    All-map (λ n. n < length (all_items c.args.source.now.tree.items)) (λ (id : ModItemId). id.0) c.top_level_items-ids.result.now
-    (subst (λ (t : Tree). All (λ (id : ModItemId). id.0 < length (all_items t.items)) c.top_level_items-ids.result.now) c.tree-2.ensures.value c.top_level_items-ids.ensures.there)
+    All-map (λ n. n < length (all_items c.args.source.now.value.tree.items)) (λ (id : ModItemId). id.0) c.top_level_items-ids.result.now
+    (subst (λ (t : Tree). All (λ (id : ModItemId). id.0 < length (all_items t.items)) c.top_level_items-ids.result.now) (c.tree-2.ensures.value ∙ ap (λ (s : SourceTreeValue). s.tree) c.deref-2.ensures) c.top_level_items-ids.ensures.there)
 
 pub returns-clause-ok : goal.returns-clause-ok
 returns-clause-ok g c = λ grown k.
     let env = environment grown (g.D.SourceDatabase.workspace c.args.db.now) in
     let part = part_of c.args.world in
-    let tree = c.args.source.now.tree in
+    let tree = c.args.source.now.value.tree in
     let ids = c.top_level_items-ids.result.now in
     let on : is_enabled tree.attributes ≡ true =
-    ap (λ (t : Tree). is_enabled t.attributes) (sym c.tree.ensures.value) ∙ sym c.is_enabled_at_top.ensures.value ∙ c.if-not-is_enabled_at_top.false in
+    ap (λ (t : Tree). is_enabled t.attributes) (sym (c.tree.ensures.value ∙ ap (λ (s : SourceTreeValue). s.tree) c.deref.ensures)) ∙ sym c.is_enabled_at_top.ensures.value ∙ c.if-not-is_enabled_at_top.false in
     let all : items_at (all_items tree.items) (numbers_of ids) ≡ tree.items =
-    subst (λ (t : Tree). items_at (all_items t.items) (numbers_of ids) ≡ t.items) c.tree-2.ensures.value c.top_level_items-ids.ensures.value in
+    subst (λ (t : Tree). items_at (all_items t.items) (numbers_of ids) ≡ t.items) (c.tree-2.ensures.value ∙ ap (λ (s : SourceTreeValue). s.tree) c.deref-2.ensures) c.top_level_items-ids.ensures.value in
     let walks : Walks env part (core_in c.args.run.now) (core_in c.walk_all.new.run) (visits_at tree (root_site c.args.id) (numbers_of ids)) =
     subst (λ (d : Directory). Walks env part (core_in c.args.run.now) (core_in c.walk_all.new.run) (visits_at tree (record { home = 0; tree = c.args.id; file = file_of_tree c.args.id; extern_block = None; dir = d; level = 0 }) (numbers_of ids))) c.root.ensures.value
     (subst (λ (f : Option FileId). Walks env part (core_in c.args.run.now) (core_in c.walk_all.new.run) (visits_at tree (record { home = 0; tree = c.args.id; file = f; extern_block = None; dir = c.root.result; level = 0 }) (numbers_of ids))) c.file_of_tree.ensures.value
@@ -61,12 +60,12 @@ pub returns-in_err-walk_all-clause-many : goal.returns-in_err-walk_all-clause-ma
 returns-in_err-walk_all-clause-many g c = λ h.
     let env = environment c.walk_all.new.locations (g.D.SourceDatabase.workspace c.args.db.now) in
     let part = part_of c.args.world in
-    let tree = c.args.source.now.tree in
+    let tree = c.args.source.now.value.tree in
     let ids = c.top_level_items-ids.result.now in
     let on : is_enabled tree.attributes ≡ true =
-    ap (λ (t : Tree). is_enabled t.attributes) (sym c.tree.ensures.value) ∙ sym c.is_enabled_at_top.ensures.value ∙ c.if-not-is_enabled_at_top.false in
+    ap (λ (t : Tree). is_enabled t.attributes) (sym (c.tree.ensures.value ∙ ap (λ (s : SourceTreeValue). s.tree) c.deref.ensures)) ∙ sym c.is_enabled_at_top.ensures.value ∙ c.if-not-is_enabled_at_top.false in
     let all : items_at (all_items tree.items) (numbers_of ids) ≡ tree.items =
-    subst (λ (t : Tree). items_at (all_items t.items) (numbers_of ids) ≡ t.items) c.tree-2.ensures.value c.top_level_items-ids.ensures.value in
+    subst (λ (t : Tree). items_at (all_items t.items) (numbers_of ids) ≡ t.items) (c.tree-2.ensures.value ∙ ap (λ (s : SourceTreeValue). s.tree) c.deref-2.ensures) c.top_level_items-ids.ensures.value in
     let far : WalksTooFar env part (core_in c.args.run.now) (visits_at tree (root_site c.args.id) (numbers_of ids)) =
     subst (λ (d : Directory). WalksTooFar env part (core_in c.args.run.now) (visits_at tree (record { home = 0; tree = c.args.id; file = file_of_tree c.args.id; extern_block = None; dir = d; level = 0 }) (numbers_of ids))) c.root.ensures.value
     (subst (λ (f : Option FileId). WalksTooFar env part (core_in c.args.run.now) (visits_at tree (record { home = 0; tree = c.args.id; file = f; extern_block = None; dir = c.root.result; level = 0 }) (numbers_of ids))) c.file_of_tree.ensures.value

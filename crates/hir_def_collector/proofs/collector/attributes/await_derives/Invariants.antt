@@ -7,7 +7,7 @@ use Rattle.hir_def_collector.proofs.collector.attributes.await_derives.Given as 
 -- those listed so far, with those that are left, are all
 abbrev pub invariant-loop-path : goal.invariant-loop-path
 invariant-loop-path l = record {
-  all : with_calls (core_in l.run) (derives_from l.site.now l.node l.attr l.adt l.index (drop l.path-index l.paths.now))
-      ≡ with_calls (core_in l.initial.run) (derives_from l.site.now l.node l.attr l.adt 0 l.paths.now);
+  all : with_calls (core_in l.run) (derives_from l.site l.node l.attr l.adt l.index (drop l.path-index l.paths))
+      ≡ with_calls (core_in l.initial.run) (derives_from l.site l.node l.attr l.adt 0 l.paths);
   noted : IsNoted l.initial.run l.run;
 }

@@ -1,19 +1,24 @@
 -- What is due is done about what waits.
-use Rattle.std.proofs.Common.{rules, ◌≡◌, ◌∙◌, ◌≤◌, Some, None, ap, refl, slice_get, subst}
+use Rattle.std.proofs.Common.{rules, ◌≡◌, ◌∙◌, ◌≤◌, Some, None, ap, refl, slice_get, subst, sym}
 use Rattle.hir_def_map.specs.WorldParts.{part_of}
 use Rattle.hir_def_collector.specs.declared.collector.macro_directive.Fate.TheVariants.{Handled, Waits}
 use Rattle.hir_def_collector.specs.CallMoves.{handled, left}
+use Rattle.hir_def_collector.specs.Calls.{waiting_item}
 use Rattle.hir_def_collector.specs.Keys.{environment}
 use Rattle.hir_def_collector.specs.State.{Core, at_rest, core_in}
 use Rattle.hir_def_collector.specs.Steps.{IsDeep, drops_call, none}
 use Rattle.hir_def_collector.proofs.CallSteps.{dropped, past_rule}
 use Rattle.hir_def_collector.proofs.Lists.{get_inside, get_set_same}
-use Rattle.hir_def_collector.proofs.GivingUp.{nothing_due}
+use Rattle.hir_def_collector.proofs.GivingUp.{has_impl, nothing_due}
+use Rattle.hir_def_collector.proofs.Noted.{noted_itself}
 use Rattle.hir_def_collector.proofs.collector.calls.do_due.Goals as goal
 
 -- nothing is
 pub returns-in-Nothing-clause-ok : goal.returns-in-Nothing-clause-ok
 returns-in-Nothing-clause-ok g c = λ grown k. none
+
+pub returns-in-Nothing-clause-noted : goal.returns-in-Nothing-clause-noted
+returns-in-Nothing-clause-noted g c = noted_itself c.args.run.now
 
 pub returns-in-Nothing-clause-tried : goal.returns-in-Nothing-clause-tried
 returns-in-Nothing-clause-tried g c = left refl (nothing_due (part_of c.args.world) (core_in c.args.run.now) c.args.i c.args.call.now c.requires.waits.waiting c.requires.due)
@@ -37,6 +42,85 @@ returns-in_ok-drop_call-in-TooDeep-clause-tried g c =
     handled c.args.call.now c.requires.waits.waiting
     (ap (λ (x : Core). slice_get x.fates c.args.i) c.in_ok-drop_call-in-TooDeep.ensures.ok ∙ get_set_same old.fates c.args.i Handled (get_inside old.fates c.args.i Waits c.requires.waits.waiting.waits))
 
--- the others: each callee's `handled` with `handled c.args.call.now c.requires.waits.waiting`, its `ok` (of derive_builtin and drop_reached for each environment, so for this one), and its
--- `many`; their premises are made of `c.requires.waits` and `c.requires.due` (FindsMacro, FindsBuiltin, IsPassedOver); the item of Skips is there by c.requires.due.1, and the impl of
--- Derives by `builtin_impl` on a derive (waiting_item ≡ None and no call, since has_expansion is false)
+-- the item of an attribute for which nothing is looked up goes on
+pub returns-in_default-in-Skips-clause-ok : goal.returns-in_default-in-Skips-clause-ok
+returns-in_default-in-Skips-clause-ok g c = λ grown k. none
+
+pub returns-in_default-in-Skips-clause-noted : goal.returns-in_default-in-Skips-clause-noted
+returns-in_default-in-Skips-clause-noted g c = noted_itself c.args.run.now
+
+pub returns-in_default-in-Skips-clause-tried : goal.returns-in_default-in-Skips-clause-tried
+returns-in_default-in-Skips-clause-tried g c =
+    let none : waiting_item c.args.call.now ≡ None = sym c.in_default.ensures.value in
+    let some : waiting_item c.args.call.now ≡ Some c.requires.due.0 = c.requires.due.1 in
+    absurd (let no : ⊥ = cc in no)
+
+pub skip-requires-clause-of : goal.skip-requires-clause-of
+skip-requires-clause-of g c = sym c.in-Some.ensures.value
+
+pub skip-requires-clause-passed : goal.skip-requires-clause-passed
+skip-requires-clause-passed g c = c.requires.due.2
+
+pub returns-in_ok-skip-in-Skips-clause-tried : goal.returns-in_ok-skip-in-Skips-clause-tried
+returns-in_ok-skip-in-Skips-clause-tried g c = handled c.args.call.now c.requires.waits.waiting c.in_ok-skip-in-Skips.ensures.handled
+
+-- a path of a derive that reaches a builtin macro stands for an impl
+pub returns-in_default-in-Derives-clause-ok : goal.returns-in_default-in-Derives-clause-ok
+returns-in_default-in-Derives-clause-ok g c = λ grown k. none
+
+pub returns-in_default-in-Derives-clause-noted : goal.returns-in_default-in-Derives-clause-noted
+returns-in_default-in-Derives-clause-noted g c = noted_itself c.args.run.now
+
+pub returns-in_default-in-Derives-clause-tried : goal.returns-in_default-in-Derives-clause-tried
+returns-in_default-in-Derives-clause-tried g c =
+    absurd (has_impl c.in-Derives.makro c.args.call.now.kind c.requires.due.0.builtin c.requires.due.1 (sym c.in_default-imp.ensures.value))
+
+pub derive_builtin-requires-clause-in_range : goal.derive_builtin-requires-clause-in_range
+derive_builtin-requires-clause-in_range g c = c.requires.ready.calls c.args.i c.args.call.now c.requires.waits.waiting.call
+
+pub derive_builtin-requires-clause-builtin : goal.derive_builtin-requires-clause-builtin
+derive_builtin-requires-clause-builtin g c =
+    record { due = c.requires.waits; reaches = c.requires.due.0.reaches; builtin = c.requires.due.0.builtin; is = sym c.in-Some-imp.ensures.value }
+
+pub returns-in_err-derive_builtin-in-Derives-clause-many : goal.returns-in_err-derive_builtin-in-Derives-clause-many
+returns-in_err-derive_builtin-in-Derives-clause-many g c = λ h grown k.
+    c.in_err-derive_builtin-in-Derives.ensures.many (search rules) (environment grown (g.D.SourceDatabase.workspace c.args.db.now))
+
+pub returns-in_ok-derive_builtin-in-Derives-clause-ok : goal.returns-in_ok-derive_builtin-in-Derives-clause-ok
+returns-in_ok-derive_builtin-in-Derives-clause-ok g c = λ grown k. c.in_ok-derive_builtin-in-Derives.ensures.ok (environment grown (g.D.SourceDatabase.workspace c.args.db.now))
+
+pub returns-in_ok-derive_builtin-in-Derives-clause-tried : goal.returns-in_ok-derive_builtin-in-Derives-clause-tried
+returns-in_ok-derive_builtin-in-Derives-clause-tried g c = handled c.args.call.now c.requires.waits.waiting c.in_ok-derive_builtin-in-Derives.ensures.handled
+
+-- what reaches another macro and is too deep brings its helpers
+pub drop_reached-requires : goal.drop_reached-requires
+drop_reached-requires g c = record {
+  deep = record {
+    called = record { due = c.requires.waits; active = c.requires.due.0.active; reaches = c.requires.due.0.reaches; expands = c.requires.due.0.expands };
+    no_call = c.requires.due.1;
+    deep = c.requires.due.2;
+  };
+}
+
+pub returns-in_err-drop_reached-in-Drops-clause-many : goal.returns-in_err-drop_reached-in-Drops-clause-many
+returns-in_err-drop_reached-in-Drops-clause-many g c = λ h grown k.
+    c.in_err-drop_reached-in-Drops.ensures.many (search rules) (environment grown (g.D.SourceDatabase.workspace c.args.db.now))
+
+pub returns-in_ok-drop_reached-in-Drops-clause-ok : goal.returns-in_ok-drop_reached-in-Drops-clause-ok
+returns-in_ok-drop_reached-in-Drops-clause-ok g c = λ grown k. c.in_ok-drop_reached-in-Drops.ensures.ok (environment grown (g.D.SourceDatabase.workspace c.args.db.now))
+
+pub returns-in_ok-drop_reached-in-Drops-clause-tried : goal.returns-in_ok-drop_reached-in-Drops-clause-tried
+returns-in_ok-drop_reached-in-Drops-clause-tried g c = handled c.args.call.now c.requires.waits.waiting c.in_ok-drop_reached-in-Drops.ensures.handled
+
+-- and what isn't is expanded
+pub expand-requires-clause-called : goal.expand-requires-clause-called
+expand-requires-clause-called g c = record { due = c.requires.waits; active = c.requires.due.0.active; reaches = c.requires.due.0.reaches; expands = c.requires.due.0.expands }
+
+pub expand-requires-clause-shallow : goal.expand-requires-clause-shallow
+expand-requires-clause-shallow g c = c.requires.due.1
+
+pub expand-requires-clause-below : goal.expand-requires-clause-below
+expand-requires-clause-below g c = c.requires.below c.in-Reaches.makro refl
+
+pub returns-in_ok-expand-in-Reaches-clause-tried : goal.returns-in_ok-expand-in-Reaches-clause-tried
+returns-in_ok-expand-in-Reaches-clause-tried g c = handled c.args.call.now c.requires.waits.waiting c.in_ok-expand-in-Reaches.ensures.handled

@@ -1,4 +1,5 @@
 -- What each part notes, all note.
+use Rattle.std.proofs.Common.{refl, rules}
 use Rattle.hir_def_collector.proofs.Noted.{noted_follow}
 use Rattle.hir_def_collector.proofs.collector.exports.declare_exporting.Goals as goal
 

@@ -17,7 +17,7 @@ returns-clause-ok c = λ env finished items. record {
 }
 
 pub returns-clause-within : goal.returns-clause-within
-returns-clause-within c = λ tables w.
+returns-clause-within c = λ tables.
     let listed : (core_in c.tick.new.self) ≡ counted (with_map (core_in c.args.run.now) (with_extern_block (core_in c.args.run.now).map c.args.site.now.home (extern_block_id (core_in c.args.run.now).map c.args.site.now c.args.head.id))) =
     rw (c.in_ok-tick.ensures.ok, c.in_ok-list_extern_block.ensures.ok, c.module_id.ensures.value) refl in (
       record {

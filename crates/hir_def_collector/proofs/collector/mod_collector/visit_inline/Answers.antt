@@ -33,7 +33,7 @@ returns-clause-ok c = λ env items.
     ∙ ap (λ (o : Option Directory). visits_inside (core_in c.args.run.now).map c.args.site.now (head_of c.args.head) o (items_at items (numbers_of c.args.ids.now))) (sym some))
 
 pub returns-clause-within : goal.returns-clause-within
-returns-clause-within c = λ tables w.
+returns-clause-within c = λ tables.
     let some : inline_directory c.args.site.now.dir c.args.name.now (path_of (head_of c.args.head)) ≡ Some c.in-Some.dir =
     ap (λ (p : Option (List ℕ)). inline_directory c.args.site.now.dir c.args.name.now p) (sym (c.path_attr-path.ensures.value ∙ ap (λ (attrs : List Attr). path_attribute (map numbered attrs)) c.as_slice.ensures.value))
     ∙ sym c.in_ok-dir.ensures.value ∙ c.in-Some.is in

@@ -1,10 +1,9 @@
-use Rattle.std.proofs.Common.{rules, ◌≡◌, true, refl, inl}
+use Rattle.std.proofs.Common.{rules, ◌≡◌, true, inl}
 use Rattle.hir_def_map.specs.WorldParts.{part_of}
 use Rattle.hir_def_collector.specs.Keys.{environment}
 use Rattle.hir_def_collector.specs.Moves.{is_single}
 use Rattle.hir_def_collector.specs.TreeReads.{head_of}
 use Rattle.hir_def_collector.proofs.Numbers.{tables_stay}
-use Rattle.hir_def_collector.proofs.Outline.{held_grown, held_source}
 use Rattle.hir_def_collector.proofs.Walked.{block_here, far_item, inline_here, single_here}
 use Rattle.hir_def_collector.proofs.collector.mod_collector.visit_item.Goals as goal
 use Rattle.hir_def_collector.specs.State.{core_in}
@@ -13,7 +12,7 @@ pub returns-in_err-visit_leaf-in_default : goal.returns-in_err-visit_leaf-in_def
 returns-in_err-visit_leaf-in_default g c = record {
   kept = tables_stay c.args.locations.now;
   placed = λ h. h;
-  same = refl;
+  same = c.in_err-visit_leaf-in_default.ensures.same;
   ok = search rules;
   noted = search rules;
   within = search rules;
@@ -37,12 +36,8 @@ pub returns-in_ok-visit_leaf-in_default : goal.returns-in_ok-visit_leaf-in_defau
 returns-in_ok-visit_leaf-in_default g c = record {
   kept = tables_stay c.args.locations.now;
   placed = λ h. h;
-  same = refl;
-  ok = λ grown k items.
-      let w = g.D.SourceDatabase.workspace c.args.db.now in
-      let krate = (core_in c.args.run.now).map.id.krate in
-      let held = held_grown c.args.locations.now grown w krate c.args.site.now.tree c.args.source.now k c.requires.held.held in
-      c.in_ok-visit_leaf-in_default.ensures.ok (environment grown w) (held_source grown w krate c.args.site.now.tree c.args.source.now held) items;
+  same = c.in_ok-visit_leaf-in_default.ensures.same;
+  ok = c.in_ok-visit_leaf-in_default.ensures.ok;
   noted = c.in_ok-visit_leaf-in_default.ensures.noted;
   within = tt;
   many = λ h. absurd (let no : ⊥ = cc in no);

@@ -1,6 +1,11 @@
--- Where no attribute waits nothing changes.
-use Rattle.std.proofs.Common.{refl}
+-- Where no attribute waits nothing changes; the other ways out aren't taken, since an attribute that waits has an item.
+use Rattle.std.proofs.Common.{rules, ◌≡◌, ◌∙◌, None, Some, ap, refl, subst, sym}
+use Rattle.hir_def_collector.specs.declared.collector.macro_directive.MacroDirective.{MacroDirective}
+use Rattle.hir_def_collector.specs.CallMoves.{IsAttributeWaiting}
+use Rattle.hir_def_collector.specs.Calls.{IsWaiting, waiting_item}
+use Rattle.hir_def_collector.specs.State.{Core, at_rest, core_in}
 use Rattle.hir_def_collector.specs.Steps.{none}
+use Rattle.hir_def_collector.proofs.GivingUp.{has_item}
 use Rattle.hir_def_collector.proofs.Noted.{noted_itself}
 use Rattle.hir_def_collector.proofs.collector.resume.give_up.Goals as goal
 
@@ -13,4 +18,31 @@ returns-in_default-clause-noted g c = noted_itself c.args.run.now
 pub returns-in_default-clause-given : goal.returns-in_default-clause-given
 returns-in_default-clause-given g c = (refl, c.in_default.ensures.none)
 
--- what is left: the other ways out can't be taken, since IsFirstWaiting says that a call waits at the place, with an item; the requirements of `give_up_at` are made of c.in-Some.ensures.found
+pub returns-in_default-waiting-clause-ok : goal.returns-in_default-waiting-clause-ok
+returns-in_default-waiting-clause-ok g c = λ grown k. none
+
+pub returns-in_default-waiting-clause-noted : goal.returns-in_default-waiting-clause-noted
+returns-in_default-waiting-clause-noted g c = noted_itself c.args.run.now
+
+pub returns-in_default-waiting-clause-given : goal.returns-in_default-waiting-clause-given
+returns-in_default-waiting-clause-given g c =
+    let first : IsAttributeWaiting (core_in c.args.run.now) c.in-Some.i = c.in-Some.ensures.found.waits in
+    absurd (c.in_default-waiting.ensures.none first.call first.waits)
+
+pub returns-in_default-waiting_item-clause-ok : goal.returns-in_default-waiting_item-clause-ok
+returns-in_default-waiting_item-clause-ok g c = λ grown k. none
+
+pub returns-in_default-waiting_item-clause-noted : goal.returns-in_default-waiting_item-clause-noted
+returns-in_default-waiting_item-clause-noted g c = noted_itself c.args.run.now
+
+pub returns-in_default-waiting_item-clause-given : goal.returns-in_default-waiting_item-clause-given
+returns-in_default-waiting_item-clause-given g c =
+    absurd (has_item (core_in c.args.run.now) c.in-Some.i c.in-Some-waiting.call.now c.in-Some.ensures.found c.in-Some-waiting.ensures.waits
+    (ap waiting_item (sym c.in_ok-call.ensures.value) ∙ sym c.in_default-waiting_item.ensures.value))
+
+pub give_up_at-requires-clause-waits : goal.give_up_at-requires-clause-waits
+give_up_at-requires-clause-waits g c =
+    subst (IsWaiting (at_rest (core_in c.args.run.now)) c.in-Some.i) (sym c.in_ok-call.ensures.value) c.in-Some-waiting.ensures.waits
+
+pub give_up_at-requires-clause-of : goal.give_up_at-requires-clause-of
+give_up_at-requires-clause-of g c = sym c.in-Some-waiting_item.ensures.value

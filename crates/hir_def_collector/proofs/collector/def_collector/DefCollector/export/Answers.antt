@@ -4,7 +4,7 @@ use Rattle.hir_def_collector.specs.contracts.collector.def_collector.DefCollecto
 use Rattle.hir_def_collector.specs.State.{Run}
 use Rattle.hir_def_collector.specs.Waiting.{IsNoted}
 use Rattle.hir_def_collector.proofs.Noted.{noted_exported}
-use Rattle.hir_def_collector.proofs.collector.def_collector.waiting.DefCollector.export.Goals as goal
+use Rattle.hir_def_collector.proofs.collector.def_collector.DefCollector.export.Goals as goal
 
 pub returns-clause-noted : goal.returns-clause-noted
 returns-clause-noted c =
