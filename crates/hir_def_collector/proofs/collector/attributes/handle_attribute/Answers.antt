@@ -1,5 +1,5 @@
 -- A `derive` is taken, and the item goes on; for any other attribute it waits.
-use Rattle.std.proofs.Common.{rules, ◌≡◌, ◌∙◌, ◌+◌, ◌≤◌, ◌∷◌, [], Bool, true, false, refl, subst, sym, ap}
+use Rattle.std.proofs.Common.{◌≡◌, ◌∙◌, ◌+◌, ◌≤◌, ◌∷◌, [], Bool, true, false, get_or, subst, sym, ap}
 use Rattle.hir_item_tree.specs.Collected.{numbered}
 use Rattle.hir_item_tree.specs.declared.attrs.Attr.{Attr}
 use Rattle.hir_def_collector.specs.declared.collector.macro_directive.WaitingItem.{WaitingItem}
@@ -26,8 +26,8 @@ returns-clause-ok c = λ env finished item from a is there next.
     let v = c.args.visited in
     let old : Core = core_in c.args.run.now in
     let new : Core = core_in c.tick.new.self in
-    let attr : Attr = c.index-visited-at.result in
-    let same : attr ≡ a = item_is v.attrs.now c.args.at a attr there c.index-visited-at.is in
+    let attr : Attr = get_or v.attrs.now c.args.at c.index-visited-at.result in
+    let same : attr ≡ a = sym c.index-visited-at.is ∙ item_is v.attrs.now c.args.at a c.index-visited-at.result there c.index-visited-at.is in
     let named : c.is_keyed-goes_on.result ≡ is_derive (numbered a) = c.is_keyed-goes_on.ensures.value ∙ ap (λ (x : Attr). is_derive (numbered x)) same in
     elim c.if-goes_on.branch [
       then-goes_on+in_ok-take_derive w ↦
