@@ -16,10 +16,6 @@ use Rattle.hir_def_collector.proofs.Noted.{noted_follow, noted_itself}
 use Rattle.hir_def_collector.proofs.Passing.{PassesTo, passes_all, passes_far, passes_next, passes_none, passes_waits, place_of, visited_at, visited_none}
 use Rattle.hir_def_collector.proofs.collector.attributes.pass_attributes.Goals as goal
 
-no_place : (o : Option ℕ) → ((at : ℕ) → o ≡ Some at → ⊥) → o ≡ None
-no_place None none = refl
-no_place (Some at) none = absurd (none at refl)
-
 pub next-init : goal.next-init
 next-init c = record {
   goes = λ env finished item is. passes_none env finished (core_in c.args.run.now) c.args.visited item c.args.from is;
@@ -81,7 +77,7 @@ returns-clause-ok c = λ env finished item is.
     let old : Core = core_in c.args.run.now in
     let now : Core = core_in c.next.run in
     let before : PassesTo env finished old v item c.args.from now c.next.done = c.next.invariant.goes env finished item is in
-    let gone : c.next_attribute.result ≡ None = no_place c.next_attribute.result c.in_default.not-Some in
+    let gone : c.next_attribute.result ≡ None = search (rules, c.in_default.is) in
     let past : None ≡ place_of (next_among now.map v.node c.next.done (map numbered v.attrs.now)) =
     subst (λ (m : Map). None ≡ place_of (next_among m v.node c.next.done (map numbered v.attrs.now))) c.map.ensures.value (sym gone ∙ c.next_attribute.ensures.value) in
     passes_all env finished old v item c.args.from now c.next.done before (visited_none now.map v item before.still c.next.done past)
