@@ -20,7 +20,8 @@ use Rattle.hir_def_collector.specs.declared.collector.macro_directive.WaitingIte
 use Rattle.hir_def_collector.specs.declared.collector.site.Site.{Site}
 use Rattle.hir_def_collector.specs.declared.collector.TheConstants.{STEP_LIMIT}
 use Rattle.hir_def_collector.specs.Attributes.{adt_by, adt_of, attr_id, first_looked_up, is_derive, is_passed, item_node, next_among, next_attribute, paths_in}
-use Rattle.hir_def_collector.specs.Derivation.{IsSpent, counted_out}
+use Rattle.hir_def_collector.specs.Calls.{item_kept}
+use Rattle.hir_def_collector.specs.Derivation.{counted_out}
 use Rattle.hir_def_collector.specs.ItemIds.{enum_id, module_id, struct_id, union_id}
 use Rattle.hir_def_collector.specs.Keys.{Environment}
 use Rattle.hir_def_collector.specs.Moves.{HandlesAttribute, IsVisited, Passes, PassesTooFar, TakesDerive, goes_behind, listed, no_paths, no_target}
@@ -137,7 +138,7 @@ visited_still m n v item same is = record { kept = is.kept; node = is.node; enab
 -- ---- one attribute
 
 -- its item is kept as it waits
-abbrev pub waiting_behind : Visited → ℕ → WaitingItem
+abbrev waiting_behind : Visited → ℕ → WaitingItem
 waiting_behind v done = record { source = v.source.now; id = v.id; done = done }
 
 module _ (env : Environment) (finished : Maps) (old : Core) (v : Visited) (item : KeptItem) (is : IsVisited old.map v item) (from at : ℕ) (a : Attribute) (next : next_attribute old.map v.site.now item from ≡ Some (at, a)) where
@@ -151,12 +152,12 @@ module _ (env : Environment) (finished : Maps) (old : Core) (v : Visited) (item 
   has rest = record { on = record { next = refl; enabled = is.enabled }; active = next }
 
   -- it waits
-  pub awaited : (new : Core) → is_derive a ≡ false → new ≡ counted (with_calls old (attribute_at v.site.now v.node (attr_id a) a.meta.path (waiting_behind v (at + 1)) ∷ []))
-      → HandlesAttribute env finished old new (visit v.site.now item) from []
-  awaited new looked_up e = record {
+  pub awaited : (new : Core) (k : WaitingItem) → is_derive a ≡ false → k.done ≡ suc at → item_kept k ≡ Some item
+      → new ≡ counted (with_calls old (attribute_at v.site.now v.node (attr_id a) a.meta.path k ∷ [])) → HandlesAttribute env finished old new (visit v.site.now item) from []
+  awaited new k looked_up behind_it kept e = record {
     step = λ rest.
-        made (awaits_attribute here a (waiting_behind v (at + 1)) rest) (record { has = has rest; looked_up = looked_up; behind_it = omega arith; kept = is.kept }) tt tt
-        (ap (λ (c : Core). joined c rest) e ∙ ap (λ (node : AstId). joined (counted (with_calls old (attribute_at v.site.now node (attr_id a) a.meta.path (waiting_behind v (at + 1)) ∷ []))) rest) is.node);
+        made (awaits_attribute here a k rest) (record { at = at; has = has rest; looked_up = looked_up; behind_it = behind_it; kept = kept }) tt tt
+        (ap (λ (c : Core). joined c rest) e ∙ ap (λ (node : AstId). joined (counted (with_calls old (attribute_at v.site.now node (attr_id a) a.meta.path k ∷ []))) rest) is.node);
   }
 
   -- it lists derives, or can't
@@ -167,17 +168,17 @@ module _ (env : Environment) (finished : Maps) (old : Core) (v : Visited) (item 
         (ap (λ (c : Core). joined c (visits (behind here (suc at)) ∷ rest)) (e ∙ ap counted becomes)
         ∙ ap (λ (node : AstId). joined (counted (with_calls old (derives_from v.site.now node (attr_id a) target 0 paths))) (visits (behind here (suc at)) ∷ rest)) is.node);
   }
-  taken mid new derives (no_target no becomes) e = record {
+  taken mid new derives (no_target none_is becomes) e = record {
     step = λ rest.
         made (faults_derive here at (invalid_target (module_id old.map v.site.now.home) (item_node v.site.now item) (attr_id a)) rest)
-        (record { attribute = a; has = has rest; derives = derives; faulty = is_no_target (sym is.adt ∙ no) refl }) tt tt
+        (record { attribute = a; has = has rest; derives = derives; faulty = is_no_target (sym is.adt ∙ none_is) refl }) tt tt
         (ap (λ (c : Core). joined c (visits (behind here (suc at)) ∷ rest)) (e ∙ ap counted becomes)
         ∙ ap (λ (node : AstId). joined (counted (with_map old (with_diagnostic old.map (invalid_target (module_id old.map v.site.now.home) node (attr_id a))))) (visits (behind here (suc at)) ∷ rest)) is.node);
   }
-  taken mid new derives (no_paths target of_target no becomes) e = record {
+  taken mid new derives (no_paths target of_target none_is becomes) e = record {
     step = λ rest.
         made (faults_derive here at (malformed_derive (module_id old.map v.site.now.home) (item_node v.site.now item) (attr_id a)) rest)
-        (record { attribute = a; has = has rest; derives = derives; faulty = lists_none target (sym is.adt ∙ of_target) no refl }) tt tt
+        (record { attribute = a; has = has rest; derives = derives; faulty = lists_none target (sym is.adt ∙ of_target) none_is refl }) tt tt
         (ap (λ (c : Core). joined c (visits (behind here (suc at)) ∷ rest)) (e ∙ ap counted becomes)
         ∙ ap (λ (node : AstId). joined (counted (with_map old (with_diagnostic old.map (malformed_derive (module_id old.map v.site.now.home) node (attr_id a))))) (visits (behind here (suc at)) ∷ rest)) is.node);
   }
@@ -200,13 +201,7 @@ module _ (env : Environment) (finished : Maps) (old : Core) (v : Visited) (item 
 
       by_name : (derives : Bool) → is_derive a ≡ derives → Goes env finished (before rest)
       by_name true e = by_target e (adt_of old.map v.site.now item) refl
-      by_name false e = goes (awaits_attribute here a (waiting_behind v (suc at)) rest) (record { has = has rest; looked_up = e; behind_it = refl; kept = is.kept }) tt tt
-
--- what is taken leaves what is counted
-pub count_taken : (site : Site) (node : AstId) (a : Attribute) (adt : Option AdtId) (old new : Core) → TakesDerive site node a adt old new → new.count ≡ old.count
-count_taken site node a adt old new (listed target paths of_target of_paths is) = ap (λ (c : Core). c.count) is
-count_taken site node a adt old new (no_target no is) = ap (λ (c : Core). c.count) is
-count_taken site node a adt old new (no_paths target of_target no is) = ap (λ (c : Core). c.count) is
+      by_name false e = goes (awaits_attribute here a (waiting_behind v (suc at)) rest) (record { at = at; has = has rest; looked_up = e; behind_it = refl; kept = is.kept }) tt tt
 
 -- ---- one after another
 

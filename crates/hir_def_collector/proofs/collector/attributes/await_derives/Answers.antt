@@ -2,6 +2,7 @@
 use Rattle.std.proofs.Common.{rules, ◌≡◌, ◌∙◌, ◌∷◌, [], ◌+◌, ◌≤◌, ℕ, List, ap, drop, get_or, length, refl, subst, sym}
 use Rattle.std.proofs.lemmas.List.{drop_all, drop_more}
 use Rattle.hir_base.specs.ModPath.{Path}
+use Rattle.hir_use_tree.specs.UseTree.{count_of}
 use Rattle.hir_def_collector.specs.declared.collector.macro_directive.MacroDirective.{MacroDirective}
 use Rattle.hir_def_collector.specs.State.{Core, core_in, with_calls}
 use Rattle.hir_def_collector.specs.Steps.{derive_at, derives_from}
@@ -25,7 +26,7 @@ loop-path-preserved c =
     record {
       all =
           ap (λ (n : ℕ). with_calls (core_in c.await_derive.new.run) (from n left)) c.place_after-index.ensures.value
-          ∙ ap (λ (core : Core). with_calls core (from _ left)) c.in_ok-await_derive.ensures.ok ∙ one_more_call now here (from _ left)
+          ∙ ap (λ (core : Core). with_calls core (from (count_of (c.loop-path.index + 1)) left)) c.in_ok-await_derive.ensures.ok ∙ one_more_call now here (from (count_of (c.loop-path.index + 1)) left)
           ∙ ap (λ (ps : List Path). with_calls now (from c.loop-path.index ps)) (sym split) ∙ c.loop-path.invariant.all;
       noted = noted_follow c.loop-path.invariant.noted c.in_ok-await_derive.ensures.noted;
     }
