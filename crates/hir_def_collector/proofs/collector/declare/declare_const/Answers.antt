@@ -1,8 +1,11 @@
-use Rattle.std.proofs.Common.{refl}
+use Rattle.std.proofs.Common.{Some, refl}
+use Rattle.hir_item_tree.specs.KeptForest.{leaf, constant}
+use Rattle.hir_def_collector.specs.Steps.{visit}
+use Rattle.hir_def_collector.specs.TreeReads.{head_of}
 use Rattle.hir_def_collector.proofs.Made.{declared}
 use Rattle.hir_def_collector.proofs.collector.declare.declare_const.Goals as goal
 
 pub returns-clause-ok : goal.returns-clause-ok
 returns-clause-ok c = λ env. record {
-  step = λ done passed rest. declared _ _ _ _ done passed rest c.requires.enabled refl refl (rw (c.in_ok-declare_value.ensures.ok, c.container.ensures.value) refl);
+  step = λ done passed rest. declared _ _ (visit c.args.site.now (leaf (head_of c.args.head) (constant (Some c.args.name.now)))) _ done passed rest c.requires.enabled refl refl (rw (c.in_ok-declare_value.ensures.ok, c.container.ensures.value) refl);
 }
