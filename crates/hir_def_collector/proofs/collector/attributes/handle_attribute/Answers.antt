@@ -17,8 +17,8 @@ use Rattle.hir_def_collector.proofs.collector.attributes.handle_attribute.Goals.
 pub returns-clause-noted : goal.returns-clause-noted
 returns-clause-noted c =
     elim c.if-goes_on.branch [
-      | then-goes_on+in_ok-take_derive w ↦ noted_follow (subst (λ (run : _). IsNoted c.args.run.now run) (sym w.run-is) w.in_ok-take_derive.ensures.noted) c.in_ok-tick.ensures.noted
-      | else-goes_on+in_ok-clone+in_ok-await_attribute w ↦ noted_follow (subst (λ (run : _). IsNoted c.args.run.now run) (sym w.run-is) w.in_ok-await_attribute.ensures.noted) c.in_ok-tick.ensures.noted
+      then-goes_on+in_ok-take_derive w ↦ noted_follow (subst (λ (run : _). IsNoted c.args.run.now run) (sym w.run-is) w.in_ok-take_derive.ensures.noted) c.in_ok-tick.ensures.noted
+    | else-goes_on+in_ok-clone+in_ok-await_attribute w ↦ noted_follow (subst (λ (run : _). IsNoted c.args.run.now run) (sym w.run-is) w.in_ok-await_attribute.ensures.noted) c.in_ok-tick.ensures.noted
     ]
 
 pub returns-clause-ok : goal.returns-clause-ok
@@ -30,12 +30,12 @@ returns-clause-ok c = λ env finished item from a is there next.
     let same : attr ≡ a = item_is v.attrs.now c.args.at a attr there c.index-visited-at.is in
     let named : c.is_keyed-goes_on.result ≡ is_derive (numbered a) = c.is_keyed-goes_on.ensures.value ∙ ap (λ (x : Attr). is_derive (numbered x)) same in
     elim c.if-goes_on.branch [
-      | then-goes_on+in_ok-take_derive w ↦
+      then-goes_on+in_ok-take_derive w ↦
           subst (λ (b : Bool). HandlesAttribute env finished old new (visit v.site.now item) from (goes_behind (visit v.site.now item) c.args.at b)) (sym w.if-goes_on.true)
           (taken env finished old v item is from c.args.at (numbered a) next (core_in w.take_derive.new.run) new (sym named ∙ w.if-goes_on.true)
           (subst (λ (x : Attr). TakesDerive v.site.now v.node (numbered x) v.adt old (core_in w.take_derive.new.run)) same w.in_ok-take_derive.ensures.ok)
           (c.in_ok-tick.ensures.ok ∙ ap (λ (run : _). counted (core_in run)) w.run-is))
-      | else-goes_on+in_ok-clone+in_ok-await_attribute w ↦
+    | else-goes_on+in_ok-clone+in_ok-await_attribute w ↦
           let becomes : core_in w.await_attribute.new.run ≡ with_calls old (attribute_at v.site.now v.node (attr_id (numbered a)) a.meta.path (waiting_behind v (c.args.at + 1)) ∷ []) =
           w.in_ok-await_attribute.ensures.ok
           ∙ ap (λ (s : _). with_calls old (attribute_at v.site.now v.node attr.id attr.meta.path (record { source = s; id = v.id; done = c.args.at + 1 }) ∷ [])) w.in_ok-clone.ensures.value
