@@ -1,6 +1,5 @@
 -- The attributes of an item, one after another.
 use Rattle.std.proofs.Common.{◌≡◌, ◌∙◌, ℕ, zero, suc, ◌+◌, ◌<◌, ◌≤◌, Bool, true, false, List, [], ◌∷◌, ◌++◌, length, map, drop, get_or, slice_get, Option, Some, None, option_map, cond, inl, refl, sym, ap, subst, arith}
-use Rattle.std.proofs.lemmas.List.{drop_all}
 use Rattle.std.proofs.lemmas.Option.{slice_get-map}
 use Rattle.hir_base.specs.ModPath.{Path}
 use Rattle.hir_base.specs.declared.ast_id.AstId.{AstId}
@@ -63,10 +62,6 @@ module _ (m : Map) (node : AstId) where
   pub stopped_at : (attributes : List Attribute) (at : ℕ) (a : Attribute) → slice_get attributes at ≡ Some a → is_passed m node a ≡ false → first_looked_up m node at (drop at attributes) ≡ Some (at, a)
   stopped_at attributes at a there stopped =
       ap (first_looked_up m node at) (drop_some attributes at a there) ∙ ap (λ (b : Bool). cond b (first_looked_up m node (suc at) (drop (suc at) attributes)) (Some (at, a))) stopped
-
-  -- past the last
-  pub none_left : (attributes : List Attribute) (at : ℕ) → length attributes ≤ at → first_looked_up m node at (drop at attributes) ≡ None
-  none_left attributes at over = ap (first_looked_up m node at) (drop_all at attributes over)
 
   -- the one at a place, among those behind the first so many
   record IsFirst (k : ℕ) (left : List Attribute) (at : ℕ) : Type 0 where
