@@ -19,6 +19,7 @@ use hir_base::ast_id::AstId;
 use hir_base::ids::HasModule;
 use hir_base::macro_kind::{BuiltinDeriveImplId, MacroId, ProcMacroId};
 use hir_def_map::def_maps::DefMaps;
+use hir_def_map::nameres::DefMap;
 use hir_def_map::nameres::derive_helpers::DeriveHelper;
 use hir_def_map::nameres::macro_data::MacroData;
 use hir_def_map::nameres::path_resolution::query::Query;
@@ -44,6 +45,14 @@ fn suited(call: &MacroDirective, found: Option<MacroId>) -> Option<MacroId>
 {
     let makro = found?;
     if call.suits(makro) { Some(makro) } else { None }
+}
+
+/// Lists the impl that a builtin derive macro stands for in a module of a map.
+fn list_in_scope(map: &mut DefMap, home: u32, imp: BuiltinDeriveImplId) -> Result<(), AllocError>
+    requires in_range { home < length map.old.modules }
+    ensures ok { OnOk result (map.new ≡ with_derived map.old home imp) }
+{
+    map.scope_mut(home).define_builtin_derive_impl(imp)
 }
 
 impl DefCollector {
@@ -94,7 +103,7 @@ impl DefCollector {
         ensures ok { OnOk result (core_in self.new ≡ with_map (core_in self.old) (with_derived (core_in self.old).map home imp)) }
         ensures noted { OnOk result (IsNoted self.old self.new) }
     {
-        self.map.scope_mut(home).define_builtin_derive_impl(imp)?;
+        list_in_scope(&mut self.map, home, imp)?;
         Ok(())
     }
 

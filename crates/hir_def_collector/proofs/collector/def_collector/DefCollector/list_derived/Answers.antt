@@ -9,5 +9,5 @@ use Rattle.hir_def_collector.proofs.collector.def_collector.DefCollector.list_de
 pub returns-clause-noted : goal.returns-clause-noted
 returns-clause-noted c =
     let before : Run = the_view c.self.inside in
-    let after : Run = record before { map = record c.self.inside.map { modules = c.scope_mut.new.self.modules } } in
-    subst (λ (r : Run). IsNoted r after) c.self.view_is (noted_derived before after refl refl c.args.home c.args.imp c.in_ok-define_builtin_derive_impl.ensures.ok)
+    let after : Run = record before { map = c.list_in_scope.new.map } in
+    subst (λ (r : Run). IsNoted r after) c.self.view_is (noted_derived before after refl refl c.args.home c.args.imp c.in_ok-list_in_scope.ensures.ok)
