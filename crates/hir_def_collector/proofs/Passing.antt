@@ -1,12 +1,10 @@
 -- The attributes of an item, one after another.
-use Rattle.std.proofs.Common.{◌≡◌, ◌∙◌, ℕ, zero, suc, ◌+◌, ◌<◌, ◌≤◌, Bool, true, false, List, [], ◌∷◌, ◌++◌, length, map, drop, get_or, slice_get, Option, Some, None, option_map, cond, inl, refl, sym, ap, subst, arith}
-use Rattle.std.proofs.lemmas.List.{drop_all}
+use Rattle.std.proofs.Common.{◌≡◌, ◌∙◌, ℕ, zero, suc, ◌+◌, ◌<◌, ◌≤◌, Bool, true, false, List, [], ◌∷◌, length, map, drop, get_or, slice_get, Option, Some, None, option_map, cond, inl, refl, sym, ap, subst, arith}
 use Rattle.std.proofs.lemmas.Option.{slice_get-map}
 use Rattle.hir_base.specs.ModPath.{Path}
 use Rattle.hir_base.specs.declared.ast_id.AstId.{AstId}
 use Rattle.hir_base.specs.declared.ids.AdtId.{AdtId}
 use Rattle.hir_base.specs.declared.ids.AdtId.TheVariants as adts
-use Rattle.hir_base.specs.declared.ids.ModuleId.{ModuleId}
 use Rattle.hir_base.specs.declared.ids.MapId.{MapId}
 use Rattle.hir_item_tree.specs.Collected.{Numbered as Attribute, numbered}
 use Rattle.hir_item_tree.specs.KeptForest.{Head, KeptItem, Leaf, enumeration, holder, leaf, structure, union_structure}
@@ -27,7 +25,7 @@ use Rattle.hir_def_collector.specs.Keys.{Environment}
 use Rattle.hir_def_collector.specs.Moves.{HandlesAttribute, IsVisited, Passes, PassesTooFar, TakesDerive, goes_behind, listed, no_paths, no_target}
 use Rattle.hir_def_collector.specs.Reports.{invalid_target, malformed_derive}
 use Rattle.hir_def_collector.specs.State.{Core, State, Task, Visit, visits, counted, joined, visit, behind, with_calls, with_map}
-use Rattle.hir_def_collector.specs.Steps.{HasAttribute, Step, Steps, attribute_at, awaits_attribute, derives_from, faults_derive, lists_derives, none, no_paths as lists_none, no_target as is_no_target}
+use Rattle.hir_def_collector.specs.Steps.{HasAttribute, Steps, attribute_at, awaits_attribute, derives_from, faults_derive, lists_derives, none, no_paths as lists_none, no_target as is_no_target}
 use Rattle.hir_def_collector.proofs.Changes.{id-Steps}
 use Rattle.hir_def_collector.proofs.Lists.{drop_some}
 use Rattle.hir_def_collector.proofs.Made.{Goes, goes, made}
@@ -63,10 +61,6 @@ module _ (m : Map) (node : AstId) where
   pub stopped_at : (attributes : List Attribute) (at : ℕ) (a : Attribute) → slice_get attributes at ≡ Some a → is_passed m node a ≡ false → first_looked_up m node at (drop at attributes) ≡ Some (at, a)
   stopped_at attributes at a there stopped =
       ap (first_looked_up m node at) (drop_some attributes at a there) ∙ ap (λ (b : Bool). cond b (first_looked_up m node (suc at) (drop (suc at) attributes)) (Some (at, a))) stopped
-
-  -- past the last
-  pub none_left : (attributes : List Attribute) (at : ℕ) → length attributes ≤ at → first_looked_up m node at (drop at attributes) ≡ None
-  none_left attributes at over = ap (first_looked_up m node at) (drop_all at attributes over)
 
   -- the one at a place, among those behind the first so many
   record IsFirst (k : ℕ) (left : List Attribute) (at : ℕ) : Type 0 where

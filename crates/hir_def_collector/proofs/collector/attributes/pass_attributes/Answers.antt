@@ -1,15 +1,11 @@
 -- One attribute after another, until none is left or the item waits.
-use Rattle.std.proofs.Common.{rules, ◌≡◌, ◌∙◌, ◌+◌, ◌<◌, ◌≤◌, ℕ, Bool, true, false, Some, None, refl, map, length, Option, slice_get, subst, sym, ap, arith}
+use Rattle.std.proofs.Common.{rules, ◌≡◌, ◌∙◌, ◌≤◌, Bool, true, false, Some, None, map, subst, sym}
 use Rattle.hir_item_tree.specs.Collected.{numbered}
-use Rattle.hir_item_tree.specs.KeptForest.{KeptItem}
-use Rattle.hir_item_tree.specs.declared.attrs.Attr.{Attr}
-use Rattle.hir_def_map.specs.Overlay.{Maps}
 use Rattle.hir_def_map.specs.State.{Map}
 use Rattle.hir_def_collector.specs.declared.collector.TheConstants.{STEP_LIMIT}
 use Rattle.hir_def_collector.specs.declared.collector.attributes.Visited.{Visited}
 use Rattle.hir_def_collector.specs.Attributes.{next_among, next_attribute}
-use Rattle.hir_def_collector.specs.Keys.{Environment}
-use Rattle.hir_def_collector.specs.Moves.{HandlesAttribute, IsVisited, goes_behind}
+use Rattle.hir_def_collector.specs.Moves.{HandlesAttribute, goes_behind}
 use Rattle.hir_def_collector.specs.State.{Core, core_in, visit}
 use Rattle.hir_def_collector.proofs.Lists.{get_there}
 use Rattle.hir_def_collector.proofs.Noted.{noted_follow, noted_itself}
