@@ -108,4 +108,4 @@ def double(inputs, measured):
                 if size not in taken:
                     taken[size] = measured(made, size)
             (one, _), (two, most) = taken[n], taken[2 * n]
-            print(f"{made.__name__}: {n}: {one:.3f} s; {2 * n}: {two:.3f} s, {most:.0f} MB; ratio {two / one:.2f}", flush=True)
+            print(f"{made.__name__}: {n}: {one:.4f} s; {2 * n}: {two:.4f} s, {most:.0f} MB; ratio {two / one:.2f}", flush=True)

@@ -1,12 +1,10 @@
 -- The attributes of an item, one after another.
-use Rattle.std.proofs.Common.{◌≡◌, ◌∙◌, ℕ, zero, suc, ◌+◌, ◌<◌, ◌≤◌, Bool, true, false, List, [], ◌∷◌, ◌++◌, length, map, drop, get_or, slice_get, Option, Some, None, option_map, cond, inl, refl, sym, ap, subst, arith}
-use Rattle.std.proofs.lemmas.List.{drop_all}
+use Rattle.std.proofs.Common.{◌≡◌, ◌∙◌, ℕ, zero, suc, ◌+◌, ◌<◌, ◌≤◌, Bool, true, false, List, [], ◌∷◌, length, map, drop, get_or, slice_get, Option, Some, None, option_map, cond, inl, refl, sym, ap, subst, arith}
 use Rattle.std.proofs.lemmas.Option.{slice_get-map}
 use Rattle.hir_base.specs.ModPath.{Path}
 use Rattle.hir_base.specs.declared.ast_id.AstId.{AstId}
 use Rattle.hir_base.specs.declared.ids.AdtId.{AdtId}
 use Rattle.hir_base.specs.declared.ids.AdtId.TheVariants as adts
-use Rattle.hir_base.specs.declared.ids.ModuleId.{ModuleId}
 use Rattle.hir_base.specs.declared.ids.MapId.{MapId}
 use Rattle.hir_item_tree.specs.Collected.{Numbered as Attribute, numbered}
 use Rattle.hir_item_tree.specs.KeptForest.{Head, KeptItem, Leaf, enumeration, holder, leaf, structure, union_structure}
@@ -20,13 +18,14 @@ use Rattle.hir_def_collector.specs.declared.collector.macro_directive.WaitingIte
 use Rattle.hir_def_collector.specs.declared.collector.site.Site.{Site}
 use Rattle.hir_def_collector.specs.declared.collector.TheConstants.{STEP_LIMIT}
 use Rattle.hir_def_collector.specs.Attributes.{adt_by, adt_of, attr_id, first_looked_up, is_derive, is_passed, item_node, next_among, next_attribute, paths_in}
-use Rattle.hir_def_collector.specs.Derivation.{IsSpent, counted_out}
+use Rattle.hir_def_collector.specs.Calls.{item_kept}
+use Rattle.hir_def_collector.specs.Derivation.{counted_out}
 use Rattle.hir_def_collector.specs.ItemIds.{enum_id, module_id, struct_id, union_id}
 use Rattle.hir_def_collector.specs.Keys.{Environment}
 use Rattle.hir_def_collector.specs.Moves.{HandlesAttribute, IsVisited, Passes, PassesTooFar, TakesDerive, goes_behind, listed, no_paths, no_target}
 use Rattle.hir_def_collector.specs.Reports.{invalid_target, malformed_derive}
 use Rattle.hir_def_collector.specs.State.{Core, State, Task, Visit, visits, counted, joined, visit, behind, with_calls, with_map}
-use Rattle.hir_def_collector.specs.Steps.{HasAttribute, Step, Steps, attribute_at, awaits_attribute, derives_from, faults_derive, lists_derives, none, no_paths as lists_none, no_target as is_no_target}
+use Rattle.hir_def_collector.specs.Steps.{HasAttribute, Steps, attribute_at, awaits_attribute, derives_from, faults_derive, lists_derives, none, no_paths as lists_none, no_target as is_no_target}
 use Rattle.hir_def_collector.proofs.Changes.{id-Steps}
 use Rattle.hir_def_collector.proofs.Lists.{drop_some}
 use Rattle.hir_def_collector.proofs.Made.{Goes, goes, made}
@@ -62,10 +61,6 @@ module _ (m : Map) (node : AstId) where
   pub stopped_at : (attributes : List Attribute) (at : ℕ) (a : Attribute) → slice_get attributes at ≡ Some a → is_passed m node a ≡ false → first_looked_up m node at (drop at attributes) ≡ Some (at, a)
   stopped_at attributes at a there stopped =
       ap (first_looked_up m node at) (drop_some attributes at a there) ∙ ap (λ (b : Bool). cond b (first_looked_up m node (suc at) (drop (suc at) attributes)) (Some (at, a))) stopped
-
-  -- past the last
-  pub none_left : (attributes : List Attribute) (at : ℕ) → length attributes ≤ at → first_looked_up m node at (drop at attributes) ≡ None
-  none_left attributes at over = ap (first_looked_up m node at) (drop_all at attributes over)
 
   -- the one at a place, among those behind the first so many
   record IsFirst (k : ℕ) (left : List Attribute) (at : ℕ) : Type 0 where
@@ -137,7 +132,7 @@ visited_still m n v item same is = record { kept = is.kept; node = is.node; enab
 -- ---- one attribute
 
 -- its item is kept as it waits
-abbrev pub waiting_behind : Visited → ℕ → WaitingItem
+abbrev waiting_behind : Visited → ℕ → WaitingItem
 waiting_behind v done = record { source = v.source.now; id = v.id; done = done }
 
 module _ (env : Environment) (finished : Maps) (old : Core) (v : Visited) (item : KeptItem) (is : IsVisited old.map v item) (from at : ℕ) (a : Attribute) (next : next_attribute old.map v.site.now item from ≡ Some (at, a)) where
@@ -151,12 +146,12 @@ module _ (env : Environment) (finished : Maps) (old : Core) (v : Visited) (item 
   has rest = record { on = record { next = refl; enabled = is.enabled }; active = next }
 
   -- it waits
-  pub awaited : (new : Core) → is_derive a ≡ false → new ≡ counted (with_calls old (attribute_at v.site.now v.node (attr_id a) a.meta.path (waiting_behind v (at + 1)) ∷ []))
-      → HandlesAttribute env finished old new (visit v.site.now item) from []
-  awaited new looked_up e = record {
+  pub awaited : (new : Core) (k : WaitingItem) → is_derive a ≡ false → k.done ≡ suc at → item_kept k ≡ Some item
+      → new ≡ counted (with_calls old (attribute_at v.site.now v.node (attr_id a) a.meta.path k ∷ [])) → HandlesAttribute env finished old new (visit v.site.now item) from []
+  awaited new k looked_up behind_it kept e = record {
     step = λ rest.
-        made (awaits_attribute here a (waiting_behind v (at + 1)) rest) (record { at = at; has = has rest; looked_up = looked_up; behind_it = omega arith; kept = is.kept }) tt tt
-        (ap (λ (c : Core). joined c rest) e ∙ ap (λ (node : AstId). joined (counted (with_calls old (attribute_at v.site.now node (attr_id a) a.meta.path (waiting_behind v (at + 1)) ∷ []))) rest) is.node);
+        made (awaits_attribute here a k rest) (record { at = at; has = has rest; looked_up = looked_up; behind_it = behind_it; kept = kept }) tt tt
+        (ap (λ (c : Core). joined c rest) e ∙ ap (λ (node : AstId). joined (counted (with_calls old (attribute_at v.site.now node (attr_id a) a.meta.path k ∷ []))) rest) is.node);
   }
 
   -- it lists derives, or can't
@@ -201,12 +196,6 @@ module _ (env : Environment) (finished : Maps) (old : Core) (v : Visited) (item 
       by_name : (derives : Bool) → is_derive a ≡ derives → Goes env finished (before rest)
       by_name true e = by_target e (adt_of old.map v.site.now item) refl
       by_name false e = goes (awaits_attribute here a (waiting_behind v (suc at)) rest) (record { at = at; has = has rest; looked_up = e; behind_it = refl; kept = is.kept }) tt tt
-
--- what is taken leaves what is counted
-pub count_taken : (site : Site) (node : AstId) (a : Attribute) (adt : Option AdtId) (old new : Core) → TakesDerive site node a adt old new → new.count ≡ old.count
-count_taken site node a adt old new (listed target paths of_target of_paths is) = ap (λ (c : Core). c.count) is
-count_taken site node a adt old new (no_target none_is is) = ap (λ (c : Core). c.count) is
-count_taken site node a adt old new (no_paths target of_target none_is is) = ap (λ (c : Core). c.count) is
 
 -- ---- one after another
 

@@ -7,7 +7,7 @@ use Rattle.std.specs.Prelude.{not, slice_index_or}
 use Rattle.hir_base.specs.declared.ast_id.AstId.{AstId}
 use Rattle.hir_base.specs.declared.ids.MapId.{MapId}
 use Rattle.hir_def_map.specs.Overlay.{Maps}
-use Rattle.hir_def_map.specs.State.{CrateData, IsInOrder, Map}
+use Rattle.hir_def_map.specs.State.{CrateData, IsInOrder}
 use Rattle.hir_def_map.specs.declared.nameres.path_resolution.slots.Slot.{Slot as PathSlot}
 use Rattle.hir_def_map.specs.declared.nameres.path_resolution.slots.Slot.TheVariants.{Preludes as of_preludes}
 use Rattle.hir_worklist.proofs.Idle.{idle-closed, idle-opened, idle-taken}

@@ -1,5 +1,5 @@
 -- Each path is listed, one after another.
-use Rattle.std.proofs.Common.{rules, ◌≡◌, ◌∙◌, ◌∷◌, [], ◌+◌, ◌≤◌, ℕ, List, ap, drop, get_or, length, refl, subst, sym}
+use Rattle.std.proofs.Common.{rules, ◌≡◌, ◌∙◌, ◌∷◌, ◌+◌, ◌≤◌, ℕ, List, ap, drop, get_or, length, refl, subst, sym}
 use Rattle.std.proofs.lemmas.List.{drop_all, drop_more}
 use Rattle.hir_base.specs.ModPath.{Path}
 use Rattle.hir_use_tree.specs.UseTree.{count_of}

@@ -1,11 +1,10 @@
 -- Those that are passed, up to one that isn't.
-use Rattle.std.proofs.Common.{rules, ◌≡◌, ◌∙◌, ◌+◌, ◌<◌, ◌≤◌, ℕ, suc, List, Some, ap, drop, length, map, refl, slice_get, subst, sym, option_map, arith}
-use Rattle.std.proofs.lemmas.List.{length-map}
+use Rattle.std.proofs.Common.{◌≡◌, ◌∙◌, ◌+◌, ℕ, suc, List, Some, ap, drop, map, refl, slice_get, subst, sym, option_map, arith}
 use Rattle.std.proofs.lemmas.Option.{slice_get-map}
 use Rattle.hir_item_tree.specs.Collected.{Numbered, numbered}
 use Rattle.hir_item_tree.specs.declared.attrs.Attr.{Attr}
 use Rattle.hir_def_collector.specs.Attributes.{first_looked_up, next_among}
-use Rattle.hir_def_collector.proofs.Passing.{item_there, none_left, passed_over, place_of, stopped_at}
+use Rattle.hir_def_collector.proofs.Passing.{item_there, passed_over, place_of, stopped_at}
 use Rattle.hir_def_collector.proofs.collector.attributes.next_attribute.Goals as goal
 
 pub loop-at-init : goal.loop-at-init

@@ -1,24 +1,16 @@
 -- One attribute after another, until none is left or the item waits.
-use Rattle.std.proofs.Common.{rules, ◌≡◌, ◌∙◌, ◌+◌, ◌<◌, ◌≤◌, ℕ, Bool, true, false, Some, None, refl, map, length, Option, slice_get, subst, sym, ap, arith}
+use Rattle.std.proofs.Common.{rules, ◌≡◌, ◌∙◌, ◌≤◌, Bool, true, false, Some, None, map, subst, sym}
 use Rattle.hir_item_tree.specs.Collected.{numbered}
-use Rattle.hir_item_tree.specs.KeptForest.{KeptItem}
-use Rattle.hir_item_tree.specs.declared.attrs.Attr.{Attr}
-use Rattle.hir_def_map.specs.Overlay.{Maps}
 use Rattle.hir_def_map.specs.State.{Map}
 use Rattle.hir_def_collector.specs.declared.collector.TheConstants.{STEP_LIMIT}
 use Rattle.hir_def_collector.specs.declared.collector.attributes.Visited.{Visited}
 use Rattle.hir_def_collector.specs.Attributes.{next_among, next_attribute}
-use Rattle.hir_def_collector.specs.Keys.{Environment}
-use Rattle.hir_def_collector.specs.Moves.{HandlesAttribute, IsVisited, goes_behind}
+use Rattle.hir_def_collector.specs.Moves.{HandlesAttribute, goes_behind}
 use Rattle.hir_def_collector.specs.State.{Core, core_in, visit}
 use Rattle.hir_def_collector.proofs.Lists.{get_there}
 use Rattle.hir_def_collector.proofs.Noted.{noted_follow, noted_itself}
 use Rattle.hir_def_collector.proofs.Passing.{PassesTo, passes_all, passes_far, passes_next, passes_none, passes_waits, place_of, visited_at, visited_none}
 use Rattle.hir_def_collector.proofs.collector.attributes.pass_attributes.Goals as goal
-
-no_place : (o : Option ℕ) → ((at : ℕ) → o ≡ Some at → ⊥) → o ≡ None
-no_place None none = refl
-no_place (Some at) none = absurd (none at refl)
 
 pub next-init : goal.next-init
 next-init c = record {
@@ -81,7 +73,7 @@ returns-clause-ok c = λ env finished item is.
     let old : Core = core_in c.args.run.now in
     let now : Core = core_in c.next.run in
     let before : PassesTo env finished old v item c.args.from now c.next.done = c.next.invariant.goes env finished item is in
-    let gone : c.next_attribute.result ≡ None = no_place c.next_attribute.result c.in_default.not-Some in
+    let gone : c.next_attribute.result ≡ None = search (rules, c.in_default.is) in
     let past : None ≡ place_of (next_among now.map v.node c.next.done (map numbered v.attrs.now)) =
     subst (λ (m : Map). None ≡ place_of (next_among m v.node c.next.done (map numbered v.attrs.now))) c.map.ensures.value (sym gone ∙ c.next_attribute.ensures.value) in
     passes_all env finished old v item c.args.from now c.next.done before (visited_none now.map v item before.still c.next.done past)
