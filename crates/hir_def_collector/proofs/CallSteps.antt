@@ -284,29 +284,29 @@ module _ (env : Environment) (finished : Maps) (c : Core) where
 
 -- the item is visited as the program does it
 module _ (k : WaitingItem) (i : KeptItem) (site : Site) (d : MacroDirective) (is_site : site ≡ site_behind d.site) (kept : item_kept k ≡ Some i) where
-  pub visits_it : visits_behind k.source.value.tree site k.id.0 k.done ++ [] ≡ visits (visit_behind d k i) ∷ []
+  pub visits_it : visits_behind k.source.tree site k.id.0 k.done ++ [] ≡ visits (visit_behind d k i) ∷ []
   visits_it =
       append-nil (visits_found site k.done (item_kept k)) ∙ ap (λ (o : Option KeptItem). visits_found site k.done o) kept
       ∙ ap (λ (s : Site). visits (behind (visit s i) k.done) ∷ []) is_site
 
   -- steps that begin with one to where it is visited
   pub went_on : {env : Environment} {finished : Maps} {c new last : Core} → Step env finished (at_rest c) (joined new (visits (visit_behind d k i) ∷ []))
-      → Walks env finished new last (visits_behind k.source.value.tree site k.id.0 k.done) → Steps env finished (at_rest c) (at_rest last)
+      → Walks env finished new last (visits_behind k.source.tree site k.id.0 k.done) → Steps env finished (at_rest c) (at_rest last)
   went_on {env = env} {finished = finished} {new = new} {last = last} step walks =
       Steps-first step (subst (λ (ts : List Task). Steps env finished (joined new ts) (at_rest last)) visits_it (walks.steps []))
 
   pub went_too_far : {env : Environment} {finished : Maps} {c new : Core} → Step env finished (at_rest c) (joined new (visits (visit_behind d k i) ∷ []))
-      → WalksTooFar env finished new (visits_behind k.source.value.tree site k.id.0 k.done) → IsSpent env finished (at_rest c)
+      → WalksTooFar env finished new (visits_behind k.source.tree site k.id.0 k.done) → IsSpent env finished (at_rest c)
   went_too_far {env = env} {finished = finished} {new = new} step far =
       spent_after (Steps-one step) (subst (λ (ts : List Task). IsSpent env finished (joined new ts)) visits_it (far.spent []))
 
 -- an item that is kept lies in the tree that is kept with it
-pub kept_inside : (k : WaitingItem) → IsSome (item_kept k) → k.id.0 < length (all_items k.source.value.tree.items)
+pub kept_inside : (k : WaitingItem) → IsSome (item_kept k) → k.id.0 < length (all_items k.source.tree.items)
 kept_inside k there = go (item_kept k) refl there
   where
-    go : (o : Option KeptItem) → item_kept k ≡ o → IsSome o → k.id.0 < length (all_items k.source.value.tree.items)
+    go : (o : Option KeptItem) → item_kept k ≡ o → IsSome o → k.id.0 < length (all_items k.source.tree.items)
     go None e h = absurd (let no : ⊥ = cc in no)
-    go (Some item) e h = get_inside (all_items k.source.value.tree.items) k.id.0 item e
+    go (Some item) e h = get_inside (all_items k.source.tree.items) k.id.0 item e
 
 -- and is the item of a number there
 pub kept_item : (k : WaitingItem) → IsSome (item_kept k) → (item : KeptItem) × (item_kept k ≡ Some item)

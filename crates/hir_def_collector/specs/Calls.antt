@@ -119,7 +119,7 @@ waiting_item d = item_in d.kind
 
 -- the item of a number in the tree that is kept with it
 abbrev pub item_kept : WaitingItem → Option KeptItem
-item_kept k = slice_get (all_items k.source.value.tree.items) k.id.0
+item_kept k = slice_get (all_items k.source.tree.items) k.id.0
 
 -- ---- what a macro does
 

@@ -67,6 +67,7 @@ pub mod mod_collector;
 pub mod mod_resolution;
 mod preludes;
 mod resume;
+pub mod shared_tree;
 pub mod site;
 mod sources;
 mod textual;

@@ -23,6 +23,7 @@ use crate::builtin_attr::is_inert_by_name;
 use crate::collector::crate_attrs::is_keyed;
 use crate::collector::def_collector::DefCollector;
 use crate::collector::macro_directive::{MacroDirective, MacroDirectiveKind, WaitingItem};
+use crate::collector::shared_tree::SharedTree;
 use crate::collector::site::{ItemHead, Site};
 use crate::collector::{CollectError, STEP_LIMIT};
 use hir_base::ast_id::{AstId, AttrId};
@@ -269,7 +270,7 @@ fn handle_attribute(
         take_derive(run, visited.site, visited.node, attr, visited.adt)?;
     } else {
         let item = WaitingItem {
-            source: visited.source.clone()?,
+            source: SharedTree::new(visited.source)?,
             id: visited.id,
             done: at + 1,
         };

@@ -466,7 +466,7 @@ fn try_call<D: SourceDatabase>(
         return Ok(false);
     };
     let due = due_of(run, world, call);
-    if matches!(due, Due::Nothing) {
+    if let Due::Nothing = due {
         return Ok(false);
     }
     let call = call.clone()?;

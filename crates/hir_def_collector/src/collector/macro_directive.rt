@@ -2,6 +2,7 @@
 ghost use Rattle.std.specs.Prelude.{◌≡◌, IfOk, option_map};
 ghost use Rattle.hir_def_collector.specs.Calls.{call_kind, call_style, has_expansion, is_builtin_for, is_call, path_of_call, style_of, suits, waiting_item};
 
+use crate::collector::shared_tree::SharedTree;
 use crate::collector::site::Site;
 use hir_base::ast_id::{AstId, AttrId};
 use hir_base::ids::AdtId;
@@ -11,15 +12,13 @@ use hir_base::macro_kind::{
 use hir_base::mod_path::ModPath;
 use hir_base::resolve_mode::MacroSubNs;
 use hir_item_tree::rows::ModItemId;
-use hir_item_tree::source_tree::SourceTree;
 use std::alloc::AllocError;
-use std::rc::Rc;
 
 /// An item that waits for the macro of one of its attributes.
 #[derive(Drop)]
 pub struct WaitingItem {
     /// What writes the item; it is shared.
-    pub source: Rc<SourceTree>,
+    pub source: SharedTree,
     /// The item's number there.
     pub id: ModItemId,
     /// How many of its attributes are done with once that one is passed over.

@@ -20,6 +20,6 @@ returns-in-None-clause-ok c =
     let old : Core = core_in c.args.run.now in
     on_ok_weaker c.tell-in-None.result
     (λ is.
-        no_paths c.in-Some.adt c.in-Some.is (sym c.in-None.ensures.value)
-        (is ∙ ap (λ (d : DefDiagnostic). with_map old (with_diagnostic old.map d)) (c.malformed_derive.ensures.value ∙ ap (λ (at : ModuleId). malformed_derive at c.args.node (attr_id (numbered c.args.attr.now))) c.module_id-at.ensures.value)))
+    no_paths c.in-Some.adt c.in-Some.is (sym c.in-None.ensures.value)
+    (is ∙ ap (λ (d : DefDiagnostic). with_map old (with_diagnostic old.map d)) (c.malformed_derive.ensures.value ∙ ap (λ (at : ModuleId). malformed_derive at c.args.node (attr_id (numbered c.args.attr.now))) c.module_id-at.ensures.value)))
     c.tell-in-None.ensures.ok

@@ -19,16 +19,16 @@ pub returns-in_default-clause-tried : goal.returns-in_default-clause-tried
 returns-in_default-clause-tried g c = left refl (nothing_waits (part_of c.args.world) (core_in c.args.run.now) c.args.i c.in_default.ensures.none)
 
 -- nothing is to be done about what waits there
-pub returns-then-matches-clause-ok : goal.returns-then-matches-clause-ok
-returns-then-matches-clause-ok g c = λ grown k. none
+pub returns-in-Nothing-clause-ok : goal.returns-in-Nothing-clause-ok
+returns-in-Nothing-clause-ok g c = λ grown k. none
 
-pub returns-then-matches-clause-tried : goal.returns-then-matches-clause-tried
-returns-then-matches-clause-tried g c =
+pub returns-in-Nothing-clause-tried : goal.returns-in-Nothing-clause-tried
+returns-in-Nothing-clause-tried g c =
     left refl (nothing_due (part_of c.args.world) (core_in c.args.run.now) c.args.i c.in-Some.call.now c.in-Some.ensures.waits
-    (subst (IsDueOf (part_of c.args.world) (core_in c.args.run.now) c.in-Some.call.now) c.if-matches.true c.due_of-due.ensures.value))
+    (subst (IsDueOf (part_of c.args.world) (core_in c.args.run.now) c.in-Some.call.now) c.in-Nothing.is c.due_of-due.ensures.value))
 
 pub returns-in_default-clause-noted : goal.returns-in_default-clause-noted
 returns-in_default-clause-noted g c = noted_itself c.args.run.now
 
-pub returns-then-matches-clause-noted : goal.returns-then-matches-clause-noted
-returns-then-matches-clause-noted g c = noted_itself c.args.run.now
+pub returns-in-Nothing-clause-noted : goal.returns-in-Nothing-clause-noted
+returns-in-Nothing-clause-noted g c = noted_itself c.args.run.now

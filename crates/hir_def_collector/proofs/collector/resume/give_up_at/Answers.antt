@@ -1,5 +1,7 @@
 -- An attribute is given up in one step, and then its item is handled behind it.
 use Rattle.std.proofs.Common.{rules, ◌≡◌, ◌∙◌, ◌<◌, ◌≤◌, ◌++◌, [], Some, ap, length, refl, subst, sym}
+use Rattle.hir_item_tree.specs.KeptForest.{all_items}
+use Rattle.hir_item_tree.specs.SourceTree.{SourceTreeValue}
 use Rattle.hir_def_map.specs.Macros.{with_diagnostic}
 use Rattle.hir_def_map.specs.WorldParts.{part_of}
 use Rattle.hir_def_map.specs.declared.nameres.diagnostics.DefDiagnostic.{DefDiagnostic}
@@ -8,6 +10,7 @@ use Rattle.hir_def_collector.specs.declared.collector.macro_directive.Fate.TheVa
 use Rattle.hir_def_collector.specs.declared.collector.site.Site.{Site}
 use Rattle.hir_def_collector.specs.Calls.{IsMeantAt, IsMeantCall}
 use Rattle.hir_def_collector.specs.Keys.{environment}
+use Rattle.hir_def_collector.specs.Moves.{Walks, WalksTooFar}
 use Rattle.hir_def_collector.specs.Reports.{call_report}
 use Rattle.hir_def_collector.specs.State.{Core, at_rest, core_in, counted, with_map}
 use Rattle.hir_def_collector.specs.Steps.{FallsBack, falls_back}
@@ -36,7 +39,7 @@ walk_item-requires-clause-meant g c =
 pub walk_item-requires-clause-there : goal.walk_item-requires-clause-there
 walk_item-requires-clause-there g c =
     let meant : IsMeantCall c.args.locations.now c.args.call.now = c.requires.ready.meant c.args.i c.args.call.now c.requires.waits.call in
-    kept_inside c.args.item.now (meant.item c.args.item.now c.requires.of)
+    subst (λ (s : SourceTreeValue). c.args.item.now.id.0 < length (all_items s.tree.items)) (sym c.tree.ensures.value) (kept_inside c.args.item.now (meant.item c.args.item.now c.requires.of))
 
 pub returns-in_err-tick-clause-many : goal.returns-in_err-tick-clause-many
 returns-in_err-tick-clause-many g c = λ h grown k.
@@ -69,7 +72,8 @@ returns-in_err-walk_item-clause-many g c = λ h grown k.
     subst (λ (r : DefDiagnostic). core_in c.tell.new.self ≡ with_map ended (with_diagnostic ended.map r)) report c.in_ok-tell.ensures.ok in
     went_too_far c.args.item.now kept.0 c.in_ok-site.site d c.in_ok-site.ensures.value kept.1
     (given_up env part old c.args.i d c.args.item.now kept.0 ended (core_in c.tell.new.self) (core_in c.tick.new.self) may c.end_call.ensures.value tells c.in_ok-tick.ensures.ok)
-    (c.in_err-walk_item.ensures.many (search rules) grown k)
+    (subst (λ (s : SourceTreeValue). WalksTooFar env part (core_in c.tick.new.self) (visits_behind s.tree c.in_ok-site.site c.args.item.now.id.0 c.args.item.now.done)) c.tree.ensures.value
+    (c.in_err-walk_item.ensures.many (search rules) grown k))
 
 pub returns-clause-ok : goal.returns-clause-ok
 returns-clause-ok g c = λ grown k.
@@ -88,7 +92,8 @@ returns-clause-ok g c = λ grown k.
     subst (λ (r : DefDiagnostic). core_in c.tell.new.self ≡ with_map ended (with_diagnostic ended.map r)) report c.in_ok-tell.ensures.ok in
     went_on c.args.item.now kept.0 c.in_ok-site.site d c.in_ok-site.ensures.value kept.1
     (given_up env part old c.args.i d c.args.item.now kept.0 ended (core_in c.tell.new.self) (core_in c.tick.new.self) may c.end_call.ensures.value tells c.in_ok-tick.ensures.ok)
-    (c.in_ok-walk_item.ensures.ok grown k)
+    (subst (λ (s : SourceTreeValue). Walks env part (core_in c.tick.new.self) (core_in c.walk_item.new.run) (visits_behind s.tree c.in_ok-site.site c.args.item.now.id.0 c.args.item.now.done)) c.tree.ensures.value
+    (c.in_ok-walk_item.ensures.ok grown k))
 
 -- none waited before it, and it doesn't wait any more
 pub returns-clause-before : goal.returns-clause-before
@@ -96,7 +101,7 @@ returns-clause-before g c =
     let old : Core = core_in c.args.run.now in
     let now : Core = core_in c.tick.new.self in
     let tables = c.walk_item.new.locations in
-    none_before old now (core_in c.walk_item.new.run) c.args.i (visits_behind c.args.item.now.source.value.tree c.in_ok-site.site c.args.item.now.id.0 c.args.item.now.done ++ [])
+    none_before old now (core_in c.walk_item.new.run) c.args.i (visits_behind c.tree.result.now.value.tree c.in_ok-site.site c.args.item.now.id.0 c.args.item.now.done ++ [])
     c.requires.ready.fated c.requires.first.first (get_inside old.fates c.args.i Waits c.requires.waits.waits)
     (ap (λ (x : Core). x.calls) c.in_ok-tick.ensures.ok ∙ ap (λ (x : Core). x.calls) c.in_ok-tell.ensures.ok ∙ ap (λ (x : Core). x.calls) c.end_call.ensures.value)
     (ap (λ (x : Core). x.fates) c.in_ok-tick.ensures.ok ∙ ap (λ (x : Core). x.fates) c.in_ok-tell.ensures.ok ∙ ap (λ (x : Core). x.fates) c.end_call.ensures.value)

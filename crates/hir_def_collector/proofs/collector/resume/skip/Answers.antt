@@ -1,7 +1,8 @@
 -- The item of an attribute that is passed over is handled behind it.
 use Rattle.std.proofs.Common.{rules, [], ◌≡◌, ◌∙◌, ◌<◌, ◌≤◌, Some, ap, length, slice_get, subst, sym}
 use Rattle.std.specs.Prelude.{IsSome}
-use Rattle.hir_item_tree.specs.KeptForest.{KeptItem}
+use Rattle.hir_item_tree.specs.KeptForest.{KeptItem, all_items}
+use Rattle.hir_item_tree.specs.SourceTree.{SourceTreeValue}
 use Rattle.hir_def_map.specs.WorldParts.{part_of}
 use Rattle.hir_def_collector.specs.declared.collector.TheConstants.{STEP_LIMIT}
 use Rattle.hir_def_collector.specs.declared.collector.macro_directive.Fate.TheVariants.{Handled, Waits}
@@ -37,7 +38,7 @@ walk_item-requires-clause-meant g c =
 pub walk_item-requires-clause-there : goal.walk_item-requires-clause-there
 walk_item-requires-clause-there g c =
     let meant : IsMeantCall c.args.locations.now c.args.call.now = c.requires.ready.meant c.args.i c.args.call.now c.requires.due.waiting.call in
-    kept_inside c.args.item.now (meant.item c.args.item.now c.requires.of)
+    subst (λ (s : SourceTreeValue). c.args.item.now.id.0 < length (all_items s.tree.items)) (sym c.tree.ensures.value) (kept_inside c.args.item.now (meant.item c.args.item.now c.requires.of))
 
 pub returns-in_err-tick-clause-many : goal.returns-in_err-tick-clause-many
 returns-in_err-tick-clause-many g c = λ h grown k.
@@ -61,7 +62,8 @@ returns-in_err-walk_item-clause-many g c = λ h grown k.
     let env = environment grown (g.D.SourceDatabase.workspace c.args.db.now) in
     went_too_far c.args.item.now kept.0 c.in_ok-site.site d c.in_ok-site.ensures.value kept.1
     (skipped env (part_of c.args.world) old c.args.i d c.args.item.now kept.0 (core_in c.end_call.new.self) (core_in c.tick.new.self) may c.end_call.ensures.value c.in_ok-tick.ensures.ok)
-    (c.in_err-walk_item.ensures.many (search rules) grown k)
+    (subst (λ (s : SourceTreeValue). WalksTooFar env (part_of c.args.world) (core_in c.tick.new.self) (visits_behind s.tree c.in_ok-site.site c.args.item.now.id.0 c.args.item.now.done)) c.tree.ensures.value
+    (c.in_err-walk_item.ensures.many (search rules) grown k))
 
 pub returns-clause-ok : goal.returns-clause-ok
 returns-clause-ok g c = λ grown k.
@@ -74,7 +76,8 @@ returns-clause-ok g c = λ grown k.
     let env = environment grown (g.D.SourceDatabase.workspace c.args.db.now) in
     went_on c.args.item.now kept.0 c.in_ok-site.site d c.in_ok-site.ensures.value kept.1
     (skipped env (part_of c.args.world) old c.args.i d c.args.item.now kept.0 (core_in c.end_call.new.self) (core_in c.tick.new.self) may c.end_call.ensures.value c.in_ok-tick.ensures.ok)
-    (c.in_ok-walk_item.ensures.ok grown k)
+    (subst (λ (s : SourceTreeValue). Walks env (part_of c.args.world) (core_in c.tick.new.self) (core_in c.walk_item.new.run) (visits_behind s.tree c.in_ok-site.site c.args.item.now.id.0 c.args.item.now.done)) c.tree.ensures.value
+    (c.in_ok-walk_item.ensures.ok grown k))
 
 -- it stays handled
 pub returns-clause-handled : goal.returns-clause-handled
