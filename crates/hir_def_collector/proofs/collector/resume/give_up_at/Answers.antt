@@ -67,7 +67,7 @@ returns-in_err-walk_item-clause-many g c = λ h grown k.
     let own : ended.map ≡ old.map = ap (λ (x : Core). x.map) c.end_call.ensures.value in
     let tells : core_in c.tell.new.self ≡ with_map ended (with_diagnostic ended.map (call_report old.map.id d)) =
     subst (λ (r : DefDiagnostic). core_in c.tell.new.self ≡ with_map ended (with_diagnostic ended.map r)) report c.in_ok-tell.ensures.ok in
-    went_too_far c.args.item.now kept.0 c.in_ok-site.deeper d c.in_ok-site.ensures.value kept.1
+    went_too_far c.args.item.now kept.0 c.in_ok-site.site d c.in_ok-site.ensures.value kept.1
     (given_up env part old c.args.i d c.args.item.now kept.0 ended (core_in c.tell.new.self) (core_in c.tick.new.self) may c.end_call.ensures.value tells c.in_ok-tick.ensures.ok)
     (c.in_err-walk_item.ensures.many (search rules) grown k)
 
@@ -86,7 +86,7 @@ returns-clause-ok g c = λ grown k.
     let ended : Core = core_in c.end_call.new.self in
     let tells : core_in c.tell.new.self ≡ with_map ended (with_diagnostic ended.map (call_report old.map.id d)) =
     subst (λ (r : DefDiagnostic). core_in c.tell.new.self ≡ with_map ended (with_diagnostic ended.map r)) report c.in_ok-tell.ensures.ok in
-    went_on c.args.item.now kept.0 c.in_ok-site.deeper d c.in_ok-site.ensures.value kept.1
+    went_on c.args.item.now kept.0 c.in_ok-site.site d c.in_ok-site.ensures.value kept.1
     (given_up env part old c.args.i d c.args.item.now kept.0 ended (core_in c.tell.new.self) (core_in c.tick.new.self) may c.end_call.ensures.value tells c.in_ok-tick.ensures.ok)
     (c.in_ok-walk_item.ensures.ok grown k)
 
@@ -96,7 +96,7 @@ returns-clause-before g c =
     let old : Core = core_in c.args.run.now in
     let now : Core = core_in c.tick.new.self in
     let tables = c.walk_item.new.locations in
-    none_before old now (core_in c.walk_item.new.run) c.args.i (visits_behind c.args.item.now.source.value.tree c.in_ok-site.deeper c.args.item.now.id.0 c.args.item.now.done ++ [])
+    none_before old now (core_in c.walk_item.new.run) c.args.i (visits_behind c.args.item.now.source.value.tree c.in_ok-site.site c.args.item.now.id.0 c.args.item.now.done ++ [])
     c.requires.ready.fated c.requires.first.first (get_inside old.fates c.args.i Waits c.requires.waits.waits)
     (ap (λ (x : Core). x.calls) c.in_ok-tick.ensures.ok ∙ ap (λ (x : Core). x.calls) c.in_ok-tell.ensures.ok ∙ ap (λ (x : Core). x.calls) c.end_call.ensures.value)
     (ap (λ (x : Core). x.fates) c.in_ok-tick.ensures.ok ∙ ap (λ (x : Core). x.fates) c.in_ok-tell.ensures.ok ∙ ap (λ (x : Core). x.fates) c.end_call.ensures.value)

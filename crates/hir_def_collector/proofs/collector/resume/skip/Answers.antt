@@ -1,5 +1,5 @@
 -- The item of an attribute that is passed over is handled behind it.
-use Rattle.std.proofs.Common.{rules, ◌≡◌, ◌∙◌, ◌<◌, ◌≤◌, Some, ap, length, slice_get, subst, sym}
+use Rattle.std.proofs.Common.{rules, [], ◌≡◌, ◌∙◌, ◌<◌, ◌≤◌, Some, ap, length, slice_get, subst, sym}
 use Rattle.std.specs.Prelude.{IsSome}
 use Rattle.hir_item_tree.specs.KeptForest.{KeptItem}
 use Rattle.hir_def_map.specs.WorldParts.{part_of}
@@ -59,7 +59,7 @@ returns-in_err-walk_item-clause-many g c = λ h grown k.
     let may : Skips (part_of c.args.world) (at_rest old) c.args.i d c.args.item.now kept.0 =
     record { due = c.requires.due; of = record { waits = c.requires.of; kept = kept.1 }; passed = c.requires.passed } in
     let env = environment grown (g.D.SourceDatabase.workspace c.args.db.now) in
-    went_too_far c.args.item.now kept.0 c.in_ok-site.deeper d c.in_ok-site.ensures.value kept.1
+    went_too_far c.args.item.now kept.0 c.in_ok-site.site d c.in_ok-site.ensures.value kept.1
     (skipped env (part_of c.args.world) old c.args.i d c.args.item.now kept.0 (core_in c.end_call.new.self) (core_in c.tick.new.self) may c.end_call.ensures.value c.in_ok-tick.ensures.ok)
     (c.in_err-walk_item.ensures.many (search rules) grown k)
 
@@ -72,7 +72,7 @@ returns-clause-ok g c = λ grown k.
     let may : Skips (part_of c.args.world) (at_rest old) c.args.i d c.args.item.now kept.0 =
     record { due = c.requires.due; of = record { waits = c.requires.of; kept = kept.1 }; passed = c.requires.passed } in
     let env = environment grown (g.D.SourceDatabase.workspace c.args.db.now) in
-    went_on c.args.item.now kept.0 c.in_ok-site.deeper d c.in_ok-site.ensures.value kept.1
+    went_on c.args.item.now kept.0 c.in_ok-site.site d c.in_ok-site.ensures.value kept.1
     (skipped env (part_of c.args.world) old c.args.i d c.args.item.now kept.0 (core_in c.end_call.new.self) (core_in c.tick.new.self) may c.end_call.ensures.value c.in_ok-tick.ensures.ok)
     (c.in_ok-walk_item.ensures.ok grown k)
 
