@@ -14,13 +14,13 @@ use Rattle.hir_def_collector.specs.declared.collector.macro_directive.MacroDirec
 use Rattle.hir_def_collector.specs.declared.collector.calls.Due.{Due}
 use Rattle.hir_def_collector.specs.declared.collector.calls.Due.TheVariants.{Derives, Nothing, Reaches, Skips}
 use Rattle.hir_def_collector.specs.declared.collector.macro_directive.WaitingItem.{WaitingItem}
-use Rattle.hir_def_collector.specs.CallMoves.{FindsBuiltin, IsAttributeWaiting, IsDueOf, IsFirstWaiting, NoneWaitsBefore}
+use Rattle.hir_def_collector.specs.CallMoves.{FindsBuiltin, IsAttributeWaiting, IsDueOf, IsFirstWaiting, NoneWaits, NoneWaitsBefore}
 use Rattle.hir_def_collector.specs.Calls.{IsWaiting, LeadsNowhere, builtin_impl, called_macro, expands_by, is_call, is_inert_by, is_inert_now, item_in, waiting_item}
 use Rattle.hir_def_collector.specs.Keys.{Environment}
 use Rattle.hir_def_collector.specs.State.{Core, Task, at_rest, joined}
 use Rattle.hir_def_collector.specs.Steps.{Steps, by_builtin}
 use Rattle.hir_def_collector.proofs.Bound.{number_same_or_not}
-use Rattle.hir_def_collector.proofs.Lists.{get_set_other, get_set_same, length_set}
+use Rattle.hir_def_collector.proofs.Lists.{get_inside, get_set_other, get_set_same, length_set}
 use Rattle.hir_def_collector.proofs.Tried.{calls_longer, waiting_before}
 
 -- where nothing waits at a place, nothing there leads anywhere
@@ -102,6 +102,24 @@ none_waits_later old new first paired steps before = record {
     go j w (inl low) =
         before.none j (record { call = w.call; waits = waiting_before steps paired w.waits (omega (arith, low, before.inside)); item = w.item; is_item = w.is_item })
     go j w (inr high) = high
+
+-- nor at the next place, where none waits at this one
+pub none_waits_past : (c : Core) (i : ℕ) → NoneWaitsBefore c i → i < length c.calls → ¬ IsAttributeWaiting c i → NoneWaitsBefore c (i + 1)
+none_waits_past c i before there none = record { inside = omega arith; none = λ j w. go j w (cases_lt j (i + 1)) }
+  where
+    go : (j : ℕ) → IsAttributeWaiting c j → (j < i + 1) ⊎ (i + 1 ≤ j) → i + 1 ≤ j
+    go j w (inl low) =
+        let from : i ≤ j = before.none j w in
+        let here : j ≡ i = omega (arith, low, from) in
+        absurd (none (subst (IsAttributeWaiting c) here w))
+    go j w (inr high) = high
+
+-- and none waits at all, where none does before the end
+pub none_waits_anywhere : (c : Core) (i : ℕ) → NoneWaitsBefore c i → length c.calls ≤ i → NoneWaits c
+none_waits_anywhere c i before over = λ j w.
+    let inside : j < length c.calls = get_inside c.calls j w.call w.waits.call in
+    let from : i ≤ j = before.none j w in
+    absurd (omega (arith, inside, from, over))
 
 -- where the first attribute waits, what waits has an item
 pub has_item : (c : Core) (i : ℕ) (d : MacroDirective) → IsFirstWaiting c i → IsWaiting (at_rest c) i d → waiting_item d ≡ None → ⊥

@@ -14,8 +14,8 @@ use Rattle.hir_def_collector.proofs.Made.{count_kept}
 use Rattle.hir_def_collector.proofs.Noted.{noted_follow}
 use Rattle.hir_def_collector.proofs.collector.derives.derive_builtin.Goals as goal
 
-pub list_derived-requires-clause-in_range : goal.list_derived-requires-clause-in_range
-list_derived-requires-clause-in_range c = subst (λ (e : Core). c.args.call.now.site.home < length e.map.modules) (sym c.end_call.ensures.value) c.requires.in_range
+pub list_derived-requires : goal.list_derived-requires
+list_derived-requires c = record { in_range = subst (λ (e : Core). c.args.call.now.site.home < length e.map.modules) (sym c.end_call.ensures.value) c.requires.in_range }
 
 pub returns-clause-ok : goal.returns-clause-ok
 returns-clause-ok c = λ env.

@@ -4,8 +4,8 @@ use Rattle.hir_def_collector.specs.State.{core_in}
 use Rattle.hir_def_collector.proofs.collector.resume.first_waiting.Given as goal
 
 -- none waits before this place
-abbrev pub invariant-loop-i : goal.invariant-loop-i
-invariant-loop-i l = NoneWaitsBefore (core_in l.run) l.i
+abbrev pub invariant-places : goal.invariant-places
+invariant-places l = NoneWaitsBefore (core_in l.run) l.i
 
-abbrev pub decreases-loop-i : goal.decreases-loop-i
-decreases-loop-i l = length (core_in l.run).calls - l.i
+abbrev pub decreases-places : goal.decreases-places
+decreases-places l = length (core_in l.run).calls - l.i
