@@ -664,7 +664,8 @@ fn take_turn<D: SourceDatabase>(
     if try_calls(&mut run, db, world, locations, queue)? {
         return Ok((run, Turn::Round));
     }
-    match give_up(&mut run, db, world, locations, first)? {
+    let given = give_up(&mut run, db, world, locations, first)?;
+    match given {
         Some(next) => Ok((run, Turn::GaveUp(next))),
         None => Ok((run, Turn::Rests)),
     }

@@ -6,7 +6,8 @@ use Rattle.hir_def_map.specs.Overlay.{Maps}
 use Rattle.hir_def_map.specs.WorldParts.{part_of}
 use Rattle.hir_worklist.specs.Queue.{Queue}
 use Rattle.hir_import_resolution.specs.Inner.State.{IsApart}
-use Rattle.hir_def_collector.specs.CallMoves.{ComesToRest, TakesTurn, cut_off, rested}
+use Rattle.hir_def_collector.specs.declared.collector.calls.Turn.{Turn}
+use Rattle.hir_def_collector.specs.CallMoves.{ComesToRest, EndsInRound, NoneWaitsBefore, TakesTurn, cut_off, rested}
 use Rattle.hir_def_collector.specs.Derivation.{IsSpent}
 use Rattle.hir_def_collector.specs.Keys.{Environment, environment}
 use Rattle.hir_def_collector.specs.Moves.{OnceGrown}
@@ -41,19 +42,19 @@ pub take_turn-requires-clause-apart : goal.take_turn-requires-clause-apart
 take_turn-requires-clause-apart g c = λ yes local.
     subst (λ (own : MapId). IsApart (part_of c.args.world) own local) (sym c.rounds.invariant.own) (c.requires.apart yes local)
 
-pub returns-in_err-take_turn-clause-kept : goal.returns-in_err-take_turn-clause-kept
-returns-in_err-take_turn-clause-kept g c =
-    KeepsTables-trans c.args.locations.now c.rounds.locations c.take_turn.new.locations c.rounds.invariant.kept c.in_err-take_turn.ensures.kept
+pub returns-in_err-next-clause-kept : goal.returns-in_err-next-clause-kept
+returns-in_err-next-clause-kept g c =
+    KeepsTables-trans c.args.locations.now c.rounds.locations c.take_turn.new.locations c.rounds.invariant.kept c.in_err-next.ensures.kept
 
-pub returns-in_err-take_turn-clause-many : goal.returns-in_err-take_turn-clause-many
-returns-in_err-take_turn-clause-many g c = λ h grown k.
+pub returns-in_err-next-clause-many : goal.returns-in_err-next-clause-many
+returns-in_err-next-clause-many g c = λ h grown k.
     let w = g.D.SourceDatabase.workspace c.args.db.now in
     let later = c.take_turn.new.locations in
     let far : OnceGrown later w (λ env. IsSpent env (part_of c.args.world) (at_rest (core_in c.rounds.run))) =
-    subst (λ (v : Workspace). OnceGrown later v (λ env. IsSpent env (part_of c.args.world) (at_rest (core_in c.rounds.run)))) c.rounds.invariant.same (c.in_err-take_turn.ensures.many (search rules)) in
-    spent_after (has_rounds_steps (environment grown w) (part_of c.args.world) (core_in c.args.run) (at_rest (core_in c.rounds.run)) c.rounds.rounds (c.rounds.invariant.rounds grown (KeepsTables-trans c.rounds.locations later grown c.in_err-take_turn.ensures.kept k))) (far grown k)
+    subst (λ (v : Workspace). OnceGrown later v (λ env. IsSpent env (part_of c.args.world) (at_rest (core_in c.rounds.run)))) c.rounds.invariant.same (c.in_err-next.ensures.many (search rules)) in
+    spent_after (has_rounds_steps (environment grown w) (part_of c.args.world) (core_in c.args.run) (at_rest (core_in c.rounds.run)) c.rounds.rounds (c.rounds.invariant.rounds grown (KeepsTables-trans c.rounds.locations later grown c.in_err-next.ensures.kept k))) (far grown k)
 
--- ---- behind a turn (the names of the goals of the arms, and of what is known in them, are guessed)
+-- ---- behind a turn
 
 pub rounds-preserved-in-Round : goal.rounds-preserved-in-Round
 rounds-preserved-in-Round g c =
@@ -61,52 +62,54 @@ rounds-preserved-in-Round g c =
     let part = part_of c.args.world in
     let old = core_in c.args.run in
     let now = core_in c.rounds.run in
-    let new = core_in c.in_ok-take_turn.next in
+    let new = core_in c.in_ok-next.next in
     let later = c.take_turn.new.locations in
-    let kept = c.in_ok-take_turn.ensures.kept in
+    let kept = c.in_ok-next.ensures.kept in
     let step : OnceGrown later w (λ env. Steps env part (at_rest now) (at_rest new)) =
-    subst (λ (v : Workspace). OnceGrown later v (λ env. Steps env part (at_rest now) (at_rest new))) c.rounds.invariant.same c.in_ok-take_turn.ensures.ok in
-    let turned : OnceGrown later w (λ env. TakesTurn env part now new c.rounds.first c.in_ok-take_turn.turn) =
-    subst (λ (v : Workspace). OnceGrown later v (λ env. TakesTurn env part now new c.rounds.first c.in_ok-take_turn.turn)) c.rounds.invariant.same c.in_ok-take_turn.ensures.turned in
+    subst (λ (v : Workspace). OnceGrown later v (λ env. Steps env part (at_rest now) (at_rest new))) c.rounds.invariant.same c.in_ok-next.ensures.ok in
+    let turned : OnceGrown later w (λ env. EndsInRound env part now new c.rounds.first) =
+    subst (λ (v : Workspace). OnceGrown later v (λ env. EndsInRound env part now new c.rounds.first)) c.rounds.invariant.same
+    (subst (λ (t : Turn). OnceGrown later (g.D.SourceDatabase.workspace c.rounds.db) (λ env. TakesTurn env part now new c.rounds.first t)) c.in-Round.is c.in_ok-next.ensures.turned) in
     let here : Steps (environment later w) part (at_rest now) (at_rest new) = step later (tables_stay later) in
     record {
       kept = KeepsTables-trans c.args.locations.now c.rounds.locations later c.rounds.invariant.kept kept;
-      same = c.in_ok-take_turn.ensures.same ∙ c.rounds.invariant.same;
-      placed = λ placed. c.in_ok-take_turn.ensures.placed (c.rounds.invariant.placed placed);
+      same = c.in_ok-next.ensures.same ∙ c.rounds.invariant.same;
+      placed = λ placed. c.in_ok-next.ensures.placed (c.rounds.invariant.placed placed);
       ready = ready_after here (ready_grown kept c.rounds.invariant.ready);
       own = id-Steps here ∙ c.rounds.invariant.own;
-      apart = c.in_ok-take_turn.ensures.queue ∙ c.rounds.invariant.apart;
-      stale = c.in_ok-take_turn.ensures.stale;
-      between = c.in_ok-take_turn.ensures.between;
+      apart = c.in_ok-next.ensures.queue ∙ c.rounds.invariant.apart;
+      stale = c.in_ok-next.ensures.stale;
+      between = c.in_ok-next.ensures.between;
       rounds = λ grown k.
           let before = c.rounds.invariant.rounds grown (KeepsTables-trans c.rounds.locations later grown kept k) in
           let t = turned grown k in rounds_next (environment grown w) part old (at_rest now) t.begun new c.rounds.rounds before t.before t.round;
       first = (turned later (tables_stay later)).none;
     }
 
-pub rounds-preserved-in-GaveUp : goal.rounds-preserved-in-GaveUp
-rounds-preserved-in-GaveUp g c =
+pub rounds-preserved : goal.rounds-preserved
+rounds-preserved g c =
     let w = g.D.SourceDatabase.workspace c.args.db.now in
     let part = part_of c.args.world in
     let old = core_in c.args.run in
     let now = core_in c.rounds.run in
-    let new = core_in c.in_ok-take_turn.next in
+    let new = core_in c.in_ok-next.next in
     let later = c.take_turn.new.locations in
-    let kept = c.in_ok-take_turn.ensures.kept in
+    let kept = c.in_ok-next.ensures.kept in
     let step : OnceGrown later w (λ env. Steps env part (at_rest now) (at_rest new)) =
-    subst (λ (v : Workspace). OnceGrown later v (λ env. Steps env part (at_rest now) (at_rest new))) c.rounds.invariant.same c.in_ok-take_turn.ensures.ok in
-    let turned : OnceGrown later w (λ env. TakesTurn env part now new c.rounds.first c.in_ok-take_turn.turn) =
-    subst (λ (v : Workspace). OnceGrown later v (λ env. TakesTurn env part now new c.rounds.first c.in_ok-take_turn.turn)) c.rounds.invariant.same c.in_ok-take_turn.ensures.turned in
+    subst (λ (v : Workspace). OnceGrown later v (λ env. Steps env part (at_rest now) (at_rest new))) c.rounds.invariant.same c.in_ok-next.ensures.ok in
+    let turned : OnceGrown later w (λ env. NoneWaitsBefore new c.in-GaveUp.behind) =
+    subst (λ (v : Workspace). OnceGrown later v (λ env. NoneWaitsBefore new c.in-GaveUp.behind)) c.rounds.invariant.same
+    (subst (λ (t : Turn). OnceGrown later (g.D.SourceDatabase.workspace c.rounds.db) (λ env. TakesTurn env part now new c.rounds.first t)) c.in-GaveUp.is c.in_ok-next.ensures.turned) in
     let here : Steps (environment later w) part (at_rest now) (at_rest new) = step later (tables_stay later) in
     record {
       kept = KeepsTables-trans c.args.locations.now c.rounds.locations later c.rounds.invariant.kept kept;
-      same = c.in_ok-take_turn.ensures.same ∙ c.rounds.invariant.same;
-      placed = λ placed. c.in_ok-take_turn.ensures.placed (c.rounds.invariant.placed placed);
+      same = c.in_ok-next.ensures.same ∙ c.rounds.invariant.same;
+      placed = λ placed. c.in_ok-next.ensures.placed (c.rounds.invariant.placed placed);
       ready = ready_after here (ready_grown kept c.rounds.invariant.ready);
       own = id-Steps here ∙ c.rounds.invariant.own;
-      apart = c.in_ok-take_turn.ensures.queue ∙ c.rounds.invariant.apart;
-      stale = c.in_ok-take_turn.ensures.stale;
-      between = c.in_ok-take_turn.ensures.between;
+      apart = c.in_ok-next.ensures.queue ∙ c.rounds.invariant.apart;
+      stale = c.in_ok-next.ensures.stale;
+      between = c.in_ok-next.ensures.between;
       rounds = λ grown k.
           let before = c.rounds.invariant.rounds grown (KeepsTables-trans c.rounds.locations later grown kept k) in
           rounds_then (environment grown w) part old (at_rest now) (at_rest new) c.rounds.rounds before (step grown k);
@@ -115,22 +118,25 @@ rounds-preserved-in-GaveUp g c =
 
 -- the measure: steps are counted in each turn, and there were fewer than may be
 pub rounds-smaller : goal.rounds-smaller
-rounds-smaller g c = omega (arith, c.in_ok-take_turn.ensures.counts.0, c.in_ok-take_turn.ensures.counts.1)
+rounds-smaller g c = omega (arith, c.in_ok-next.ensures.counts.0, c.in_ok-next.ensures.counts.1)
+
+pub rounds-smaller-in-Round : goal.rounds-smaller-in-Round
+rounds-smaller-in-Round g c = omega (arith, c.in_ok-next.ensures.counts.0, c.in_ok-next.ensures.counts.1)
 
 -- ---- nothing leads anywhere
 
 pub returns-in-Rests-clause-kept : goal.returns-in-Rests-clause-kept
 returns-in-Rests-clause-kept g c =
-    KeepsTables-trans c.args.locations.now c.rounds.locations c.take_turn.new.locations c.rounds.invariant.kept c.in_ok-take_turn.ensures.kept
+    KeepsTables-trans c.args.locations.now c.rounds.locations c.take_turn.new.locations c.rounds.invariant.kept c.in_ok-next.ensures.kept
 
 pub returns-in-Rests-clause-ok : goal.returns-in-Rests-clause-ok
 returns-in-Rests-clause-ok g c = λ grown k.
     let w = g.D.SourceDatabase.workspace c.args.db.now in
     let part = part_of c.args.world in
     let later = c.take_turn.new.locations in
-    let step : OnceGrown later w (λ env. Steps env part (at_rest (core_in c.rounds.run)) (at_rest (core_in c.in_ok-take_turn.next))) =
-    subst (λ (v : Workspace). OnceGrown later v (λ env. Steps env part (at_rest (core_in c.rounds.run)) (at_rest (core_in c.in_ok-take_turn.next)))) c.rounds.invariant.same c.in_ok-take_turn.ensures.ok in
-    Steps-append (has_rounds_steps (environment grown w) part (core_in c.args.run) (at_rest (core_in c.rounds.run)) c.rounds.rounds (c.rounds.invariant.rounds grown (KeepsTables-trans c.rounds.locations later grown c.in_ok-take_turn.ensures.kept k))) (step grown k)
+    let step : OnceGrown later w (λ env. Steps env part (at_rest (core_in c.rounds.run)) (at_rest (core_in c.in_ok-next.next))) =
+    subst (λ (v : Workspace). OnceGrown later v (λ env. Steps env part (at_rest (core_in c.rounds.run)) (at_rest (core_in c.in_ok-next.next)))) c.rounds.invariant.same c.in_ok-next.ensures.ok in
+    Steps-append (has_rounds_steps (environment grown w) part (core_in c.args.run) (at_rest (core_in c.rounds.run)) c.rounds.rounds (c.rounds.invariant.rounds grown (KeepsTables-trans c.rounds.locations later grown c.in_ok-next.ensures.kept k))) (step grown k)
 
 -- where a run rests doesn't say where it began
 rests_from : (env : Environment) (finished : Maps) (began old new : Core) → ComesToRest env finished old new false → ComesToRest env finished began new false
@@ -141,9 +147,10 @@ returns-in-Rests-clause-rests g c = λ grown k.
     let w = g.D.SourceDatabase.workspace c.args.db.now in
     let part = part_of c.args.world in
     let later = c.take_turn.new.locations in
-    let turned : OnceGrown later w (λ env. ComesToRest env part (core_in c.rounds.run) (core_in c.in_ok-take_turn.next) false) =
-    subst (λ (v : Workspace). OnceGrown later v (λ env. ComesToRest env part (core_in c.rounds.run) (core_in c.in_ok-take_turn.next) false)) c.rounds.invariant.same c.in-Rests.ensures.turned in
-    rests_from (environment grown w) part (core_in c.args.run) (core_in c.rounds.run) (core_in c.in_ok-take_turn.next) (turned grown k)
+    let turned : OnceGrown later w (λ env. ComesToRest env part (core_in c.rounds.run) (core_in c.in_ok-next.next) false) =
+    subst (λ (v : Workspace). OnceGrown later v (λ env. ComesToRest env part (core_in c.rounds.run) (core_in c.in_ok-next.next) false)) c.rounds.invariant.same
+    (subst (λ (t : Turn). OnceGrown later (g.D.SourceDatabase.workspace c.rounds.db) (λ env. TakesTurn env part (core_in c.rounds.run) (core_in c.in_ok-next.next) c.rounds.first t)) c.in-Rests.is c.in_ok-next.ensures.turned) in
+    rests_from (environment grown w) part (core_in c.args.run) (core_in c.rounds.run) (core_in c.in_ok-next.next) (turned grown k)
 
 -- ---- there were too many rounds
 

@@ -5,7 +5,7 @@ use Rattle.hir_tables.proofs.Growth.{KeepsTables-trans}
 use Rattle.hir_def_map.specs.WorldParts.{part_of}
 use Rattle.hir_import_resolution.specs.Inner.State.{IsApart}
 use Rattle.hir_import_resolution.specs.Rest.{IsAtRest}
-use Rattle.hir_def_collector.specs.CallMoves.{IsReady, NoneWaitsBefore, TriesCalls}
+use Rattle.hir_def_collector.specs.CallMoves.{IsGivenUp, IsReady, NoneWaitsBefore, TriesCalls}
 use Rattle.hir_def_collector.specs.Calls.{LeadsNowhere}
 use Rattle.hir_def_collector.specs.Derivation.{IsSpent}
 use Rattle.hir_def_collector.specs.Keys.{Environment, environment}
@@ -131,24 +131,24 @@ give_up-requires-clause-first g c =
     (Steps-append (settles_requeued env part (core_in c.args.run) (core_in c.in_ok-run.run') (core_in c.requeue.new.run) c.requeue.ensures.same (c.in_ok-run.ensures.ok env)) (c.in_ok-try_calls.ensures.ok later (tables_stay later)))
     c.requires.first
 
--- ---- an attribute was given up, or none waits (the names of what is known in the two arms are guessed)
+-- ---- an attribute was given up, or none waits
 
 -- steps up to where what is queued was tried
-pub returns-in_err-give_up-clause-kept : goal.returns-in_err-give_up-clause-kept
-returns-in_err-give_up-clause-kept g c = KeepsTables-trans c.args.locations.now c.try_calls.new.locations c.give_up.new.locations c.in_ok-try_calls.ensures.kept c.in_err-give_up.ensures.kept
+pub returns-in_err-given-clause-kept : goal.returns-in_err-given-clause-kept
+returns-in_err-given-clause-kept g c = KeepsTables-trans c.args.locations.now c.try_calls.new.locations c.give_up.new.locations c.in_ok-try_calls.ensures.kept c.in_err-given.ensures.kept
 
-pub returns-in_err-give_up-clause-many : goal.returns-in_err-give_up-clause-many
-returns-in_err-give_up-clause-many g c = λ h grown k.
+pub returns-in_err-given-clause-many : goal.returns-in_err-given-clause-many
+returns-in_err-given-clause-many g c = λ h grown k.
     let w = g.D.SourceDatabase.workspace c.args.db.now in
     let env = environment grown w in
     let part = part_of c.args.world in
     let later = c.give_up.new.locations in
     let far : OnceGrown later w (λ env. IsSpent env part (at_rest (core_in c.try_calls.new.run))) =
-    subst (λ (v : Workspace). OnceGrown later v (λ env. IsSpent env part (at_rest (core_in c.try_calls.new.run)))) c.in_ok-try_calls.ensures.same (c.in_err-give_up.ensures.many (search rules)) in
-    spent_after (Steps-append (settles_requeued env (part_of c.args.world) (core_in c.args.run) (core_in c.in_ok-run.run') (core_in c.requeue.new.run) c.requeue.ensures.same (c.in_ok-run.ensures.ok env)) (c.in_ok-try_calls.ensures.ok grown (KeepsTables-trans c.try_calls.new.locations later grown c.in_err-give_up.ensures.kept k))) (far grown k)
+    subst (λ (v : Workspace). OnceGrown later v (λ env. IsSpent env part (at_rest (core_in c.try_calls.new.run)))) c.in_ok-try_calls.ensures.same (c.in_err-given.ensures.many (search rules)) in
+    spent_after (Steps-append (settles_requeued env (part_of c.args.world) (core_in c.args.run) (core_in c.in_ok-run.run') (core_in c.requeue.new.run) c.requeue.ensures.same (c.in_ok-run.ensures.ok env)) (c.in_ok-try_calls.ensures.ok grown (KeepsTables-trans c.try_calls.new.locations later grown c.in_err-given.ensures.kept k))) (far grown k)
 
 pub returns-in-Some-clause-kept : goal.returns-in-Some-clause-kept
-returns-in-Some-clause-kept g c = KeepsTables-trans c.args.locations.now c.try_calls.new.locations c.give_up.new.locations c.in_ok-try_calls.ensures.kept c.in-Some.ensures.kept
+returns-in-Some-clause-kept g c = KeepsTables-trans c.args.locations.now c.try_calls.new.locations c.give_up.new.locations c.in_ok-try_calls.ensures.kept c.in_ok-given.ensures.kept
 
 pub returns-in-Some-clause-ok : goal.returns-in-Some-clause-ok
 returns-in-Some-clause-ok g c = λ grown k.
@@ -157,8 +157,8 @@ returns-in-Some-clause-ok g c = λ grown k.
     let part = part_of c.args.world in
     let later = c.give_up.new.locations in
     let last : OnceGrown later w (λ env. Steps env part (at_rest (core_in c.try_calls.new.run)) (at_rest (core_in c.give_up.new.run))) =
-    subst (λ (v : Workspace). OnceGrown later v (λ env. Steps env part (at_rest (core_in c.try_calls.new.run)) (at_rest (core_in c.give_up.new.run)))) c.in_ok-try_calls.ensures.same c.in-Some.ensures.ok in
-    Steps-append (Steps-append (settles_requeued env (part_of c.args.world) (core_in c.args.run) (core_in c.in_ok-run.run') (core_in c.requeue.new.run) c.requeue.ensures.same (c.in_ok-run.ensures.ok env)) (c.in_ok-try_calls.ensures.ok grown (KeepsTables-trans c.try_calls.new.locations later grown c.in-Some.ensures.kept k))) (last grown k)
+    subst (λ (v : Workspace). OnceGrown later v (λ env. Steps env part (at_rest (core_in c.try_calls.new.run)) (at_rest (core_in c.give_up.new.run)))) c.in_ok-try_calls.ensures.same c.in_ok-given.ensures.ok in
+    Steps-append (Steps-append (settles_requeued env (part_of c.args.world) (core_in c.args.run) (core_in c.in_ok-run.run') (core_in c.requeue.new.run) c.requeue.ensures.same (c.in_ok-run.ensures.ok env)) (c.in_ok-try_calls.ensures.ok grown (KeepsTables-trans c.try_calls.new.locations later grown c.in_ok-given.ensures.kept k))) (last grown k)
 
 pub returns-in-Some-clause-queue : goal.returns-in-Some-clause-queue
 returns-in-Some-clause-queue g c = c.in_ok-try_calls.ensures.queue ∙ c.in_ok-requeue.ensures.queue
@@ -170,8 +170,8 @@ returns-in-Some-clause-stale g c =
     let part = part_of c.args.world in
     let tried = core_in c.try_calls.new.run in
     let fated = (ready_after (Steps-append (settles_requeued (environment c.try_calls.new.locations (g.D.SourceDatabase.workspace c.args.db.now)) (part_of c.args.world) (core_in c.args.run) (core_in c.in_ok-run.run') (core_in c.requeue.new.run) c.requeue.ensures.same (c.in_ok-run.ensures.ok (environment c.try_calls.new.locations (g.D.SourceDatabase.workspace c.args.db.now)))) (c.in_ok-try_calls.ensures.ok c.try_calls.new.locations (tables_stay c.try_calls.new.locations))) (ready_grown c.in_ok-try_calls.ensures.kept c.requires.ready)).fated in
-    stale_later part c.try_calls.new.queue c.try_calls.new.run c.give_up.new.run (stale_now part c.try_calls.new.queue c.try_calls.new.run c.in_ok-try_calls.ensures.up_to_date) c.in-Some.ensures.noted
-    (keeps_waiting tried (core_in c.give_up.new.run) (c.in-Some.ensures.ok later (tables_stay later)) fated)
+    stale_later part c.try_calls.new.queue c.try_calls.new.run c.give_up.new.run (stale_now part c.try_calls.new.queue c.try_calls.new.run c.in_ok-try_calls.ensures.up_to_date) c.in_ok-given.ensures.noted
+    (keeps_waiting tried (core_in c.give_up.new.run) (c.in_ok-given.ensures.ok later (tables_stay later)) fated)
 
 pub returns-in-Some-clause-counts : goal.returns-in-Some-clause-counts
 returns-in-Some-clause-counts g c =
@@ -179,11 +179,11 @@ returns-in-Some-clause-counts g c =
     let later = c.give_up.new.locations in
     let same = ap (λ (core : Core). core.count) c.requeue.ensures.same in
     let more = count-Steps (c.in_ok-try_calls.ensures.ok middle (tables_stay middle)) in
-    let again = count-Steps (c.in-Some.ensures.ok later (tables_stay later)) in
+    let again = count-Steps (c.in_ok-given.ensures.ok later (tables_stay later)) in
     (omega (arith, c.in_ok-run.ensures.counts.0, same, more, again), c.in_ok-run.ensures.counts.1)
 
 pub returns-in-None-clause-kept : goal.returns-in-None-clause-kept
-returns-in-None-clause-kept g c = KeepsTables-trans c.args.locations.now c.try_calls.new.locations c.give_up.new.locations c.in_ok-try_calls.ensures.kept c.in-None.ensures.kept
+returns-in-None-clause-kept g c = KeepsTables-trans c.args.locations.now c.try_calls.new.locations c.give_up.new.locations c.in_ok-try_calls.ensures.kept c.in_ok-given.ensures.kept
 
 pub returns-in-None-clause-ok : goal.returns-in-None-clause-ok
 returns-in-None-clause-ok g c = λ grown k.
@@ -192,8 +192,8 @@ returns-in-None-clause-ok g c = λ grown k.
     let part = part_of c.args.world in
     let later = c.give_up.new.locations in
     let last : OnceGrown later w (λ env. Steps env part (at_rest (core_in c.try_calls.new.run)) (at_rest (core_in c.give_up.new.run))) =
-    subst (λ (v : Workspace). OnceGrown later v (λ env. Steps env part (at_rest (core_in c.try_calls.new.run)) (at_rest (core_in c.give_up.new.run)))) c.in_ok-try_calls.ensures.same c.in-None.ensures.ok in
-    Steps-append (Steps-append (settles_requeued env (part_of c.args.world) (core_in c.args.run) (core_in c.in_ok-run.run') (core_in c.requeue.new.run) c.requeue.ensures.same (c.in_ok-run.ensures.ok env)) (c.in_ok-try_calls.ensures.ok grown (KeepsTables-trans c.try_calls.new.locations later grown c.in-None.ensures.kept k))) (last grown k)
+    subst (λ (v : Workspace). OnceGrown later v (λ env. Steps env part (at_rest (core_in c.try_calls.new.run)) (at_rest (core_in c.give_up.new.run)))) c.in_ok-try_calls.ensures.same c.in_ok-given.ensures.ok in
+    Steps-append (Steps-append (settles_requeued env (part_of c.args.world) (core_in c.args.run) (core_in c.in_ok-run.run') (core_in c.requeue.new.run) c.requeue.ensures.same (c.in_ok-run.ensures.ok env)) (c.in_ok-try_calls.ensures.ok grown (KeepsTables-trans c.try_calls.new.locations later grown c.in_ok-given.ensures.kept k))) (last grown k)
 
 pub returns-in-None-clause-queue : goal.returns-in-None-clause-queue
 returns-in-None-clause-queue g c = c.in_ok-try_calls.ensures.queue ∙ c.in_ok-requeue.ensures.queue
@@ -205,8 +205,8 @@ returns-in-None-clause-stale g c =
     let part = part_of c.args.world in
     let tried = core_in c.try_calls.new.run in
     let fated = (ready_after (Steps-append (settles_requeued (environment c.try_calls.new.locations (g.D.SourceDatabase.workspace c.args.db.now)) (part_of c.args.world) (core_in c.args.run) (core_in c.in_ok-run.run') (core_in c.requeue.new.run) c.requeue.ensures.same (c.in_ok-run.ensures.ok (environment c.try_calls.new.locations (g.D.SourceDatabase.workspace c.args.db.now)))) (c.in_ok-try_calls.ensures.ok c.try_calls.new.locations (tables_stay c.try_calls.new.locations))) (ready_grown c.in_ok-try_calls.ensures.kept c.requires.ready)).fated in
-    stale_later part c.try_calls.new.queue c.try_calls.new.run c.give_up.new.run (stale_now part c.try_calls.new.queue c.try_calls.new.run c.in_ok-try_calls.ensures.up_to_date) c.in-None.ensures.noted
-    (keeps_waiting tried (core_in c.give_up.new.run) (c.in-None.ensures.ok later (tables_stay later)) fated)
+    stale_later part c.try_calls.new.queue c.try_calls.new.run c.give_up.new.run (stale_now part c.try_calls.new.queue c.try_calls.new.run c.in_ok-try_calls.ensures.up_to_date) c.in_ok-given.ensures.noted
+    (keeps_waiting tried (core_in c.give_up.new.run) (c.in_ok-given.ensures.ok later (tables_stay later)) fated)
 
 pub returns-in-None-clause-counts : goal.returns-in-None-clause-counts
 returns-in-None-clause-counts g c =
@@ -214,11 +214,11 @@ returns-in-None-clause-counts g c =
     let later = c.give_up.new.locations in
     let same = ap (λ (core : Core). core.count) c.requeue.ensures.same in
     let more = count-Steps (c.in_ok-try_calls.ensures.ok middle (tables_stay middle)) in
-    let again = count-Steps (c.in-None.ensures.ok later (tables_stay later)) in
+    let again = count-Steps (c.in_ok-given.ensures.ok later (tables_stay later)) in
     (omega (arith, c.in_ok-run.ensures.counts.0, same, more, again), c.in_ok-run.ensures.counts.1)
 
 pub returns-in-Some-clause-turned : goal.returns-in-Some-clause-turned
-returns-in-Some-clause-turned g c = λ grown k. c.in-Some.ensures.given
+returns-in-Some-clause-turned g c = λ grown k. subst (IsGivenUp (core_in c.try_calls.new.run) (core_in c.give_up.new.run)) c.in-Some.is c.in_ok-given.ensures.given
 
 pub returns-in-None-clause-turned : goal.returns-in-None-clause-turned
 returns-in-None-clause-turned g c = λ grown k.
@@ -226,6 +226,7 @@ returns-in-None-clause-turned g c = λ grown k.
     let env = environment middle (g.D.SourceDatabase.workspace c.args.db.now) in
     let part = part_of c.args.world in
     let settled = core_in c.requeue.new.run in
+    let none : IsGivenUp (core_in c.try_calls.new.run) (core_in c.give_up.new.run) None = subst (IsGivenUp (core_in c.try_calls.new.run) (core_in c.give_up.new.run)) c.in-None.is c.in_ok-given.ensures.given in
     let idle = none_handled env part (core_in c.args.run) settled (core_in c.try_calls.new.run) c.in_ok-try_calls.field-0 c.if-branch.false (c.in_ok-try_calls.ensures.tried middle (tables_stay middle)) in
     rests_idle (environment grown (g.D.SourceDatabase.workspace c.args.db.now)) part (core_in c.args.run) settled (core_in c.try_calls.new.run) (core_in c.give_up.new.run)
-    (subst (λ (core : Core). IsAtRest part (import_state (at_rest core))) (sym c.requeue.ensures.same) c.in_ok-run.ensures.rests) idle.0 idle.1 c.in-None.ensures.given.0 c.in-None.ensures.given.1
+    (subst (λ (core : Core). IsAtRest part (import_state (at_rest core))) (sym c.requeue.ensures.same) c.in_ok-run.ensures.rests) idle.0 idle.1 none.0 none.1

@@ -16,7 +16,7 @@ pub returns-in_default-clause-noted : goal.returns-in_default-clause-noted
 returns-in_default-clause-noted g c = noted_itself c.args.run.now
 
 pub returns-in_default-clause-given : goal.returns-in_default-clause-given
-returns-in_default-clause-given g c = (refl, c.in_default.ensures.none)
+returns-in_default-clause-given g c = (refl, c.in_default.ensures.none refl)
 
 pub returns-in_default-waiting-clause-ok : goal.returns-in_default-waiting-clause-ok
 returns-in_default-waiting-clause-ok g c = λ grown k. none
