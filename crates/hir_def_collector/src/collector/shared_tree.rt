@@ -14,8 +14,11 @@ pub struct SharedTree {
 
 impl Model for SharedTree {
     ghost use Rattle.hir_item_tree.specs.SourceTree.{SourceTreeValue};
+    ghost use Rattle.hir_item_tree.specs.SideCodes.{coded_source_tree};
 
     ghost Value = { SourceTreeValue };
+
+    ghost coded = { coded_source_tree };
 
     ghost view = { λ s. s.tree.value };
 }
