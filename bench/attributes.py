@@ -108,7 +108,7 @@ INPUTS = {
     of_one_struct: [8000, 16000],
     inert: [8000, 16000],
     builtin_derives: [4000, 8000],
-    derives_with_a_helper: [1000, 2000],
+    derives_with_a_helper: [4000, 8000],
     beside_imports: [250, 500],
 }
 EDITS = {edit_of_a_body: [8000, 16000]}
