@@ -133,7 +133,7 @@ visited_still m n v item same is = record { kept = is.kept; node = is.node; enab
 
 -- its item is kept as it waits
 abbrev waiting_behind : Visited → ℕ → WaitingItem
-waiting_behind v done = record { source = v.source.now; id = v.id; done = done }
+waiting_behind v done = record { source = v.source.now.value; id = v.id; done = done }
 
 module _ (env : Environment) (finished : Maps) (old : Core) (v : Visited) (item : KeptItem) (is : IsVisited old.map v item) (from at : ℕ) (a : Attribute) (next : next_attribute old.map v.site.now item from ≡ Some (at, a)) where
   abbrev here : Visit

@@ -127,13 +127,14 @@ pub fn declare_function(
             id: head.id,
         },
     };
-    match export_at(run, site, head, name)? {
-        Some(export) => {
-            let vis = run.visibility(world, site, head);
-            declare_exporting(run, site, head, name, id, vis, export)
-        }
-        None => declare_value(run, world, site, head, name, ModuleDefId::FunctionId(id)),
-    }
+    let exported = export_at(run, site, head, name)?;
+    let Some(export) = exported else {
+        declare_value(run, world, site, head, name, ModuleDefId::FunctionId(id))?;
+        return Ok(());
+    };
+    let vis = run.visibility(world, site, head);
+    declare_exporting(run, site, head, name, id, vis, export)?;
+    Ok(())
 }
 
 /// Declares a constant that has a name.
