@@ -4,12 +4,13 @@ use Rattle.hir_def_map.specs.WorldParts.{part_of}
 use Rattle.hir_def_collector.specs.declared.collector.calls.Due.TheVariants.{Derives, Drops, Nothing, Reaches, Skips, TooDeep}
 use Rattle.hir_def_collector.specs.declared.collector.macro_directive.Fate.TheVariants.{Handled, Waits}
 use Rattle.hir_def_collector.specs.CallMoves.{IsDueOf, handled, left}
+use Rattle.hir_def_collector.specs.Calls.{waiting_item}
 use Rattle.hir_def_collector.specs.Keys.{environment}
 use Rattle.hir_def_collector.specs.State.{Core, at_rest, core_in}
 use Rattle.hir_def_collector.specs.Steps.{IsDeep, drops_call, none}
 use Rattle.hir_def_collector.proofs.CallSteps.{dropped, past_rule}
 use Rattle.hir_def_collector.proofs.Lists.{get_inside, get_set_same}
-use Rattle.hir_def_collector.proofs.GivingUp.{nothing_due}
+use Rattle.hir_def_collector.proofs.GivingUp.{has_impl, nothing_due}
 use Rattle.hir_def_collector.proofs.Noted.{noted_itself}
 use Rattle.hir_def_collector.proofs.collector.calls.do_due.Goals as goal
 
@@ -50,6 +51,21 @@ returns-in_ok-drop_call-in-TooDeep-clause-tried g c =
     (ap (λ (x : Core). slice_get x.fates c.args.i) c.in_ok-drop_call-in-TooDeep.ensures.ok ∙ get_set_same old.fates c.args.i Handled (get_inside old.fates c.args.i Waits c.requires.waits.waiting.waits))
 
 -- the item of an attribute for which nothing is looked up goes on
+pub returns-in_default-clause-ok : goal.returns-in_default-clause-ok
+returns-in_default-clause-ok g c = λ grown k. none
+
+pub returns-in_default-clause-noted : goal.returns-in_default-clause-noted
+returns-in_default-clause-noted g c = noted_itself c.args.run.now
+
+-- it has an item
+pub returns-in_default-clause-tried : goal.returns-in_default-clause-tried
+returns-in_default-clause-tried g c =
+    let part = part_of c.args.world in
+    let due : IsDueOf part (core_in c.args.run.now) c.args.call.now Skips = subst (IsDueOf part (core_in c.args.run.now) c.args.call.now) c.in-Skips.is c.requires.due in
+    let missing : waiting_item c.args.call.now ≡ None = sym c.in_default.ensures.value in
+    let there : waiting_item c.args.call.now ≡ Some due.0 = due.1 in
+    absurd (let no : ⊥ = cc in no)
+
 pub skip-requires-clause-of : goal.skip-requires-clause-of
 skip-requires-clause-of g c = sym c.in-Some.ensures.value
 
@@ -63,6 +79,20 @@ pub returns-in_ok-skip-in-Skips-clause-tried : goal.returns-in_ok-skip-in-Skips-
 returns-in_ok-skip-in-Skips-clause-tried g c = handled c.args.call.now c.requires.waits.waiting c.in_ok-skip-in-Skips.ensures.handled
 
 -- a path of a derive that reaches a builtin macro stands for an impl
+pub returns-in_default-builtin_impl-clause-ok : goal.returns-in_default-builtin_impl-clause-ok
+returns-in_default-builtin_impl-clause-ok g c = λ grown k. none
+
+pub returns-in_default-builtin_impl-clause-noted : goal.returns-in_default-builtin_impl-clause-noted
+returns-in_default-builtin_impl-clause-noted g c = noted_itself c.args.run.now
+
+-- it is a path of a derive
+pub returns-in_default-builtin_impl-clause-tried : goal.returns-in_default-builtin_impl-clause-tried
+returns-in_default-builtin_impl-clause-tried g c =
+    let part = part_of c.args.world in
+    let due : IsDueOf part (core_in c.args.run.now) c.args.call.now (Derives c.in-Derives.makro) =
+    subst (IsDueOf part (core_in c.args.run.now) c.args.call.now) c.in-Derives.is c.requires.due in
+    absurd (has_impl c.in-Derives.makro c.args.call.now.kind due.0.builtin due.1 (sym c.in_default-builtin_impl.ensures.value))
+
 pub derive_builtin-requires-clause-in_range : goal.derive_builtin-requires-clause-in_range
 derive_builtin-requires-clause-in_range g c = c.requires.ready.calls c.args.i c.args.call.now c.requires.waits.waiting.call
 
