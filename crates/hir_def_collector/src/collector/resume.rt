@@ -1,5 +1,5 @@
 //! Items that go on behind an attribute for which they waited.
-ghost use Rattle.std.specs.Prelude.{◌≡◌, ◌+◌, ℕ, IfOk, IfSome, None, OnOk, Some, slice_get};
+ghost use Rattle.std.specs.Prelude.{◌≡◌, ◌+◌, ◌<◌, ℕ, IfOk, IfSome, None, OnOk, Some, slice_get};
 ghost use Rattle.hir_tables.specs.Tables.{KeepsTables};
 ghost use Rattle.hir_def_map.specs.WorldParts.{part_of};
 ghost use Rattle.hir_import_resolution.specs.Rest.{IsAtRest};
@@ -80,6 +80,7 @@ pub fn skip<D: SourceDatabase>(
 fn first_waiting(run: &DefCollector, first: usize) -> Option<usize>
     requires first { NoneWaitsBefore (core_in run.now) first }
     ensures found { IfSome result (λ i. IsFirstWaiting (core_in run.now) i) }
+    ensures below { IfSome result (λ i. i < 18446744073709551615) }
     ensures none { result ≡ None → NoneWaits (core_in run.now) }
 {
     let mut i = first;

@@ -1,5 +1,5 @@
 -- Where no attribute waits nothing changes; the other ways out aren't taken, since an attribute that waits has an item.
-use Rattle.std.proofs.Common.{rules, ◌≡◌, ◌∙◌, None, Some, ap, refl, subst, sym}
+use Rattle.std.proofs.Common.{arith, rules, ◌≡◌, ◌∙◌, None, Some, ap, refl, subst, sym}
 use Rattle.hir_def_collector.specs.declared.collector.macro_directive.MacroDirective.{MacroDirective}
 use Rattle.hir_def_collector.specs.CallMoves.{IsAttributeWaiting}
 use Rattle.hir_def_collector.specs.Calls.{IsWaiting, waiting_item}
@@ -46,3 +46,7 @@ give_up_at-requires-clause-waits g c =
 
 pub give_up_at-requires-clause-of : goal.give_up_at-requires-clause-of
 give_up_at-requires-clause-of g c = sym c.in-Some-waiting_item.ensures.value
+
+-- there are no more places than have numbers
+pub overflow_add-result : goal.overflow_add-result
+overflow_add-result g c = omega (arith, c.in-Some.ensures.below)
