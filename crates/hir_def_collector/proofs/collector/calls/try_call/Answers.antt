@@ -1,12 +1,13 @@
 -- What waits at a place is handled, or left to wait where nothing is to be done about it.
-use Rattle.std.proofs.Common.{◌≡◌, ◌<◌, None, Some, false, refl, slice_get, subst, true}
+use Rattle.std.proofs.Common.{◌≡◌, ◌<◌, None, Some, false, refl, slice_get, subst, sym, true}
+use Rattle.hir_base.specs.declared.macro_kind.MacroId.{MacroId}
 use Rattle.hir_def_map.specs.WorldParts.{part_of}
 use Rattle.hir_def_collector.specs.declared.collector.calls.Due.{Due}
-use Rattle.hir_def_collector.specs.declared.collector.calls.Due.TheVariants.{Nothing}
+use Rattle.hir_def_collector.specs.declared.collector.calls.Due.TheVariants.{Nothing, Reaches}
 use Rattle.hir_def_collector.specs.declared.collector.macro_directive.MacroDirective.{MacroDirective}
 use Rattle.hir_def_collector.specs.CallMoves.{IsDueOf, left}
-use Rattle.hir_def_collector.specs.State.{Core, core_in}
-use Rattle.hir_def_collector.specs.Steps.{none}
+use Rattle.hir_def_collector.specs.State.{Core, at_rest, core_in}
+use Rattle.hir_def_collector.specs.Steps.{IsDue, none}
 use Rattle.hir_def_collector.proofs.GivingUp.{nothing_due, nothing_waits}
 use Rattle.hir_def_collector.proofs.Noted.{noted_itself}
 use Rattle.hir_def_collector.proofs.collector.calls.try_call.Goals as goal
@@ -32,3 +33,17 @@ returns-in_default-clause-noted g c = noted_itself c.args.run.now
 
 pub returns-in-Nothing-clause-noted : goal.returns-in-Nothing-clause-noted
 returns-in-Nothing-clause-noted g c = noted_itself c.args.run.now
+
+-- something is: what was copied is what waits
+pub do_due-requires-clause-waits : goal.do_due-requires-clause-waits
+do_due-requires-clause-waits g c =
+    let old : Core = core_in c.args.run.now in
+    subst (λ (d : MacroDirective). IsDue (at_rest old) c.args.i d) (sym c.in_ok-call.ensures.value) (record { visited = refl; waiting = c.in-Some.ensures.waits; settled = c.requires.settled })
+
+pub do_due-requires-clause-due : goal.do_due-requires-clause-due
+do_due-requires-clause-due g c =
+    subst (λ (d : MacroDirective). IsDueOf (part_of c.args.world) (core_in c.args.run.now) d c.due_of-due.result) (sym c.in_ok-call.ensures.value) c.due_of-due.ensures.value
+
+pub do_due-requires-clause-below : goal.do_due-requires-clause-below
+do_due-requires-clause-below g c =
+    subst (λ (d : MacroDirective). (makro : MacroId) → c.due_of-due.result ≡ Reaches makro → d.site.level < 4294967295) (sym c.in_ok-call.ensures.value) c.due_of-due.ensures.below
