@@ -250,8 +250,7 @@ pub struct Visited<'a> {
     pub adt: Option<AdtId>,
 }
 
-/// Handles the attribute at a place, which is the next that isn't passed: how many are done with behind it, if the item
-/// doesn't wait.
+/// Handles the attribute at a place, which is the next that isn't passed: whether the item goes on behind it.
 fn handle_attribute(
     run: &mut DefCollector,
     visited: Visited<'_>,
