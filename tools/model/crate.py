@@ -22,10 +22,14 @@ ROUNDS, DEEPEST = 8192, 32
 
 
 class Source:
-    """Where a node is written: a file, or the expansion of a call."""
+    """Where a node is written: a file, or the expansion of a call. Calls with one key expand to one unit, and each has a number of its own."""
+
+    numbers = {}
 
     def __init__(self, file=None, outer=None, call=None, entry=None):
         self.file, self.outer, self.call, self.entry = file, outer, call, entry
+        place = file if outer is None else (outer.number, dump(call), entry)
+        self.number = Source.numbers.setdefault(place, len(Source.numbers))
 
     def text(self):
         calls, at = [], self
@@ -110,7 +114,7 @@ class Call:
         return {**self.kind(), "in": self.source.text()}
 
     def item(self):
-        return self.source.key(), self.node["kind"], tuple(self.node["id"])
+        return self.source.number, self.node["kind"], tuple(self.node["id"])
 
 
 class Crate:
@@ -320,7 +324,7 @@ class Crate:
 
     def visit(self, node, attrs, at, source, depth, done):
         """An item of whose attributes so many are done with: it is handled, unless it waits for one of the others."""
-        item = (source.key(), node["kind"], tuple(node["id"]))
+        item = (source.number, node["kind"], tuple(node["id"]))
         for place in range(done, len(attrs)):
             attr = attrs[place]
             if self.is_passed(item, parse_path(attr["path"])):
