@@ -5,3 +5,4 @@ mod NumberLemmas
 mod AtomLemmas
 mod CfgLemmas
 mod BuiltinLemmas
+mod HeadLemmas

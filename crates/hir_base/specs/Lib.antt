@@ -27,4 +27,5 @@ pub mod Refusal
 -- words of private code
 pub mod DisplayText
 pub mod Root
+pub mod Head
 pub mod Text

@@ -1,5 +1,5 @@
 //! Texts that are cloned without a copy.
-ghost use Rattle.std.specs.Prelude.{◌≡◌, ℕ, nat_eq, List, IfOk, codes, string_bytes};
+ghost use Rattle.std.specs.Prelude.{◌≡◌, ℕ, ◌<◌, nat_eq, List, IfOk, codes, string_bytes, get_or};
 ghost use Rattle.std.specs.Cmp.Lexicographic.{slice_cmp, pointwise};
 ghost use Rattle.std.specs.Ordering.{nat_cmp, as_partial_cmp};
 ghost use Rattle.std.specs.Cmp.{partial_order_from_own_ties};
@@ -7,6 +7,8 @@ ghost use Rattle.std.specs.Cmp.Rules.{comparing, hashing};
 ghost use Rattle.std.proofs.Common.{rules};
 ghost use Rattle.std.specs.Fmt.{debug_str};
 ghost use Rattle.std.specs.Hash as fed;
+ghost use Rattle.hir_base.specs.Head.{head_of, AreBytes};
+ghost use Rattle.std.specs.Rc.{rc_str_bytes};
 ghost use Rattle.hir_base.specs.BuiltinType.{builtin_text};
 
 use crate::builtin_type::BuiltinType;
@@ -27,57 +29,90 @@ pub(crate) enum Kept {
     Shared(RcStr),
 }
 
-/// A text whose clones share its bytes.
+/// A text with its first eight bytes as a number, by which most texts are told apart without a look at their bytes.
 #[derive(Drop)]
-pub struct Text {
+pub(crate) struct Headed {
     kept: Kept,
+    head: u64,
 }
 
-impl Model for Text {
-    ghost use Rattle.std.specs.Prelude.{ℕ, List};
+impl Model for Headed {
+    ghost use Rattle.std.specs.Prelude.{◌≡◌, ℕ, List};
 
     ghost Value = { List ℕ };
 
+    ghost use Rattle.hir_base.specs.Head.{head_of, AreBytes};
     ghost use Rattle.hir_base.specs.Text.{kept_bytes};
 
     ghost view = { λ t. kept_bytes t.kept };
+
+    ghost invariant = { λ t. (t.head ≡ head_of (kept_bytes t.kept)) × AreBytes (kept_bytes t.kept) };
 }
 
-impl Text {
-    /// A copy of `text`, which its clones share.
-    pub fn from_str(alloc: Global, text: &str) -> Result<Text, AllocError>
-        ensures ok { IfOk result (λ t. t ≡ text.now) }
-    {
-        let kept = Kept::Shared(RcStr::from_str(alloc, text)?);
-        Ok(Text { kept })
+/// The byte at a place, 0 behind the end.
+fn byte_at(bytes: &[u8], index: usize) -> u64
+    ensures value { result ≡ get_or bytes.now index 0 }
+    ensures byte { result < 256 }
+{
+    if index < bytes.len() {
+        u64::from(bytes[index])
+    } else {
+        0
     }
+}
 
-    /// The same text, without a copy.
-    pub fn from_string(text: String) -> Result<Text, AllocError>
-        ensures ok { IfOk result (λ t. t ≡ string_bytes text) }
-    {
-        let kept = Kept::Shared(RcStr::from_string(text)?);
-        Ok(Text { kept })
-    }
+/// The first eight bytes as a number, the first the highest.
+fn head_of(text: &str) -> u64
+    ensures value { result ≡ head_of text.now }
+    ensures bytes { AreBytes text.now }
+{
+    let bytes = text.as_bytes();
+    let two = byte_at(bytes, 0) * 256 + byte_at(bytes, 1);
+    let three = two * 256 + byte_at(bytes, 2);
+    let four = three * 256 + byte_at(bytes, 3);
+    let five = four * 256 + byte_at(bytes, 4);
+    let six = five * 256 + byte_at(bytes, 5);
+    let seven = six * 256 + byte_at(bytes, 6);
+    seven * 256 + byte_at(bytes, 7)
+}
 
-    /// A text that stands where none has been written.
-    pub fn blank() -> Text
-        ensures value { result ≡ codes "blank" }
+impl Headed {
+    fn shared(text: RcStr) -> Headed
+        ensures value { result ≡ rc_str_bytes text }
     {
-        Text { kept: Kept::Blank }
-    }
-
-    /// The name of a builtin type, without a copy.
-    pub fn of_builtin(builtin: BuiltinType) -> Text
-        ensures value { result ≡ builtin_text builtin }
-    {
-        Text {
-            kept: Kept::Builtin(builtin),
+        let head = head_of(text.as_str());
+        Headed {
+            kept: Kept::Shared(text),
+            head,
         }
     }
 
-    /// The text.
-    pub fn as_str(&self) -> &str
+    fn blank() -> Headed
+        ensures value { result ≡ codes "blank" }
+    {
+        Headed {
+            kept: Kept::Blank,
+            head: head_of("blank"),
+        }
+    }
+
+    fn of_builtin(builtin: BuiltinType) -> Headed
+        ensures value { result ≡ builtin_text builtin }
+    {
+        Headed {
+            kept: Kept::Builtin(builtin),
+            head: head_of(builtin.as_str()),
+        }
+    }
+
+    fn head(&self) -> u64
+        ensures value { result ≡ head_of self.now }
+        ensures bytes { AreBytes self.now }
+    {
+        self.head
+    }
+
+    fn as_str(&self) -> &str
         ensures value { result.now ≡ self.now }
     {
         match &self.kept {
@@ -87,8 +122,7 @@ impl Text {
         }
     }
 
-    /// The same text, which both then keep.
-    pub fn clone(&self) -> Result<Text, AllocError>
+    fn clone(&self) -> Result<Headed, AllocError>
         ensures value { IfOk result (λ t. t ≡ self.now) }
     {
         let kept = match &self.kept {
@@ -96,7 +130,76 @@ impl Text {
             Kept::Builtin(builtin) => Kept::Builtin(*builtin),
             Kept::Shared(text) => Kept::Shared(text.clone()?),
         };
+        Ok(Headed {
+            kept,
+            head: self.head,
+        })
+    }
+}
+
+/// A text whose clones share its bytes.
+#[derive(Drop)]
+pub struct Text {
+    kept: Headed,
+}
+
+impl Model for Text {
+    ghost use Rattle.std.specs.Prelude.{ℕ, List};
+
+    ghost Value = { List ℕ };
+
+    ghost view = { λ t. t.kept };
+}
+
+impl Text {
+    /// A copy of `text`, which its clones share.
+    pub fn from_str(alloc: Global, text: &str) -> Result<Text, AllocError>
+        ensures ok { IfOk result (λ t. t ≡ text.now) }
+    {
+        let kept = Headed::shared(RcStr::from_str(alloc, text)?);
         Ok(Text { kept })
+    }
+
+    /// The same text, without a copy.
+    pub fn from_string(text: String) -> Result<Text, AllocError>
+        ensures ok { IfOk result (λ t. t ≡ string_bytes text) }
+    {
+        let kept = Headed::shared(RcStr::from_string(text)?);
+        Ok(Text { kept })
+    }
+
+    /// A text that stands where none has been written.
+    pub fn blank() -> Text
+        ensures value { result ≡ codes "blank" }
+    {
+        Text {
+            kept: Headed::blank(),
+        }
+    }
+
+    /// The name of a builtin type, without a copy.
+    pub fn of_builtin(builtin: BuiltinType) -> Text
+        ensures value { result ≡ builtin_text builtin }
+    {
+        Text {
+            kept: Headed::of_builtin(builtin),
+        }
+    }
+
+    /// The text.
+    pub fn as_str(&self) -> &str
+        ensures value { result.now ≡ self.now }
+    {
+        self.kept.as_str()
+    }
+
+    /// The same text, which both then keep.
+    pub fn clone(&self) -> Result<Text, AllocError>
+        ensures value { IfOk result (λ t. t ≡ self.now) }
+    {
+        Ok(Text {
+            kept: self.kept.clone()?,
+        })
     }
 }
 
@@ -106,7 +209,7 @@ impl PartialEq for Text {
     ghost laws = { Prim.search (comparing, rules) };
 
     fn eq(&self, other: &Text) -> bool {
-        self.as_str() == other.as_str()
+        self.kept.head() == other.kept.head() && self.as_str() == other.as_str()
     }
 }
 
@@ -124,6 +227,14 @@ impl Ord for Text {
     ghost matches_eq = { Prim.search (comparing, rules) };
 
     fn cmp(&self, other: &Text) -> Ordering {
+        let head = self.kept.head();
+        let other_head = other.kept.head();
+        if head < other_head {
+            return Ordering::Less;
+        }
+        if head > other_head {
+            return Ordering::Greater;
+        }
         self.as_str().cmp(other.as_str())
     }
 }
