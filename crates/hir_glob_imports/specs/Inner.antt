@@ -13,7 +13,7 @@ use Rattle.hir_glob_imports.specs.declared.edge.Key.{Key}
 use Rattle.hir_glob_imports.specs.declared.edge.Slot.{Slot}
 use Rattle.hir_glob_imports.specs.Rules.{GlobState, Step, slot_of}
 use Rattle.hir_glob_imports.specs.View.{View, NameTable}
-use Rattle.hir_glob_imports.specs.Waves.{GlobsValue, Stands, IsPendingOrSettled, IsKept, brought_of, has_same_ends, state_of}
+use Rattle.hir_glob_imports.specs.Waves.{GlobsValue, Stands, IsPendingOrSettled, brought_of, has_same_ends, state_of}
 
 abbrev pub items_or_none : Option (Vec ℕ Global) → List ℕ
 items_or_none None = []
@@ -60,7 +60,6 @@ pub record Takes {S : Type 0} (t : NameTable S) (s : Slot) (n : S) (g : GlobsVal
   pub step : Step t (state_of n g count) (state_of n' g' count')
   pub slot_is : slot_of step.rule ≡ s
   pub counted : count' ≡ count + 1
-  pub kept : IsKept (t.view n') g'
 
 -- an edge is recorded at its number, the others stay, and what its source has is to be looked at along it
 pub record Linked (v : View) (at : ℕ) (e : Edge) (old new : GlobsValue) : Type 0 where
@@ -87,7 +86,6 @@ pub record StepIn {S : Type 0} (t : NameTable S) (slots : List Slot) (old new : 
 -- a pair was looked at: a step was taken and its slot reported, or nothing changed but what is pending
 pub record Looks {S : Type 0} (t : NameTable S) (took : Bool) (n : S) (g : GlobsValue) (count : ℕ) (changes : List Slot)
     (n' : S) (g' : GlobsValue) (count' : ℕ) (changes' : List Slot) : Type 0 where
-  pub kept : IsKept (t.view n') g'
   pub step : took ≡ true → StepIn t changes' (state_of n g count) (state_of n' g' count')
   pub counted : took ≡ true → count' ≡ count + 1
   pub stays : took ≡ false → state_of n' g' count' ≡ state_of n g count

@@ -55,6 +55,14 @@ impl GlobImports {
         self.edges.as_slice()
     }
 
+    /// Whether nothing is to be looked at along edges.
+    pub fn is_settled(&self) -> bool
+        ensures settled { result ≡ true → self.now.pending ≡ [] }
+        ensures none { self.now.pending ≡ [] → result ≡ true }
+    {
+        self.pending.is_empty()
+    }
+
     pub(crate) fn edge(&self, j: usize) -> Option<Edge>
         ensures value { result ≡ slice_get self.now.edges j }
     {

@@ -3,7 +3,7 @@ ghost use Rattle.std.specs.Prelude.{◌≡◌, ◌+◌, ◌≤◌, true, false, 
 ghost use Rattle.hir_glob_imports.specs.declared.edge.Update.TheVariants.{Nothing, Copy, Follow, Raise};
 ghost use Rattle.hir_glob_imports.specs.Inner.{IsKeptBut, Takes};
 ghost use Rattle.hir_glob_imports.specs.Rules.{after, copies_along, follows_along, noted, IsSpent};
-ghost use Rattle.hir_glob_imports.specs.Waves.{brought_of, update_in, state_of};
+ghost use Rattle.hir_glob_imports.specs.Waves.{brought_of, update_in, state_of, IsKept};
 
 use crate::edge::{Bound, Brought, Edge, Slot, Update};
 use crate::glob_imports::GlobImports;
@@ -135,10 +135,10 @@ impl GlobImports {
     ) -> Result<(), GlobError>
         requires recorded { slice_get self.old.edges j ≡ Some edge }
         requires at { edge.importer ≡ slot.now.at }
-        requires kept { IsKeptBut (N.table.view names.old) self.old j slot.now }
         requires update { update_in (N.table.view names.old) (brought_of self.old) j edge slot.now ≡ Copy shown }
         requires small { count.old ≤ MAX_STEPS }
         ensures takes { OnOk result (Takes N.table slot.now names.old self.old count.old names.new self.new count.new) }
+        ensures kept { OnOk result (IsKeptBut (N.table.view names.old) self.old j slot.now → IsKept (N.table.view names.new) self.new) }
         ensures small { count.new ≤ MAX_STEPS }
         ensures many { result ≡ Err GlobError.TooMany → IsSpent N.table (state_of names.old self.old count.old) }
     {
@@ -159,10 +159,10 @@ impl GlobImports {
     ) -> Result<(), GlobError>
         requires recorded { slice_get self.old.edges j ≡ Some edge }
         requires at { edge.importer ≡ slot.now.at }
-        requires kept { IsKeptBut (N.table.view names.old) self.old j slot.now }
         requires update { update_in (N.table.view names.old) (brought_of self.old) j edge slot.now ≡ Follow shown }
         requires small { count.old ≤ MAX_STEPS }
         ensures takes { OnOk result (Takes N.table slot.now names.old self.old count.old names.new self.new count.new) }
+        ensures kept { OnOk result (IsKeptBut (N.table.view names.old) self.old j slot.now → IsKept (N.table.view names.new) self.new) }
         ensures small { count.new ≤ MAX_STEPS }
         ensures many { result ≡ Err GlobError.TooMany → IsSpent N.table (state_of names.old self.old count.old) }
     {
@@ -183,10 +183,10 @@ impl GlobImports {
     ) -> Result<(), GlobError>
         requires recorded { slice_get self.old.edges j ≡ Some edge }
         requires at { edge.importer ≡ slot.now.at }
-        requires kept { IsKeptBut (N.table.view names.old) self.old j slot.now }
         requires update { update_in (N.table.view names.old) (brought_of self.old) j edge slot.now ≡ Raise vis }
         requires small { count.old ≤ MAX_STEPS }
         ensures takes { OnOk result (Takes N.table slot.now names.old self.old count.old names.new self.new count.new) }
+        ensures kept { OnOk result (IsKeptBut (N.table.view names.old) self.old j slot.now → IsKept (N.table.view names.new) self.new) }
         ensures small { count.new ≤ MAX_STEPS }
         ensures many { result ≡ Err GlobError.TooMany → IsSpent N.table (state_of names.old self.old count.old) }
     {
@@ -207,10 +207,11 @@ impl GlobImports {
     ) -> Result<bool, GlobError>
         requires recorded { slice_get self.old.edges j ≡ Some edge }
         requires at { edge.importer ≡ slot.now.at }
-        requires kept { IsKeptBut (N.table.view names.old) self.old j slot.now }
         requires small { count.old ≤ MAX_STEPS }
         ensures took { IfOk result (λ took. took ≡ true
             → Takes N.table slot.now names.old self.old count.old names.new self.new count.new) }
+        ensures kept { IfOk result (λ took. took ≡ true
+            → IsKeptBut (N.table.view names.old) self.old j slot.now → IsKept (N.table.view names.new) self.new) }
         ensures rests { IfOk result (λ took. took ≡ false
             → update_in (N.table.view names.old) (brought_of self.old) j edge slot.now ≡ Nothing) }
         ensures names_stay { IfOk result (λ took. took ≡ false → names.new ≡ names.old) }

@@ -31,10 +31,11 @@ impl GlobImports {
         key: Key,
     ) -> Result<bool, GlobError>
         requires recorded { slice_get self.old.edges j ≡ Some edge }
-        requires kept { IsKeptBut (N.table.view names.old) self.old j (slot_at edge.importer key) }
         requires small { count.old ≤ MAX_STEPS }
         ensures looks { IfOk result (λ took. Looks N.table took names.old self.old count.old changes.old.items
             names.new self.new count.new changes.new.items) }
+        ensures kept { OnOk result (IsKeptBut (N.table.view names.old) self.old j (slot_at edge.importer key)
+            → IsKept (N.table.view names.new) self.new) }
         ensures pending { IfOk result (λ took. took ≡ false → self.new.pending ≡ self.old.pending) }
         ensures small { count.new ≤ MAX_STEPS }
         ensures many { result ≡ Err GlobError.TooMany → IsSpent N.table (state_of names.old self.old count.old) }
@@ -60,10 +61,10 @@ impl GlobImports {
         j: usize,
         key: Key,
     ) -> Result<bool, GlobError>
-        requires kept { IsKeptBeside (N.table.view names.old) self.old j key }
         requires small { count.old ≤ MAX_STEPS }
         ensures looks { IfOk result (λ took. Looks N.table took names.old self.old count.old changes.old.items
             names.new self.new count.new changes.new.items) }
+        ensures kept { OnOk result (IsKeptBeside (N.table.view names.old) self.old j key → IsKept (N.table.view names.new) self.new) }
         ensures pending { IfOk result (λ took. took ≡ false → self.new.pending ≡ self.old.pending) }
         ensures small { count.new ≤ MAX_STEPS }
         ensures many { result ≡ Err GlobError.TooMany → IsSpent N.table (state_of names.old self.old count.old) }
@@ -81,10 +82,10 @@ impl GlobImports {
         count: &mut u32,
         changes: &mut Vec<Slot>,
     ) -> Result<bool, GlobError>
-        requires kept { IsKept (N.table.view names.old) self.old }
         requires small { count.old ≤ MAX_STEPS }
         ensures looks { IfOk result (λ took. Looks N.table took names.old self.old count.old changes.old.items
             names.new self.new count.new changes.new.items) }
+        ensures kept { OnOk result (IsKept (N.table.view names.old) self.old → IsKept (N.table.view names.new) self.new) }
         ensures rests { IfOk result (λ took. took ≡ false → self.new.pending ≡ []) }
         ensures small { count.new ≤ MAX_STEPS }
         ensures many { result ≡ Err GlobError.TooMany → IsSpent N.table (state_of names.old self.old count.old) }
@@ -99,22 +100,23 @@ impl GlobImports {
 
     /// Copies, follows and raises along edges until nothing is pending.
     ///
-    /// `count` is how many steps the run took, and `changes` gains each slot that changes.
+    /// Each step is tested when it is taken, so they may be taken also where the map has changed in ways of which nothing is
+    /// noted. `count` is how many steps the run took, and `changes` gains each slot that changes.
     pub fn wave<N: Names>(
         &mut self,
         names: &mut N,
         count: &mut u32,
         changes: &mut Vec<Slot>,
     ) -> Result<(), GlobError>
-        requires kept { IsKept (N.table.view names.old) self.old }
         requires small { count.old ≤ MAX_STEPS }
         // each step changes a slot of the list
         ensures steps { OnOk result (StepsIn N.table changes.new.items
             (state_of names.old self.old count.old) (state_of names.new self.new count.new)) }
         ensures listed { OnOk result ((slot : Slot) → Contains changes.old.items slot → Contains changes.new.items slot) }
-        ensures kept { OnOk result (IsKept (N.table.view names.new) self.new) }
+        ensures kept { OnOk result (IsKept (N.table.view names.old) self.old → IsKept (N.table.view names.new) self.new) }
         ensures rests { OnOk result (self.new.pending ≡ []) }
-        ensures waved { OnOk result (IsWaved (N.table.view names.new) self.new.edges (brought_of self.new)) }
+        ensures waved { OnOk result (IsKept (N.table.view names.old) self.old
+            → IsWaved (N.table.view names.new) self.new.edges (brought_of self.new)) }
         ensures small { count.new ≤ MAX_STEPS }
         ensures many { result ≡ Err GlobError.TooMany → IsSpent N.table (state_of names.old self.old count.old) }
     {

@@ -80,6 +80,28 @@ impl<'a> Resolver<'a> {
         }
     }
 
+    /// Where the imports stand, and the slots that the last wave changed. What is queued is given up.
+    pub fn finish_wave(self) -> (Imports, Vec<hir_glob_imports::Slot>)
+        ensures state { state_in result.0 ≡ state_by self.entry }
+        ensures globs { result.0.globs ≡ self.entry.globs }
+        ensures count { result.0.count ≡ self.entry.count }
+        ensures changes { result.1 ≡ self.entry.changes }
+    {
+        let scopes = self.scopes;
+        (
+            Imports {
+                map: scopes.map,
+                local: self.local,
+                from_glob_import: scopes.globs,
+                imports: self.imports,
+                taken: self.taken,
+                globs: self.globs,
+                count: self.count,
+            },
+            self.changes,
+        )
+    }
+
     /// Where the imports stand.
     pub fn finish(self) -> Resting
         ensures state { state_in result.imports ≡ state_by self.entry }

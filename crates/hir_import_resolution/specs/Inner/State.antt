@@ -79,6 +79,10 @@ queue_by r = record { apart = r.apart; worklist = r.worklist; watchers = r.watch
 abbrev pub with_globs : Resolver → OpenScopes → GlobsValue → Resolver
 with_globs r scopes globs = record r { scopes = scopes; globs = globs }
 
+-- with what another has that goes along globs
+abbrev pub spread_from : Resolver → Resolver → Resolver
+spread_from r other = record r { scopes = other.scopes; globs = other.globs; count = other.count; changes = other.changes }
+
 -- with another queue
 abbrev pub with_queue : Resolver → Queue → Watchers PathSlot → Resolver
 with_queue r q watchers = record r { worklist = q; watchers = watchers }

@@ -1,7 +1,7 @@
 //! One step: an import that binds what it reaches, a glob that is recorded, and what goes along globs.
 ghost use Rattle.std.specs.Prelude.{◌≡◌, ◌<◌, ◌≤◌, [], IfNone, IfOk, IfSome, OnOk, Some, length, slice_get, slice_set};
 ghost use Rattle.hir_import_resolution.specs.Directives.{TakenValue, answer_to, path_answer, taken_after, taken_for, visibility_of};
-ghost use Rattle.hir_import_resolution.specs.Inner.State.{AreRecorded, IsKeptIn, IsLinked, IsSpread, IsTaken, counted, finished_by, state_by, with_globs};
+ghost use Rattle.hir_import_resolution.specs.Inner.State.{AreRecorded, IsKeptIn, IsLinked, IsSpread, IsTaken, counted, finished_by, spread_from, state_by, with_globs};
 ghost use Rattle.hir_import_resolution.specs.Inner.Steps.{IsLinkedAt, IsLinking, taking_at};
 ghost use Rattle.hir_import_resolution.specs.Rest.{IsSound, IsSpent};
 ghost use Rattle.hir_import_resolution.specs.Rules.{Step, Steps};
@@ -217,15 +217,15 @@ impl Resolver<'_> {
 
     /// Takes names along globs until no more comes of it; `changes` has the slots that changed.
     pub(crate) fn spread(&mut self) -> Result<(), ImportError>
-        requires kept { IsKeptIn self.old }
         requires small { self.old.count ≤ MAX_STEPS }
         requires fresh { self.old.changes.items ≡ [] }
         ensures steps { OnOk result (Steps (finished_by self.old) (state_by self.old) (state_by self.new)) }
         ensures is { OnOk result (IsSpread self.old self.new) }
-        ensures kept { OnOk result (IsKeptIn self.new) }
+        ensures kept { OnOk result (IsKeptIn self.old → IsKeptIn self.new) }
         ensures pending { OnOk result (self.new.globs.pending ≡ []) }
         ensures recorded { OnOk result (AreRecorded self.old → AreRecorded self.new) }
-        ensures small { OnOk result (self.new.count ≤ MAX_STEPS) }
+        ensures small { self.new.count ≤ MAX_STEPS }
+        ensures rest { self.new ≡ spread_from self.old self.new }
         ensures many { result ≡ Err ImportError.TooMany → IsSpent (finished_by self.old) (state_by self.old) }
     {
         self.globs
