@@ -53,6 +53,7 @@ pub mod EnumMacros
 pub mod CallReads
 pub mod Noted
 pub mod NotedImports
+pub mod Spreading
 pub mod Waiting
 pub mod Queued
 pub mod GivingUp

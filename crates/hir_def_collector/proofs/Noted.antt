@@ -72,7 +72,7 @@ pub grown_kept : (old new : Map) → Grows old new → length old.modules ≤ le
 grown_kept old new grows longer = record { id = grows.id; holder = grows.holder; crate_data = grows.crate_data; prelude = grows.prelude; parents = grows.parents; count = longer }
 
 -- where helpers stay, the same names are helpers
-helped_alike : (old new : Map) → new.derive_helpers ≡ old.derive_helpers → (node : AstId) (name : List ℕ) → is_helped new node name ≡ is_helped old node name
+pub helped_alike : (old new : Map) → new.derive_helpers ≡ old.derive_helpers → (node : AstId) (name : List ℕ) → is_helped new node name ≡ is_helped old node name
 helped_alike old new same node name = ap (λ (helpers : List (AstId × List DeriveHelper)). is_helped (record old { derive_helpers = helpers }) node name) same
 
 -- ---- what is noted, one change after another

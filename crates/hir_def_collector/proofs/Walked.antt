@@ -34,7 +34,7 @@ use Rattle.hir_def_collector.specs.TreeReads.{visits_at, visits_behind, visits_f
 use Rattle.hir_def_collector.specs.Reports.{IsUnconfigured}
 use Rattle.hir_def_collector.specs.ItemIds.{module_id, node_of}
 use Rattle.hir_def_collector.specs.Derivation.{IsFull, IsSpent, counted_out}
-use Rattle.hir_def_collector.specs.Moves.{Drops, Handles, HandlesTooFar, IsPassed, IsVisited, Passes, PassesTooFar, Walks, WalksTooFar, is_single}
+use Rattle.hir_def_collector.specs.Moves.{Drops, HandlesAndSpreads, HandlesTooFar, IsPassed, IsVisited, Passes, PassesTooFar, Walks, WalksTooFar, is_single}
 use Rattle.hir_def_collector.proofs.Lists.{drop_at, get_there}
 use Rattle.hir_def_collector.proofs.Moves.{Steps-append, Steps-one, Steps-first, spent_after}
 use Rattle.hir_def_collector.proofs.Made.{Goes, made}
@@ -150,11 +150,11 @@ module _ (tree : Tree) (site : Site) where
 pub longer_after : {env : Environment} {finished : Maps} (old new : Core) (vs : List Task) → Walks env finished old new vs → length old.map.modules ≤ length new.map.modules
 longer_after old new vs walks = (Grows-Steps (walks.steps [])).longer
 
--- nor does one step
-pub still_there : {env : Environment} {finished : Maps} (old new : Core) (v : Visit) (inside : List Task) (n done : ℕ) → IsPassed old v done → Handles env finished old new v inside → n < length old.map.modules
+-- nor do those that handle an item
+pub still_there : {env : Environment} {finished : Maps} (old new : Core) (v : Visit) (inside : List Task) (n done : ℕ) → IsPassed old v done → HandlesAndSpreads env finished old new v inside → n < length old.map.modules
     → n < length new.map.modules
 still_there old new v inside n done passed handles h =
-    let longer : length old.map.modules ≤ length new.map.modules = (Grows-Step (handles.step done passed [])).longer in
+    let longer : length old.map.modules ≤ length new.map.modules = (Grows-Steps (handles.steps done passed [])).longer in
     omega arith
 
 pub still_there-counted : (old new : Core) (n : ℕ) → new ≡ counted old → n < length old.map.modules → n < length new.map.modules
@@ -203,10 +203,10 @@ visits_alone tree site n = go (slice_get (all_items tree.items) n)
     go None = refl
     go (Some i) = refl
 
--- a step handles the item whose attributes are done with, and then those inside are walked
-pub Walks-first : {env : Environment} {finished : Maps} (old mid new : Core) (v : Visit) (done : ℕ) (inside : List Task) → IsPassed old v done → Handles env finished old mid v inside
+-- steps handle the item whose attributes are done with, and then those inside are walked
+pub Walks-first : {env : Environment} {finished : Maps} (old mid new : Core) (v : Visit) (done : ℕ) (inside : List Task) → IsPassed old v done → HandlesAndSpreads env finished old mid v inside
     → Walks env finished mid new inside → Walks env finished old new (visits (behind v done) ∷ [])
-Walks-first {env} {finished} old mid new v done inside passed handles walks = record { steps = λ rest. Steps-first (handles.step done passed rest) (walks.steps rest) }
+Walks-first {env} {finished} old mid new v done inside passed handles walks = record { steps = λ rest. Steps-append (handles.steps done passed rest) (walks.steps rest) }
 
 -- steps through attributes of the item come before that, or lead to where it waits
 pub Walks-passed : {env : Environment} {finished : Maps} (old mid new : Core) (v : Visit) (from done : ℕ) (vs : List Task) → vs ≡ visits (behind v from) ∷ [] → Passes env finished old mid v from (Some done)
@@ -251,17 +251,17 @@ past_none None h = refl
 past_none (Some done) h = absurd (let no : ⊥ = cc in no)
 
 -- steps through those inside lead too far
-pub WalksTooFar-inside : {env : Environment} {finished : Maps} (old mid : Core) (v : Visit) (done : ℕ) (inside : List Task) → IsPassed old v done → Handles env finished old mid v inside
+pub WalksTooFar-inside : {env : Environment} {finished : Maps} (old mid : Core) (v : Visit) (done : ℕ) (inside : List Task) → IsPassed old v done → HandlesAndSpreads env finished old mid v inside
     → WalksTooFar env finished mid inside → WalksTooFar env finished old (visits (behind v done) ∷ [])
-WalksTooFar-inside {env} {finished} old mid v done inside passed handles far = record { spent = λ rest. spent_after (Steps-one (handles.step done passed rest)) (far.spent rest) }
+WalksTooFar-inside {env} {finished} old mid v done inside passed handles far = record { spent = λ rest. spent_after (handles.steps done passed rest) (far.spent rest) }
 
 -- steps through attributes of the item, the one that handles it, and those through what is inside
 pub Walks-through : {env : Environment} {finished : Maps} (old passed mid new : Core) (v : Visit) (from done : ℕ) (vs inside : List Task) → vs ≡ visits (behind v from) ∷ []
-    → Passes env finished old passed v from (Some done) → Handles env finished passed mid v inside → Walks env finished mid new inside → Walks env finished old new vs
+    → Passes env finished old passed v from (Some done) → HandlesAndSpreads env finished passed mid v inside → Walks env finished mid new inside → Walks env finished old new vs
 Walks-through old passed mid new v from done vs inside e passes handles walks = Walks-passed old passed new v from done vs e passes (Walks-first passed mid new v done inside passes.goes.0 handles walks)
 
 pub WalksTooFar-through : {env : Environment} {finished : Maps} (old passed mid : Core) (v : Visit) (from done : ℕ) (vs inside : List Task) → vs ≡ visits (behind v from) ∷ []
-    → Passes env finished old passed v from (Some done) → Handles env finished passed mid v inside → WalksTooFar env finished mid inside → WalksTooFar env finished old vs
+    → Passes env finished old passed v from (Some done) → HandlesAndSpreads env finished passed mid v inside → WalksTooFar env finished mid inside → WalksTooFar env finished old vs
 WalksTooFar-through old passed mid v from done vs inside e passes handles far =
     WalksTooFar-passed old passed v from done vs e passes (WalksTooFar-inside passed mid v done inside passes.goes.0 handles far)
 

@@ -74,6 +74,10 @@ IsPassed c v done = next_attribute c.map v.site v.item done ≡ None
 pub record Handles (env : Environment) (finished : Maps) (old new : Core) (v : Visit) (inside : List Task) : Type 0 where
   pub step : (done : ℕ) → IsPassed old v done → (rest : List Task) → Step env finished (joined old (visits (behind v done) ∷ rest)) (joined new (inside ++ rest))
 
+-- steps over the workspace handle the visit once its attributes are done with, and what it binds goes along globs; these tasks come next
+pub record HandlesAndSpreads (env : Environment) (finished : Maps) (old new : Core) (v : Visit) (inside : List Task) : Type 0 where
+  pub steps : (done : ℕ) → IsPassed old v done → (rest : List Task) → Steps env finished (joined old (visits (behind v done) ∷ rest)) (joined new (inside ++ rest))
+
 -- as many steps as are counted were taken by then
 pub record HandlesTooFar (env : Environment) (finished : Maps) (old : Core) (v : Visit) : Type 0 where
   pub spent : (done : ℕ) → IsPassed old v done → (rest : List Task) → IsSpent env finished (joined old (visits (behind v done) ∷ rest))

@@ -1,5 +1,5 @@
 -- Which calls wait, and when is it in vain to try them?
-use Rattle.std.specs.Prelude.{◌≡◌, ◌≢◌, ℕ, ◌<◌, ◌≤◌, Bool, true, false, [], List, Option, None, Some, length, option_map, unwrap_or}
+use Rattle.std.specs.Prelude.{◌≡◌, ◌≢◌, ℕ, ◌<◌, ◌≤◌, Bool, true, false, [], List, ◌++◌, Option, None, Some, cond, length, option_map, unwrap_or}
 use Rattle.std.specs.List.{All}
 use Rattle.hir_base.specs.declared.ast_id.AstId.{AstId}
 use Rattle.hir_def_map.specs.Macros.{helpers_at}
@@ -13,7 +13,7 @@ use Rattle.hir_worklist.specs.Queue.{IsIdle, count_of, is_unfinished}
 use Rattle.hir_worklist.specs.Settling.{AreWatched}
 use Rattle.hir_import_resolution.specs.Inner.Queue.{slot_cmp}
 use Rattle.hir_import_resolution.specs.Inner.State.{IsApart}
-use Rattle.hir_call_queue.specs.Changes.{IsThere, IsUntouched}
+use Rattle.hir_call_queue.specs.Changes.{ChangedValue, IsThere, IsUntouched}
 use Rattle.hir_call_queue.specs.Waking.{is_apart, watchers_of, worklist_of}
 use Rattle.hir_call_queue.specs.declared.queue.CallQueue.{CallQueue}
 use Rattle.hir_def_collector.specs.declared.collector.macro_directive.MacroDirective.{MacroDirective}
@@ -22,6 +22,10 @@ use Rattle.hir_def_collector.specs.Calls.{IsWaiting, by_style, called_macro, is_
 use Rattle.hir_def_collector.specs.State.{Core, Run, at_rest, core_in}
 
 -- ---- what may have changed
+
+-- these slots besides may stand for something else
+abbrev pub with_slots : List PathSlot → ChangedValue → ChangedValue
+with_slots slots c = cond c.all c (record c { slots = c.slots ++ slots })
 
 -- a map has the modules that it had, each in that in which it was, and may have more
 pub record KeepsModules (old new : Map) : Type 0 where

@@ -68,6 +68,7 @@ use std::alloc::{AllocError, Global};
 use std::marker::Model;
 use std::rc::Rc;
 
+mod spreading;
 mod waiting;
 
 /// Where a run stands, what it has still to visit aside.
@@ -274,7 +275,7 @@ impl DefCollector {
         Ok(())
     }
 
-    /// Binds what a declaration brings under a name in a module. Along globs it goes later.
+    /// Binds what a declaration brings under a name in a module. Along globs it goes with `spread_changes`.
     ///
     /// After rust-analyzer's `DefCollector::update`.
     pub fn bind(&mut self, home: u32, name: Name, items: PerNs) -> Result<(), AllocError>

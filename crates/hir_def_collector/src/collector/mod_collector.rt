@@ -20,7 +20,7 @@ ghost use Rattle.hir_def_collector.specs.State.{core_in};
 ghost use Rattle.hir_def_collector.specs.Steps.{inside_file, visit};
 ghost use Rattle.hir_def_collector.specs.TreeReads.{head_of, visits_at, visits_behind};
 ghost use Rattle.hir_def_collector.specs.Derivation.{IsFull};
-ghost use Rattle.hir_def_collector.specs.Moves.{Drops, GoesInside, Handles, HandlesTooFar, MayTake, OnceGrown, Passes, PassesTooFar, TakesFile, Tells, Walks, WalksTooFar, found_view, is_single, opened, tasks_of};
+ghost use Rattle.hir_def_collector.specs.Moves.{Drops, GoesInside, Handles, HandlesAndSpreads, HandlesTooFar, MayTake, OnceGrown, Passes, PassesTooFar, TakesFile, Tells, Walks, WalksTooFar, found_view, is_single, opened, tasks_of};
 ghost use Rattle.hir_def_collector.specs.Waiting.{IsNoted};
 
 use crate::collector::attributes::{Visited, adt_of, pass_attributes};
@@ -513,7 +513,7 @@ fn kind_of(item: ModItemKind<'_>) -> AstKind
 }
 
 /// Handles an item that isn't disabled; which items are visited next: those that it holds, or those of its file.
-fn visit_item<'a, D: SourceDatabase>(
+fn handle_item<'a, D: SourceDatabase>(
     run: &mut DefCollector,
     db: &mut D,
     world: WorldPart<'_>,
@@ -546,6 +546,36 @@ fn visit_item<'a, D: SourceDatabase>(
             Ok(Inside::Nothing)
         }
     }
+}
+
+/// Handles an item that isn't disabled, and lets what it binds go along globs at once; which items are visited next: those
+/// that it holds, or those of its file.
+fn visit_item<'a, D: SourceDatabase>(
+    run: &mut DefCollector,
+    db: &mut D,
+    world: WorldPart<'_>,
+    locations: &mut Tables,
+    site: &Site,
+    head: ItemHead<'_>,
+    item: ModItemKind<'a>,
+) -> Result<Inside<'a>, CollectError>
+    requires in_range { site.now.home < length (core_in run.old).map.modules }
+    requires enabled { is_enabled (head_of head).attributes ≡ true }
+    requires meant { IsMeantAt locations.old site.now }
+    ensures kept { KeepsTables locations.old locations.new }
+    ensures placed { AreCallsPlaced locations.old → AreCallsPlaced locations.new }
+    ensures same { D.workspace db.new ≡ D.workspace db.old }
+    ensures ok { IfOk result (λ inside. OnceGrown locations.new (D.workspace db.old) (λ env. (items : List KeptItem) → HandlesAndSpreads env (part_of world.entry) (core_in run.old) (core_in run.new)
+        (visit site.now (item_of items (head_of head.entry) (kind_content item.entry))) (tasks_of site.now.home items inside))) }
+    ensures noted { OnOk result (IsNoted run.old run.new) }
+    ensures spread { OnOk result (run.new.globs.pending ≡ []) }
+    ensures within { IfOk result (λ inside. GoesInside locations.new (length (core_in run.new).map.modules) site.now (held_numbers (kind_content item.entry)) inside) }
+    ensures many { result ≡ Err CollectError.TooMany → OnceGrown locations.new (D.workspace db.old) (λ env. (items : List KeptItem) →
+        HandlesTooFar env (part_of world.entry) (core_in run.old) (visit site.now (item_of items (head_of head.entry) (kind_content item.entry)))) }
+{
+    let inside = handle_item(run, db, world, locations, site, head, item)?;
+    run.spread_changes(world)?;
+    Ok(inside)
 }
 
 /// Drops an item that a condition leaves out, with all in it.

@@ -18,7 +18,7 @@ use Rattle.hir_def_collector.specs.ItemIds.{module_id, node_of}
 use Rattle.hir_def_collector.specs.Workspace.{Workspace}
 use Rattle.hir_def_collector.specs.Calls.{IsMeantAt}
 use Rattle.hir_def_collector.specs.Keys.{Environment, environment}
-use Rattle.hir_def_collector.specs.Moves.{GoesInside, Handles, IsOfFile, IsWithin, OnceGrown, Passes, PassesTooFar, Walks, WalksTooFar, tasks_of}
+use Rattle.hir_def_collector.specs.Moves.{GoesInside, HandlesAndSpreads, IsOfFile, IsWithin, OnceGrown, Passes, PassesTooFar, Walks, WalksTooFar, tasks_of}
 use Rattle.hir_def_collector.specs.State.{Task, Visit, core_in, visits, visits_over}
 use Rattle.hir_def_collector.specs.Steps.{behind, closing, none, visit}
 use Rattle.hir_def_collector.specs.TreeReads.{head_of, visits_at, visits_behind, above}
@@ -323,8 +323,8 @@ walk_item-returns-in_err-walk_all-in-Held-clause-many g t c = λ far_off grown k
     let ns = numbers_of c.in-Held.ids.now in
     let goes : IsWithin (length mid.map.modules) site inner × (ns ≡ held_numbers (kind_content item)) =
     subst (λ (o : Inside). GoesInside now (length mid.map.modules) site (held_numbers (kind_content item)) o) c.in-Held.is c.in_ok-inside.ensures.within in
-    let first : Handles (environment grown w) part passed mid v (visits_at tree inner ns ++ closing c.in-Held.macro_use site.home inner.home) =
-    subst (λ (o : Inside). Handles (environment grown w) part passed mid v (tasks_of site.home (all_items tree.items) o)) c.in-Held.is
+    let first : HandlesAndSpreads (environment grown w) part passed mid v (visits_at tree inner ns ++ closing c.in-Held.macro_use site.home inner.home) =
+    subst (λ (o : Inside). HandlesAndSpreads (environment grown w) part passed mid v (tasks_of site.home (all_items tree.items) o)) c.in-Held.is
     (c.in_ok-inside.ensures.ok grown (KeepsTables-trans now c.walk_all.new.locations grown c.in_err-walk_all-in-Held.ensures.kept k) (all_items tree.items)) in
     let later : OnceGrown c.walk_all.new.locations w (λ env. WalksTooFar env part mid (visits_at tree inner ns)) =
     subst (λ (v : Workspace). OnceGrown c.walk_all.new.locations v (λ env. WalksTooFar env part mid (visits_at tree inner ns))) c.in_ok-inside.ensures.same (c.in_err-walk_all-in-Held.ensures.many (search rules)) in
@@ -365,8 +365,8 @@ walk_item-returns-in_err-walk_all-in-File-clause-many g t c = λ far_off grown k
     let source = c.in-File.source.value in
     let goes : IsOfFile now (length mid.map.modules) site inner =
     subst (λ (o : Inside). GoesInside now (length mid.map.modules) site (held_numbers (kind_content item)) o) c.in-File.is c.in_ok-inside.ensures.within in
-    let first : Handles (environment grown w) part passed mid v (visits_over inner source.tree.items ++ closing c.in-File.macro_use site.home inner.home) =
-    subst (λ (o : Inside). Handles (environment grown w) part passed mid v (tasks_of site.home (all_items tree.items) o)) c.in-File.is
+    let first : HandlesAndSpreads (environment grown w) part passed mid v (visits_over inner source.tree.items ++ closing c.in-File.macro_use site.home inner.home) =
+    subst (λ (o : Inside). HandlesAndSpreads (environment grown w) part passed mid v (tasks_of site.home (all_items tree.items) o)) c.in-File.is
     (c.in_ok-inside.ensures.ok grown (KeepsTables-trans now c.walk_all-in-File.new.locations grown c.in_err-walk_all-in-File.ensures.kept k) (all_items tree.items)) in
     let items_same : visits_at source.tree inner (numbers_of c.top_level_items-ids.result.now) ≡ visits_over inner source.tree.items =
     ap (visits_over inner) (subst (λ (t : Tree). items_at (all_items t.items) (numbers_of c.top_level_items-ids.result.now) ≡ t.items) (c.tree-in-File.ensures.value ∙ ap (λ (s : SourceTreeValue). s.tree) c.deref-in-File.ensures) c.top_level_items-ids.ensures.value) in
@@ -451,8 +451,8 @@ walk_item-returns-in_ok-close-in-Held-clause-ok g t c = λ grown k.
     let ns = numbers_of c.in-Held.ids.now in
     let goes : IsWithin (length mid.map.modules) site inner × (ns ≡ held_numbers (kind_content item)) =
     subst (λ (o : Inside). GoesInside now (length mid.map.modules) site (held_numbers (kind_content item)) o) c.in-Held.is c.in_ok-inside.ensures.within in
-    let first : Handles (environment grown w) part passed mid v (visits_at tree inner ns ++ closing c.in-Held.macro_use site.home inner.home) =
-    subst (λ (o : Inside). Handles (environment grown w) part passed mid v (tasks_of site.home (all_items tree.items) o)) c.in-Held.is
+    let first : HandlesAndSpreads (environment grown w) part passed mid v (visits_at tree inner ns ++ closing c.in-Held.macro_use site.home inner.home) =
+    subst (λ (o : Inside). HandlesAndSpreads (environment grown w) part passed mid v (tasks_of site.home (all_items tree.items) o)) c.in-Held.is
     (c.in_ok-inside.ensures.ok grown (KeepsTables-trans now c.walk_all.new.locations grown c.in_ok-walk_all-in-Held.ensures.kept k) (all_items tree.items)) in
     let later : OnceGrown c.walk_all.new.locations w (λ env. Walks env part mid (core_in c.walk_all.new.run) (visits_at tree inner ns)) =
     subst (λ (v : Workspace). OnceGrown c.walk_all.new.locations v (λ env. Walks env part mid (core_in c.walk_all.new.run) (visits_at tree inner ns))) c.in_ok-inside.ensures.same c.in_ok-walk_all-in-Held.ensures.ok in
@@ -487,8 +487,8 @@ walk_item-returns-in_err-close-in-Held-clause-many g t c = λ far_off grown k.
     let ns = numbers_of c.in-Held.ids.now in
     let goes : IsWithin (length mid.map.modules) site inner × (ns ≡ held_numbers (kind_content item)) =
     subst (λ (o : Inside). GoesInside now (length mid.map.modules) site (held_numbers (kind_content item)) o) c.in-Held.is c.in_ok-inside.ensures.within in
-    let first : Handles (environment grown w) part passed mid v (visits_at tree inner ns ++ closing c.in-Held.macro_use site.home inner.home) =
-    subst (λ (o : Inside). Handles (environment grown w) part passed mid v (tasks_of site.home (all_items tree.items) o)) c.in-Held.is
+    let first : HandlesAndSpreads (environment grown w) part passed mid v (visits_at tree inner ns ++ closing c.in-Held.macro_use site.home inner.home) =
+    subst (λ (o : Inside). HandlesAndSpreads (environment grown w) part passed mid v (tasks_of site.home (all_items tree.items) o)) c.in-Held.is
     (c.in_ok-inside.ensures.ok grown (KeepsTables-trans now c.walk_all.new.locations grown c.in_ok-walk_all-in-Held.ensures.kept k) (all_items tree.items)) in
     let later : OnceGrown c.walk_all.new.locations w (λ env. Walks env part mid (core_in c.walk_all.new.run) (visits_at tree inner ns)) =
     subst (λ (v : Workspace). OnceGrown c.walk_all.new.locations v (λ env. Walks env part mid (core_in c.walk_all.new.run) (visits_at tree inner ns))) c.in_ok-inside.ensures.same c.in_ok-walk_all-in-Held.ensures.ok in
@@ -524,8 +524,8 @@ walk_item-close-requires g t c =
     let ns = numbers_of c.in-Held.ids.now in
     let goes : IsWithin (length mid.map.modules) site inner × (ns ≡ held_numbers (kind_content item)) =
     subst (λ (o : Inside). GoesInside now (length mid.map.modules) site (held_numbers (kind_content item)) o) c.in-Held.is c.in_ok-inside.ensures.within in
-    let first : Handles (environment last w) part passed mid v (visits_at tree inner ns ++ closing c.in-Held.macro_use site.home inner.home) =
-    subst (λ (o : Inside). Handles (environment last w) part passed mid v (tasks_of site.home (all_items tree.items) o)) c.in-Held.is
+    let first : HandlesAndSpreads (environment last w) part passed mid v (visits_at tree inner ns ++ closing c.in-Held.macro_use site.home inner.home) =
+    subst (λ (o : Inside). HandlesAndSpreads (environment last w) part passed mid v (tasks_of site.home (all_items tree.items) o)) c.in-Held.is
     (c.in_ok-inside.ensures.ok last c.in_ok-walk_all-in-Held.ensures.kept (all_items tree.items)) in
     let later : OnceGrown c.walk_all.new.locations w (λ env. Walks env part mid (core_in c.walk_all.new.run) (visits_at tree inner ns)) =
     subst (λ (v : Workspace). OnceGrown c.walk_all.new.locations v (λ env. Walks env part mid (core_in c.walk_all.new.run) (visits_at tree inner ns))) c.in_ok-inside.ensures.same c.in_ok-walk_all-in-Held.ensures.ok in
@@ -575,8 +575,8 @@ walk_item-returns-in_ok-close-in-File-clause-ok g t c = λ grown k.
     let source = c.in-File.source.value in
     let goes : IsOfFile now (length mid.map.modules) site inner =
     subst (λ (o : Inside). GoesInside now (length mid.map.modules) site (held_numbers (kind_content item)) o) c.in-File.is c.in_ok-inside.ensures.within in
-    let first : Handles (environment grown w) part passed mid v (visits_over inner source.tree.items ++ closing c.in-File.macro_use site.home inner.home) =
-    subst (λ (o : Inside). Handles (environment grown w) part passed mid v (tasks_of site.home (all_items tree.items) o)) c.in-File.is
+    let first : HandlesAndSpreads (environment grown w) part passed mid v (visits_over inner source.tree.items ++ closing c.in-File.macro_use site.home inner.home) =
+    subst (λ (o : Inside). HandlesAndSpreads (environment grown w) part passed mid v (tasks_of site.home (all_items tree.items) o)) c.in-File.is
     (c.in_ok-inside.ensures.ok grown (KeepsTables-trans now c.walk_all-in-File.new.locations grown c.in_ok-walk_all-in-File.ensures.kept k) (all_items tree.items)) in
     let items_same : visits_at source.tree inner (numbers_of c.top_level_items-ids.result.now) ≡ visits_over inner source.tree.items =
     ap (visits_over inner) (subst (λ (t : Tree). items_at (all_items t.items) (numbers_of c.top_level_items-ids.result.now) ≡ t.items) (c.tree-in-File.ensures.value ∙ ap (λ (s : SourceTreeValue). s.tree) c.deref-in-File.ensures) c.top_level_items-ids.ensures.value) in
@@ -614,8 +614,8 @@ walk_item-returns-in_err-close-in-File-clause-many g t c = λ far_off grown k.
     let source = c.in-File.source.value in
     let goes : IsOfFile now (length mid.map.modules) site inner =
     subst (λ (o : Inside). GoesInside now (length mid.map.modules) site (held_numbers (kind_content item)) o) c.in-File.is c.in_ok-inside.ensures.within in
-    let first : Handles (environment grown w) part passed mid v (visits_over inner source.tree.items ++ closing c.in-File.macro_use site.home inner.home) =
-    subst (λ (o : Inside). Handles (environment grown w) part passed mid v (tasks_of site.home (all_items tree.items) o)) c.in-File.is
+    let first : HandlesAndSpreads (environment grown w) part passed mid v (visits_over inner source.tree.items ++ closing c.in-File.macro_use site.home inner.home) =
+    subst (λ (o : Inside). HandlesAndSpreads (environment grown w) part passed mid v (tasks_of site.home (all_items tree.items) o)) c.in-File.is
     (c.in_ok-inside.ensures.ok grown (KeepsTables-trans now c.walk_all-in-File.new.locations grown c.in_ok-walk_all-in-File.ensures.kept k) (all_items tree.items)) in
     let items_same : visits_at source.tree inner (numbers_of c.top_level_items-ids.result.now) ≡ visits_over inner source.tree.items =
     ap (visits_over inner) (subst (λ (t : Tree). items_at (all_items t.items) (numbers_of c.top_level_items-ids.result.now) ≡ t.items) (c.tree-in-File.ensures.value ∙ ap (λ (s : SourceTreeValue). s.tree) c.deref-in-File.ensures) c.top_level_items-ids.ensures.value) in
@@ -654,8 +654,8 @@ walk_item-close-requires-in-File g t c =
     let source = c.in-File.source.value in
     let goes : IsOfFile now (length mid.map.modules) site inner =
     subst (λ (o : Inside). GoesInside now (length mid.map.modules) site (held_numbers (kind_content item)) o) c.in-File.is c.in_ok-inside.ensures.within in
-    let first : Handles (environment last w) part passed mid v (visits_over inner source.tree.items ++ closing c.in-File.macro_use site.home inner.home) =
-    subst (λ (o : Inside). Handles (environment last w) part passed mid v (tasks_of site.home (all_items tree.items) o)) c.in-File.is
+    let first : HandlesAndSpreads (environment last w) part passed mid v (visits_over inner source.tree.items ++ closing c.in-File.macro_use site.home inner.home) =
+    subst (λ (o : Inside). HandlesAndSpreads (environment last w) part passed mid v (tasks_of site.home (all_items tree.items) o)) c.in-File.is
     (c.in_ok-inside.ensures.ok last c.in_ok-walk_all-in-File.ensures.kept (all_items tree.items)) in
     let items_same : visits_at source.tree inner (numbers_of c.top_level_items-ids.result.now) ≡ visits_over inner source.tree.items =
     ap (visits_over inner) (subst (λ (t : Tree). items_at (all_items t.items) (numbers_of c.top_level_items-ids.result.now) ≡ t.items) (c.tree-in-File.ensures.value ∙ ap (λ (s : SourceTreeValue). s.tree) c.deref-in-File.ensures) c.top_level_items-ids.ensures.value) in
@@ -688,8 +688,8 @@ walk_item-returns-in-Nothing-clause-ok g t c = λ grown k.
     let passes : (env : Environment) → Passes env part (core_in c.args.run.now) passed v done (Some past.0) =
     λ env. subst (λ (o : Option ℕ). Passes env part (core_in c.args.run.now) passed v done o) past.1
     (holds_of_one tree n h (kind_content item) c.requires.there heads contents (λ (i : KeptItem). Passes env part (core_in c.args.run.now) passed (visit site i) done c.in_ok-pass.field-0) (c.in_ok-pass.ensures.ok env part)) in
-    let first : Handles (environment grown w) part passed (core_in c.visit_item.new.run) v [] =
-    subst (λ (o : Inside). Handles (environment grown w) part passed (core_in c.visit_item.new.run) v (tasks_of site.home (all_items tree.items) o)) c.in-Nothing.is
+    let first : HandlesAndSpreads (environment grown w) part passed (core_in c.visit_item.new.run) v [] =
+    subst (λ (o : Inside). HandlesAndSpreads (environment grown w) part passed (core_in c.visit_item.new.run) v (tasks_of site.home (all_items tree.items) o)) c.in-Nothing.is
     (c.in_ok-inside.ensures.ok grown k (all_items tree.items)) in
     Walks-through (core_in c.args.run.now) passed (core_in c.visit_item.new.run) (core_in c.visit_item.new.run) v done past.0 (visits_behind tree site n done) [] is (passes (environment grown w)) first (record { steps = λ rest. none })
 

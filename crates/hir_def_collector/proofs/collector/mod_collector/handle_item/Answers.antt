@@ -5,7 +5,7 @@ use Rattle.hir_def_collector.specs.Moves.{is_single}
 use Rattle.hir_def_collector.specs.TreeReads.{head_of}
 use Rattle.hir_def_collector.proofs.Numbers.{tables_stay}
 use Rattle.hir_def_collector.proofs.Walked.{block_here, far_item, inline_here, single_here}
-use Rattle.hir_def_collector.proofs.collector.mod_collector.visit_item.Goals as goal
+use Rattle.hir_def_collector.proofs.collector.mod_collector.handle_item.Goals as goal
 use Rattle.hir_def_collector.specs.State.{core_in}
 
 pub returns-in_err-visit_leaf-in_default : goal.returns-in_err-visit_leaf-in_default

@@ -1,0 +1,165 @@
+-- Names that go along globs while items are walked are noted.
+use Rattle.std.proofs.Common.{◌≡◌, ◌∙◌, ap, sym, refl, subst, ℕ, ◌≤◌, Bool, true, false, List, [], ◌∷◌, ◌++◌, length, map as list_map, Option, None, Some, Contains, cond, slice_get, arith, append-nil, append_assoc}
+use Rattle.std.proofs.lemmas.List.Elements.{Contains-append_left, Contains-append_right}
+use Rattle.std.specs.Option.{option_and_then}
+use Rattle.hir_base.specs.declared.ast_id.AstId.{AstId}
+use Rattle.hir_base.specs.declared.ids.ModuleId.{ModuleId}
+use Rattle.hir_scope.specs.declared.imports.GlobId.{GlobId}
+use Rattle.hir_scope.specs.declared.visibility.Visibility.{Visibility}
+use Rattle.hir_def_map.proofs.WellFormed.{parent_listed}
+use Rattle.hir_def_map.specs.Overlay.{Maps}
+use Rattle.hir_def_map.specs.State.{Map, ModuleValue, module_at, parent_at, parent_of}
+use Rattle.hir_def_map.specs.declared.nameres.derive_helpers.DeriveHelper.{DeriveHelper}
+use Rattle.hir_def_map.specs.declared.nameres.path_resolution.slots.Slot.{Slot as PathSlot}
+use Rattle.hir_def_map_laws.specs.ReadLaw.{AgreeAt, DiffersInScopes}
+use Rattle.hir_def_map_laws.specs.SlotChanges.{ScopesChangeAmong}
+use Rattle.hir_glob_imports.specs.Rules.{brings, copies, follows, raises}
+use Rattle.hir_glob_imports.specs.declared.edge.Bound.{Bound}
+use Rattle.hir_glob_imports.specs.declared.edge.Key.{Key}
+use Rattle.hir_glob_imports.specs.declared.edge.Key.TheVariants.{Types, Values, Macros, Unnamed}
+use Rattle.hir_glob_imports.specs.declared.edge.Slot.{Slot}
+use Rattle.hir_glob_imports.specs.declared.edge.Target.{Target}
+use Rattle.hir_import_resolution.specs.Changes.{Change as ImportChange, act, along, keeps_trait, perform, pushes, records, takes}
+use Rattle.hir_import_resolution.specs.Names.{ScopesValue, bound_of, copied, copied_to, copied_where, followed, followed_to, followed_where}
+use Rattle.hir_import_resolution.specs.Rules.{Step, Steps, acts, more, none}
+use Rattle.hir_import_resolution.specs.State.{ImportState, scopes_of}
+use Rattle.hir_call_queue.specs.Changes.{ChangedValue, IsUntouched}
+use Rattle.hir_def_collector.specs.State.{Run, at_rest, core_in, import_state}
+use Rattle.hir_def_collector.specs.Waiting.{IsNoted, KeepsModules, with_slots}
+use Rattle.hir_def_collector.proofs.Lists.{length_mapped}
+use Rattle.hir_def_collector.proofs.Noted.{helped_alike}
+
+-- ---- slots that are noted
+
+module _ (c : ChangedValue) where
+  pub no_slots : with_slots [] c ≡ c
+  no_slots = go c.all
+    where
+      go : (all : Bool) → cond all c (record c { slots = c.slots ++ [] }) ≡ c
+      go true = refl
+      go false = λ i. record { all = c.all; slots = append-nil c.slots i }
+
+  pub more_slots : (first then : List PathSlot) → with_slots (first ++ then) c ≡ with_slots then (with_slots first c)
+  more_slots first then = go c.all refl
+    where
+      go : (all : Bool) → c.all ≡ all → cond all c (record c { slots = c.slots ++ (first ++ then) }) ≡ with_slots then (cond all c (record c { slots = c.slots ++ first }))
+      go true is = sym (ap (λ (b : Bool). cond b c (record c { slots = c.slots ++ then })) is)
+      go false is =
+          (λ i. record { all = c.all; slots = sym (append_assoc c.slots first then) i })
+          ∙ sym (ap (λ (b : Bool). cond b (record c { slots = c.slots ++ first }) (record c { slots = (c.slots ++ first) ++ then })) is)
+
+  module _ (slots : List PathSlot) where
+    some_before_each : (with_slots slots c).all ≡ false → c.all ≡ false
+    some_before_each e = go c.all refl e
+      where
+        go : (all : Bool) → c.all ≡ all → (cond all c (record c { slots = c.slots ++ slots })).all ≡ false → c.all ≡ false
+        go true is e = e
+        go false is e = is
+
+    -- of what isn't touched now nothing was touched
+    untouched_before_each : (slot : PathSlot) → IsUntouched (with_slots slots c) slot → IsUntouched c slot
+    untouched_before_each slot e = go c.all refl e
+      where
+        go : (all : Bool) → c.all ≡ all → IsUntouched (cond all c (record c { slots = c.slots ++ slots })) slot → IsUntouched c slot
+        go true is e = e
+        go false is e = record { some = is; other = λ among. e.other (Contains-append_left c.slots slots slot among) }
+
+    -- and it isn't one of the slots
+    untouched_apart : (slot : PathSlot) → IsUntouched (with_slots slots c) slot → ¬ Contains slots slot
+    untouched_apart slot e among = go c.all refl e
+      where
+        go : (all : Bool) → c.all ≡ all → IsUntouched (cond all c (record c { slots = c.slots ++ slots })) slot → ⊥
+        go true is e = let wrong : c.all ≡ false = e.some in absurd (let no : ⊥ = cc in no)
+        go false is e = e.other (Contains-append_right c.slots slots slot among)
+
+-- ---- modules are kept where scopes alone change
+
+module _ (old new : Map) (differs : DiffersInScopes old new) where
+  same_parent : (at : ℕ) → parent_at new at ≡ parent_at old at
+  same_parent at =
+      sym (parent_listed new.modules at)
+      ∙ ap (λ (ps : List (Option ModuleId)). option_and_then (λ (p : Option ModuleId). p) (slice_get ps at)) differs.parents
+      ∙ parent_listed old.modules at
+
+  pub same_count : length new.modules ≡ length old.modules
+  same_count = sym (length_mapped (λ (v : ModuleValue). v.parent) new.modules) ∙ ap (λ (ps : List (Option ModuleId)). length ps) differs.parents ∙ length_mapped (λ (v : ModuleValue). v.parent) old.modules
+
+  differs_kept : KeepsModules old new
+  differs_kept = record {
+    id = differs.id;
+    holder = differs.holder;
+    crate_data = differs.crate_data;
+    prelude = differs.prelude;
+    parents = λ at m e. same_parent at ∙ ap parent_of e;
+    count = omega (arith, same_count);
+  }
+
+-- ---- helpers stay where imports are taken and names go along globs
+
+copied_helpers : (n : ScopesValue) (s : Slot) (of : Target) (vis : Visibility) (by : GlobId) → (copied n s of vis by).map.derive_helpers ≡ n.map.derive_helpers
+copied_helpers n s of vis by = go (bound_of n of s.key)
+  where
+    on : (key : Key) (b : Bound) → (copied_to n s.at key vis by b).map.derive_helpers ≡ n.map.derive_helpers
+    on (Types name) b = refl
+    on (Values name) b = refl
+    on (Macros name) b = refl
+    on (Unnamed id) b = refl
+
+    go : (o : Option Bound) → (copied_where n s vis by o).map.derive_helpers ≡ n.map.derive_helpers
+    go None = refl
+    go (Some b) = on s.key b
+
+followed_helpers : (n : ScopesValue) (s : Slot) (of : Target) (vis : Visibility) → (followed n s of vis).map.derive_helpers ≡ n.map.derive_helpers
+followed_helpers n s of vis = go (bound_of n of s.key)
+  where
+    on : (key : Key) (b : Bound) → (followed_to n s.at key vis b).map.derive_helpers ≡ n.map.derive_helpers
+    on (Types name) b = refl
+    on (Values name) b = refl
+    on (Macros name) b = refl
+    on (Unnamed id) b = refl
+
+    go : (o : Option Bound) → (followed_where n s vis o).map.derive_helpers ≡ n.map.derive_helpers
+    go None = refl
+    go (Some b) = on s.key b
+
+act_helpers : (s : ImportState) (c : ImportChange) → (act s c).map.derive_helpers ≡ s.map.derive_helpers
+act_helpers s (pushes home None items source) = refl
+act_helpers s (pushes home (Some name) items source) = refl
+act_helpers s (keeps_trait finished home None vis import) = refl
+act_helpers s (keeps_trait finished home (Some id) vis import) = refl
+act_helpers s (takes i t) = refl
+act_helpers s (records edges) = refl
+act_helpers s (along finished (copies slot of vis by)) = copied_helpers (scopes_of finished s) slot of vis by
+act_helpers s (along finished (brings slot by)) = refl
+act_helpers s (along finished (follows slot of vis)) = followed_helpers (scopes_of finished s) slot of vis
+act_helpers s (along finished (raises slot vis)) = refl
+
+perform_helpers : (s : ImportState) (cs : List ImportChange) → (perform s cs).map.derive_helpers ≡ s.map.derive_helpers
+perform_helpers s [] = refl
+perform_helpers s (c ∷ cs) = perform_helpers (act s c) cs ∙ act_helpers s c
+
+step_helpers : (finished : Maps) (a b : ImportState) → Step finished a b → b.map.derive_helpers ≡ a.map.derive_helpers
+step_helpers finished a b step = ap (λ (s : ImportState). s.map.derive_helpers) step.is ∙ perform_helpers a (acts finished a step.rule)
+
+steps_helpers : (finished : Maps) (a b : ImportState) → Steps finished a b → b.map.derive_helpers ≡ a.map.derive_helpers
+steps_helpers finished a _ none = refl
+steps_helpers finished a b (more old _ steps step) = step_helpers finished old b step ∙ steps_helpers finished a old steps
+
+-- ---- what is noted
+
+module _ (finished : Maps) (a b : Run) (slots : List PathSlot) (steps : Steps finished (import_state (at_rest (core_in a))) (import_state (at_rest (core_in b))))
+    (among : ScopesChangeAmong a.map b.map a.local slots) (local : b.local ≡ a.local) (changed : b.changed ≡ with_slots slots a.changed) where
+  same_helpers : b.map.derive_helpers ≡ a.map.derive_helpers
+  unfolding core_in
+  same_helpers = steps_helpers finished (import_state (at_rest (core_in a))) (import_state (at_rest (core_in b))) steps
+
+  pub noted_spread : IsNoted a b
+  noted_spread = record {
+    some = λ e. some_before_each a.changed slots (ap (λ (c : ChangedValue). c.all) (sym changed) ∙ e);
+    noted = λ slot e. untouched_before_each a.changed slots slot (subst (λ (c : ChangedValue). IsUntouched c slot) changed e);
+    keeps = λ e. differs_kept a.map b.map among.differs;
+    others = λ slot e there.
+        subst (λ l. AgreeAt a.map a.local b.map l slot) (sym local)
+        (among.others slot (untouched_apart a.changed slots slot (subst (λ (c : ChangedValue). IsUntouched c slot) changed e)));
+    helpers = λ node name e. helped_alike a.map b.map same_helpers node name;
+  }
