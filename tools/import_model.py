@@ -11,9 +11,6 @@ It runs the program, by default crates/hir_session_main/out/hir_session_main, ov
 whose answers aren't those of the model, which it writes to standard error. With --write it runs nothing, and writes the
 sessions and their answers as FOLDER/stdin and FOLDER/stdout, as crates/hir_session_rows has them. With --rows it draws
 nothing: it compares the model with the replies of crates/hir_session_rows, as far as the model knows the commands.
-
-The rules leave open when the names of a round's expansions go along globs. A session with calls whose answers hang on it is
-left out, and counted.
 """
 import argparse
 import json
@@ -381,17 +378,15 @@ class Edits:
     """A session of tools/random_sessions.py."""
 
     def __init__(self, seed):
-        self.calls, self.commands = True, random_sessions.session(seed)[0]
+        self.commands = random_sessions.session(seed)[0]
 
     def conversation(self, workspace):
         return [(command, workspace.reply(command)) for command in self.commands]
 
 
 def lines_of(session):
-    """Commands and replies as lines; None where the rules leave the replies open."""
-    said = session.conversation(Workspace("push"))
-    if session.calls and any(session.conversation(Workspace(copies)) != said for copies in ("first", "last", "after")):
-        return None
+    """Commands and replies as lines."""
+    said = session.conversation(Workspace())
     return [dump(command) for command, _ in said], [dump(reply) for _, reply in said]
 
 
@@ -452,13 +447,11 @@ def main():
     sys.setrecursionlimit(100000)
     if options.rows:
         return compare_rows()
-    written, left_open = [], 0
+    written = []
     for seed in range(options.seed, options.seed + options.sessions):
         drawn = Edits(seed) if options.edits else Attributes(seed) if options.attributes else Session(seed, options.macros, options.calls)
         lines = lines_of(drawn)
-        if lines is None:
-            left_open += 1
-        elif options.write:
+        if options.write:
             written.append((seed, *lines))
         elif not compare(options.program, seed, *lines):
             return 1
@@ -469,7 +462,7 @@ def main():
                 commands_file.write("\n".join([label % seed] + commands) + "\n")
                 answers_file.write("\n".join([label % seed] + answers) + "\n")
     else:
-        print("%d sessions answered as the model does, %d left open" % (options.sessions - left_open, left_open))
+        print("%d sessions answered as the model does" % options.sessions)
     return 0
 
 

@@ -118,18 +118,13 @@ class Call:
 
 
 class Crate:
-    """A crate's map, from its sources and the maps of the crates below it.
+    """A crate's map, from its sources and the maps of the crates below it."""
 
-    `copies` says when the names that a round's expansions define go along globs: "push" at once; when the round is over,
-    "first" those that came first, "last" those that came last; "after" when the imports that follow have come to rest.
-    """
-
-    def __init__(self, number, fields, workspace, below, copies):
-        self.number, self.fields, self.workspace, self.below, self.copies = number, fields, workspace, below, copies
+    def __init__(self, number, fields, workspace, below):
+        self.number, self.fields, self.workspace, self.below = number, fields, workspace, below
         self.options = {dump(option) for option in fields.get("cfg", [])}
         self.imports, self.calls, self.edges, self.diagnostics, self.asked = [], [], [], [], {}
         self.helpers, self.derived, self.exported = {}, [], []
-        self.late = None
         self.transitive = set()
         for dependency in fields.get("deps", []):
             self.transitive |= {dependency["crate"]} | below[dependency["crate"]].transitive
@@ -195,28 +190,20 @@ class Crate:
     def rounds(self):
         self.settle()
         progressed = 0
-        late = [] if self.copies != "push" else None
         while True:
-            if self.round(late):
+            if self.round():
                 progressed += 1
-            elif not self.fall_back(late):
+            elif not self.fall_back():
                 return
-            if self.copies == "after" and progressed <= ROUNDS:
-                self.settle()
-            for at, ns, name in (late or [])[:: -1 if self.copies == "last" else 1]:
-                self.out_of(at, ns, name)
             if progressed > ROUNDS:
                 return
             self.settle()
-            late = [] if late is not None else None
 
-    def round(self, late):
+    def round(self):
         """Tries each call that waits, each in the state in which its turn finds it; whether one of them was handled."""
         progress = False
-        self.late = late
         for call in [call for call in self.calls if not call.handled]:
             progress |= self.fire(call)
-        self.late = None
         return progress
 
     def fire(self, call):
@@ -260,14 +247,12 @@ class Crate:
         self.visit(call.node, call.attrs, call.at, call.source, call.depth + 1, call.place + 1)
         return True
 
-    def fall_back(self, late):
+    def fall_back(self):
         """Gives up the first attribute that waits; whether there was one."""
         for call in self.calls:
             if call.style == "attr" and not call.handled:
                 self.tell("unresolved macro call", call.at, call=call.text(), path=print_path(call.path))
-                self.late = late
                 self.go_on(call)
-                self.late = None
                 return True
         return False
 
@@ -629,7 +614,7 @@ class Crate:
     # ---- imports
 
     def push(self, at, name, items, by):
-        """Binds items explicitly; each namespace that changes goes along globs."""
+        """Binds items explicitly; each namespace that changes goes along globs at once."""
         for ns in KINDS:
             if ns not in items:
                 continue
@@ -640,10 +625,7 @@ class Crate:
                 at.scope[ns][name] = Binding(new.definition, new.vis, by)
             else:
                 continue
-            if self.late is None:
-                self.out_of(at, ns, name)
-            else:
-                self.late.append((at, ns, name))
+            self.out_of(at, ns, name)
 
     def out_of(self, at, ns, name):
         for edge in self.edges:

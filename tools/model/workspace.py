@@ -8,8 +8,7 @@ from model.syntax import collect, dump, parse_path
 class Workspace:
     """What a session is handed in, and the maps of the crates that aren't stale."""
 
-    def __init__(self, copies="push"):
-        self.copies = copies
+    def __init__(self):
         self.crates, self.files, self.entries, self.maps = [], {}, {}, {}
 
     # ---- sources and keys
@@ -81,7 +80,7 @@ class Workspace:
     def refresh(self):
         due = [number for number in range(len(self.crates)) if number not in self.maps]
         for number in due:
-            self.maps[number] = Crate(number, self.crates[number], self, self.maps, self.copies)
+            self.maps[number] = Crate(number, self.crates[number], self, self.maps)
         return [[number] for number in due]
 
     # ---- queries
