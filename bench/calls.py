@@ -19,6 +19,9 @@ class Calls(Nodes):
     def rules(self, name, text=None, **fields):
         return self.make("MacroRules", name=name, text=name if text is None else text, **fields)
 
+    def macro(self, name):
+        return self.make("MacroDef", name=name, text=name)
+
     def call(self, path, given=""):
         return self.make("MacroCall", path=path, input=given)
 
@@ -87,6 +90,26 @@ def beside_imports(n):
     return items + chained(made, n), made.entries, [0], "S"
 
 
+def through_a_glob(n):
+    """n calls in a module that another globs; each defines the macro that the next one names through the glob."""
+    made = Calls()
+    calls = [made.call(f"crate::b::m{k}") for k in range(n)]
+    for k in range(n):
+        made.expand(f"m{k}", "", made.macro(f"m{k + 1}"), *([made.struct("S")] if k == n - 1 else []))
+    return [made.module("a", made.macro("m0"), *calls), made.module("b", made.glob("crate::a"))], made.entries, [0, "b"], "S"
+
+
+def of_nothing_beside_a_glob(n):
+    """n calls that nothing defines, in a module to which a glob brings what n calls define."""
+    made = Calls()
+    for k in range(n):
+        made.expand("m", str(k), made.macro(f"m{k}"), made.struct(f"S{k}"))
+    calls = [made.call("crate::m", str(k)) for k in range(n)]
+    waiting = [made.call(f"no{k}") for k in range(n)]
+    nodes = [made.macro("m"), made.module("b", made.glob("crate::a"), *waiting), made.module("a", *calls)]
+    return nodes, made.entries, [0, "b"], f"S{n - 1}"
+
+
 def textual_scope(n):
     """n modules in chains of 25, below n macros in textual scope; the innermost of each calls the last macro."""
     made = Calls()
@@ -129,6 +152,8 @@ INPUTS = {
     of_nothing: [4000, 8000],
     of_nothing_beside_a_chain: [1000, 2000],
     beside_imports: [250, 500],
+    through_a_glob: [1000, 2000, 4000],
+    of_nothing_beside_a_glob: [1000, 2000, 4000],
     textual_scope: [1000, 2000],
     macro_use: [2000, 4000],
     imports_of_expansions: [2000, 4000],
