@@ -1,11 +1,12 @@
 #!/usr/bin/env python3
 """Random crates with imports, globs and macros, and what a plain model of the rules (tools/model) answers of their names.
 
-Usage, at the top of the repository: tools/import_model.py [--sessions N] [--seed S] [--macros | --calls | --attributes | --edits]
-[--program FILE] [--write FOLDER] [--rows].
+Usage, at the top of the repository: tools/import_model.py [--sessions N] [--seed S] [--macros | --calls | --globs | --attributes |
+--edits] [--program FILE] [--write FOLDER] [--rows].
 With --macros the crates define macros too, in textual scope and as items. With --calls they also call them, over a table of
 expansions that define, import and call further, modules are in files too, and files and expansions are edited. With
---attributes items have attributes and derives besides, and some crates are procedural macros'. With --edits
+--globs a crate's modules are full of globs and calls, so that what an expansion defines goes along globs to what the next
+call names. With --attributes items have attributes and derives besides, and some crates are procedural macros'. With --edits
 the sessions are those of tools/random_sessions.py.
 It runs the program, by default crates/hir_session_main/out/hir_session_main, over each session, and ends with 1 at the first
 whose answers aren't those of the model, which it writes to standard error. With --write it runs nothing, and writes the
@@ -322,6 +323,66 @@ class Session:
             yield from self.places(child, place + [name])
 
 
+class Globs(Session):
+    """Draws one crate, of modules that glob each other and call what globs bring."""
+
+    MODULES, MACROS = ["a", "b", "c", "e"], ["x", "y"]
+
+    def __init__(self, seed):
+        self.random, self.macros, self.calls = random.Random(seed), True, True
+        self.next_id, self.crates, self.files = 0, [[]], {}
+        self.inputs = [{"edition": "2021", "root": "r0.rs", "attrs": [{"path": "recursion_limit", "literal": "4"}]}]
+        nodes = [self.node("MacroRules", self.id(), None, name="f", text="F")] + self.draw_members(5)
+        for name in self.MODULES:
+            inner = self.draw_members(7)
+            nodes.append(self.node("Module", self.id(), self.draw_vis(), name=name, nodes=inner))
+        self.random.shuffle(nodes)
+        self.units, self.entries = [nodes], {}
+        for text in ["F"] + TEXTS:
+            for given in INPUTS:
+                self.next_id = 0
+                self.entries[0, 0, text, "bang", given] = {"nodes": [self.draw_defined() for _ in range(self.random.randint(1, 3))]}, None
+
+    def draw_vis(self):
+        return self.choose(["pub"] * 6 + [None, "crate", {"in": "super"}])
+
+    def draw_glob(self):
+        return self.node("Use", self.id(), self.draw_vis(), tree={"glob": self.choose(["crate"] + ["crate::" + name for name in self.MODULES])})
+
+    def draw_members(self, most):
+        return [self.draw_member() for _ in range(self.random.randint(2, most))]
+
+    def draw_member(self):
+        roll = self.random.random()
+        if roll < 0.35:
+            return self.draw_glob()
+        if roll < 0.55:
+            return self.node("MacroCall", self.id(), None, path="f", input=self.choose(INPUTS))
+        if roll < 0.85:
+            path = self.choose(["", "", "self::", "crate::", "crate::a::", "crate::b::"]) + self.choose(self.MACROS)
+            return self.node("MacroCall", self.id(), None, path=path, input=self.choose(INPUTS))
+        return self.draw_defined()
+
+    def draw_defined(self):
+        roll, more = self.random.random(), {"name": self.choose(self.MACROS), "text": self.choose(TEXTS)}
+        if roll < 0.45:
+            return self.node("MacroDef", self.id(), self.draw_vis(), **more)
+        if roll < 0.55:
+            return self.node("MacroRules", self.id(), None, attrs=[{"path": "macro_export"}], **more)
+        if roll < 0.85:
+            return self.node("Struct", self.id(), self.draw_vis(), name=self.choose(["S", "T"]))
+        if roll < 0.9:
+            return self.draw_glob()
+        inner = [self.node("Struct", self.id(), "pub", name="S")]
+        return self.node("Module", self.id(), "pub", name=self.choose(self.MODULES), nodes=inner)
+
+    def ask(self, workspace, say, all_of_them):
+        for place in [[0]] + [[0, name] for name in self.MODULES]:
+            for name in self.MACROS + ["S", "T"]:
+                say({"do": "resolve", "at": place, "path": "self::" + name})
+        say({"do": "diagnostics", "crate": 0})
+
+
 class Attributes(Session):
     """Draws a session with calls, and attributes of its items."""
 
@@ -438,6 +499,7 @@ def main():
     parser.add_argument("--seed", type=int, default=0)
     parser.add_argument("--macros", action="store_true")
     parser.add_argument("--calls", action="store_true")
+    parser.add_argument("--globs", action="store_true")
     parser.add_argument("--attributes", action="store_true")
     parser.add_argument("--edits", action="store_true")
     parser.add_argument("--rows", action="store_true")
@@ -449,14 +511,18 @@ def main():
         return compare_rows()
     written = []
     for seed in range(options.seed, options.seed + options.sessions):
-        drawn = Edits(seed) if options.edits else Attributes(seed) if options.attributes else Session(seed, options.macros, options.calls)
+        if options.edits or options.attributes or options.globs:
+            drawn = (Edits if options.edits else Attributes if options.attributes else Globs)(seed)
+        else:
+            drawn = Session(seed, options.macros, options.calls)
         lines = lines_of(drawn)
         if options.write:
             written.append((seed, *lines))
         elif not compare(options.program, seed, *lines):
             return 1
     if options.write:
-        label = "# drawn: attributes of seed %d" if options.attributes else "# drawn: calls of seed %d" if options.calls else "# drawn: seed %d"
+        kind = next((kind for kind in ("attributes", "calls", "globs") if vars(options)[kind]), None)
+        label = "# drawn: " + (kind + " of " if kind else "") + "seed %d"
         with open(options.write + "/stdin", "w") as commands_file, open(options.write + "/stdout", "w") as answers_file:
             for seed, commands, answers in written:
                 commands_file.write("\n".join([label % seed] + commands) + "\n")
