@@ -242,11 +242,11 @@ module _ (env : Environment) (finished : Maps) (c : Core) where
   pub derived : (i : ℕ) (d : MacroDirective) (makro : MacroId) (imp : BuiltinDeriveImplId) (ended listed helped new : Core) → DerivesBuiltin finished (at_rest c) i d makro imp
       → ended ≡ with_fate c i Handled → listed ≡ with_map ended (with_derived ended.map d.site.home imp)
       → Makes (bringing d.ast_id (helpers_brought finished c.map d makro (Some (either.Right imp)))) listed helped → new ≡ counted helped → Steps env finished (at_rest c) (at_rest new)
-  derived i d makro imp ended listed helped new may handled lists brings ticks =
+  derived i d makro imp ended listed helped new may handled is_listed is_helped ticks =
       Steps-one (made (derives_builtin i d makro imp) may tt tt
-      (ap at_rest ticks ∙ ap ticked (brings.is [])
+      (ap at_rest ticks ∙ ap ticked (is_helped.is [])
       ∙ ap (λ (l : Core). ticked (perform (at_rest l) (bringing d.ast_id (helpers_brought finished c.map d makro (Some (either.Right imp))))))
-      (lists ∙ ap (λ (e : Core). with_map e (with_derived e.map d.site.home imp)) handled)))
+      (is_listed ∙ ap (λ (e : Core). with_map e (with_derived e.map d.site.home imp)) handled)))
 
   quiet : IsAtRest finished (import_state (at_rest c)) → IsQuiet finished (at_rest c)
   quiet rest = record { visited = refl; settled = rest.settled; closed = rest.closed }
@@ -266,10 +266,10 @@ module _ (env : Environment) (finished : Maps) (c : Core) where
 
   pub given_up : (i : ℕ) (d : MacroDirective) (k : WaitingItem) (item : KeptItem) (ended told new : Core) → FallsBack finished (at_rest c) i d k item → ended ≡ with_fate c i GivenUp
       → told ≡ with_map ended (with_diagnostic ended.map (call_report c.map.id d)) → new ≡ counted told → Step env finished (at_rest c) (joined new (visits (visit_behind d k item) ∷ []))
-  given_up i d k item ended told new may ends tells ticks =
+  given_up i d k item ended told new may handled is_told ticks =
       made (falls_back i d k item) may tt tt
       (ap (λ (n : Core). joined n (visits (visit_behind d k item) ∷ []))
-      (ticks ∙ ap counted (tells ∙ ap (λ (e : Core). with_map e (with_diagnostic e.map (call_report c.map.id d))) ends)))
+      (ticks ∙ ap counted (is_told ∙ ap (λ (e : Core). with_map e (with_diagnostic e.map (call_report c.map.id d))) handled)))
 
   -- it may be where imports rest, nothing that waits reaches anything, and no attribute waits before it
   pub falls_back_at : (i : ℕ) (d : MacroDirective) (k : WaitingItem) (item : KeptItem) → IsAtRest finished (import_state (at_rest c)) → ((j : ℕ) → LeadsNowhere finished (at_rest c) j)

@@ -107,9 +107,8 @@ no_step f = absurd (true≢false (sym f))
 
 module _ {S : Type 0} (t : NameTable S) where
   -- nothing was done yet
-  pub looks_none : (n : S) (g : GlobsValue) (count : ℕ) (xs : List Slot) → IsKept (t.view n) g → Looks t false n g count xs n g count xs
-  looks_none n g count xs kept = record {
-    kept = kept;
+  pub looks_none : (n : S) (g : GlobsValue) (count : ℕ) (xs : List Slot) → Looks t false n g count xs n g count xs
+  looks_none n g count xs = record {
     step = λ f. no_step f;
     counted = λ f. no_step f;
     stays = λ f. refl;
@@ -117,10 +116,9 @@ module _ {S : Type 0} (t : NameTable S) where
   }
 
   -- nothing was to be done at the pair
-  pub looks_rested : (n n' : S) (g g' : GlobsValue) (count count' : ℕ) (xs : List Slot) → IsKept (t.view n') g' → n' ≡ n → g' ≡ g → count' ≡ count
+  pub looks_rested : (n n' : S) (g g' : GlobsValue) (count count' : ℕ) (xs : List Slot) → n' ≡ n → g' ≡ g → count' ≡ count
       → Looks t false n g count xs n' g' count' xs
-  looks_rested n n' g g' count count' xs kept names globs counted = record {
-    kept = kept;
+  looks_rested n n' g g' count count' xs names globs counted = record {
     step = λ f. no_step f;
     counted = λ f. no_step f;
     stays = λ f. λ i. state_of (names i) (globs i) (counted i);
@@ -128,20 +126,16 @@ module _ {S : Type 0} (t : NameTable S) where
   }
 
   -- nothing was to be done along the edge
-  pub look_rested : (n n' : S) (g g' : GlobsValue) (count count' : ℕ) (xs : List Slot) (j : ℕ) (e : Edge) (s : Slot) → slice_get g.edges j ≡ Some e
-      → e.importer ≡ s.at → IsKeptBut (t.view n) g j s → update_in (t.view n) (brought_of g) j e s ≡ Nothing → n' ≡ n → g' ≡ g → count' ≡ count
-      → Looks t false n g count xs n' g' count' xs
-  look_rested n n' g g' count count' xs j e s found at kept nothing names globs counted =
-      looks_rested n n' g g' count count' xs
-      (subst (λ (x : S). IsKept (t.view x) g') (sym names)
-      (subst (λ (y : GlobsValue). IsKept (t.view n) y) (sym globs) (rested (t.view n) g j e s found at kept nothing)))
-      names globs counted
+  pub rested_kept : (n n' : S) (g g' : GlobsValue) (j : ℕ) (e : Edge) (s : Slot) → slice_get g.edges j ≡ Some e → e.importer ≡ s.at
+      → update_in (t.view n) (brought_of g) j e s ≡ Nothing → n' ≡ n → g' ≡ g → IsKeptBut (t.view n) g j s → IsKept (t.view n') g'
+  rested_kept n n' g g' j e s found at nothing names globs kept =
+      subst (λ (x : S). IsKept (t.view x) g') (sym names)
+      (subst (λ (y : GlobsValue). IsKept (t.view n) y) (sym globs) (rested (t.view n) g j e s found at kept nothing))
 
   -- a step was taken, and its slot reported
   pub looks_taken : (s : Slot) (n n' : S) (g g' : GlobsValue) (count count' : ℕ) (xs ys : List Slot) → Takes t s n g count n' g' count' → ys ≡ xs ++ s ∷ []
       → Looks t true n g count xs n' g' count' ys
   looks_taken s n n' g g' count count' xs ys takes is = record {
-    kept = takes.kept;
     step = λ f. record { step = takes.step; among = subst (λ (q : Slot). Contains ys q) (sym takes.slot_is) (subst (λ (zs : List Slot). Contains zs s) (sym is) (Contains-push xs s)) };
     counted = λ f. takes.counted;
     stays = λ f. absurd (true≢false f);
@@ -153,7 +147,6 @@ module _ {S : Type 0} (t : NameTable S) where
       → Looks t false n g count xs n1 g1 count1 ys → m.edges ≡ g1.edges → m.brought ≡ g1.brought
       → Looks t took n1 m count1 ys n2 g2 count2 zs → Looks t took n g count xs n2 g2 count2 zs
   looks_join took n n1 n2 g g1 m g2 count count1 count2 xs ys zs first edges brought second = record {
-    kept = second.kept;
     step = λ f. subst (λ (x : GlobState S). StepIn t zs x (state_of n2 g2 count2)) before (second.step f);
     counted = λ f. second.counted f ∙ ap (λ (x : GlobState S). x.count + 1) before;
     stays = λ f. second.stays f ∙ before;

@@ -22,7 +22,7 @@ use Rattle.hir_glob_imports.specs.Keys.{slot_at, same_slot, is_unnamed}
 use Rattle.hir_glob_imports.specs.Moves.{shown, brought_vis, is_as_seen, raise_of, update_of_brought, update_of}
 use Rattle.hir_glob_imports.specs.Rules.{GlobState, BroughtBy, with_brought, noted, as_seen, after, copies_along, follows_along, raises_along, IsSpent, May, Rule, Step, none, slot_of}
 use Rattle.hir_glob_imports.specs.View.{View, NameTable, IsNameTable, Binds, bound_in, with_vis}
-use Rattle.hir_glob_imports.specs.Waves.{GlobsValue, brought_of, update_in, update_at, state_of, IsPendingOrSettled, Stands}
+use Rattle.hir_glob_imports.specs.Waves.{GlobsValue, brought_of, update_in, update_at, state_of, IsKept, IsPendingOrSettled, Stands}
 use Rattle.hir_glob_imports.proofs.Settling.{same_itself, kept_after}
 use Rattle.hir_glob_imports.proofs.Updates.{IsCopy, IsFollow, IsRaising, there_from_seen, copy_from, follow_from, raising_from}
 
@@ -94,35 +94,62 @@ spent_by t at rule may full = record { at = at; steps = none; full = full; next 
 
 -- ---- steps that are taken
 
+module _ {S : Type 0} (t : NameTable S) (n n' : S) (g m h : GlobsValue) (count count' : ℕ) (j : ℕ) (e : Edge) (s : Slot)
+    (recorded : slice_get g.edges j ≡ Some e) (at : e.importer ≡ s.at) where
+  -- the state after spreading is that before it
+  spread_state : (moved : Bool) → Spreads s moved m h → state_of n' h count' ≡ state_of n' m count'
+  spread_state moved spreads =
+      λ i. record { names = n'; edges = spreads.edges i; brought = brought_by_list h m spreads.brought i; count = count' }
+
+  -- a rule that is applied changes its slot
+  takes : (rule : Rule) → May t (state_of n g count) rule → slot_of rule ≡ s → (moved : Bool) → Spreads s moved m h
+      → state_of n' m count' ≡ after t (state_of n g count) rule → count' ≡ count + 1 → Takes t s n g count n' h count'
+  takes rule may slot_is moved spreads is counted = record {
+    step = record { rule = rule; may = may; is = spread_state moved spreads ∙ is };
+    slot_is = slot_is;
+    counted = counted;
+  }
+
+  pub copy_takes : (b : Bound) → update_in (t.view n) (brought_of g) j e s ≡ Copy b
+      → state_of n' m count' ≡ after t (state_of n g count) (copies_along j e s b)
+      → Spreads s (is_unnamed s.key) m h → Takes t s n g count n' h count'
+  copy_takes b update is spreads =
+      takes (copies_along j e s b) (may_copy t n g count j e s recorded at b update) refl (is_unnamed s.key) spreads is (ap (λ (x : GlobState S). x.count) is)
+
+  pub follow_takes : (b : Bound) → update_in (t.view n) (brought_of g) j e s ≡ Follow b
+      → state_of n' m count' ≡ after t (state_of n g count) (follows_along j e s b)
+      → Spreads s true m h → Takes t s n g count n' h count'
+  follow_takes b update is spreads =
+      takes (follows_along j e s b) (may_follow t n g count j e s recorded at b update) refl true spreads is (ap (λ (x : GlobState S). x.count) is)
+
+  pub raise_takes : (vis : Visibility) → update_in (t.view n) (brought_of g) j e s ≡ Raise vis
+      → state_of n' m count' ≡ after t (state_of n g count) (raises_along j e s vis)
+      → Spreads s true m h → Takes t s n g count n' h count'
+  raise_takes vis update is spreads =
+      takes (raises_along j e s vis) (may_raise_to t n g count j e s recorded at vis update) refl true spreads is (ap (λ (x : GlobState S). x.count) is)
+
+-- ---- what they leave of what was kept
+
 module _ {S : Type 0} (t : NameTable S) (writes : IsNameTable t) (n n' : S) (g m h : GlobsValue) (count count' : ℕ) (j : ℕ) (e : Edge) (s : Slot)
     (recorded : slice_get g.edges j ≡ Some e) (at : e.importer ≡ s.at) (kept : IsKeptBut (t.view n) g j s) where
   has : (t.view n).has s.at ≡ true
   has = subst (λ (k : ℕ). (t.view n).has k ≡ true) at (kept.there j e recorded)
 
-  -- the slot of the importer at the key
-  slot_is : slot_at e.importer s.key ≡ s
-  slot_is = λ i. record { at = at i; key = s.key }
-
   -- a step that writes a slot and spreads leaves everything pending or settled
-  takes : (b : Bound) (binds : Binds s b (t.view n) (t.view n')) (step : Step t (state_of n g count) (state_of n' h count')) (slot_is : slot_of step.rule ≡ s) (counted : count' ≡ count + 1)
+  keeps : (b : Bound) (binds : Binds s b (t.view n) (t.view n'))
       (moved : Bool) (edges : m.edges ≡ g.edges) (pending : m.pending ≡ g.pending) (spreads : Spreads s moved m h)
       (others : (q : Slot) → same_slot s q ≡ false → brought_of h q ≡ brought_of g q)
       (inward : moved ≡ false → (k : ℕ) (d : Edge) → slice_get g.edges k ≡ Some d → d.importer ≡ s.at
       → (update_at (t.view n) (brought_of g) k d s.key ≡ Nothing) ⊎ (k ≡ j) → shown (t.view n') d s.key ≡ shown (t.view n) d s.key
       → IsPendingOrSettled (t.view n') h k d s.key)
       (here : (by : Brought) → brought_of h s ≡ Some by → Stands (t.view n') s by)
-      → Takes t s n g count n' h count'
-  takes b binds step slot_is counted moved edges pending spreads others inward here = record {
-    step = step;
-    slot_is = slot_is;
-    counted = counted;
-    kept =
-        kept_after (t.view n) (t.view n') s binds.changes g h (λ k. k ≡ j) kept.there kept.settled kept.stands (spreads.edges ∙ edges) others
-        (λ k key p. spreads.kept k key (subst (λ (ps : List (ℕ × Key)). Contains ps (k, key)) (sym pending) p))
-        (λ k d is from. spreads.out k d (in_old k d is) from)
-        (into moved refl)
-        here;
-  }
+      → IsKept (t.view n') h
+  keeps b binds moved edges pending spreads others inward here =
+      kept_after (t.view n) (t.view n') s binds.changes g h (λ k. k ≡ j) kept.there kept.settled kept.stands (spreads.edges ∙ edges) others
+      (λ k key p. spreads.kept k key (subst (λ (ps : List (ℕ × Key)). Contains ps (k, key)) (sym pending) p))
+      (λ k d is from. spreads.out k d (in_old k d is) from)
+      (into moved refl)
+      here
     where
       in_old : (k : ℕ) (d : Edge) → slice_get g.edges k ≡ Some d → slice_get m.edges k ≡ Some d
       in_old k d is = subst (λ (es : List Edge). slice_get es k ≡ Some d) (sym edges) is
@@ -133,18 +160,11 @@ module _ {S : Type 0} (t : NameTable S) (writes : IsNameTable t) (n n' : S) (g m
       into true w k d is to old same = inl (spreads.inward w k d (in_old k d is) to)
       into false w k d is to old same = inward w k d is to old same
 
-  -- the state after spreading is that before it
-  spread_state : (moved : Bool) → Spreads s moved m h → state_of n' h count' ≡ state_of n' m count'
-  spread_state moved spreads =
-      λ i. record { names = n'; edges = spreads.edges i; brought = brought_by_list h m spreads.brought i; count = count' }
-
-  pub copy_takes : (b : Bound) → update_in (t.view n) (brought_of g) j e s ≡ Copy b
+  pub copy_keeps : (b : Bound) → update_in (t.view n) (brought_of g) j e s ≡ Copy b
       → state_of n' m count' ≡ after t (state_of n g count) (copies_along j e s b) → m.pending ≡ g.pending
-      → Spreads s (is_unnamed s.key) m h → Takes t s n g count n' h count'
-  copy_takes b update is pending spreads =
-      takes (with_vis b vis) binds
-      (record { rule = copies_along j e s b; may = may_copy t n g count j e s recorded at b update; is = spread_state (is_unnamed s.key) spreads ∙ is })
-      refl (ap (λ (x : GlobState S). x.count) is) (is_unnamed s.key) edges pending spreads
+      → Spreads s (is_unnamed s.key) m h → IsKept (t.view n') h
+  copy_keeps b update is pending spreads =
+      keeps (with_vis b vis) binds (is_unnamed s.key) edges pending spreads
       (λ q apart. brought_at q ∙ noted-other (brought_of g) s (as_seen j e b) q apart)
       inward (here (is_unnamed s.key) refl)
     where
@@ -215,17 +235,11 @@ module _ {S : Type 0} (t : NameTable S) (writes : IsNameTable t) (n n' : S) (g m
           let same : as_seen j e b ≡ by = cc in
           record { bound = with_vis b vis; there = binds.bound; same = ap (λ (x : Brought). x.seen.def) same }
 
-  pub follow_takes : (b : Bound) → update_in (t.view n) (brought_of g) j e s ≡ Follow b
+  pub follow_keeps : (b : Bound) → update_in (t.view n) (brought_of g) j e s ≡ Follow b
       → state_of n' m count' ≡ after t (state_of n g count) (follows_along j e s b) → m.pending ≡ g.pending
-      → Spreads s true m h → Takes t s n g count n' h count'
-  follow_takes b update is pending spreads =
-      takes (with_vis b vis) binds
-      (record {
-        rule = follows_along j e s b;
-        may = may_follow t n g count j e s recorded at b update;
-        is = spread_state true spreads ∙ is;
-      })
-      refl (ap (λ (x : GlobState S). x.count) is) true edges pending spreads
+      → Spreads s true m h → IsKept (t.view n') h
+  follow_keeps b update is pending spreads =
+      keeps (with_vis b vis) binds true edges pending spreads
       (λ q apart. brought_at q ∙ noted-other (brought_of g) s (as_seen j e b) q apart)
       (λ moved. absurd (true≢false moved)) here
     where
@@ -254,17 +268,11 @@ module _ {S : Type 0} (t : NameTable S) (writes : IsNameTable t) (n n' : S) (g m
           let same : as_seen j e b ≡ by = cc in
           record { bound = with_vis b vis; there = binds.bound; same = ap (λ (x : Brought). x.seen.def) same }
 
-  pub raise_takes : (vis : Visibility) → update_in (t.view n) (brought_of g) j e s ≡ Raise vis
+  pub raise_keeps : (vis : Visibility) → update_in (t.view n) (brought_of g) j e s ≡ Raise vis
       → state_of n' m count' ≡ after t (state_of n g count) (raises_along j e s vis) → m.pending ≡ g.pending
-      → Spreads s true m h → Takes t s n g count n' h count'
-  raise_takes vis update is pending spreads =
-      takes (with_vis why.c vis) binds
-      (record {
-        rule = raises_along j e s vis;
-        may = may_raise_to t n g count j e s recorded at vis update;
-        is = spread_state true spreads ∙ is;
-      })
-      refl (ap (λ (x : GlobState S). x.count) is) true edges pending spreads (λ q apart. brought_at q)
+      → Spreads s true m h → IsKept (t.view n') h
+  raise_keeps vis update is pending spreads =
+      keeps (with_vis why.c vis) binds true edges pending spreads (λ q apart. brought_at q)
       (λ moved. absurd (true≢false moved)) here
     where
       why : IsRaising (t.view n) j e s.key vis (shown (t.view n) e s.key) (bound_in (t.view n) s) (brought_of g s)

@@ -1,15 +1,18 @@
 -- Where a resolver starts whose globs are looked at again, and what it hands back.
-use Rattle.std.proofs.Common.{◌≡◌, ◌∙◌, ap, sym, subst, ℕ, true, [], Some, length}
+use Rattle.std.proofs.Common.{◌≡◌, ◌∙◌, ap, sym, subst, ℕ, true, List, [], Some, length}
 use Rattle.std.proofs.lemmas.Bool.{lt-ltb, ltb-true}
 use Rattle.std.specs.Prelude.{slice_get}
 use Rattle.hir_def_map.specs.Overlay.{Maps}
+use Rattle.hir_def_map_laws.specs.SlotChanges.{ScopesChangeAmong}
 use Rattle.hir_glob_imports.proofs.Resting.{waved}
 use Rattle.hir_glob_imports.proofs.Taking.{brought_by_list}
 use Rattle.hir_glob_imports.specs.Waves.{GlobsValue}
 use Rattle.hir_glob_imports.specs.declared.edge.Edge.{Edge}
+use Rattle.hir_glob_imports.specs.declared.edge.Slot.{Slot as GlobSlot}
 use Rattle.hir_import_resolution.specs.declared.import_queue.ImportQueue.{ImportQueue}
+use Rattle.hir_import_resolution.specs.declared.imports.Imports.{Imports}
 use Rattle.hir_import_resolution.specs.declared.resolver.Resolver.{Resolver}
-use Rattle.hir_import_resolution.specs.Inner.State.{AreRecorded, IsKeptIn, finished_by, queue_by, state_by, with_globs}
+use Rattle.hir_import_resolution.specs.Inner.State.{AreRecorded, IsKeptIn, IsSpread, finished_by, path_slots, queue_by, state_by, state_in, with_globs}
 use Rattle.hir_import_resolution.specs.Names.{view_of}
 use Rattle.hir_import_resolution.specs.Rest.{IsClosed, IsRecorded, IsSound}
 use Rattle.hir_import_resolution.specs.Scopes.{value_of}
@@ -62,3 +65,11 @@ pub closed_after : (f : Maps) (s : ImportState) (r : Resolver) → IsKeptIn r �
 closed_after f s r kept none same state =
     subst (λ (x : Maps). IsClosed x s) same
     (subst (λ (x : ImportState). IsClosed (finished_by r) x) (sym state) (waved (view_of (scopes_of (finished_by r) (state_by r))) r.globs kept none))
+
+-- the scopes of a map that was handed over have changed at the slots at which names went along globs
+pub changed_through : (given left : Imports) (r new : Resolver) (slots : List GlobSlot) → state_by r ≡ state_in given → state_in left ≡ state_by new → slots ≡ new.changes.items
+    → IsSpread r new → ScopesChangeAmong given.map left.map given.local (path_slots slots)
+changed_through given left r new slots first last listed spread =
+    subst (λ (ss : List GlobSlot). ScopesChangeAmong given.map left.map given.local (path_slots ss)) (sym listed)
+    (subst (λ (s : ImportState). ScopesChangeAmong s.map left.map s.local (path_slots new.changes.items)) first
+    (subst (λ (s : ImportState). ScopesChangeAmong r.scopes.map s.map r.local (path_slots new.changes.items)) (sym last) spread.changes.among))

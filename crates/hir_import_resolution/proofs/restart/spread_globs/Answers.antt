@@ -50,14 +50,14 @@ returns-clause-closed c =
     let new = c.new-resolver.ensures in
     let at = reopened (part_of c.args.world) c.new-queue.result (state_in c.args.imports) c.new-resolver.result c.reopen.new.self new.state new.finished new.queue new.changes
     c.in_ok-reopen.ensures.state c.in_ok-reopen.ensures.rest in
-    closed_after (part_of c.args.world) (state_in c.finish-resting.result.imports) c.spread.new.self c.in_ok-spread.ensures.kept c.in_ok-spread.ensures.pending (ap part_of c.in_ok-spread.ensures.is.changes.world ∙ at.beside) c.finish-resting.ensures.state
+    closed_after (part_of c.args.world) (state_in c.finish-resting.result.imports) c.spread.new.self (c.in_ok-spread.ensures.kept c.in_ok-reopen.ensures.kept) c.in_ok-spread.ensures.pending (ap part_of c.in_ok-spread.ensures.is.changes.world ∙ at.beside) c.finish-resting.ensures.state
 
 pub returns-clause-stands : goal.returns-clause-stands
 returns-clause-stands c =
     let new = c.new-resolver.ensures in
     let at = reopened (part_of c.args.world) c.new-queue.result (state_in c.args.imports) c.new-resolver.result c.reopen.new.self new.state new.finished new.queue new.changes
     c.in_ok-reopen.ensures.state c.in_ok-reopen.ensures.rest in
-    let now = sound_after (part_of c.args.world) (state_in c.finish-resting.result.imports) c.spread.new.self c.in_ok-spread.ensures.kept
+    let now = sound_after (part_of c.args.world) (state_in c.finish-resting.result.imports) c.spread.new.self (c.in_ok-spread.ensures.kept c.in_ok-reopen.ensures.kept)
     (c.in_ok-spread.ensures.recorded (recorded_in (state_in c.args.imports) c.reopen.new.self at.state c.requires.sound.recorded))
     (ap part_of c.in_ok-spread.ensures.is.changes.world ∙ at.beside) c.finish-resting.ensures.state in
     now.stands
@@ -67,6 +67,6 @@ returns-clause-sound c =
     let new = c.new-resolver.ensures in
     let at = reopened (part_of c.args.world) c.new-queue.result (state_in c.args.imports) c.new-resolver.result c.reopen.new.self new.state new.finished new.queue new.changes
     c.in_ok-reopen.ensures.state c.in_ok-reopen.ensures.rest in
-    sound_after (part_of c.args.world) (state_in c.finish-resting.result.imports) c.spread.new.self c.in_ok-spread.ensures.kept
+    sound_after (part_of c.args.world) (state_in c.finish-resting.result.imports) c.spread.new.self (c.in_ok-spread.ensures.kept c.in_ok-reopen.ensures.kept)
     (c.in_ok-spread.ensures.recorded (recorded_in (state_in c.args.imports) c.reopen.new.self at.state c.requires.sound.recorded))
     (ap part_of c.in_ok-spread.ensures.is.changes.world ∙ at.beside) c.finish-resting.ensures.state

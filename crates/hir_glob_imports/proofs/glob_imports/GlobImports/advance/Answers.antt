@@ -2,17 +2,15 @@
 use Rattle.std.proofs.Common.{◌≡◌, ◌∙◌, ap, sym, true, false, [], ◌∷◌, ◌++◌, rules}
 use Rattle.hir_glob_imports.specs.Inner.{pair}
 use Rattle.hir_glob_imports.specs.Waves.{GlobsValue}
-use Rattle.hir_glob_imports.proofs.Advancing.{beside, looks_join_at, spent_join}
+use Rattle.hir_glob_imports.proofs.Advancing.{beside, looks_join_at, looks_none, spent_join}
 use Rattle.hir_glob_imports.proofs.glob_imports.GlobImports.advance.Goals as goal
 
-pub look-requires-clause-kept : goal.look-requires-clause-kept
-look-requires-clause-kept g c =
-    let popped : c.self.inside.pending.items ≡ c.pop.new.self.items ++ pair c.in-Some.j c.in-Some.key ∷ [] =
-    search (rules, c.in-Some.ensures.items, c.in-Some.j-is, c.in-Some.key-is) in
-    beside (g.N.Names.table.view c.pending.names) c.pending.self
-    (record { edges = c.self.inside.edges.items; brought = c.self.inside.brought.entries; pending = c.pop.new.self.items }) c.in-Some.j c.in-Some.key
-    (ap (λ (x : GlobsValue). x.edges) c.self.view_is) (ap (λ (x : GlobsValue). x.brought) c.self.view_is)
-    (ap (λ (x : GlobsValue). x.pending) (sym c.self.view_is) ∙ popped) c.pending.invariant.looks.kept
+pub pending-init : goal.pending-init
+pending-init g c = record {
+  looks = looks_none g.N.Names.table c.args.names.now c.args.self.now c.args.count.now c.args.changes.now.items;
+  kept = λ old. old;
+  small = c.requires.small;
+}
 
 pub returns-then-branch-clause-looks : goal.returns-then-branch-clause-looks
 returns-then-branch-clause-looks g c =
@@ -21,6 +19,16 @@ returns-then-branch-clause-looks g c =
     c.args.count.now c.pending.count c.look.new.count c.args.changes.now.items c.pending.changes.items c.look.new.changes.items c.pending.invariant.looks
     (ap (λ (x : GlobsValue). x.edges) c.self.view_is) (ap (λ (x : GlobsValue). x.brought) c.self.view_is) c.in_ok-look.ensures.looks
 
+pub returns-then-branch-clause-kept : goal.returns-then-branch-clause-kept
+returns-then-branch-clause-kept g c = λ old.
+    let popped : c.self.inside.pending.items ≡ c.pop.new.self.items ++ pair c.in-Some.j c.in-Some.key ∷ [] =
+    search (rules, c.in-Some.ensures.items, c.in-Some.j-is, c.in-Some.key-is) in
+    c.in_ok-look.ensures.kept
+    (beside (g.N.Names.table.view c.pending.names) c.pending.self
+    (record { edges = c.self.inside.edges.items; brought = c.self.inside.brought.entries; pending = c.pop.new.self.items }) c.in-Some.j c.in-Some.key
+    (ap (λ (x : GlobsValue). x.edges) c.self.view_is) (ap (λ (x : GlobsValue). x.brought) c.self.view_is)
+    (ap (λ (x : GlobsValue). x.pending) (sym c.self.view_is) ∙ popped) (c.pending.invariant.kept old))
+
 pub pending-preserved : goal.pending-preserved
 pending-preserved g c = record {
   looks =
@@ -28,6 +36,14 @@ pending-preserved g c = record {
       (record { edges = c.self.inside.edges.items; brought = c.self.inside.brought.entries; pending = c.pop.new.self.items }) c.look.new.self
       c.args.count.now c.pending.count c.look.new.count c.args.changes.now.items c.pending.changes.items c.look.new.changes.items c.pending.invariant.looks
       (ap (λ (x : GlobsValue). x.edges) c.self.view_is) (ap (λ (x : GlobsValue). x.brought) c.self.view_is) c.in_ok-look.ensures.looks;
+  kept = λ old.
+      let popped : c.self.inside.pending.items ≡ c.pop.new.self.items ++ pair c.in-Some.j c.in-Some.key ∷ [] =
+      search (rules, c.in-Some.ensures.items, c.in-Some.j-is, c.in-Some.key-is) in
+      c.in_ok-look.ensures.kept
+      (beside (g.N.Names.table.view c.pending.names) c.pending.self
+      (record { edges = c.self.inside.edges.items; brought = c.self.inside.brought.entries; pending = c.pop.new.self.items }) c.in-Some.j c.in-Some.key
+      (ap (λ (x : GlobsValue). x.edges) c.self.view_is) (ap (λ (x : GlobsValue). x.brought) c.self.view_is)
+      (ap (λ (x : GlobsValue). x.pending) (sym c.self.view_is) ∙ popped) (c.pending.invariant.kept old));
   small = c.look.ensures.small;
 }
 

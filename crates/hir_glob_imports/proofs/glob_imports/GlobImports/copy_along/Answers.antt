@@ -3,7 +3,7 @@ use Rattle.std.proofs.Common.{subst, Bool, rules}
 use Rattle.hir_glob_imports.specs.Inner.{Spreads}
 use Rattle.hir_glob_imports.specs.Rules.{copies_along}
 use Rattle.hir_glob_imports.specs.Waves.{state_of}
-use Rattle.hir_glob_imports.proofs.Taking.{copy_takes, copies_there, may_copy, spent_by}
+use Rattle.hir_glob_imports.proofs.Taking.{copy_keeps, copy_takes, copies_there, may_copy, spent_by}
 use Rattle.hir_glob_imports.proofs.glob_imports.GlobImports.copy_along.Goals as goal
 
 pub copy-requires-clause-there : goal.copy-requires-clause-there
@@ -13,8 +13,15 @@ copy-requires-clause-there g c =
 
 pub returns-clause-takes : goal.returns-clause-takes
 returns-clause-takes g c =
-    copy_takes g.N.Names.table g.met.N.Names.writes c.args.names.now c.copy.new.names c.args.self.now c.copy.new.self c.spread.new.self c.args.count.now c.copy.new.count
-    c.args.j c.args.edge c.args.slot.now c.requires.recorded c.requires.at c.requires.kept c.args.shown c.requires.update
+    copy_takes g.N.Names.table c.args.names.now c.copy.new.names c.args.self.now c.copy.new.self c.spread.new.self c.args.count.now c.copy.new.count
+    c.args.j c.args.edge c.args.slot.now c.requires.recorded c.requires.at c.args.shown c.requires.update
+    c.in_ok-copy.ensures.is
+    (subst (λ (u : Bool). Spreads c.args.slot.now u c.copy.new.self c.spread.new.self) c.is_unnamed.ensures.value c.in_ok-spread.ensures.spreads)
+
+pub returns-clause-kept : goal.returns-clause-kept
+returns-clause-kept g c = λ but.
+    copy_keeps g.N.Names.table g.met.N.Names.writes c.args.names.now c.copy.new.names c.args.self.now c.copy.new.self c.spread.new.self c.args.count.now c.copy.new.count
+    c.args.j c.args.edge c.args.slot.now c.requires.recorded c.requires.at but c.args.shown c.requires.update
     c.in_ok-copy.ensures.is c.in_ok-copy.ensures.pending
     (subst (λ (u : Bool). Spreads c.args.slot.now u c.copy.new.self c.spread.new.self) c.is_unnamed.ensures.value c.in_ok-spread.ensures.spreads)
 

@@ -2,7 +2,7 @@
 use Rattle.std.proofs.Common.{rules}
 use Rattle.hir_glob_imports.specs.Rules.{follows_along}
 use Rattle.hir_glob_imports.specs.Waves.{state_of}
-use Rattle.hir_glob_imports.proofs.Taking.{follow_takes, follows_there, may_follow, spent_by}
+use Rattle.hir_glob_imports.proofs.Taking.{follow_keeps, follow_takes, follows_there, may_follow, spent_by}
 use Rattle.hir_glob_imports.proofs.glob_imports.GlobImports.follow_along.Goals as goal
 
 pub follow-requires-clause-there : goal.follow-requires-clause-there
@@ -12,9 +12,17 @@ follow-requires-clause-there g c =
 
 pub returns-clause-takes : goal.returns-clause-takes
 returns-clause-takes g c =
-    follow_takes g.N.Names.table g.met.N.Names.writes c.args.names.now c.follow.new.names c.args.self.now c.follow.new.self c.spread.new.self c.args.count.now c.follow.new.count
-    c.args.j c.args.edge c.args.slot.now c.requires.recorded c.requires.at c.requires.kept c.args.shown c.requires.update
-    c.in_ok-follow.ensures.is c.in_ok-follow.ensures.pending c.in_ok-spread.ensures.spreads
+    follow_takes g.N.Names.table c.args.names.now c.follow.new.names c.args.self.now c.follow.new.self c.spread.new.self c.args.count.now c.follow.new.count
+    c.args.j c.args.edge c.args.slot.now c.requires.recorded c.requires.at c.args.shown c.requires.update
+    c.in_ok-follow.ensures.is
+    c.in_ok-spread.ensures.spreads
+
+pub returns-clause-kept : goal.returns-clause-kept
+returns-clause-kept g c = λ but.
+    follow_keeps g.N.Names.table g.met.N.Names.writes c.args.names.now c.follow.new.names c.args.self.now c.follow.new.self c.spread.new.self c.args.count.now c.follow.new.count
+    c.args.j c.args.edge c.args.slot.now c.requires.recorded c.requires.at but c.args.shown c.requires.update
+    c.in_ok-follow.ensures.is c.in_ok-follow.ensures.pending
+    c.in_ok-spread.ensures.spreads
 
 pub returns-in_err-follow-clause-many : goal.returns-in_err-follow-clause-many
 returns-in_err-follow-clause-many g c = λ h.

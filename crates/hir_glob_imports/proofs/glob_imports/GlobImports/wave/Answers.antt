@@ -7,7 +7,7 @@ use Rattle.hir_glob_imports.proofs.Resting.{waved}
 use Rattle.hir_glob_imports.proofs.glob_imports.GlobImports.wave.Goals as goal
 
 pub steps-init : goal.steps-init
-steps-init g c = record { steps = none_in; listed = λ s h. h; kept = c.requires.kept; small = c.requires.small }
+steps-init g c = record { steps = none_in; listed = λ s h. h; kept = λ old. old; small = c.requires.small }
 
 pub returns-in_err-advance-clause-many : goal.returns-in_err-advance-clause-many
 returns-in_err-advance-clause-many g c = λ h.
@@ -23,7 +23,7 @@ steps-preserved g c = record {
       (state_of c.steps.names c.steps.self c.steps.count) (state_of c.advance.new.names c.advance.new.self c.advance.new.count)
       c.steps.invariant.steps c.in_ok-advance.ensures.looks.reported (c.in_ok-advance.ensures.looks.step c.if-branch.true);
   listed = λ s h. c.in_ok-advance.ensures.looks.reported s (c.steps.invariant.listed s h);
-  kept = c.in_ok-advance.ensures.looks.kept;
+  kept = λ old. c.in_ok-advance.ensures.kept (c.steps.invariant.kept old);
   small = c.advance.ensures.small;
 }
 
@@ -33,6 +33,10 @@ returns-clause-steps g c =
     (state_of c.steps.names c.steps.self c.steps.count) (state_of c.advance.new.names c.advance.new.self c.advance.new.count)
     c.steps.invariant.steps c.in_ok-advance.ensures.looks.reported (c.in_ok-advance.ensures.looks.stays c.if-branch.false)
 
+pub returns-clause-kept : goal.returns-clause-kept
+returns-clause-kept g c = λ old. c.in_ok-advance.ensures.kept (c.steps.invariant.kept old)
+
 pub returns-clause-waved : goal.returns-clause-waved
-returns-clause-waved g c =
-    waved (g.N.Names.table.view c.advance.new.names) c.advance.new.self c.in_ok-advance.ensures.looks.kept (c.in_ok-advance.ensures.rests c.if-branch.false)
+returns-clause-waved g c = λ old.
+    waved (g.N.Names.table.view c.advance.new.names) c.advance.new.self (c.in_ok-advance.ensures.kept (c.steps.invariant.kept old))
+    (c.in_ok-advance.ensures.rests c.if-branch.false)

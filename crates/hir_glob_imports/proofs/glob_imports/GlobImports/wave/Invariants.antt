@@ -11,7 +11,7 @@ abbrev pub invariant-steps : goal.invariant-steps
 invariant-steps g l = record {
   steps : StepsIn g.N.Names.table l.changes.items (state_of l.initial.names l.initial.self l.initial.count) (state_of l.names l.self l.count);
   listed : (slot : Slot) → Contains l.initial.changes.items slot → Contains l.changes.items slot;
-  kept : IsKept (g.N.Names.table.view l.names) l.self;
+  kept : IsKept (g.N.Names.table.view l.initial.names) l.initial.self → IsKept (g.N.Names.table.view l.names) l.self;
   small : l.count ≤ MAX_STEPS;
 }
 

@@ -10,7 +10,7 @@ use Rattle.hir_import_resolution.proofs.resolver.Resolver.wave.Goals as goal
 pub returns-clause-running : goal.returns-clause-running
 returns-clause-running c =
     running_waved c.args.self.now c.spread.new.self c.wake_changes.new.self (path_slots c.spread.new.self.changes.items) c.requires.begun c.in_ok-spread.ensures.is.changes c.in_ok-spread.ensures.is.taken
-    c.in_ok-spread.ensures.kept (c.in_ok-spread.ensures.recorded c.requires.begun.recorded) c.in_ok-spread.ensures.small c.in_ok-spread.ensures.pending
+    (c.in_ok-spread.ensures.kept c.requires.begun.kept) (c.in_ok-spread.ensures.recorded c.requires.begun.recorded) c.spread.ensures.small c.in_ok-spread.ensures.pending
     c.in_ok-wake_changes.ensures.rest c.in_ok-wake_changes.ensures.woken c.in_ok-wake_changes.ensures.changes
 
 pub returns-clause-apart : goal.returns-clause-apart
