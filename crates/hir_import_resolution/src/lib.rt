@@ -12,7 +12,7 @@ mod resolver;
 pub mod restart;
 pub mod rounds;
 pub mod scopes;
-pub mod spread;
+pub mod spreading;
 pub mod taken;
 
 pub use directive::{ImportDirective, ImportSource};
@@ -23,5 +23,5 @@ pub use resolve::{ImportError, resolve_imports};
 pub use resolver::bind::forget;
 pub use restart::{restart_imports, spread_globs};
 pub use rounds::{Resting, begin_imports, resume_imports};
-pub use spread::spread_changes;
+pub use spreading::spread_changes;
 pub use taken::Taken;
