@@ -20,7 +20,7 @@ use Rattle.hir_glob_imports.specs.declared.step.TheConstants.{MAX_STEPS}
 use Rattle.hir_glob_imports.specs.Inner.{IsKeptBut, Spreads, Takes}
 use Rattle.hir_glob_imports.specs.Keys.{slot_at, same_slot, is_unnamed}
 use Rattle.hir_glob_imports.specs.Moves.{shown, brought_vis, is_as_seen, raise_of, update_of_brought, update_of}
-use Rattle.hir_glob_imports.specs.Rules.{GlobState, BroughtBy, with_brought, noted, as_seen, after, copies_along, follows_along, raises_along, IsSpent, May, Rule, Step, none, slot_of}
+use Rattle.hir_glob_imports.specs.Rules.{GlobState, BroughtBy, with_brought, noted, as_seen, after, copies_along, follows_along, raises_along, IsSpent, May, Rule, none, slot_of}
 use Rattle.hir_glob_imports.specs.View.{View, NameTable, IsNameTable, Binds, bound_in, with_vis}
 use Rattle.hir_glob_imports.specs.Waves.{GlobsValue, brought_of, update_in, update_at, state_of, IsKept, IsPendingOrSettled, Stands}
 use Rattle.hir_glob_imports.proofs.Settling.{same_itself, kept_after}

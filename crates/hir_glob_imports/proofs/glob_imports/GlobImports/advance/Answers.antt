@@ -22,7 +22,7 @@ returns-then-branch-clause-looks g c =
 pub returns-then-branch-clause-kept : goal.returns-then-branch-clause-kept
 returns-then-branch-clause-kept g c = λ old.
     let popped : c.self.inside.pending.items ≡ c.pop.new.self.items ++ pair c.in-Some.j c.in-Some.key ∷ [] =
-    search (rules, c.in-Some.ensures.items, c.in-Some.j-is, c.in-Some.key-is) in
+    search (rules, c.in-Some.ensures.items) in
     c.in_ok-look.ensures.kept
     (beside (g.N.Names.table.view c.pending.names) c.pending.self
     (record { edges = c.self.inside.edges.items; brought = c.self.inside.brought.entries; pending = c.pop.new.self.items }) c.in-Some.j c.in-Some.key
@@ -38,7 +38,7 @@ pending-preserved g c = record {
       (ap (λ (x : GlobsValue). x.edges) c.self.view_is) (ap (λ (x : GlobsValue). x.brought) c.self.view_is) c.in_ok-look.ensures.looks;
   kept = λ old.
       let popped : c.self.inside.pending.items ≡ c.pop.new.self.items ++ pair c.in-Some.j c.in-Some.key ∷ [] =
-      search (rules, c.in-Some.ensures.items, c.in-Some.j-is, c.in-Some.key-is) in
+      search (rules, c.in-Some.ensures.items) in
       c.in_ok-look.ensures.kept
       (beside (g.N.Names.table.view c.pending.names) c.pending.self
       (record { edges = c.self.inside.edges.items; brought = c.self.inside.brought.entries; pending = c.pop.new.self.items }) c.in-Some.j c.in-Some.key
