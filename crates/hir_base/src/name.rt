@@ -173,6 +173,7 @@ impl Ord for Name {
 
     ghost matches_eq = { Prim.search (comparing, rules) };
 
+    #[inline(always)]
     fn cmp(&self, other: &Name) -> Ordering {
         self.text.cmp(&other.text)
     }

@@ -193,6 +193,14 @@ impl Text {
         self.kept.as_str()
     }
 
+    /// How two texts compare, by all their bytes.
+    #[inline(never)]
+    fn cmp_whole(&self, other: &Text) -> Ordering
+        ensures value { result ≡ slice_cmp nat_cmp self.now other.now }
+    {
+        self.as_str().cmp(other.as_str())
+    }
+
     /// The same text, which both then keep.
     pub fn clone(&self) -> Result<Text, AllocError>
         ensures value { IfOk result (λ t. t ≡ self.now) }
@@ -208,6 +216,7 @@ impl PartialEq for Text {
 
     ghost laws = { Prim.search (comparing, rules) };
 
+    #[inline(always)]
     fn eq(&self, other: &Text) -> bool {
         self.kept.head() == other.kept.head() && self.as_str() == other.as_str()
     }
@@ -226,6 +235,8 @@ impl Ord for Text {
 
     ghost matches_eq = { Prim.search (comparing, rules) };
 
+    // It is most of what a search by name does, and heads decide nearly always.
+    #[inline(always)]
     fn cmp(&self, other: &Text) -> Ordering {
         let head = self.kept.head();
         let other_head = other.kept.head();
@@ -235,7 +246,7 @@ impl Ord for Text {
         if head > other_head {
             return Ordering::Greater;
         }
-        self.as_str().cmp(other.as_str())
+        self.cmp_whole(other)
     }
 }
 

@@ -13,7 +13,7 @@ use Rattle.hir_scope.specs.Scope.{ScopeValue}
 use Rattle.hir_scope.specs.declared.visibility.Visibility.{Visibility}
 use Rattle.hir_def_map.specs.declared.world.reference.Reference.{Reference}
 use Rattle.hir_def_map.specs.declared.world.reference.Reference.TheVariants as reference
-use Rattle.hir_def_map.specs.Inner.ReferenceLists.{any_listed, block_crate, child_reference, crate_before, crate_reference, extern_reference, item_reference, item_visibility, listed_in, module_before, references_besides, references_in, references_in_scope, visibility_before}
+use Rattle.hir_def_map.specs.Inner.ReferenceLists.{any_listed, block_crate, child_reference, crate_before, crate_reference, extern_reference, item_reference, item_visibility, items_before, listed_in, module_before, references_besides, references_in, references_in_scope, visibility_before}
 use Rattle.hir_def_map.specs.References.{any_own_crate, any_reference, any_reference_besides, any_reference_in, any_reference_in_scope, prelude_reference, test_child, test_crate, test_extern, test_item, test_macro, test_of, test_type, test_value, test_visibility}
 use Rattle.hir_def_map.specs.State.{Local, Map, ModuleValue, crate_map}
 
@@ -32,18 +32,6 @@ any-append p (x ∷ xs) ys = ap (λ (b : Bool). p x || b) (any-append p xs ys) �
 any-map : {A B : Type 0} (p : B → Bool) (f : A → B) (xs : List A) → list_any p (map f xs) ≡ list_any (λ (x : A). p (f x)) xs
 any-map p f [] = refl
 any-map p f (x ∷ xs) = ap (λ (b : Bool). p (f x) || b) (any-map p f xs)
-
--- two tests of each, and each test of all
-any-or : {A : Type 0} (p q : A → Bool) (xs : List A) → (list_any p xs || list_any q xs) ≡ list_any (λ (x : A). p x || q x) xs
-any-or p q [] = refl
-any-or p q (x ∷ xs) = crossed (p x) (list_any p xs) (q x) (list_any q xs) ∙ ap (λ (b : Bool). (p x || q x) || b) (any-or p q xs)
-  where
-    crossed : (a b c d : Bool) → ((a || b) || (c || d)) ≡ ((a || c) || (b || d))
-    crossed true b c d = refl
-    crossed false true true d = refl
-    crossed false true false d = refl
-    crossed false false true d = refl
-    crossed false false false d = refl
 
 module _ (test : Reference → Bool) where
   abbrev holds : List (Option Reference) → Bool
@@ -66,24 +54,24 @@ module _ (test : Reference → Bool) where
   any-visibility : (v : Visibility) (rest : List (Option Reference)) → holds (visibility_before (Some v) rest) ≡ (test_visibility test v || holds rest)
   any-visibility v rest = refl
 
-  -- what items are and who may see them, as one goes over the items once
+  -- what items are and who may see them
   any-items : {I : Type 0} (items : List (List ℕ × Item ModuleDefId I)) (rest : List (Option Reference))
-      → holds (map item_reference items ++ (map item_visibility items ++ rest)) ≡ (list_any (λ (e : List ℕ × Item ModuleDefId I). test_item test e.1) items || holds rest)
-  any-items {I} items rest =
-      let defs = list_any (λ (e : List ℕ × Item ModuleDefId I). test_of test (item_reference e)) items in
-      let seen = list_any (λ (e : List ℕ × Item ModuleDefId I). test_of test (item_visibility e)) items in
-      any-part item_reference items (map item_visibility items ++ rest)
-      ∙ ap (λ (b : Bool). defs || b) (any-part item_visibility items rest)
-      ∙ sym (or-assoc defs seen (holds rest))
-      ∙ ap (λ (b : Bool). b || holds rest) (any-or (λ (e : List ℕ × Item ModuleDefId I). test_of test (item_reference e)) (λ (e : List ℕ × Item ModuleDefId I). test_of test (item_visibility e)) items)
+      → holds (items_before items rest) ≡ (list_any (λ (e : List ℕ × Item ModuleDefId I). test_item test e.1) items || holds rest)
+  any-items [] rest = refl
+  any-items {I} (item ∷ items) rest =
+      let def = test_of test (item_reference item) in
+      let seen = test_of test (item_visibility item) in
+      let others = list_any (λ (e : List ℕ × Item ModuleDefId I). test_item test e.1) items in
+      ap (λ (b : Bool). def || (seen || b)) (any-items items rest)
+      ∙ sym (or-assoc def seen (others || holds rest))
+      ∙ sym (or-assoc (def || seen) others (holds rest))
 
   -- of a scope
   any_in_scope : (scope : ScopeValue) → holds (references_in_scope scope) ≡ any_reference_in_scope test scope
   any_in_scope scope =
       let traits = map item_visibility scope.unnamed_traits in
       let macros = map item_visibility scope.macros ++ traits in
-      let values = map item_reference scope.values ++ (map item_visibility scope.values ++ macros) in
-      any-items scope.types values
+      any-items scope.types (items_before scope.values macros)
       ∙ ap (λ (b : Bool). list_any (test_type test) scope.types || b)
       (any-items scope.values macros
       ∙ ap (λ (b : Bool). list_any (test_value test) scope.values || b)

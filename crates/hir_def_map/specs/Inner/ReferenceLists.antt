@@ -51,13 +51,17 @@ abbrev pub visibility_before : Option Visibility → List (Option Reference) →
 visibility_before None rest = rest
 visibility_before (Some vis) rest = visibility_reference vis ∷ rest
 
--- what types are and who may see them, what values are and who may see them, who may see macros, and traits without names
-abbrev pub scope_list : List (List ℕ × Item ModuleDefId ImportOrExternCrate) → List (List ℕ × Item ModuleDefId ImportOrExternCrate) → List (List ℕ × Item ModuleDefId ImportOrGlob)
-    → List (List ℕ × Item ModuleDefId ImportOrGlob) → List (List ℕ × Item MacroId ImportOrExternCrate) → List (TraitId × Item (Unit {0}) ImportId) → List (Option Reference)
-scope_list types seen_types values seen_values macros traits =
-    map item_reference types
-    ++ (map item_visibility seen_types
-    ++ (map item_reference values ++ (map item_visibility seen_values ++ (map item_visibility macros ++ map item_visibility traits))))
+-- what items are and who may see each, one item after another, before other references
+abbrev pub items_before : {K I : Type 0} → List (K × Item ModuleDefId I) → List (Option Reference) → List (Option Reference)
+items_before [] rest = rest
+items_before (item ∷ items) rest = item_reference item ∷ item_visibility item ∷ items_before items rest
+
+-- types and values, each behind who may see the one before, if that is next, and then who may see macros, and traits without names
+abbrev pub scope_list : Option Visibility → List (List ℕ × Item ModuleDefId ImportOrExternCrate) → Option Visibility → List (List ℕ × Item ModuleDefId ImportOrGlob)
+    → List (List ℕ × Item MacroId ImportOrExternCrate) → List (TraitId × Item (Unit {0}) ImportId) → List (Option Reference)
+scope_list type_vis types value_vis values macros traits =
+    visibility_before type_vis (items_before types
+    (visibility_before value_vis (items_before values (map item_visibility macros ++ map item_visibility traits))))
 
 -- a parent, a visibility, children and what a scope refers to
 abbrev pub module_list : Option ModuleId → Option Visibility → List (List ℕ × ModuleId) → List (Option Reference) → List (Option Reference)
@@ -74,7 +78,7 @@ block_crate id = cond (is_some id.block) (Some id.krate) None
 
 -- the references of a scope
 abbrev pub references_in_scope : ScopeValue → List (Option Reference)
-references_in_scope scope = scope_list scope.types scope.types scope.values scope.values scope.macros scope.unnamed_traits
+references_in_scope scope = scope_list None scope.types None scope.values scope.macros scope.unnamed_traits
 
 -- the references of a module
 abbrev pub references_in : ModuleValue → List (Option Reference)

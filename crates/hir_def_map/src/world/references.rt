@@ -24,13 +24,14 @@ use std::marker::Model;
 /// The references of a scope: what its types and values are, and the modules that may see these, its macros and its
 /// traits without names.
 ///
-/// The types and the values are walked over twice, once for what they are and once for who may see them.
+/// Of a type or a value comes first what it is, and then who may see it.
 #[derive(Drop)]
 pub(crate) struct ScopeReferences<'a> {
+    /// Who may see the type that came last, where that is next.
+    type_vis: Option<Visibility>,
     types: Bindings<'a, ModuleDefId, ImportOrExternCrate>,
-    seen_types: Bindings<'a, ModuleDefId, ImportOrExternCrate>,
+    value_vis: Option<Visibility>,
     values: Bindings<'a, ModuleDefId, ImportOrGlob>,
-    seen_values: Bindings<'a, ModuleDefId, ImportOrGlob>,
     macros: Bindings<'a, MacroId, ImportOrExternCrate>,
     traits: indexmap::map::Iter<'a, TraitId, Item<(), ImportId>>,
 }
@@ -42,7 +43,7 @@ impl<'a> Model for ScopeReferences<'a> {
 
     ghost Value = { List (Option Reference) };
 
-    ghost view = { λ walk. scope_list walk.types walk.seen_types walk.values walk.seen_values walk.macros walk.traits };
+    ghost view = { λ walk. scope_list walk.type_vis walk.types walk.value_vis walk.values walk.macros walk.traits };
 }
 
 impl ScopeReferences<'_> {
@@ -50,10 +51,10 @@ impl ScopeReferences<'_> {
         ensures value { result ≡ references_in_scope scope.now }
     {
         ScopeReferences {
+            type_vis: None,
             types: scope.types(),
-            seen_types: scope.types(),
+            value_vis: None,
             values: scope.values(),
-            seen_values: scope.values(),
             macros: scope.macros(),
             traits: scope.unnamed_traits(),
         }
@@ -68,17 +69,19 @@ impl<'a> Iterator for ScopeReferences<'a> {
     ghost remaining = { item_count (λ (left : List _). left) };
 
     fn next(&mut self) -> Option<Option<Reference>> {
+        if let Some(vis) = self.type_vis.take() {
+            return Some(visibility_reference(vis));
+        }
         if let Some((_, item)) = self.types.next() {
+            self.type_vis = Some(item.vis);
             return Some(reference_to(item.def));
         }
-        if let Some((_, item)) = self.seen_types.next() {
-            return Some(visibility_reference(item.vis));
+        if let Some(vis) = self.value_vis.take() {
+            return Some(visibility_reference(vis));
         }
         if let Some((_, item)) = self.values.next() {
+            self.value_vis = Some(item.vis);
             return Some(reference_to(item.def));
-        }
-        if let Some((_, item)) = self.seen_values.next() {
-            return Some(visibility_reference(item.vis));
         }
         if let Some((_, item)) = self.macros.next() {
             return Some(visibility_reference(item.vis));
