@@ -2,6 +2,7 @@
 use Rattle.std.proofs.Common.{◌≡◌, ◌∙◌, ap, sym, refl, subst, ℕ, ◌≤◌, Bool, true, false, List, [], ◌∷◌, ◌++◌, length, map as list_map, Option, None, Some, Contains, cond, slice_get, arith, append-nil, append_assoc}
 use Rattle.std.proofs.lemmas.List.Elements.{Contains-append_left, Contains-append_right}
 use Rattle.std.specs.Option.{option_and_then}
+use Rattle.std.specs.Prelude.{Result, Ok, Err, IfOk, IsOkAnd, OnOk}
 use Rattle.hir_base.specs.declared.ast_id.AstId.{AstId}
 use Rattle.hir_base.specs.declared.ids.ModuleId.{ModuleId}
 use Rattle.hir_scope.specs.declared.imports.GlobId.{GlobId}
@@ -163,3 +164,18 @@ module _ (finished : Maps) (a b : Run) (slots : List PathSlot) (steps : Steps fi
         (among.others slot (untouched_apart a.changed slots slot (subst (λ (c : ChangedValue). IsUntouched c slot) changed e)));
     helpers = λ node name e. helped_alike a.map b.map same_helpers node name;
   }
+
+-- ---- where two calls succeed
+
+module _ {T E U F : Type 0} {P Q : T → Type 0} {R : Type 0} where
+  pub through_both : (first : Result T E) (second : Result U F) → OnOk second (IsOkAnd first P) → IfOk first Q → ((x : T) → P x → Q x → R) → OnOk second R
+  through_both (Ok x) (Ok y) both holds follows = follows x both holds
+  through_both (Err e) (Ok y) both holds follows = absurd both
+  through_both (Ok x) (Err f) both holds follows = tt
+  through_both (Err e) (Err f) both holds follows = tt
+
+-- what holds of each of two
+module _ {T E : Type 0} {P Q : T → Type 0} where
+  pub both_of_each : (first : Result T E) → IfOk first P → IfOk first Q → IfOk first (λ x. P x × Q x)
+  both_of_each (Ok x) p q = (p, q)
+  both_of_each (Err e) p q = tt
