@@ -167,15 +167,15 @@ module _ (finished : Maps) (a b : Run) (slots : List PathSlot) (steps : Steps fi
 
 -- ---- where two calls succeed
 
-module _ {T E U F : Type 0} {P Q : T → Type 0} {R : Type 0} where
-  pub through_both : (first : Result T E) (second : Result U F) → OnOk second (IsOkAnd first P) → IfOk first Q → ((x : T) → P x → Q x → R) → OnOk second R
-  through_both (Ok x) (Ok y) both holds follows = follows x both holds
-  through_both (Err e) (Ok y) both holds follows = absurd both
-  through_both (Ok x) (Err f) both holds follows = tt
-  through_both (Err e) (Err f) both holds follows = tt
+module _ {T E U F : Type 0} where
+  pub through_both : (P Q : T → Type 0) (R : Type 0) (first : Result T E) (second : Result U F) → OnOk second (IsOkAnd first P) → IfOk first Q → ((x : T) → P x → Q x → R) → OnOk second R
+  through_both P Q R (Ok x) (Ok y) both holds gives = gives x both holds
+  through_both P Q R (Err e) (Ok y) both holds gives = absurd both
+  through_both P Q R (Ok x) (Err f) both holds gives = tt
+  through_both P Q R (Err e) (Err f) both holds gives = tt
 
--- what holds of each of two
-module _ {T E : Type 0} {P Q : T → Type 0} where
-  pub both_of_each : (first : Result T E) → IfOk first P → IfOk first Q → IfOk first (λ x. P x × Q x)
-  both_of_each (Ok x) p q = (p, q)
-  both_of_each (Err e) p q = tt
+module _ {T E : Type 0} where
+  -- what holds of each of two holds of both
+  pub both_of_each : (P Q : T → Type 0) (first : Result T E) → IfOk first P → IfOk first Q → IfOk first (λ x. P x × Q x)
+  both_of_each P Q (Ok x) p q = (p, q)
+  both_of_each P Q (Err e) p q = tt

@@ -1,12 +1,19 @@
 -- Names that go along globs do so in the run.
-use Rattle.std.proofs.Common.{◌≡◌, rules, refl, length, ℕ, subst}
+use Rattle.std.proofs.Common.{◌≡◌, refl, length, subst, List}
+use Rattle.std.specs.declared.vec.Vec.{Vec}
+use Rattle.std.specs.declared.alloc.Global.{Global}
+use Rattle.hir_def_map.specs.State.{Map}
 use Rattle.hir_def_map.specs.WorldParts.{part_of}
+use Rattle.hir_def_map_laws.specs.SlotChanges.{ScopesChangeAmong}
+use Rattle.hir_glob_imports.specs.declared.edge.Slot.{Slot}
 use Rattle.hir_import_resolution.specs.Inner.State.{path_slots, state_in}
+use Rattle.hir_import_resolution.specs.Rules as imports
 use Rattle.hir_def_collector.specs.Derivation.{IsSpent}
+use Rattle.hir_def_collector.specs.Keys.{Environment}
 use Rattle.hir_def_collector.specs.contracts.collector.def_collector.DefCollector.{the_view}
-use Rattle.hir_def_collector.specs.State.{Run, State, core_in, import_state, joined, with_import_state}
+use Rattle.hir_def_collector.specs.State.{Run, State, Task, core_in, import_state, joined, with_import_state}
 use Rattle.hir_def_collector.specs.Steps.{Steps}
-use Rattle.hir_def_collector.specs.Waiting.{IsNoted}
+use Rattle.hir_def_collector.specs.Waiting.{IsNoted, with_slots}
 use Rattle.hir_def_collector.proofs.ImportSteps.{spent_from, steps_from}
 use Rattle.hir_def_collector.proofs.Spreading.{both_of_each, noted_spread, same_count, through_both}
 use Rattle.hir_def_collector.proofs.collector.def_collector.DefCollector.with_changes_spread.Goals as goal
@@ -14,43 +21,44 @@ use Rattle.hir_def_collector.proofs.collector.def_collector.DefCollector.with_ch
 pub returns-clause-ok : goal.returns-clause-ok
 unfolding core_in
 returns-clause-ok c =
-    through_both c.spread_changes.result.1 c.note_changes.result c.note_changes.ensures.ok c.spread_changes.ensures.derived
+    through_both _ _ _ c.spread_changes-imports.result.1 c.note_changes-noted.result c.note_changes-noted.ensures.ok c.spread_changes-imports.ensures.derived
     (λ slots noted steps env rest.
     let before : State = joined (core_in (the_view c.self.inside)) rest in
-    subst (λ (r : Run). Steps env (part_of c.args.world) (joined (core_in r) rest) (with_import_state before (state_in c.spread_changes.result.0))) c.self.view_is
+    subst (λ (r : Run). Steps env (part_of c.args.world) (joined (core_in r) rest) (with_import_state before (state_in c.spread_changes-imports.result.0))) c.self.view_is
     (steps_from before (import_state before) refl steps))
 
 pub returns-clause-noted : goal.returns-clause-noted
 unfolding core_in
 returns-clause-noted c =
     let before : Run = the_view c.self.inside in
+    let found = c.spread_changes-imports.result.0 in
     let after : Run = record before {
-      map = c.spread_changes.result.0.map;
-      local = c.spread_changes.result.0.local;
-      names = c.spread_changes.result.0.from_glob_import;
-      globs = c.spread_changes.result.0.globs;
-      reached = c.spread_changes.result.0.imports.items;
-      taken = c.spread_changes.result.0.taken.items;
-      count = c.spread_changes.result.0.count;
-      changed = c.note_changes.new.changed;
+      map = found.map;
+      local = found.local;
+      names = found.from_glob_import;
+      globs = found.globs;
+      reached = found.imports.items;
+      taken = found.taken.items;
+      count = found.count;
+      changed = c.note_changes-noted.new.changed;
     } in
-    through_both c.spread_changes.result.1 c.note_changes.result c.note_changes.ensures.ok
-    (both_of_each c.spread_changes.result.1 c.spread_changes.ensures.derived c.spread_changes.ensures.changes)
+    through_both _ _ _ c.spread_changes-imports.result.1 c.note_changes-noted.result c.note_changes-noted.ensures.ok
+    (both_of_each _ _ c.spread_changes-imports.result.1 c.spread_changes-imports.ensures.derived c.spread_changes-imports.ensures.changes)
     (λ slots noted both.
     subst (λ (r : Run). IsNoted r after) c.self.view_is
-    (noted_spread (part_of c.args.world) before after (path_slots slots.items) both.0 both.1 c.spread_changes.ensures.local noted))
+    (noted_spread (part_of c.args.world) before after (path_slots slots.items) both.0 both.1 c.spread_changes-imports.ensures.local noted))
 
 pub returns-clause-modules : goal.returns-clause-modules
 unfolding core_in
 returns-clause-modules c =
-    through_both c.spread_changes.result.1 c.note_changes.result c.note_changes.ensures.ok c.spread_changes.ensures.changes
-    (λ slots noted among.
     let before : Run = the_view c.self.inside in
-    subst (λ (r : Run). length c.spread_changes.result.0.map.modules ≡ length (core_in r).map.modules) c.self.view_is
-    (same_count before.map c.spread_changes.result.0.map among.differs))
+    let found : Map = c.spread_changes-imports.result.0.map in
+    through_both _ _ _ c.spread_changes-imports.result.1 c.note_changes-noted.result c.note_changes-noted.ensures.ok c.spread_changes-imports.ensures.changes
+    (λ slots noted among.
+    subst (λ (r : Run). length found.modules ≡ length (core_in r).map.modules) c.self.view_is (same_count before.map found among.differs))
 
 pub returns-clause-many : goal.returns-clause-many
 unfolding core_in
 returns-clause-many c = λ h env rest.
     subst (λ (r : Run). IsSpent env (part_of c.args.world) (joined (core_in r) rest)) c.self.view_is
-    (spent_from (joined (core_in (the_view c.self.inside)) rest) _ refl (c.spread_changes.ensures.many (c.note_changes.ensures.many h)))
+    (spent_from (joined (core_in (the_view c.self.inside)) rest) _ refl (c.spread_changes-imports.ensures.many (c.note_changes-noted.ensures.many h)))
