@@ -1,19 +1,13 @@
 -- Names that go along globs do so in the run.
-use Rattle.std.proofs.Common.{◌≡◌, refl, length, subst, List}
-use Rattle.std.specs.declared.vec.Vec.{Vec}
-use Rattle.std.specs.declared.alloc.Global.{Global}
+use Rattle.std.proofs.Common.{◌≡◌, refl, length, subst}
 use Rattle.hir_def_map.specs.State.{Map}
 use Rattle.hir_def_map.specs.WorldParts.{part_of}
-use Rattle.hir_def_map_laws.specs.SlotChanges.{ScopesChangeAmong}
-use Rattle.hir_glob_imports.specs.declared.edge.Slot.{Slot}
 use Rattle.hir_import_resolution.specs.Inner.State.{path_slots, state_in}
-use Rattle.hir_import_resolution.specs.Rules as imports
 use Rattle.hir_def_collector.specs.Derivation.{IsSpent}
-use Rattle.hir_def_collector.specs.Keys.{Environment}
 use Rattle.hir_def_collector.specs.contracts.collector.def_collector.DefCollector.{the_view}
-use Rattle.hir_def_collector.specs.State.{Run, State, Task, core_in, import_state, joined, with_import_state}
+use Rattle.hir_def_collector.specs.State.{Run, State, core_in, import_state, joined, with_import_state}
 use Rattle.hir_def_collector.specs.Steps.{Steps}
-use Rattle.hir_def_collector.specs.Waiting.{IsNoted, with_slots}
+use Rattle.hir_def_collector.specs.Waiting.{IsNoted}
 use Rattle.hir_def_collector.proofs.ImportSteps.{spent_from, steps_from}
 use Rattle.hir_def_collector.proofs.Spreading.{both_of_each, noted_spread, same_count, through_both}
 use Rattle.hir_def_collector.proofs.collector.def_collector.DefCollector.with_changes_spread.Goals as goal
