@@ -129,17 +129,17 @@ ImportsReadAlike = (finished : Maps) (one : Map) (one_local : Local) (other : Ma
 
 -- ---- paths that stop at no enum without variants
 
--- whether an enum of the map has no variants yet, where a type is one
+-- whether a type is an enum of the map that has no variants yet
 abbrev pub is_bare_adt : Map → AdtId → Bool
 is_bare_adt map (adts.EnumId id) = has_no_variants map (named.Enum id)
 is_bare_adt map _ = false
 
--- whether a definition is an enum of the map that has no variants yet
+-- whether a definition is one
 abbrev pub is_bare_def : Map → ModuleDefId → Bool
 is_bare_def map (definitions.AdtId adt) = is_bare_adt map adt
 is_bare_def map _ = false
 
--- whether a name stands for one
+-- whether an item is there whose definition is one
 abbrev pub is_bare : Map → Option (Item ModuleDefId ImportOrExternCrate) → Bool
 is_bare map None = false
 is_bare map (Some item) = is_bare_def map item.def
