@@ -1,5 +1,5 @@
 //! The glob imports of a map that is being built.
-ghost use Rattle.std.specs.Prelude.{◌≡◌, ◌++◌, ℕ, [], ◌∷◌, true, None, Option, Some, OnOk, OnErr, IfOk, IfSome, IfNone, slice_get, Contains, ◌⊎◌};
+ghost use Rattle.std.specs.Prelude.{◌≡◌, ◌++◌, ℕ, [], ◌∷◌, true, map, None, Option, Some, OnOk, OnErr, IfOk, IfSome, IfNone, slice_get, Contains, ◌⊎◌};
 ghost use Rattle.std.specs.Option.{option_copied};
 ghost use Rattle.hir_glob_imports.specs.declared.edge.Key.{Key};
 ghost use Rattle.hir_glob_imports.specs.Rules.{with_brought, noted};
@@ -8,7 +8,7 @@ ghost use Rattle.hir_glob_imports.specs.Waves.{brought_of, has_same_ends};
 use crate::edge::{Brought, Edge, Key, Slot, Target};
 use crate::index::EdgesByModule;
 use std::alloc::{AllocError, Global};
-use std::collections::BTreeMap;
+use std::collections::{BTreeMap, btree_map};
 use std::marker::Model;
 
 /// The globs of a map that were recorded, what each brought, and where changes have yet to go along them.
@@ -67,6 +67,13 @@ impl GlobImports {
         ensures value { result ≡ slice_get self.now.edges j }
     {
         self.edges.get(j).copied()
+    }
+
+    /// The slots to which edges brought something, in ascending order.
+    pub fn brought_slots(&self) -> btree_map::Keys<'_, Slot, Brought>
+        ensures value { result ≡ map (λ entry. entry.0) self.now.brought }
+    {
+        self.brought.keys()
     }
 
     /// The edge that brought what stands in a slot, where one did.

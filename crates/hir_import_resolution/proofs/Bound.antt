@@ -65,7 +65,7 @@ pushed_to s home name items way = record s { map = pushed s.map s.globs home nam
 
 module _ (r : Resolver) (o : OpenScopes) (g : GlobsValue) (home : ℕ) (name n1 : List ℕ) (items : PerNs) (source : ImportSource) (way : ImportOrExternCrate)
     (named : n1 ≡ name) (by : way ≡ way_of source) (is : o ≡ pushed_to r.scopes home n1 items way) where
-  pushed_is : o ≡ pushed_to r.scopes home name items (way_of source)
+  pub pushed_is : o ≡ pushed_to r.scopes home name items (way_of source)
   pushed_is = is ∙ (λ i. pushed_to r.scopes home (named i) items (by i))
 
   pub pushed_state : g.edges ≡ r.globs.edges → brought_of g ≡ forgotten home name items (brought_of r.globs)

@@ -48,3 +48,27 @@ spent_first finished a b step spent = spent_after finished a b (more a b none st
 -- a step, and steps after it
 pub counts_on : (finished : Maps) (a b c : ImportState) → Step finished a b → Steps finished b c → a.count < c.count
 counts_on finished a b c step steps = omega (arith, step_count finished a b step, steps_count finished b c steps)
+
+-- ---- the crates that paths may begin with stay
+
+act_local : (s : ImportState) (c : Change) → (act s c).local ≡ s.local
+act_local s (pushes home None items source) = refl
+act_local s (pushes home (Some name) items source) = refl
+act_local s (keeps_trait finished home None vis import) = refl
+act_local s (keeps_trait finished home (Some id) vis import) = refl
+act_local s (takes i t) = refl
+act_local s (records edges) = refl
+act_local s (along finished (copies slot of vis by)) = refl
+act_local s (along finished (brings slot by)) = refl
+act_local s (along finished (follows slot of vis)) = refl
+act_local s (along finished (raises slot vis)) = refl
+
+performed_local : (s : ImportState) (changes : List Change) → (perform s changes).local ≡ s.local
+performed_local s [] = refl
+performed_local s (c ∷ changes) = performed_local (act s c) changes ∙ act_local s c
+
+pub steps_local : (finished : Maps) (a b : ImportState) → Steps finished a b → b.local ≡ a.local
+steps_local finished a _ none = refl
+steps_local finished a b (more old _ before step) =
+    ap (λ (s : ImportState). s.local) step.is ∙ performed_local old (acts finished old step.rule) ∙ steps_local finished a old before
+

@@ -27,8 +27,8 @@ pub mod Trying
 pub mod Counting
 pub mod Running
 pub mod Passes
-pub mod Starting
 pub mod Restarting
+pub mod Starting
 -- what is queued before a round
 pub mod Growing
 pub mod GrownPlaces

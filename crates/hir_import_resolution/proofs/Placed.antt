@@ -1,6 +1,6 @@
 -- Visibilities name modules that are there, whatever imports bind.
 use Rattle.std.proofs.Common.{◌≡◌, ◌∙◌, ◌⊎◌, inl, inr, ap, sym, subst, refl, ℕ, ◌<◌, Bool, true, false, List, length, Option, None, Some}
-use Rattle.std.specs.Prelude.{is_some, slice_get}
+use Rattle.std.specs.Prelude.{is_some, slice_get, if◌then◌else◌}
 use Rattle.hir_base.specs.declared.ids.MapId.{MapId}
 use Rattle.hir_base.specs.declared.ids.TraitId.{TraitId}
 use Rattle.hir_scope.specs.declared.per_ns.PerNs.{PerNs}
@@ -58,9 +58,9 @@ module _ (P : Visibility → Type 0) (es : List Edge) where
     where
       by_glob : (q : Slot) (by : Brought) (b : Bound) (t : Bool) → same_slot s q ≡ t → with_brought brought s None q ≡ Some by → bound_in w q ≡ Some b → P b.vis
       by_glob q by b true e is there =
-          let none : with_brought brought s None q ≡ None = ap (λ (x : Bool). elim x as (λ y. Option Brought) [ true ↦ None | false ↦ brought q ]) e in absurd cc
+          let none : with_brought brought s None q ≡ None = ap (λ (x : Bool). if x then None else brought q) e in absurd cc
       by_glob q by b false e is there =
-          old.brought q by b (sym (ap (λ (x : Bool). elim x as (λ y. Option Brought) [ true ↦ None | false ↦ brought q ]) e) ∙ is) (sym (changes.bound (targets.Own q.at) q.key e) ∙ there)
+          old.brought q by b (sym (ap (λ (x : Bool). if x then None else brought q) e) ∙ is) (sym (changes.bound (targets.Own q.at) q.key e) ∙ there)
 
       of_traits : (at : ℕ) (id : TraitId) (b : Bound) (t : Bool) → same_slot s (slot_at at (Unnamed id)) ≡ t → w.bound (targets.Own at) (Unnamed id) ≡ Some b → P b.vis
       of_traits at id b true e is =

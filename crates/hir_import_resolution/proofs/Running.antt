@@ -266,6 +266,11 @@ begun_taken r0 r1 r2 i taking is_due old is kept recorded lasts fewer small rest
     firm_noted r (sources.Use id kind) firm = record { unstopped = firm.unstopped; there = firm.there }
     firm_noted r (sources.ExternCrate id krate) firm = tt
 
+-- a glob is recorded in a module that is there
+pub importer_there : (r : Resolver) (i : ℕ) (edge : Edge) → IsLinking (finished_by r) (state_by r) i edge
+    → ((p : ℕ) (import : ImportDirective) → slice_get r.imports.items p ≡ Some import → import.home < length r.scopes.map.modules) → edge.importer < length r.scopes.map.modules
+importer_there r i edge linking there = subst (λ (e : Edge). e.importer < length r.scopes.map.modules) (sym linking.is) (there i linking.r linking.import)
+
 -- a glob was recorded
 pub begun_linked : (r0 r1 : Resolver) (i : ℕ) (edge : Edge) → taking_at (finished_by r0) (state_by r0) i ≡ None → IsLinking (finished_by r0) (state_by r0) i edge → IsTrying r0 i
     → IsLinked r0 r1 i edge → IsKeptIn r1 → AreRecorded r1 → (r1.lasting ≡ true → Lasts (finished_by r1) (state_by r1)) → r1.count ≤ MAX_STEPS → IsBegun r1 None
@@ -336,6 +341,13 @@ reports_nothing a b listed map local = record {
   among = subst (λ (m : Map). ScopesChangeAmong a.scopes.map m a.local []) (sym map) (no_scope a.scopes.map a.local);
   local = local;
 }
+
+-- what is queued doesn't matter
+pub reports_queued : (a b : Resolver) (q : Queue) → Reports a b → Reports a (record b { worklist = q })
+reports_queued a b q old = record { more = old.more; listed = old.listed; among = old.among; local = old.local }
+
+pub reports_from : (a b : Resolver) (q : Queue) → Reports (record a { worklist = q }) b → Reports a b
+reports_from a b q old = record { more = old.more; listed = old.listed; among = old.among; local = old.local }
 
 -- slots changed, and then they are reported
 pub reports_slots : (a b c : Resolver) (slots : List PathSlot) → ChangesSlots a b slots → c.scopes ≡ b.scopes → c.local ≡ b.local → c.reported.items ≡ b.reported.items ++ slots → Reports a c

@@ -1,21 +1,29 @@
 -- Names that went along globs in a resolver.
 use Rattle.std.proofs.Common.{◌≡◌, ◌∙◌, ap, sym, subst, refl, List}
 use Rattle.std.specs.Prelude.{Contains}
+use Rattle.hir_def_map.specs.WorldParts.{part_of}
 use Rattle.hir_def_map_laws.specs.SlotChanges.{ScopesChangeAmong}
+use Rattle.hir_glob_imports.proofs.OfKind.{kinds_kept}
 use Rattle.hir_glob_imports.specs.Rules.{IsSpent as IsSpentAlong, StepsIn}
 use Rattle.hir_glob_imports.specs.Keys.{slot_at}
-use Rattle.hir_glob_imports.specs.Waves.{AreOfKind, IsKept, state_of}
+use Rattle.hir_glob_imports.specs.Waves.{brought_of, state_of}
 use Rattle.hir_glob_imports.specs.declared.edge.Key.TheVariants.{Unnamed}
 use Rattle.hir_glob_imports.specs.declared.edge.Slot.{Slot}
 use Rattle.hir_glob_imports.specs.declared.step.GlobError.{GlobError}
 use Rattle.hir_glob_imports.specs.declared.step.GlobError.TheVariants as glob_errors
-use Rattle.hir_import_resolution.specs.Inner.State.{AreRecorded, IsSpread, finished_by, path_slots, refusal_of, state_by}
-use Rattle.hir_import_resolution.specs.Scopes.{open_table}
+use Rattle.hir_import_resolution.specs.Inner.State.{AreRecorded, IsKeptIn, IsSpread, finished_by, path_slots, refusal_of, state_by}
+use Rattle.hir_import_resolution.specs.Inner.OpenLaws.{is_open_table}
+use Rattle.hir_import_resolution.specs.Lasting.{IsPlaced, Lasts}
+use Rattle.hir_import_resolution.specs.Names.{view_of}
+use Rattle.hir_import_resolution.specs.Scopes.{open_table, value_of}
 use Rattle.hir_import_resolution.specs.Rest.{IsSpent}
 use Rattle.hir_import_resolution.specs.Rules.{Steps}
 use Rattle.hir_import_resolution.specs.declared.resolve.ImportError.TheVariants as errors
 use Rattle.hir_import_resolution.specs.declared.resolver.Resolver.{Resolver}
 use Rattle.hir_import_resolution.proofs.Along.{Goes, goes, shown, spent_along, spent_shown, steps_in_shown, world_stays}
+use Rattle.hir_import_resolution.proofs.Firm.{as_many}
+use Rattle.hir_import_resolution.proofs.Placed.{kind_through, lasts_changed, placed_through}
+use Rattle.hir_import_resolution.proofs.Placing.{placed_kind}
 use Rattle.hir_import_resolution.proofs.Recorded.{recorded_kept}
 
 -- the resolver once names went along globs
@@ -56,6 +64,15 @@ module _ (r new : Resolver) (slots : List Slot) (steps : StepsIn open_table slot
 
   pub spread_recorded : AreRecorded r → AreRecorded new
   spread_recorded old = recorded_kept (state_by r) (state_by new) (λ i. (imports i).items) gone.edges (λ i. (taken i).items) old
+
+  -- what holds of globs lasts
+  pub spread_lasts : IsKeptIn r → Lasts (finished_by r) (state_by r) → Lasts (finished_by new) (state_by new)
+  spread_lasts kept old =
+      lasts_changed r new (finished_by r) (ap part_of world) (gone.among r.local).differs gone.edges
+      (kind_through (IsPlaced r.scopes.map) (IsPlaced new.scopes.map) (view_of (value_of new.scopes)) new.globs.edges (brought_of new.globs)
+      (placed_through r.scopes.map new.scopes.map (gone.among r.local).differs.id (as_many r.scopes.map new.scopes.map (gone.among r.local).differs))
+      (kinds_kept (IsPlaced r.scopes.map) open_table is_open_table slots (state_of r.scopes r.globs r.count) (state_of new.scopes new.globs new.count)
+      (placed_kind (finished_by r) r.scopes.map r.scopes.globs old.ordered) kept.there kept.stands old.placed steps)) old
 
 -- where globs might have gone on, imports might have
 pub spread_spent : (r : Resolver) → IsSpentAlong open_table (state_of r.scopes r.globs r.count) → IsSpent (finished_by r) (state_by r)

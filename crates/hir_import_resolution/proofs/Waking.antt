@@ -94,6 +94,21 @@ wakes_next slots s name n r after q between watchers left below is named first t
 pub wakes_no_more : (slots : List Slot) (n : ℕ) (q : Queue) (watchers : Watchers PathSlot) → length slots ≤ n → WakesEach q watchers q watchers (path_slots (drop n slots))
 wakes_no_more slots n q watchers over = subst (λ (xs : List Slot). WakesEach q watchers q watchers (path_slots xs)) (sym (drop_all n slots over)) none
 
+-- ---- what is reported
+
+pub reported_next : (slots : List Slot) (s : Slot) (name : Option (List ℕ)) (n : ℕ) (told : List PathSlot) → n < length slots → get_or slots n s ≡ s → name ≡ name_of s.key
+    → (told ++ slots_named s.at name) ++ path_slots (drop (n + 1) slots) ≡ told ++ path_slots (drop n slots)
+reported_next slots s name n told below is named =
+    append_assoc told (slots_named s.at name) (path_slots (drop (n + 1) slots))
+    ∙ (λ i. told ++ (slots_named s.at (named i) ++ path_slots (drop (add_one n i) slots)))
+    ∙ sym (ap (λ (xs : List Slot). told ++ path_slots xs) (drop-cons slots n s below ∙ (λ i. is i ∷ drop (suc n) slots)))
+  where
+    add_one : (n : ℕ) → n + 1 ≡ suc n
+    add_one n = omega arith
+
+pub reported_all : (slots : List Slot) (n : ℕ) (told : List PathSlot) → length slots ≤ n → told ≡ told ++ path_slots (drop n slots)
+reported_all slots n told over = sym (ap (λ (xs : List Slot). told ++ path_slots xs) (drop_all n slots over) ∙ append-nil told)
+
 -- ---- the pass
 
 pub same_pass : (q : Queue) → IsSamePass q q

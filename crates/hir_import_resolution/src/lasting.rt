@@ -171,7 +171,7 @@ fn is_brought_placed(map: &DefMap, globs: &GlobImports) -> bool
 pub(crate) fn do_globs_last(apart: bool, world: WorldPart<'_>, imports: &Imports) -> bool
     requires apart { apart ≡ true → IsApart (part_of world) imports.now.map.id imports.now.local }
     requires in_order { IsInOrder imports.now.map }
-    ensures lasts { result ≡ true → Lasts (part_of world) (state_in imports.now) }
+    ensures lasts { result ≡ true → Lasts (part_of world.entry) (state_in imports.now) }
     ensures apart { result ≡ true → apart ≡ true }
 {
     let map = &imports.map;

@@ -29,6 +29,9 @@ returns-clause-kept c = (all c).kept
 pub returns-clause-recorded : goal.returns-clause-recorded
 returns-clause-recorded c = (all c).recorded
 
+pub returns-clause-lasts : goal.returns-clause-lasts
+returns-clause-lasts c = (all c).lasts
+
 pub returns-clause-small : goal.returns-clause-small
 returns-clause-small c = c.in_ok-tick.ensures.small
 

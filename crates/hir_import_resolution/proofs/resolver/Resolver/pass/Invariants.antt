@@ -1,5 +1,5 @@
-use Rattle.std.proofs.Common.{◌≡◌, ◌-◌, [], None}
-use Rattle.hir_import_resolution.specs.Inner.Queue.{IsRunning}
+use Rattle.std.proofs.Common.{◌≡◌, ◌-◌, [], true, None}
+use Rattle.hir_import_resolution.specs.Inner.Queue.{IsRunning, Reports}
 use Rattle.hir_import_resolution.specs.Inner.State.{finished_by, state_by}
 use Rattle.hir_import_resolution.specs.Rules.{Steps}
 use Rattle.hir_import_resolution.proofs.resolver.Resolver.pass.Given as goal
@@ -11,6 +11,7 @@ invariant-tries l = record {
   finished : finished_by l.self ≡ finished_by l.initial.self;
   apart : l.self.apart ≡ l.initial.self.apart;
   steps : Steps (finished_by l.initial.self) (state_by l.initial.self) (state_by l.self);
+  reports : l.initial.self.apart ≡ true → Reports l.initial.self l.self;
   moves : l.self.count ≡ l.initial.self.count → l.self.worklist.later ≡ [];
 }
 

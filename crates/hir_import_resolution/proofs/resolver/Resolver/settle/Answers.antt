@@ -4,6 +4,7 @@ use Rattle.hir_glob_imports.specs.declared.step.TheConstants.{MAX_STEPS}
 use Rattle.hir_import_resolution.specs.Rules.{none}
 use Rattle.hir_import_resolution.proofs.Counting.{steps_count}
 use Rattle.hir_import_resolution.proofs.Passes.{at_rest, fewer, rest_on, spent_on, steps_on}
+use Rattle.hir_import_resolution.proofs.Running.{reports_join, reports_nothing}
 use Rattle.hir_import_resolution.proofs.resolver.Resolver.settle.Goals as goal
 
 pub passes-init : goal.passes-init
@@ -14,6 +15,7 @@ passes-init c = record {
   steps = none;
   over = c.in_ok-wave.ensures.pass.outside c.requires.over c.requires.outside;
   outside = c.in_ok-wave.ensures.pass.end ∙ c.requires.outside;
+  reports = λ apart. reports_nothing c.wave.new.self c.wave.new.self refl refl refl;
 }
 
 pub passes-smaller : goal.passes-smaller
@@ -29,6 +31,7 @@ passes-preserved c = record {
   steps = steps_on c.wave.new.self c.passes.self c.pass.new.self c.passes.invariant.finished c.passes.invariant.steps c.in_ok-pass.ensures.steps;
   over = c.in_ok-pass.ensures.over;
   outside = c.in_ok-pass.ensures.outside;
+  reports = λ apart. reports_join c.wave.new.self c.passes.self c.pass.new.self (c.passes.invariant.reports apart) (c.in_ok-pass.ensures.reports (c.passes.invariant.apart ∙ apart));
 }
 
 pub returns-in_err-pass-clause-many : goal.returns-in_err-pass-clause-many
@@ -44,6 +47,10 @@ returns-clause-rests c =
 pub returns-clause-steps : goal.returns-clause-steps
 returns-clause-steps c =
     steps_on c.args.self.now c.wave.new.self c.passes.self c.in_ok-wave.ensures.finished c.in_ok-wave.ensures.steps c.passes.invariant.steps
+
+pub returns-clause-reports : goal.returns-clause-reports
+returns-clause-reports c = λ apart.
+    reports_join c.args.self.now c.wave.new.self c.passes.self (c.in_ok-wave.ensures.reports apart) (c.passes.invariant.reports (c.in_ok-wave.ensures.apart ∙ apart))
 
 pub returns-clause-finished : goal.returns-clause-finished
 returns-clause-finished c = c.passes.invariant.finished ∙ c.in_ok-wave.ensures.finished

@@ -1,6 +1,6 @@
-use Rattle.std.proofs.Common.{◌≡◌, ◌+◌, ◌-◌, [], None}
+use Rattle.std.proofs.Common.{◌≡◌, ◌+◌, ◌-◌, [], true, None}
 use Rattle.hir_glob_imports.specs.declared.step.TheConstants.{MAX_STEPS}
-use Rattle.hir_import_resolution.specs.Inner.Queue.{IsRunning}
+use Rattle.hir_import_resolution.specs.Inner.Queue.{IsRunning, Reports}
 use Rattle.hir_import_resolution.specs.Inner.State.{finished_by, state_by}
 use Rattle.hir_import_resolution.specs.Rules.{Steps}
 use Rattle.hir_import_resolution.proofs.Passes.{some_of}
@@ -14,6 +14,7 @@ invariant-passes l = record {
   steps : Steps (finished_by l.initial.self) (state_by l.initial.self) (state_by l.self);
   over : l.self.worklist.current ≡ [];
   outside : l.self.worklist.end ≡ 0;
+  reports : l.initial.self.apart ≡ true → Reports l.initial.self l.self;
 }
 
 -- the steps that are left, and a pass that takes none

@@ -18,7 +18,7 @@ all c = took c.args.self.now (record c.tick.new.self { taken = c.note_answer.new
     c.in_ok-bind.ensures.ok c.in_ok-bind.ensures.rest c.in_ok-bind.ensures.world
     c.leaf.ensures.value
     c.in_ok-keep.ensures.ok c.in_ok-keep.ensures.rest c.in_ok-keep.ensures.world
-    c.in_ok-bind.ensures.kept c.in_ok-keep.ensures.kept
+    c.in_ok-bind.ensures.kept c.in_ok-keep.ensures.kept c.in_ok-bind.ensures.placed c.in_ok-keep.ensures.placed
 
 pub returns-clause-step : goal.returns-clause-step
 returns-clause-step c = (all c).step
@@ -31,6 +31,12 @@ returns-clause-kept c = (all c).kept
 
 pub returns-clause-recorded : goal.returns-clause-recorded
 returns-clause-recorded c = (all c).recorded
+
+pub returns-clause-placed : goal.returns-clause-placed
+returns-clause-placed c = (all c).placed
+
+pub returns-clause-edges : goal.returns-clause-edges
+returns-clause-edges c = (all c).edges
 
 pub returns-clause-small : goal.returns-clause-small
 returns-clause-small c = subst (λ (n : ℕ). n ≤ MAX_STEPS) (ap (λ (x : Resolver). x.count) c.in_ok-tick.ensures.ok ∙ sym (all c).count) c.in_ok-tick.ensures.small

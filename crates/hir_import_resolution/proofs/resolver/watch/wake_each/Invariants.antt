@@ -1,4 +1,4 @@
-use Rattle.std.proofs.Common.{drop}
+use Rattle.std.proofs.Common.{◌≡◌, ◌++◌, drop}
 use Rattle.hir_def_map.specs.declared.nameres.path_resolution.slots.Slot.{Slot}
 use Rattle.hir_worklist.specs.Queue.{Queue}
 use Rattle.hir_worklist.specs.declared.watchers.Watchers.{Watchers}
@@ -11,5 +11,6 @@ abbrev pub invariant-loop-slot : goal.invariant-loop-slot
 invariant-loop-slot l = record {
   woken : (r : Queue) (after : Watchers Slot) → WakesEach r after l.worklist l.watchers (path_slots (drop l.slot-index l.slots))
       → WakesEach r after l.initial.worklist l.initial.watchers (path_slots l.slots);
+  reported : l.reported.items ++ path_slots (drop l.slot-index l.slots) ≡ l.initial.reported.items ++ path_slots l.slots;
   pass : IsSamePass l.initial.worklist l.worklist;
 }
