@@ -29,6 +29,8 @@ pub mod Restarting
 pub mod Growing
 pub mod GrownPlaces
 pub mod GlobsGrowing
+pub mod Placing
+pub mod PairsGrowing
 pub mod GrowingAround
 -- what is sound
 pub mod Soundness
