@@ -1,5 +1,5 @@
 -- Globs see the same of a map that grows around them.
-use Rattle.std.proofs.Common.{◌≡◌, ◌∙◌, ap, sym, refl, ℕ, ◌<◌, Bool, true, false, ◌==◌, inl, inr, List, ◌∷◌, length, Option, None, Some, cond, arith}
+use Rattle.std.proofs.Common.{◌≡◌, ◌∙◌, ap, refl, ℕ, ◌<◌, Bool, true, false, ◌==◌, inl, inr, List, ◌∷◌, length, ◌≤◌, Option, None, Some, cond, arith}
 use Rattle.std.proofs.lemmas.Bool.Decides.{nat_tests}
 use Rattle.std.proofs.lemmas.Grind.{common_steps}
 use Rattle.std.specs.List.{list_any}
@@ -14,9 +14,10 @@ use Rattle.hir_def_map.specs.Ancestors.{above_in, holders_in}
 use Rattle.hir_def_map.specs.Inner.OverlayLaws.{same_id}
 use Rattle.hir_def_map.specs.Overlay.{Maps, entry_in, module_in, overlay}
 use Rattle.hir_def_map.specs.State.{Map, numbered}
+use Rattle.hir_def_map_laws.specs.ReadLaw.{Grows}
 use Rattle.hir_glob_imports.proofs.Updates.{there_from_seen}
 use Rattle.hir_glob_imports.specs.Keys.{is_unnamed, slot_at}
-use Rattle.hir_glob_imports.specs.Moves.{brought_vis, is_as_seen, raise_of, raise_to, same_def, seen_by, shown, update_of, update_of_bound, update_of_brought}
+use Rattle.hir_glob_imports.specs.Moves.{brought_vis, is_as_seen, raise_of, raise_to, same_def, seen_by, shown, update_of, update_of_brought}
 use Rattle.hir_glob_imports.specs.View.{View, bound_in}
 use Rattle.hir_glob_imports.specs.Waves.{GlobsValue, IsKept, IsPendingOrSettled, Stands, brought_of, update_at}
 use Rattle.hir_glob_imports.specs.declared.edge.Bound.{Bound}
@@ -36,31 +37,37 @@ use Rattle.hir_import_resolution.proofs.GrownPlaces.{same_greater, same_lesser, 
 
 -- ---- what is to be done along an edge, in two views that differ in no visibility that matters
 
-module _ (v w : View) (j : ℕ) (e : Edge) (key : Key) (b c : Bound) (greater : w.greater c.vis (brought_vis w e b) ≡ v.greater c.vis (brought_vis v e b)) where
+module _ (v w : View) (j : ℕ) (e : Edge) (b c : Bound) (greater : w.greater c.vis (brought_vis w e b) ≡ v.greater c.vis (brought_vis v e b)) where
   same_raise : raise_of w e b c ≡ raise_of v e b c
   same_raise = ap (λ (o : Option Visibility). if same_def c.def b.def then raise_to c.vis o else Nothing) greater
 
-  same_brought : (by : Option Brought) → update_of_brought w j e b c by ≡ update_of_brought v j e b c by
-  same_brought None = refl
-  same_brought (Some last) = ap (λ (u : Update). if last.edge == j then (if is_as_seen e b last then Nothing else Follow b) else u) same_raise
+  same_brought : (last : Brought) → update_of_brought w j e b c (Some last) ≡ update_of_brought v j e b c (Some last)
+  same_brought last = ap (λ (u : Update). if last.edge == j then (if is_as_seen e b last then Nothing else Follow b) else u) same_raise
 
-  same_bound : (by : Option Brought) → update_of_bound w j e key b c by ≡ update_of_bound v j e key b c by
-  same_bound by = λ i. if is_unnamed key then same_raise i else same_brought by i
-
-same_update : (v w : View) (j : ℕ) (e : Edge) (key : Key) (by : Option Brought) (shows stands : Option Bound)
-    → ((b c : Bound) → shows ≡ Some b → stands ≡ Some c → w.greater c.vis (brought_vis w e b) ≡ v.greater c.vis (brought_vis v e b))
+-- what stands at a key may only be raised where it has no name, or another edge brought it
+pub same_update : (v w : View) (j : ℕ) (e : Edge) (key : Key) (by : Option Brought) (shows stands : Option Bound)
+    → ((b c : Bound) → shows ≡ Some b → stands ≡ Some c → is_unnamed key ≡ true → w.greater c.vis (brought_vis w e b) ≡ v.greater c.vis (brought_vis v e b))
+    → ((b c : Bound) (last : Brought) → shows ≡ Some b → stands ≡ Some c → by ≡ Some last → w.greater c.vis (brought_vis w e b) ≡ v.greater c.vis (brought_vis v e b))
     → update_of w j e key shows stands by ≡ update_of v j e key shows stands by
-same_update v w j e key by None stands greater = refl
-same_update v w j e key by (Some b) None greater = refl
-same_update v w j e key by (Some b) (Some c) greater = same_bound v w j e key b c (greater b c refl refl) by
+same_update v w j e key by None stands unnamed brought = refl
+same_update v w j e key by (Some b) None unnamed brought = refl
+same_update v w j e key by (Some b) (Some c) unnamed brought = on_name (is_unnamed key) refl
+  where
+    on_brought : (o : Option Brought) → by ≡ o → update_of_brought w j e b c o ≡ update_of_brought v j e b c o
+    on_brought None is = refl
+    on_brought (Some last) is = same_brought v w j e b c (brought b c last refl refl is) last
+
+    on_name : (t : Bool) → is_unnamed key ≡ t → (if t then raise_of w e b c else update_of_brought w j e b c by) ≡ (if t then raise_of v e b c else update_of_brought v j e b c by)
+    on_name true is = same_raise v w j e b c (unnamed b c refl refl is)
+    on_name false is = on_brought by refl
 
 -- ---- the lesser of two visibilities names what one of them names
 
-chosen : (map : Map) (own : Visibility) (test : Bool) (x y : Option Visibility) → IsPlaced map (unwrap_or x own) → IsPlaced map (unwrap_or y own) → IsPlaced map (unwrap_or (cond test x y) own)
+pub chosen : (map : Map) (own : Visibility) (test : Bool) (x y : Option Visibility) → IsPlaced map (unwrap_or x own) → IsPlaced map (unwrap_or y own) → IsPlaced map (unwrap_or (cond test x y) own)
 chosen map own true x y first second = first
 chosen map own false x y first second = second
 
-lesser_placed : (above : ModuleId → List ModuleId) (map : Map) (a b : Visibility) → IsPlaced map a → IsPlaced map b → IsPlaced map (unwrap_or (lesser_of above map.id a b) a)
+pub lesser_placed : (above : ModuleId → List ModuleId) (map : Map) (a b : Visibility) → IsPlaced map a → IsPlaced map b → IsPlaced map (unwrap_or (lesser_of above map.id a b) a)
 lesser_placed above map Public b first second = second
 lesser_placed above map (PubCrate c) Public first second = tt
 lesser_placed above map (PubCrate c) (PubCrate d) first second = chosen map (PubCrate c) (same_crate c d) (Some (PubCrate c)) None tt tt
@@ -75,7 +82,7 @@ lesser_placed above map (Module m d) (Module n e) first second =
 
 -- ---- a map that grows
 
-module _ (finished : Maps) (old new : Map) (names new_names : GlobNames) (ordered : IsOrdered finished old) (around : GrowsAround old new) where
+module _ (finished : Maps) (old new : Map) (names new_names : GlobNames) (ordered : IsOrdered finished old) (grows : Grows old new) where
   abbrev v : View
   v = view_of (beside finished old names)
 
@@ -88,70 +95,95 @@ module _ (finished : Maps) (old new : Map) (names new_names : GlobNames) (ordere
   is_below : (at n : ℕ) → at < n → nat_lt at n ≡ true
   is_below at n e = grind (arith, common_steps, nat_tests)
 
-  has_still : (at : ℕ) → v.has at ≡ true → w.has at ≡ true
-  has_still at is = let low : at < length old.modules = below at (length old.modules) is in let long = around.modules in is_below at (length new.modules) (omega arith)
+  pub has_below : (at : ℕ) → at < length old.modules → v.has at ≡ true
+  has_below at low = is_below at (length old.modules) low
 
-  sees_still : (at : ℕ) (vis : Visibility) → v.has at ≡ true → w.sees at vis ≡ v.sees at vis
+  pub has_still : length old.modules ≤ length new.modules → (at : ℕ) → v.has at ≡ true → w.has at ≡ true
+  has_still long at is = let low : at < length old.modules = below at (length old.modules) is in is_below at (length new.modules) (omega arith)
+
+  pub sees_still : (at : ℕ) (vis : Visibility) → v.has at ≡ true → w.sees at vis ≡ v.sees at vis
   unfolding sees_in
   sees_still at vis is =
-      (λ i. is_visible (above_in (overlay finished new)) (holders_in (overlay finished new)) vis (numbered (around.grows.id i) at))
-      ∙ same_visible finished old new around.grows ordered (numbered old.id at) (same_id old.id) (below at (length old.modules) is) vis
+      (λ i. is_visible (above_in (overlay finished new)) (holders_in (overlay finished new)) vis (numbered (grows.id i) at))
+      ∙ same_visible finished old new grows ordered (numbered old.id at) (same_id old.id) (below at (length old.modules) is) vis
 
-  -- what stands in the map
-  own_still : (at : ℕ) (key : Key) → w.bound (targets.Own at) key ≡ v.bound (targets.Own at) key
-  own_still at key = λ i. bound_at (λ name. around.entries at name i) (λ id. around.traits at id i) key
+  -- what a target shows, where it does so among the modules of the map
+  pub source_still : (of : Target) (key : Key) → HasVariants old of → ((at : ℕ) → of ≡ targets.Own at → w.bound (targets.Own at) key ≡ v.bound (targets.Own at) key)
+      → w.bound of key ≡ v.bound of key
+  source_still (targets.Own at) key has own = own at refl
+  source_still (targets.Module m) key has own = λ i.
+      bound_at (λ name. open_items (is_foreign (grows.id i) m) (entry_in finished m name)) (λ id. open_vis (is_foreign (grows.id i) m) (trait_vis (module_in finished m) id)) key
+  source_still (targets.Enum id) key has own = λ i. bound_at (λ name. variant_items (same_variant finished old new grows ordered id name has i)) (λ tr. None) key
 
-  source_still : (of : Target) (key : Key) → HasVariants old of → w.bound of key ≡ v.bound of key
-  source_still (targets.Own at) key has = own_still at key
-  source_still (targets.Module m) key has = λ i.
-      bound_at (λ name. open_items (is_foreign (around.grows.id i) m) (entry_in finished m name)) (λ id. open_vis (is_foreign (around.grows.id i) m) (trait_vis (module_in finished m) id)) key
-  source_still (targets.Enum id) key has = λ i. bound_at (λ name. variant_items (same_variant finished old new around.grows ordered id name has i)) (λ tr. None) key
+  -- what an edge shows at a key
+  pub shown_along : (e : Edge) (key : Key) → v.has e.importer ≡ true → w.bound e.source key ≡ v.bound e.source key → shown w e key ≡ shown v e key
+  shown_along e key has same = λ i. seen_by (λ vis. sees_still e.importer vis has i) (same i)
 
   greater_still : (a b : Visibility) → IsPlaced old a → IsPlaced old b → w.greater a b ≡ v.greater a b
   unfolding greater_in
   greater_still a b first second =
-      (λ i. greater_of (above_in (overlay finished new)) (around.grows.id i) a b) ∙ same_greater finished old new around.grows ordered a b first second
+      (λ i. greater_of (above_in (overlay finished new)) (grows.id i) a b) ∙ same_greater finished old new grows ordered a b first second
 
   lesser_still : (a b : Visibility) → IsPlaced old a → IsPlaced old b → w.lesser a b ≡ v.lesser a b
   unfolding lesser_in
   lesser_still a b first second =
       ap (λ (o : Option Visibility). unwrap_or o a)
-      ((λ i. lesser_of (above_in (overlay finished new)) (around.grows.id i) a b) ∙ same_lesser finished old new around.grows ordered a b first second)
+      ((λ i. lesser_of (above_in (overlay finished new)) (grows.id i) a b) ∙ same_lesser finished old new grows ordered a b first second)
 
   lesser_there : (a b : Visibility) → IsPlaced old a → IsPlaced old b → IsPlaced old (v.lesser a b)
   unfolding lesser_in
   lesser_there a b first second = lesser_placed (above_in (overlay finished old)) old a b first second
 
-  module _ (g : GlobsValue) (placed : ArePlaced (beside finished old names) g.edges) (kept : IsKept v g) where
-    shown_still : (j : ℕ) (e : Edge) (key : Key) → slice_get g.edges j ≡ Some e → shown w e key ≡ shown v e key
-    shown_still j e key is = λ i. seen_by (λ vis. sees_still e.importer vis (kept.there j e is) i) (source_still e.source key (placed.enums j e is) i)
+  -- the greater of a visibility and one that an edge brings
+  pub greater_placed_still : (e : Edge) (b c : Bound) → IsPlaced old e.vis → IsPlaced old b.vis → IsPlaced old c.vis
+      → w.greater c.vis (brought_vis w e b) ≡ v.greater c.vis (brought_vis v e b)
+  greater_placed_still e b c edge source stands =
+      ap (w.greater c.vis) (lesser_still e.vis b.vis edge source) ∙ greater_still c.vis (v.lesser e.vis b.vis) stands (lesser_there e.vis b.vis edge source)
 
-    greater_along : (j : ℕ) (e : Edge) (key : Key) → slice_get g.edges j ≡ Some e → (b c : Bound) → shown v e key ≡ Some b → bound_in v (slot_at e.importer key) ≡ Some c
-        → w.greater c.vis (brought_vis w e b) ≡ v.greater c.vis (brought_vis v e b)
-    greater_along j e key is b c shows there =
-        let of_edge : IsPlaced old e.vis = placed.edges j e is in
-        let of_source : IsPlaced old b.vis = placed.sources j e key b is (there_from_seen (v.sees e.importer) (v.bound e.source key) b shows) in
-        let of_importer : IsPlaced old c.vis = placed.importers j e key c is there in
-        ap (w.greater c.vis) (lesser_still e.vis b.vis of_edge of_source) ∙ greater_still c.vis (v.lesser e.vis b.vis) of_importer (lesser_there e.vis b.vis of_edge of_source)
+-- ---- a map that grows around its names
 
-    update_still : (j : ℕ) (e : Edge) (key : Key) → slice_get g.edges j ≡ Some e → update_at w (brought_of g) j e key ≡ update_at v (brought_of g) j e key
-    update_still j e key is =
-        (λ i. update_of w j e key (shown_still j e key is i) (own_still e.importer key i) (brought_of g (slot_at e.importer key)))
-        ∙ same_update v w j e key (brought_of g (slot_at e.importer key)) (shown v e key) (bound_in v (slot_at e.importer key)) (greater_along j e key is)
+module _ (finished : Maps) (old new : Map) (names new_names : GlobNames) (ordered : IsOrdered finished old) (around : GrowsAround old new)
+    (g : GlobsValue) (placed : ArePlaced (beside finished old names) g.edges) (kept : IsKept (view_of (beside finished old names)) g) where
+  abbrev before : View
+  before = view_of (beside finished old names)
 
-    pub kept_still : IsKept w g
-    kept_still = record {
-      there = λ j e is. has_still e.importer (kept.there j e is);
-      settled = λ j e key is. still j e key is (kept.settled j e key is);
-      stands = λ s by is. on s by (kept.stands s by is);
-    }
-      where
-        still : (j : ℕ) (e : Edge) (key : Key) → slice_get g.edges j ≡ Some e → IsPendingOrSettled v g j e key → IsPendingOrSettled w g j e key
-        still j e key is (inl pending) = inl pending
-        still j e key is (inr nothing) = inr (update_still j e key is ∙ nothing)
+  abbrev after : View
+  after = view_of (beside finished new new_names)
 
-        on : (s : Slot) (by : Brought) → Stands v s by → Stands w s by
-        on s by old_stands = record { bound = old_stands.bound; there = own_still s.at s.key ∙ old_stands.there; same = old_stands.same }
+  -- what stands in the map
+  own_still : (at : ℕ) (key : Key) → after.bound (targets.Own at) key ≡ before.bound (targets.Own at) key
+  own_still at key = λ i. bound_at (λ name. around.entries at name i) (λ id. around.traits at id i) key
+
+  shown_still : (j : ℕ) (e : Edge) (key : Key) → slice_get g.edges j ≡ Some e → shown after e key ≡ shown before e key
+  shown_still j e key is =
+      shown_along finished old new names new_names ordered around.grows e key (kept.there j e is)
+      (source_still finished old new names new_names ordered around.grows e.source key (placed.enums j e is) (λ at from. own_still at key))
+
+  greater_along : (j : ℕ) (e : Edge) (key : Key) → slice_get g.edges j ≡ Some e → (b c : Bound) → shown before e key ≡ Some b → bound_in before (slot_at e.importer key) ≡ Some c
+      → after.greater c.vis (brought_vis after e b) ≡ before.greater c.vis (brought_vis before e b)
+  greater_along j e key is b c shows there =
+      greater_placed_still finished old new names new_names ordered around.grows e b c (placed.edges j e is)
+      (placed.sources j e key b is (there_from_seen (before.sees e.importer) (before.bound e.source key) b shows)) (placed.importers j e key c is there)
+
+  update_still : (j : ℕ) (e : Edge) (key : Key) → slice_get g.edges j ≡ Some e → update_at after (brought_of g) j e key ≡ update_at before (brought_of g) j e key
+  update_still j e key is =
+      (λ i. update_of after j e key (shown_still j e key is i) (own_still e.importer key i) (brought_of g (slot_at e.importer key)))
+      ∙ same_update before after j e key (brought_of g (slot_at e.importer key)) (shown before e key) (bound_in before (slot_at e.importer key))
+      (λ b c shows there unnamed. greater_along j e key is b c shows there) (λ b c last shows there brought. greater_along j e key is b c shows there)
+
+  pub kept_still : IsKept after g
+  kept_still = record {
+    there = λ j e is. has_still finished old new names new_names ordered around.grows around.modules e.importer (kept.there j e is);
+    settled = λ j e key is. still j e key is (kept.settled j e key is);
+    stands = λ s by is. on s by (kept.stands s by is);
+  }
+    where
+      still : (j : ℕ) (e : Edge) (key : Key) → slice_get g.edges j ≡ Some e → IsPendingOrSettled before g j e key → IsPendingOrSettled after g j e key
+      still j e key is (inl pending) = inl pending
+      still j e key is (inr nothing) = inr (update_still j e key is ∙ nothing)
+
+      on : (s : Slot) (by : Brought) → Stands before s by → Stands after s by
+      on s by old_stands = record { bound = old_stands.bound; there = own_still s.at s.key ∙ old_stands.there; same = old_stands.same }
 
 -- ---- the law
 

@@ -33,6 +33,8 @@ pub mod Starting
 pub mod Growing
 pub mod GrownPlaces
 pub mod GlobsGrowing
+pub mod Placing
+pub mod PairsGrowing
 pub mod GrowingAround
 -- what is sound
 pub mod Soundness
