@@ -17,7 +17,7 @@ use Rattle.hir_def_map.specs.Scoping.{Resolution, resolution_of}
 use Rattle.hir_def_map.specs.Scoping.Slots.{reads}
 use Rattle.hir_def_map.specs.State.{IsInOrder, numbered}
 use Rattle.hir_def_map.specs.declared.nameres.path_resolution.slots.Slot.{Slot as PathSlot}
-use Rattle.hir_def_map_laws.proofs.EnumsGrow.{unstopped_reads_decide}
+use Rattle.hir_def_map_laws.proofs.EnumsGrow.{unstopped_reads}
 use Rattle.hir_def_map_laws.proofs.SlotLists.{unread_scopes}
 use Rattle.hir_def_map_laws.specs.ReadLaw.{AgreeAt, IsReadAlike, stops_bare}
 use Rattle.hir_def_map_laws.specs.SlotChanges.{ScopesChangeAmong}
@@ -129,7 +129,7 @@ unchanged_grown finished s t slots r (sources.Use id kind) e apart of_crate in_o
         grew.others slot (λ among. unread slot among (All-contains_itself (path_reads finished s r (sources.Use id kind)) n d l)) (firm.there n d l)
 
     read : IsReadAlike finished s.map (by_import s.local) t.map t.local (numbered s.map.id r.home) r.path
-    read = unstopped_reads_decide finished s.map t.map (by_import s.local) t.local r.home r.path apart.apart of_crate in_order there grew.grows grew.modules firm.unstopped agree
+    read = unstopped_reads finished s.map t.map (by_import s.local) t.local r.home r.path apart.apart of_crate in_order there grew.grows grew.modules firm.unstopped agree
 
     same : path_answer finished t.local t.map r ≡ path_answer finished s.local s.map r
     same = (λ i. resolution_of (overlay finished t.map) (by_import t.local) (numbered (grew.grows.id i) r.home) r.path) ∙ read.answers
