@@ -1,5 +1,6 @@
 -- Visibilities name modules that are there, whatever imports bind.
 use Rattle.std.proofs.Common.{◌≡◌, ◌∙◌, ◌⊎◌, inl, inr, ap, sym, subst, refl, ℕ, ◌<◌, Bool, true, false, List, length, Option, None, Some}
+use Rattle.std.specs.Option.{option_map}
 use Rattle.std.specs.Prelude.{is_some, slice_get, if◌then◌else◌}
 use Rattle.hir_base.specs.declared.ids.MapId.{MapId}
 use Rattle.hir_base.specs.declared.ids.TraitId.{TraitId}
@@ -32,6 +33,7 @@ use Rattle.hir_import_resolution.specs.State.{scopes_of}
 use Rattle.hir_import_resolution.specs.declared.resolver.Resolver.{Resolver}
 use Rattle.hir_import_resolution.specs.declared.scopes.OpenScopes.{OpenScopes}
 use Rattle.hir_import_resolution.proofs.Firm.{as_many, same_variants, still_has, still_ordered}
+use Rattle.hir_import_resolution.proofs.Writes.{seen_vis}
 
 -- ---- as many modules are there
 
@@ -99,8 +101,7 @@ module _ (r : Resolver) (o : OpenScopes) (g : GlobsValue) (home : ℕ) (id : o.m
       (kind_bound (IsPlaced r.scopes.map) r.globs.edges home name items (view_of (value_of r.scopes)) (view_of (value_of o)) (brought_of r.globs) bound old)
 
   trait_bound : (tr : TraitId) (vis : Option Visibility) (b : Bound) → bound_trait tr vis ≡ Some b → vis ≡ Some b.vis
-  trait_bound tr None b e = absurd cc
-  trait_bound tr (Some vis) b e = cc
+  trait_bound tr vis b e = sym (seen_vis tr vis) ∙ ap (option_map (λ (x : Bound). x.vis)) e
 
   placed_back : (v : Visibility) → IsPlaced o.map v → IsPlaced r.scopes.map v
   placed_back v = placed_through o.map r.scopes.map (sym id) (sym count) v

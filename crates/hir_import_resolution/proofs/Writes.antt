@@ -1,5 +1,6 @@
 -- What do writes along globs change?
-use Rattle.std.proofs.Common.{◌≡◌, ◌≢◌, ◌⊎◌, inl, inr, ap, refl, ℕ, Bool, true, false, ◌++◌, List, [], ◌∷◌, Option, None, Some, arith}
+use Rattle.std.proofs.Common.{◌≡◌, ◌≢◌, ◌∙◌, ◌⊎◌, inl, inr, ap, sym, refl, ℕ, Bool, true, false, ◌++◌, List, [], ◌∷◌, Option, None, Some, arith}
+use Rattle.std.specs.Option.{option_map}
 use Rattle.std.specs.Prelude.{Contains}
 use Rattle.std.proofs.lemmas.List.Elements.{Contains-append_cases}
 use Rattle.hir_base.specs.declared.ids.TraitId.{TraitId}
@@ -76,11 +77,12 @@ scope_traits_stay : (map : Map) (at : ℕ) (change : ScopeValue → ScopeValue) 
     → (other : ℕ) (id : TraitId) → trait_vis (module_at (with_scope map at change) other) id ≡ trait_vis (module_at map other) id
 scope_traits_stay map at change leaves other id = kept (λ (o : Option ModuleValue). trait_vis o id) map.modules at (with_module_scope change) (λ m. leaves m.scope id) other
 
+pub seen_vis : (id : TraitId) (a : Option Visibility) → option_map (λ (b : Bound). b.vis) (bound_trait id a) ≡ a
+seen_vis id None = refl
+seen_vis id (Some v) = refl
+
 same_trait : (id : TraitId) (a b : Option Visibility) → bound_trait id a ≡ bound_trait id b → a ≡ b
-same_trait id None None e = refl
-same_trait id None (Some v) e = absurd cc
-same_trait id (Some v) None e = absurd cc
-same_trait id (Some v) (Some w) e = cc
+same_trait id a b e = sym (seen_vis id a) ∙ ap (option_map (λ (x : Bound). x.vis)) e ∙ seen_vis id b
 
 pub not_same : (a b : Slot) → a ≢ b → same_slot a b ≡ false
 not_same a b apart = go (same_slot a b) refl

@@ -141,13 +141,21 @@ fn have_traits_placed(map: &DefMap) -> bool
     true
 }
 
-/// Whether the visibility of each edge names a module that is there, and its source has its variants.
+/// Whether the visibility of an edge names a module that is there, and its source has its variants.
+fn is_edge_firm(map: &DefMap, edge: Edge) -> bool
+    ensures placed { result ≡ true → IsPlaced map.now edge.vis }
+    ensures enums { result ≡ true → HasVariants map.now edge.source }
+{
+    is_placed(map, edge.vis) && has_variants(map, edge.source)
+}
+
+/// The same of each edge.
 fn are_edges_firm(map: &DefMap, edges: &[Edge]) -> bool
     ensures placed { result ≡ true → (j : ℕ) (e : Edge) → slice_get edges.now j ≡ Some e → IsPlaced map.now e.vis }
     ensures enums { result ≡ true → (j : ℕ) (e : Edge) → slice_get edges.now j ≡ Some e → HasVariants map.now e.source }
 {
     for edge in edges {
-        if !is_placed(map, edge.vis) || !has_variants(map, edge.source) {
+        if !is_edge_firm(map, *edge) {
             return false;
         }
     }

@@ -1,0 +1,11 @@
+use Rattle.std.proofs.Common.{◌≡◌, ℕ, ◌<◌, Some}
+use Rattle.hir_base.specs.declared.ids.TraitId.{TraitId}
+use Rattle.hir_def_map.specs.State.{module_at}
+use Rattle.hir_scope.specs.declared.visibility.Visibility.{Visibility}
+use Rattle.hir_import_resolution.specs.Lasting.{IsPlaced}
+use Rattle.hir_import_resolution.specs.Names.{trait_vis}
+use Rattle.hir_import_resolution.proofs.lasting.have_traits_placed.Given as goal
+
+-- those of the modules before this one can
+abbrev pub invariant-loop-at : goal.invariant-loop-at
+invariant-loop-at l = (k : ℕ) → k < l.at → (id : TraitId) (vis : Visibility) → trait_vis (module_at l.map k) id ≡ Some vis → IsPlaced l.map vis
