@@ -282,3 +282,38 @@ each_is_listed n (targets.Enum id) (Types name) h = enum_listed (variants_in (ov
 each_is_listed n (targets.Enum id) (Values name) h = enum_listed (variants_in (overlay n.finished n.map) id) (Values name) h
 each_is_listed n (targets.Enum id) (Macros name) h = enum_listed (variants_in (overlay n.finished n.map) id) (Macros name) h
 each_is_listed n (targets.Enum id) (Unnamed tr) h = enum_listed (variants_in (overlay n.finished n.map) id) (Unnamed tr) h
+
+-- ---- traits without a name
+
+-- a trait that has a visibility without a name is listed
+pub unnamed_listed : (scope : ScopeValue) (id : TraitId) (vis : Visibility) → unnamed_vis scope id ≡ Some vis → Contains (traits_in scope) id
+unnamed_listed scope id vis is =
+    Contains-append_right (traits_among (values_of scope.types)) (map (λ (entry : TraitId × Item (Unit {0}) ImportId). entry.0) scope.unnamed_traits) id
+    (go scope.unnamed_traits (option_found (lookup (trait_id.ghosts.eq id) scope.unnamed_traits) is))
+  where
+    option_found : (o : Option (Item (Unit {0}) ImportId)) → option_map (λ (item : Item (Unit {0}) ImportId). item.vis) o ≡ Some vis → is_some o ≡ true
+    option_found None e = absurd cc
+    option_found (Some x) e = refl
+
+    go : (ts : List (TraitId × Item (Unit {0}) ImportId)) → is_some (lookup (trait_id.ghosts.eq id) ts) ≡ true → Contains (map (λ (entry : TraitId × Item (Unit {0}) ImportId). entry.0) ts) id
+    go [] e = absurd cc
+    go (t ∷ ts) e = on (trait_id.ghosts.eq id t.0) refl e (go ts)
+      where
+        ids : List TraitId
+        ids = map (λ (entry : TraitId × Item (Unit {0}) ImportId). entry.0) ts
+
+        on : (b : Bool) → trait_id.ghosts.eq id t.0 ≡ b → is_some (cond b (Some t.1) (lookup (trait_id.ghosts.eq id) ts)) ≡ true
+            → (is_some (lookup (trait_id.ghosts.eq id) ts) ≡ true → Contains ids id) → Contains (t.0 ∷ ids) id
+        on true same e below = Contains-append_left (t.0 ∷ []) ids id (subst (λ (x : TraitId). Contains (x ∷ []) id) (same_trait id t.0 same) (Contains-push [] id))
+        on false other e below = Contains-append_right (t.0 ∷ []) ids id (below e)
+
+-- the same of the scope of a module
+pub listed_in : (m : Option ModuleValue) (scope : ScopeValue) (id : TraitId) (vis : Visibility) → Some scope ≡ option_map (λ (m : ModuleValue). m.scope) m → trait_vis m id ≡ Some vis
+    → Contains (traits_in scope) id
+listed_in None scope id vis there is = absurd cc
+listed_in (Some m) scope id vis there is =
+    let same : scope ≡ m.scope = cc (there) in unnamed_listed scope id vis ((λ i. unnamed_vis (same i) id) ∙ is)
+
+pub none_in : (m : Option ModuleValue) (id : TraitId) (vis : Visibility) → None ≡ option_map (λ (m : ModuleValue). m.scope) m → trait_vis m id ≡ Some vis → ⊥
+none_in None id vis there is = absurd cc
+none_in (Some m) id vis there is = absurd cc

@@ -1,4 +1,5 @@
 -- what look-ups find
+pub mod Lists
 pub mod Found
 pub mod Lent
 pub mod Targets
@@ -16,6 +17,7 @@ pub mod Bound
 pub mod Firm
 pub mod Placed
 pub mod LookingAgain
+pub mod Opened
 -- what a resolver does
 pub mod Spread
 pub mod TakenImports

@@ -2,7 +2,7 @@
 use Rattle.std.proofs.Common.{◌≡◌, ◌≢◌, ◌∙◌, ap, sym, refl, subst, ℕ, ◌<◌, ◌≤◌, Bool, true, false, Option, None, Some, ◌++◌, List, [], length, not}
 use Rattle.std.proofs.lemmas.List.{append-nil, append_assoc, length-map}
 use Rattle.std.specs.List.{All}
-use Rattle.std.specs.Option.{option_map}
+use Rattle.std.specs.Option.{option_and_then, option_map}
 use Rattle.std.specs.Prelude.{slice_get, slice_index_or, slice_set}
 use Rattle.std.specs.declared.alloc.Global.{Global}
 use Rattle.std.specs.declared.vec.Vec.{Vec}
@@ -32,7 +32,7 @@ use Rattle.hir_import_resolution.specs.declared.scopes.OpenScopes.{OpenScopes}
 use Rattle.hir_import_resolution.specs.Directives.{TakenValue, answer_to, path_answer, taken_after, taken_for, target_of}
 use Rattle.hir_import_resolution.specs.Inner.Queue.{AreIdleSettled, IsBegun, IsFirmBy, IsRunning, IsSamePass, IsSettledFor, IsTrying, IsWoken, KeepsWatched, Reports, path_reads, reads_at, reads_by, slot_cmp}
 use Rattle.hir_import_resolution.specs.Inner.State.{AreRecorded, ChangesSlots, IsApart, IsKeptIn, IsLinked, IsTaken, finished_by, slots_named, state_by, with_lasting}
-use Rattle.hir_import_resolution.specs.Inner.Steps.{IsLinkedAt, IsLinking, taking_at}
+use Rattle.hir_import_resolution.specs.Inner.Steps.{IsLinkedAt, IsLinking, taking_at, taking_of}
 use Rattle.hir_import_resolution.specs.Lasting.{IsThere, Lasts}
 use Rattle.hir_import_resolution.specs.Rest.{IsSpent}
 use Rattle.hir_import_resolution.specs.Rules.{Step, Steps}
@@ -171,6 +171,41 @@ tried_running r i old none linked = record {
   };
   waved = old.running.waved;
 }
+
+-- there is nothing to try
+pub trying_nothing : (r0 r1 : Resolver) (i : ℕ) → IsRunning r0 (Some i) → r1 ≡ record r0 { watchers = r1.watchers; lasting = r1.lasting } → KeepsWatched r0.watchers r1.watchers
+    → WatchesEach slot_cmp r1.watchers i (reads_at r0.apart (finished_by r0) (state_by r0) i) → (r1.lasting ≡ true → r0.lasting ≡ true)
+    → None ≡ option_map (path_answer (finished_by r1) r1.local r1.scopes.map) (slice_get r1.imports.items i) → IsRunning r1 None
+trying_nothing r0 r1 i old rest keeps watches fewer is =
+    subst (λ (r : Resolver). IsRunning r None) (sym rest)
+    (tried_running (record r0 { watchers = r1.watchers; lasting = r1.lasting }) i (watched r0 i r1.watchers r1.lasting old keeps watches fewer (λ e d at. absurd cc))
+    (ap (option_and_then (λ (r : ImportDirective). option_and_then (λ (t : TakenValue). taking_of (finished_by r0) (state_by r0) r t) (slice_get r0.taken.items i))) nothing)
+    (record { linked = λ r t by target at. absurd cc }))
+  where
+    none_alike : {X Y : Type 0} (f : X → Y) (o : Option X) → None ≡ option_map f o → o ≡ None
+    none_alike f None e = refl
+    none_alike f (Some x) e = absurd cc
+
+    nothing : slice_get r0.imports.items i ≡ None
+    nothing = ap (λ (r : Resolver). slice_get r.imports.items i) (sym rest) ∙ none_alike (path_answer (finished_by r1) r1.local r1.scopes.map) (slice_get r1.imports.items i) is
+
+-- ---- what lasts is noted
+
+-- and then what read a name is woken
+pub noted_woken : (r0 r1 r2 : Resolver) → r1 ≡ with_lasting r0 r1.lasting → r2 ≡ record r1 { worklist = r2.worklist; watchers = r2.watchers; reported = r2.reported }
+    → r2 ≡ record r0 { worklist = r2.worklist; watchers = r2.watchers; lasting = r2.lasting; reported = r2.reported }
+noted_woken r0 r1 r2 noted rest =
+    rest
+    ∙ (λ j. record (noted j) { worklist = r2.worklist; watchers = r2.watchers; reported = r2.reported })
+    ∙ (λ j. record r0 { worklist = r2.worklist; watchers = r2.watchers; lasting = sym (ap (λ (r : Resolver). r.lasting) rest) j; reported = r2.reported })
+
+pub woken_before : (r0 r1 r2 : Resolver) (slots : List PathSlot) → r1 ≡ with_lasting r0 r1.lasting → IsWoken r1.apart slots r1.worklist r1.watchers r2.worklist r2.watchers
+    → IsWoken r0.apart slots r0.worklist r0.watchers r2.worklist r2.watchers
+woken_before r0 r1 r2 slots noted woken = subst (λ (r : Resolver). IsWoken r.apart slots r.worklist r.watchers r2.worklist r2.watchers) noted woken
+
+-- and then a step is made
+pub step_noted : (r0 r1 r2 : Resolver) → r1 ≡ with_lasting r0 r1.lasting → Step (finished_by r1) (state_by r1) (state_by r2) → Step (finished_by r0) (state_by r0) (state_by r2)
+step_noted r0 r1 r2 noted step = subst (λ (r : Resolver). Step (finished_by r) (state_by r) (state_by r2)) noted step
 
 -- ---- a change of scopes
 

@@ -142,9 +142,9 @@ fn have_traits_placed(map: &DefMap) -> bool
 }
 
 /// Whether the visibility of an edge names a module that is there, and its source has its variants.
-fn is_edge_firm(map: &DefMap, edge: Edge) -> bool
-    ensures placed { result ≡ true → IsPlaced map.now edge.vis }
-    ensures enums { result ≡ true → HasVariants map.now edge.source }
+fn is_edge_firm(map: &DefMap, edge: &Edge) -> bool
+    ensures placed { result ≡ true → IsPlaced map.now edge.now.vis }
+    ensures enums { result ≡ true → HasVariants map.now edge.now.source }
 {
     is_placed(map, edge.vis) && has_variants(map, edge.source)
 }
@@ -155,7 +155,7 @@ fn are_edges_firm(map: &DefMap, edges: &[Edge]) -> bool
     ensures enums { result ≡ true → (j : ℕ) (e : Edge) → slice_get edges.now j ≡ Some e → HasVariants map.now e.source }
 {
     for edge in edges {
-        if !is_edge_firm(map, *edge) {
+        if !is_edge_firm(map, edge) {
             return false;
         }
     }

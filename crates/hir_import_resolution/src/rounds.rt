@@ -1,10 +1,11 @@
 //! Imports that are resolved round by round, while the map that has them grows between rounds.
-ghost use Rattle.std.specs.Prelude.{◌≡◌, ◌≤◌, ◌<◌, ℕ, true, IfOk, Some, length, slice_get};
+ghost use Rattle.std.specs.Prelude.{◌≡◌, ◌≤◌, ◌<◌, ℕ, [], true, IfOk, None, Some, length, slice_get};
 ghost use Rattle.hir_def_map.specs.State.{IsInOrder};
 ghost use Rattle.hir_def_map.specs.WorldParts.{part_of};
 ghost use Rattle.hir_def_map_laws.specs.SlotChanges.{ScopesChangeAmong};
 ghost use Rattle.hir_import_resolution.specs.declared.directive.ImportDirective.{ImportDirective};
-ghost use Rattle.hir_import_resolution.specs.Inner.State.{IsApart, state_in};
+ghost use Rattle.hir_import_resolution.specs.Inner.Queue.{IsBegun};
+ghost use Rattle.hir_import_resolution.specs.Inner.State.{IsApart, finished_by, state_by, state_in};
 ghost use Rattle.hir_import_resolution.specs.Lasting.{Lasts};
 ghost use Rattle.hir_import_resolution.specs.Rest.{IsAtRest, IsSound, IsSpent};
 ghost use Rattle.hir_import_resolution.specs.Rounds.{AreQueued, IsResumable, IsUpToDate, is_apart, is_lasting};
@@ -18,7 +19,7 @@ use crate::resolver::Resolver;
 use hir_def_map::nameres::path_resolution::slots::Slot;
 use hir_def_map::world::part::WorldPart;
 use hir_glob_imports::MAX_STEPS;
-use std::alloc::Global;
+use std::alloc::{AllocError, Global};
 
 /// Imports that rest.
 #[derive(Drop)]
@@ -90,6 +91,37 @@ pub fn begin_imports(
     settle_reopened(alloc, world, queue, imports)
 }
 
+/// Takes over imports that came to rest: queues those that read a slot that has changed, and those that came besides, and has
+/// globs looked at in such slots.
+fn resumed<'a>(
+    alloc: Global,
+    world: WorldPart<'a>,
+    queue: ImportQueue,
+    imports: Imports,
+    changed: &[Slot],
+) -> Result<Resolver<'a>, AllocError>
+    requires small { imports.count ≤ MAX_STEPS }
+    requires there { (i : ℕ) (r : ImportDirective) → slice_get imports.imports.items i ≡ Some r → r.home < length imports.map.modules }
+    requires in_order { IsInOrder imports.map }
+    requires sound { IsSound (part_of world) (state_in imports) }
+    requires lasts { is_lasting queue ≡ true }
+    requires resumable { IsResumable (part_of world) queue (state_in imports) changed.now }
+    ensures begun { IfOk result (λ r. IsBegun r None) }
+    ensures over { IfOk result (λ r. r.worklist.current ≡ []) }
+    ensures outside { IfOk result (λ r. r.worklist.end ≡ 0) }
+    ensures state { IfOk result (λ r. state_by r ≡ state_in imports) }
+    ensures finished { IfOk result (λ r. finished_by r ≡ part_of world.entry) }
+    ensures apart { IfOk result (λ r. r.apart ≡ is_apart queue) }
+    ensures reported { IfOk result (λ r. r.reported.items ≡ []) }
+{
+    let mut queue = queue;
+    queue.wake(changed)?;
+    queue.append(imports.imports.len())?;
+    let mut resolver = Resolver::new(alloc, world, queue, imports);
+    resolver.look_again(changed)?;
+    Ok(resolver)
+}
+
 /// Takes up imports that came to rest, once their map has grown: tries those that read a slot that has changed, and those
 /// that came besides, until no more comes of them. Along globs only what stands in such slots is looked at.
 ///
@@ -132,11 +164,7 @@ pub fn resume_imports(
     // Steps lead on to as many as are counted, and one more may be taken.
     ensures many { result ≡ Err ImportError.TooMany → IsSpent (part_of world.entry) (state_in imports) }
 {
-    let mut queue = queue;
-    queue.wake(changed)?;
-    queue.append(imports.imports.len())?;
-    let mut resolver = Resolver::new(alloc, world, queue, imports);
-    resolver.look_again(changed)?;
+    let mut resolver = resumed(alloc, world, queue, imports, changed)?;
     resolver.settle()?;
     Ok(resolver.finish())
 }

@@ -3,12 +3,10 @@ use Rattle.std.specs.Prelude.{Contains}
 use Rattle.hir_base.specs.declared.ids.TraitId.{TraitId}
 use Rattle.hir_def_map.specs.State.{module_at}
 use Rattle.hir_scope.specs.declared.visibility.Visibility.{Visibility}
-use Rattle.hir_import_resolution.specs.KeyLists.{traits_in}
 use Rattle.hir_import_resolution.specs.Lasting.{IsPlaced}
 use Rattle.hir_import_resolution.specs.Names.{trait_vis}
 use Rattle.hir_import_resolution.proofs.lasting.has_traits_placed.Given as goal
 
--- each trait is one of those that are left, or can be seen from modules that are there
+-- each trait is left, or can be seen from modules that are there
 abbrev pub invariant-next : goal.invariant-next
-invariant-next l = (id : TraitId) → Contains (traits_in l.scope) id
-    → Contains l.left id ⊎ ((vis : Visibility) → trait_vis (module_at l.map l.at) id ≡ Some vis → IsPlaced l.map vis)
+invariant-next l = (id : TraitId) (vis : Visibility) → trait_vis (module_at l.map l.at) id ≡ Some vis → Contains l.left id ⊎ IsPlaced l.map vis

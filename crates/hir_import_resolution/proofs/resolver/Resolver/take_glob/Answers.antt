@@ -13,18 +13,8 @@ use Rattle.hir_import_resolution.specs.Inner.Steps.{IsLinking, taking_at}
 use Rattle.hir_import_resolution.specs.Lasting.{HasVariants, IsPlaced}
 use Rattle.hir_import_resolution.specs.Rest.{IsSpent}
 use Rattle.hir_import_resolution.specs.Rules.{Step}
-use Rattle.hir_import_resolution.proofs.Running.{begun_linked, count_taken, importer_there, reports_join, reports_nothing, spent_taken, steps_taken, trying_lowered}
+use Rattle.hir_import_resolution.proofs.Running.{begun_linked, count_taken, importer_there, reports_join, reports_nothing, spent_taken, step_noted, steps_taken, trying_lowered}
 use Rattle.hir_import_resolution.proofs.resolver.Resolver.take_glob.Goals as goal
-
--- whether what the edge brings lasts is noted
-trying : (c : goal.In_ok-link) → IsTrying c.note_edge.new.self c.args.i
-trying c = trying_lowered c.args.self.now c.note_edge.new.self c.args.i c.note_edge.ensures.rest c.note_edge.ensures.lasted c.requires.trying
-
-none_due : (c : goal.In_ok-link) → taking_at (finished_by c.note_edge.new.self) (state_by c.note_edge.new.self) c.args.i ≡ None
-none_due c = ap (λ (r : Resolver). taking_at (finished_by r) (state_by r) c.args.i) c.note_edge.ensures.rest ∙ c.requires.none
-
-due : (c : goal.In_ok-link) → IsLinking (finished_by c.note_edge.new.self) (state_by c.note_edge.new.self) c.args.i c.args.edge
-due c = subst (λ (r : Resolver). IsLinking (finished_by r) (state_by r) c.args.i c.args.edge) (sym c.note_edge.ensures.rest) c.requires.due
 
 pub link-requires : goal.link-requires
 link-requires c = record {
@@ -33,37 +23,35 @@ link-requires c = record {
 }
 
 pub wave-requires : goal.wave-requires
-wave-requires c = record {
-  begun =
-      begun_linked c.note_edge.new.self c.link.new.self c.args.i c.args.edge (none_due c) (due c) (trying c) c.in_ok-link.ensures.is
-      (c.in_ok-link.ensures.kept (trying c).running.begun.kept) (c.in_ok-link.ensures.recorded (trying c).running.begun.recorded)
-      (λ e.
-      let as_noted = sym c.in_ok-link.ensures.is.changes.lasting ∙ e in
-      c.in_ok-link.ensures.lasts (subst (λ (r : Resolver). IsPlaced r.scopes.map c.args.edge.vis) (sym c.note_edge.ensures.rest) (c.note_edge.ensures.placed as_noted))
-      (subst (λ (r : Resolver). HasVariants r.scopes.map c.args.edge.source) (sym c.note_edge.ensures.rest) (c.note_edge.ensures.enums as_noted)) ((trying c).running.begun.lasts as_noted))
-      c.in_ok-link.ensures.small;
-}
-
-step : (c : goal.In_ok-link) → Step (finished_by c.args.self.now) (state_by c.args.self.now) (state_by c.link.new.self)
-step c = subst (λ (r : Resolver). Step (finished_by r) (state_by r) (state_by c.link.new.self)) c.note_edge.ensures.rest c.in_ok-link.ensures.step
-
-world : (c : goal.In_ok-link) → c.link.new.self.scopes.world ≡ c.args.self.now.scopes.world
-world c = c.in_ok-link.ensures.is.changes.world ∙ ap (λ (r : Resolver). r.scopes.world) c.note_edge.ensures.rest
+wave-requires c =
+    let trying = trying_lowered c.args.self.now c.note_edge.new.self c.args.i c.note_edge.ensures.rest c.note_edge.ensures.lasted c.requires.trying in
+    record {
+      begun =
+          begun_linked c.note_edge.new.self c.link.new.self c.args.i c.args.edge
+          (ap (λ (r : Resolver). taking_at (finished_by r) (state_by r) c.args.i) c.note_edge.ensures.rest ∙ c.requires.none)
+          (subst (λ (r : Resolver). IsLinking (finished_by r) (state_by r) c.args.i c.args.edge) (sym c.note_edge.ensures.rest) c.requires.due) trying c.in_ok-link.ensures.is
+          (c.in_ok-link.ensures.kept trying.running.begun.kept) (c.in_ok-link.ensures.recorded trying.running.begun.recorded)
+          (λ e.
+          let as_noted = sym c.in_ok-link.ensures.is.changes.lasting ∙ e in
+          c.in_ok-link.ensures.lasts (subst (λ (r : Resolver). IsPlaced r.scopes.map c.args.edge.vis) (sym c.note_edge.ensures.rest) (c.note_edge.ensures.placed as_noted))
+          (subst (λ (r : Resolver). HasVariants r.scopes.map c.args.edge.source) (sym c.note_edge.ensures.rest) (c.note_edge.ensures.enums as_noted)) (trying.running.begun.lasts as_noted))
+          c.in_ok-link.ensures.small;
+    }
 
 pub returns-in_err-link-clause-many : goal.returns-in_err-link-clause-many
 returns-in_err-link-clause-many c many = subst (λ (r : Resolver). IsSpent (finished_by r) (state_by r)) c.note_edge.ensures.rest (c.in_err-link.ensures.many (search rules))
 
 pub returns-clause-steps : goal.returns-clause-steps
-returns-clause-steps c = steps_taken c.args.self.now c.link.new.self c.link.new.self c.wave.new.self (step c) (world c) refl refl c.in_ok-wave.ensures.steps
+returns-clause-steps c = steps_taken c.args.self.now c.link.new.self c.link.new.self c.wave.new.self (step_noted c.args.self.now c.note_edge.new.self c.link.new.self c.note_edge.ensures.rest c.in_ok-link.ensures.step) (c.in_ok-link.ensures.is.changes.world ∙ ap (λ (r : Resolver). r.scopes.world) c.note_edge.ensures.rest) refl refl c.in_ok-wave.ensures.steps
 
 pub returns-clause-moves : goal.returns-clause-moves
-returns-clause-moves c = count_taken c.args.self.now c.link.new.self c.link.new.self c.wave.new.self (step c) (world c) refl refl c.in_ok-wave.ensures.steps
+returns-clause-moves c = count_taken c.args.self.now c.link.new.self c.link.new.self c.wave.new.self (step_noted c.args.self.now c.note_edge.new.self c.link.new.self c.note_edge.ensures.rest c.in_ok-link.ensures.step) (c.in_ok-link.ensures.is.changes.world ∙ ap (λ (r : Resolver). r.scopes.world) c.note_edge.ensures.rest) refl refl c.in_ok-wave.ensures.steps
 
 pub returns-in_err-wave-clause-many : goal.returns-in_err-wave-clause-many
-returns-in_err-wave-clause-many c many = spent_taken c.args.self.now c.link.new.self c.link.new.self (step c) (world c) refl refl (c.in_err-wave.ensures.many (search rules))
+returns-in_err-wave-clause-many c many = spent_taken c.args.self.now c.link.new.self c.link.new.self (step_noted c.args.self.now c.note_edge.new.self c.link.new.self c.note_edge.ensures.rest c.in_ok-link.ensures.step) (c.in_ok-link.ensures.is.changes.world ∙ ap (λ (r : Resolver). r.scopes.world) c.note_edge.ensures.rest) refl refl (c.in_err-wave.ensures.many (search rules))
 
 pub returns-clause-finished : goal.returns-clause-finished
-returns-clause-finished c = c.in_ok-wave.ensures.finished ∙ ap part_of (world c)
+returns-clause-finished c = c.in_ok-wave.ensures.finished ∙ ap part_of (c.in_ok-link.ensures.is.changes.world ∙ ap (λ (r : Resolver). r.scopes.world) c.note_edge.ensures.rest)
 
 pub returns-clause-apart : goal.returns-clause-apart
 returns-clause-apart c = c.in_ok-wave.ensures.apart ∙ c.in_ok-link.ensures.is.changes.apart ∙ ap (λ (r : Resolver). r.apart) c.note_edge.ensures.rest
