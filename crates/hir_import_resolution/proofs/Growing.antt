@@ -1,5 +1,5 @@
 -- What was up to date stays so while the map grows, once what has changed is woken and what came besides is queued.
-use Rattle.std.proofs.Common.{◌≡◌, ◌∙◌, ap, sym, refl, subst, ℕ, zero, suc, ◌<◌, ◌≤◌, Bool, true, false, ◌++◌, Option, None, Some, List, [], ◌∷◌, length, get_or, drop, length-append, ◌+◌, arith}
+use Rattle.std.proofs.Common.{◌≡◌, ◌∙◌, ap, sym, refl, subst, ℕ, zero, suc, ◌<◌, ◌≤◌, Bool, true, false, ◌++◌, None, Some, List, [], ◌∷◌, length, get_or, drop, length-append, ◌+◌, arith}
 use Rattle.std.proofs.Math.Seq.{drop-cons}
 use Rattle.std.proofs.lemmas.List.{drop_all}
 use Rattle.std.proofs.lemmas.List.Elements.{Contains-append_left, Contains-append_right}
@@ -17,7 +17,7 @@ use Rattle.hir_worklist.specs.declared.watchers.Watchers.{Watchers}
 use Rattle.hir_import_resolution.specs.declared.directive.ImportDirective.{ImportDirective}
 use Rattle.hir_import_resolution.specs.declared.import_queue.ImportQueue.{ImportQueue}
 use Rattle.hir_import_resolution.specs.Inner.Queue.{AreIdleSettled, IsLonger, IsWoken, WakesEach, slot_cmp, more, none}
-use Rattle.hir_import_resolution.specs.Rounds.{AreQueued, Grew, GrowthsFollowOneAnother, IsResumable, is_lasting}
+use Rattle.hir_import_resolution.specs.Rounds.{AreQueued, GrowthsFollowOneAnother, IsResumable, is_lasting}
 use Rattle.hir_import_resolution.specs.State.{ImportState}
 use Rattle.hir_import_resolution.proofs.Firm.{there_still}
 use Rattle.hir_import_resolution.proofs.Settled.{unchanged_grown}

@@ -16,7 +16,7 @@ use Rattle.hir_scope.specs.ModuleTree.{same_crate, same_map, same_module}
 use Rattle.hir_scope.specs.Visibility.{both_in, either_written, greater_of, is_visible, lesser_of, lower_of, stands_for, upper_of}
 use Rattle.hir_scope.specs.declared.visibility.Visibility.{Visibility}
 use Rattle.hir_scope.specs.declared.visibility.Visibility.TheVariants.{Module, PubCrate, Public}
-use Rattle.hir_def_map.specs.Ancestors.{above_in, above_inside, above_under, frame_of, frames_of, holders_in, holders_of_frame, numbers_of}
+use Rattle.hir_def_map.specs.Ancestors.{above_in, above_inside, above_under, frame_of, frames_of, holders_in, numbers_of}
 use Rattle.hir_def_map.specs.Inner.OverlayLaws.{frame_holders, same_id}
 use Rattle.hir_def_map.specs.Overlay.{Maps, Placed, holders_of, holders_or, holders_under, overlay, placed_in}
 use Rattle.hir_def_map.specs.Scoping.Segments.{variant_in}
@@ -26,7 +26,7 @@ use Rattle.hir_def_map_laws.proofs.Changed.{holders_out}
 use Rattle.hir_def_map_laws.proofs.Growing.{grown}
 use Rattle.hir_def_map_laws.proofs.SameAbove.{same_numbers_above}
 use Rattle.hir_def_map_laws.proofs.SlotChanges.{Grows-itself}
-use Rattle.hir_def_map_laws.specs.ReadLaw.{Grows, StandsBeside}
+use Rattle.hir_def_map_laws.specs.ReadLaw.{Grows}
 use Rattle.hir_import_resolution.specs.Rounds.{IsOrdered, IsPlaced, MapsBesideAreOrdered}
 
 abbrev map_of : Crate → Option BlockId → MapId

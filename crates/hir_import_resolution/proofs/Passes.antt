@@ -1,5 +1,5 @@
 -- Passes, and where they end.
-use Rattle.std.proofs.Common.{◌≡◌, ◌∙◌, ap, sym, refl, subst, ℕ, ◌+◌, ◌-◌, ◌<◌, ◌≤◌, ◌⊎◌, inl, inr, List, [], ◌∷◌, Option, None, Some, length, arith}
+use Rattle.std.proofs.Common.{◌≡◌, ◌∙◌, ap, sym, refl, subst, ℕ, ◌+◌, ◌-◌, ◌<◌, ◌≤◌, ◌⊎◌, inl, inr, List, [], ◌∷◌, None, Some, arith}
 use Rattle.std.proofs.Math.Nat.{eq-or-lt_of_le}
 use Rattle.std.proofs.lemmas.Option.{slice_get_within}
 use Rattle.std.specs.Prelude.{slice_get}
@@ -16,7 +16,7 @@ use Rattle.hir_import_resolution.specs.Inner.Queue.{AreIdleSettled, IsRunning, I
 use Rattle.hir_import_resolution.specs.Inner.State.{finished_by, state_by}
 use Rattle.hir_import_resolution.specs.Names.{view_of}
 use Rattle.hir_import_resolution.specs.Rest.{IsAtRest, IsSettled, IsSpent}
-use Rattle.hir_import_resolution.specs.Rules.{Step, Steps}
+use Rattle.hir_import_resolution.specs.Rules.{Steps}
 use Rattle.hir_import_resolution.specs.State.{scopes_of}
 use Rattle.hir_import_resolution.proofs.Counting.{spent_after, steps_append, steps_count}
 use Rattle.hir_import_resolution.proofs.Running.{requeued}

@@ -1,5 +1,5 @@
 -- Visibilities name modules that are there, whatever imports bind.
-use Rattle.std.proofs.Common.{◌≡◌, ◌∙◌, ◌⊎◌, inl, inr, ap, sym, subst, refl, ℕ, ◌<◌, Bool, true, false, List, length, Option, None, Some}
+use Rattle.std.proofs.Common.{◌≡◌, ◌∙◌, ap, sym, subst, refl, ℕ, ◌<◌, Bool, true, false, List, length, Option, None, Some}
 use Rattle.std.specs.Option.{option_map}
 use Rattle.std.specs.Prelude.{is_some, slice_get, if◌then◌else◌}
 use Rattle.hir_base.specs.declared.ids.MapId.{MapId}
@@ -24,15 +24,15 @@ use Rattle.hir_glob_imports.specs.declared.edge.Key.TheVariants.{Types, Values, 
 use Rattle.hir_glob_imports.specs.declared.edge.Slot.{Slot}
 use Rattle.hir_glob_imports.specs.declared.edge.Target.TheVariants as targets
 use Rattle.hir_import_resolution.specs.Changes.{forgotten, forgotten_in}
-use Rattle.hir_import_resolution.specs.Inner.State.{ArePlacedIn, ChangesSlots, IsTraitPlaced, finished_by, state_by}
+use Rattle.hir_import_resolution.specs.Inner.State.{ArePlacedIn, IsTraitPlaced, finished_by, state_by}
 use Rattle.hir_import_resolution.specs.Inner.Steps.{IsBound, MayBind}
-use Rattle.hir_import_resolution.specs.Lasting.{HasVariants, IsPlaced, Lasts}
+use Rattle.hir_import_resolution.specs.Lasting.{IsPlaced, Lasts}
 use Rattle.hir_import_resolution.specs.Names.{bound_trait, trait_vis, view_of}
 use Rattle.hir_import_resolution.specs.Scopes.{value_of}
 use Rattle.hir_import_resolution.specs.State.{scopes_of}
 use Rattle.hir_import_resolution.specs.declared.resolver.Resolver.{Resolver}
 use Rattle.hir_import_resolution.specs.declared.scopes.OpenScopes.{OpenScopes}
-use Rattle.hir_import_resolution.proofs.Firm.{as_many, same_variants, still_has, still_ordered}
+use Rattle.hir_import_resolution.proofs.Firm.{same_variants, still_has, still_ordered}
 use Rattle.hir_import_resolution.proofs.Writes.{seen_vis}
 
 -- ---- as many modules are there

@@ -1,5 +1,5 @@
 -- What holds of a resolver between two calls stays so.
-use Rattle.std.proofs.Common.{◌≡◌, ◌≢◌, ◌∙◌, ap, sym, refl, subst, ℕ, ◌<◌, ◌≤◌, Bool, true, false, Option, None, Some, ◌++◌, List, [], length, not}
+use Rattle.std.proofs.Common.{◌≡◌, ◌∙◌, ap, sym, refl, subst, ℕ, ◌<◌, ◌≤◌, Bool, true, false, Option, None, Some, ◌++◌, List, [], length, not}
 use Rattle.std.proofs.lemmas.List.{append-nil, append_assoc, length-map}
 use Rattle.std.specs.List.{All}
 use Rattle.std.specs.Option.{option_and_then, option_map}
@@ -16,11 +16,10 @@ use Rattle.hir_def_map.specs.declared.world.part.WorldPart.{WorldPart}
 use Rattle.hir_def_map_laws.proofs.SlotLists.{follow_scopes, no_scope}
 use Rattle.hir_def_map_laws.specs.ReadLaw.{stops_bare}
 use Rattle.hir_def_map_laws.specs.SlotChanges.{ScopesChangeAmong}
-use Rattle.hir_glob_imports.specs.Waves.{GlobsValue}
 use Rattle.hir_glob_imports.specs.declared.edge.Edge.{Edge}
 use Rattle.hir_glob_imports.specs.declared.edge.Slot.{Slot}
 use Rattle.hir_glob_imports.specs.declared.step.TheConstants.{MAX_STEPS}
-use Rattle.hir_worklist.specs.Queue.{IsIdle, Queue, is_unfinished}
+use Rattle.hir_worklist.specs.Queue.{Queue}
 use Rattle.hir_worklist.specs.Settling.{WatchesEach}
 use Rattle.hir_worklist.specs.declared.watchers.Watchers.{Watchers}
 use Rattle.hir_import_resolution.specs.declared.directive.ImportDirective.{ImportDirective}
@@ -30,7 +29,7 @@ use Rattle.hir_import_resolution.specs.declared.directive.ImportSource.{ImportSo
 use Rattle.hir_import_resolution.specs.declared.directive.ImportSource.TheVariants as sources
 use Rattle.hir_import_resolution.specs.declared.scopes.OpenScopes.{OpenScopes}
 use Rattle.hir_import_resolution.specs.Directives.{TakenValue, answer_to, path_answer, taken_after, taken_for, target_of}
-use Rattle.hir_import_resolution.specs.Inner.Queue.{AreIdleSettled, IsBegun, IsFirmBy, IsRunning, IsSamePass, IsSettledFor, IsTrying, IsWoken, KeepsWatched, Reports, path_reads, reads_at, reads_by, slot_cmp}
+use Rattle.hir_import_resolution.specs.Inner.Queue.{AreIdleSettled, IsBegun, IsFirmBy, IsRunning, IsSettledFor, IsTrying, IsWoken, KeepsWatched, Reports, path_reads, reads_at, reads_by, slot_cmp}
 use Rattle.hir_import_resolution.specs.Inner.State.{AreRecorded, ChangesSlots, IsApart, IsKeptIn, IsLinked, IsTaken, finished_by, slots_named, state_by, with_lasting}
 use Rattle.hir_import_resolution.specs.Inner.Steps.{IsLinkedAt, IsLinking, taking_at, taking_of}
 use Rattle.hir_import_resolution.specs.Lasting.{IsThere, Lasts}

@@ -2,14 +2,12 @@
 use Rattle.std.proofs.Common.{◌≡◌, ◌≢◌, ◌∙◌, ap, sym, refl, subst, ℕ, ◌<◌, Bool, true, false, not, ◌&&◌, ◌||◌, Option, None, Some, List, [], ◌∷◌, ◌++◌, length, cond, get_or, arith}
 use Rattle.std.specs.Prelude.{Contains, slice_get, slice_set}
 use Rattle.std.specs.Option.{option_and_then}
-use Rattle.std.proofs.lemmas.List.Elements.{All-contains_itself, Contains-append_left, Contains-append_right}
+use Rattle.std.proofs.lemmas.List.Elements.{All-contains_itself, Contains-append_right}
 use Rattle.std.specs.List.{All}
 use Rattle.hir_base.specs.declared.ids.Crate.{Crate}
 use Rattle.hir_base.specs.declared.ids.ExternCrateId.{ExternCrateId}
 use Rattle.hir_scope.specs.declared.imports.GlobId.{GlobId}
-use Rattle.hir_scope.specs.declared.imports.ImportId.{ImportId}
 use Rattle.hir_scope.specs.declared.per_ns.PerNs.{PerNs}
-use Rattle.hir_use_tree.specs.declared.imports.ImportKind.{ImportKind}
 use Rattle.hir_use_tree.specs.declared.imports.ImportKind.TheVariants as kinds
 use Rattle.hir_def_map.specs.Overlay.{Maps, overlay}
 use Rattle.hir_def_map.specs.Reaches.{by_import}
@@ -27,10 +25,10 @@ use Rattle.hir_import_resolution.specs.declared.directive.ImportSource.{ImportSo
 use Rattle.hir_import_resolution.specs.declared.directive.ImportSource.TheVariants as sources
 use Rattle.hir_import_resolution.specs.declared.namespaces.Namespaces.{Namespaces}
 use Rattle.hir_import_resolution.specs.declared.resolver.steps.Taking.{Taking}
-use Rattle.hir_import_resolution.specs.Directives.{AreAmong, TakenValue, answer_by_source, answer_in, answer_to, both_of, edge_to, glob_of, goes_beyond, namespaces_of, path_answer, reached_by, taken_after, taken_for, target_among, target_of}
+use Rattle.hir_import_resolution.specs.Directives.{AreAmong, TakenValue, answer_by_source, answer_in, answer_to, both_of, glob_of, goes_beyond, namespaces_of, path_answer, reached_by, taken_after, taken_for, target_among, target_of}
 use Rattle.hir_import_resolution.specs.Inner.Queue.{IsFirmBy, path_reads}
 use Rattle.hir_import_resolution.specs.Inner.State.{IsApart}
-use Rattle.hir_import_resolution.specs.Inner.Steps.{IsLinkedAt, IsLinking, taking_at, taking_for, taking_of}
+use Rattle.hir_import_resolution.specs.Inner.Steps.{IsLinkedAt, taking_at, taking_for, taking_of}
 use Rattle.hir_import_resolution.specs.Lasting.{IsThere}
 use Rattle.hir_import_resolution.specs.Rest.{IsSettled}
 use Rattle.hir_import_resolution.specs.Rounds.{Grew}

@@ -8,7 +8,7 @@ use Rattle.hir_scope.specs.declared.imports.ImportOrExternCrate.{ImportOrExternC
 use Rattle.hir_scope.specs.declared.per_ns.PerNs.{PerNs}
 use Rattle.hir_scope.specs.declared.visibility.Visibility.{Visibility}
 use Rattle.hir_def_map.specs.Overlay.{Maps}
-use Rattle.hir_def_map.specs.State.{Map, ModuleValue, changed_at, globs_after, module_at, place_at, pushed, pushed_module, with_module_scope}
+use Rattle.hir_def_map.specs.State.{ModuleValue, changed_at, globs_after, module_at, place_at, pushed, pushed_module, with_module_scope}
 use Rattle.hir_def_map.proofs.Grown.{length-changed}
 use Rattle.hir_glob_imports.proofs.Exact.{exact_slot}
 use Rattle.hir_glob_imports.proofs.Linking.{one_or_last}
@@ -35,8 +35,8 @@ use Rattle.hir_import_resolution.specs.Inner.Steps.{IsBound, MayBind}
 use Rattle.hir_import_resolution.specs.Inner.TableLaws.{is_name_table}
 use Rattle.hir_import_resolution.specs.Inner.ViewLaws.{bound_inside, inside_own}
 use Rattle.hir_import_resolution.specs.Names.{ScopesValue, bound_at, copied, followed, raised, scope_table, trait_vis, view_of, with_trait}
-use Rattle.hir_import_resolution.specs.Rest.{IsRecorded, IsSound, IsSource}
-use Rattle.hir_import_resolution.specs.Rules.{May, Rule, Step, after, goes_along, takes_glob, takes_import}
+use Rattle.hir_import_resolution.specs.Rest.{IsSound, IsSource}
+use Rattle.hir_import_resolution.specs.Rules.{May, Rule, after, goes_along, takes_glob, takes_import}
 use Rattle.hir_import_resolution.specs.Sound.{GrowthKeepsSound, LocalKeepsSound, PushesKeepSound, ReachedImportsKeepSound, StepsKeepSound}
 use Rattle.hir_import_resolution.specs.State.{ImportState, glob_state, scopes_of, ticked, with_glob_state, with_taken}
 use Rattle.hir_import_resolution.proofs.Along.{performed}

@@ -1,5 +1,5 @@
 -- Names that went along globs in a resolver.
-use Rattle.std.proofs.Common.{◌≡◌, ◌∙◌, ap, sym, subst, refl, List}
+use Rattle.std.proofs.Common.{◌≡◌, ap, sym, subst, refl, List}
 use Rattle.std.specs.Prelude.{Contains}
 use Rattle.hir_def_map.specs.WorldParts.{part_of}
 use Rattle.hir_def_map_laws.specs.SlotChanges.{ScopesChangeAmong}

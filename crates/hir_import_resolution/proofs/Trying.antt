@@ -1,5 +1,5 @@
 -- What is idle stays settled, whatever is tried and whatever changes.
-use Rattle.std.proofs.Common.{◌≡◌, ◌≢◌, ◌∙◌, ap, sym, refl, subst, ℕ, Bool, true, false, Option, None, Some, List, cond}
+use Rattle.std.proofs.Common.{◌≡◌, ◌≢◌, ◌∙◌, ap, sym, refl, subst, ℕ, Bool, true, false, Option, None, Some, List}
 use Rattle.std.specs.List.{All}
 use Rattle.std.specs.Prelude.{Contains, length, slice_get}
 use Rattle.hir_def_map.specs.Overlay.{Maps}
@@ -10,7 +10,7 @@ use Rattle.hir_def_map_laws.specs.ReadLaw.{stops_bare}
 use Rattle.hir_def_map_laws.specs.SlotChanges.{ScopesChangeAmong}
 use Rattle.hir_worklist.proofs.Settled.{IsUnread, restated, tried_settled}
 use Rattle.hir_worklist.specs.Queue.{IsIdle, Queue}
-use Rattle.hir_worklist.specs.Settling.{AreSettled, AreWatched, WatchesEach}
+use Rattle.hir_worklist.specs.Settling.{WatchesEach}
 use Rattle.hir_worklist.specs.declared.watchers.Watchers.{Watchers}
 use Rattle.hir_import_resolution.specs.declared.directive.ImportDirective.{ImportDirective}
 use Rattle.hir_import_resolution.specs.declared.directive.ImportSource.{ImportSource}

@@ -1,5 +1,5 @@
 -- What watches slots, and what is queued where they change.
-use Rattle.std.proofs.Common.{◌≡◌, ◌∙◌, ap, sym, refl, subst, suc, ℕ, ◌+◌, ◌<◌, ◌≤◌, Bool, true, false, ◌||◌, ◌&&◌, not, Option, None, Some, List, [], ◌∷◌, ◌++◌, nat_eq, length, drop, get_or, arith}
+use Rattle.std.proofs.Common.{◌≡◌, ◌∙◌, ap, sym, refl, subst, suc, ℕ, ◌+◌, ◌<◌, ◌≤◌, Bool, true, false, ◌||◌, ◌&&◌, Option, None, Some, List, [], ◌∷◌, ◌++◌, nat_eq, length, drop, get_or, arith}
 use Rattle.std.proofs.Math.Seq.{drop-cons}
 use Rattle.std.proofs.lemmas.Bool.Decides.{nat_tests}
 use Rattle.std.proofs.lemmas.Cmp.{tied_itself}
@@ -15,8 +15,8 @@ use Rattle.hir_glob_imports.specs.declared.edge.Slot.{Slot}
 use Rattle.hir_worklist.proofs.Idle.{current-woken_outside}
 use Rattle.hir_worklist.proofs.Settled.{none_changed, one_more_changed, IsUnread}
 use Rattle.hir_worklist.specs.Moves.{Wakes}
-use Rattle.hir_worklist.specs.Queue.{IsIdle, Queue}
-use Rattle.hir_worklist.specs.Settling.{AreSettled, AreWatched, WatchesEach}
+use Rattle.hir_worklist.specs.Queue.{Queue}
+use Rattle.hir_worklist.specs.Settling.{AreSettled, WatchesEach}
 use Rattle.hir_worklist.specs.Watching.{Forgets, Watches, is_watching}
 use Rattle.hir_worklist.specs.declared.watchers.Watchers.{Watchers}
 use Rattle.hir_import_resolution.specs.Inner.Queue.{IsSamePass, KeepsWatched, WakesEach, slot_cmp, more, none}

@@ -17,8 +17,6 @@ use Rattle.hir_glob_imports.specs.declared.edge.Edge.{Edge}
 use Rattle.hir_glob_imports.specs.declared.edge.Target.{Target}
 use Rattle.hir_glob_imports.specs.declared.edge.Target.TheVariants as targets
 use Rattle.hir_import_resolution.specs.declared.directive.ImportDirective.{ImportDirective}
-use Rattle.hir_import_resolution.specs.declared.directive.ImportSource.{ImportSource}
-use Rattle.hir_import_resolution.specs.declared.directive.ImportSource.TheVariants as sources
 use Rattle.hir_import_resolution.specs.Directives.{path_answer}
 use Rattle.hir_import_resolution.specs.Names.{ScopesValue, view_of}
 use Rattle.hir_import_resolution.specs.State.{ImportState, scopes_of}

@@ -1,7 +1,5 @@
 -- One more is appended in each turn.
-use Rattle.std.proofs.Common.{◌≡◌, ◌+◌, ap, arith, length, List, Bool, false, [], ◌∷◌}
-use Rattle.std.proofs.Common.{length-append}
-use Rattle.hir_worklist.specs.Queue.{count_of}
+use Rattle.std.proofs.Common.{arith}
 use Rattle.hir_import_resolution.proofs.Growing.{as_long, counts_one, one_longer}
 use Rattle.hir_import_resolution.proofs.import_queue.append_to.Goals as goal
 

@@ -1,5 +1,5 @@
 -- One more edge is firm in each turn.
-use Rattle.std.proofs.Common.{◌≡◌, ◌∙◌, ℕ, ◌<◌, ◌≤◌, Some, below_more, length, slice_get, subst, sym, ap, rules, arith}
+use Rattle.std.proofs.Common.{◌≡◌, Some, below_more, slice_get, rules, arith}
 use Rattle.std.proofs.lemmas.Option.{slice_get_within}
 use Rattle.hir_glob_imports.specs.declared.edge.Edge.{Edge}
 use Rattle.hir_import_resolution.specs.Lasting.{HasVariants, IsPlaced}

@@ -1,12 +1,12 @@
 -- What read a slot that has changed is queued, and so is what came besides; globs are looked at again in such slots.
-use Rattle.std.proofs.Common.{◌≡◌, ◌∙◌, ap, rules, subst, sym}
+use Rattle.std.proofs.Common.{◌∙◌, ap, rules, subst, sym}
 use Rattle.hir_def_map.specs.Overlay.{Maps}
 use Rattle.hir_def_map.specs.State.{IsInOrder}
 use Rattle.hir_def_map.specs.WorldParts.{part_of}
 use Rattle.hir_import_resolution.specs.declared.import_queue.ImportQueue.{ImportQueue}
 use Rattle.hir_import_resolution.specs.Inner.State.{finished_by, queue_by, state_by, state_in}
 use Rattle.hir_import_resolution.specs.Rest.{IsSound}
-use Rattle.hir_import_resolution.specs.Rounds.{AreQueued, IsResumable, is_apart, is_lasting}
+use Rattle.hir_import_resolution.specs.Rounds.{IsResumable, is_apart, is_lasting}
 use Rattle.hir_import_resolution.specs.State.{ImportState}
 use Rattle.hir_import_resolution.proofs.Growing.{queued_again}
 use Rattle.hir_import_resolution.proofs.LookingAgain.{kept_again, lasts_again}

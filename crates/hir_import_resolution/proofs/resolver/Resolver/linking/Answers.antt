@@ -2,7 +2,6 @@
 use Rattle.std.proofs.Common.{◌≡◌, ◌∙◌, ap, sym, subst, rules, List}
 use Rattle.std.specs.Prelude.{Contains, slice_get}
 use Rattle.hir_def_map.proofs.Modules.{slice_get-read}
-use Rattle.hir_glob_imports.specs.declared.edge.Target.{Target}
 use Rattle.hir_import_resolution.specs.Directives.{TakenValue}
 use Rattle.hir_import_resolution.specs.declared.directive.ImportDirective.{ImportDirective}
 use mathlib.Core.Bool.{true≢false}

@@ -1,5 +1,5 @@
 -- One slot more is opened in each turn.
-use Rattle.std.proofs.Common.{◌≡◌, ◌∙◌, ◌+◌, ◌<◌, ℕ, ap, arith, rules, subst, sym, Some, slice_get}
+use Rattle.std.proofs.Common.{◌∙◌, ◌+◌, ap, arith, rules, subst, sym, Some}
 use Rattle.hir_def_map.proofs.Modules.{slice_get-read}
 use Rattle.hir_import_resolution.specs.Inner.LookAgain.{OfSlots}
 use Rattle.hir_import_resolution.specs.declared.resolver.Resolver.{Resolver}

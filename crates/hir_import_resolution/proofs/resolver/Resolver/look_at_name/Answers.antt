@@ -1,9 +1,8 @@
 -- A key of each namespace is opened, one after another.
-use Rattle.std.proofs.Common.{◌≡◌, ◌∙◌, ap, true}
+use Rattle.std.proofs.Common.{◌∙◌}
 use Rattle.hir_def_map.proofs.Modules.{OnOk-map}
-use Rattle.hir_glob_imports.specs.declared.edge.Key.TheVariants.{Types, Values, Macros}
+use Rattle.hir_glob_imports.specs.declared.edge.Key.TheVariants.{Values, Macros}
 use Rattle.hir_import_resolution.specs.Inner.LookAgain.{OfKey}
-use Rattle.hir_import_resolution.proofs.Bound.{on_both}
 use Rattle.hir_import_resolution.proofs.Opened.{opened_name, placed_before, placed_name}
 use Rattle.hir_import_resolution.proofs.resolver.Resolver.look_at_name.Goals as goal
 

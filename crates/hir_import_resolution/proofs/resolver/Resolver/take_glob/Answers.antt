@@ -1,5 +1,5 @@
 -- A glob is recorded, and names go along globs.
-use Rattle.std.proofs.Common.{◌≡◌, ◌∙◌, ◌<◌, None, length, ap, refl, rules, subst, sym}
+use Rattle.std.proofs.Common.{◌∙◌, ◌<◌, length, ap, refl, rules, subst, sym}
 use Rattle.std.specs.declared.alloc.Global.{Global}
 use Rattle.std.specs.declared.vec.Vec.{Vec}
 use Rattle.hir_def_map.specs.WorldParts.{part_of}
@@ -7,12 +7,11 @@ use Rattle.hir_def_map.specs.declared.nameres.path_resolution.slots.Slot.{Slot a
 use Rattle.hir_worklist.specs.Queue.{Queue}
 use Rattle.hir_import_resolution.specs.declared.resolver.Resolver.{Resolver}
 use Rattle.hir_import_resolution.specs.declared.scopes.OpenScopes.{OpenScopes}
-use Rattle.hir_import_resolution.specs.Inner.Queue.{IsSamePass, IsTrying}
+use Rattle.hir_import_resolution.specs.Inner.Queue.{IsSamePass}
 use Rattle.hir_import_resolution.specs.Inner.State.{finished_by, state_by}
 use Rattle.hir_import_resolution.specs.Inner.Steps.{IsLinking, taking_at}
 use Rattle.hir_import_resolution.specs.Lasting.{HasVariants, IsPlaced}
 use Rattle.hir_import_resolution.specs.Rest.{IsSpent}
-use Rattle.hir_import_resolution.specs.Rules.{Step}
 use Rattle.hir_import_resolution.proofs.Running.{begun_linked, count_taken, importer_there, reports_join, reports_nothing, spent_taken, step_noted, steps_taken, trying_lowered}
 use Rattle.hir_import_resolution.proofs.resolver.Resolver.take_glob.Goals as goal
 
