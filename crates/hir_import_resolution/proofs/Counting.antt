@@ -71,4 +71,3 @@ pub steps_local : (finished : Maps) (a b : ImportState) → Steps finished a b �
 steps_local finished a _ none = refl
 steps_local finished a b (more old _ before step) =
     ap (λ (s : ImportState). s.local) step.is ∙ performed_local old (acts finished old step.rule) ∙ steps_local finished a old before
-

@@ -62,4 +62,3 @@ pub record Lasts (finished : Maps) (s : ImportState) : Type 0 where
   pub ordered : IsOrdered finished s.map
   pub placed : AreOfKind (IsPlaced s.map) (view_of (scopes_of finished s)) s.edges s.brought
   pub enums : (j : ℕ) (e : Edge) → slice_get s.edges j ≡ Some e → HasVariants s.map e.source
-

@@ -18,17 +18,17 @@ pub returns-clause-begun : goal.returns-clause-begun
 returns-clause-begun c =
     let opened = c.in_ok-look_again.ensures.opened in
     let queued =
-        queued_again (part_of c.args.world) c.args.queue (state_in c.args.imports) c.args.changed.now c.requires.resumable c.requires.lasts c.wake.new.self c.in_ok-wake.ensures.woken c.wake.ensures.apart c.wake.ensures.lasting
-        c.append.new.self c.len.result c.append.ensures.rest c.in_ok-append.ensures.longer (search (rules, c.len.ensures)) c.in_ok-append.ensures.count c.requires.there in
+    queued_again (part_of c.args.world) c.args.queue (state_in c.args.imports) c.args.changed.now c.requires.resumable c.requires.lasts c.wake.new.self c.in_ok-wake.ensures.woken c.wake.ensures.apart c.wake.ensures.lasting
+    c.append.new.self c.len.result c.append.ensures.rest c.in_ok-append.ensures.longer (search (rules, c.len.ensures)) c.in_ok-append.ensures.count c.requires.there in
     let same_apart = ap is_apart c.append.ensures.rest ∙ c.wake.ensures.apart in
     let same_lasting = ap is_lasting c.append.ensures.rest ∙ c.wake.ensures.lasting in
     -- what is known of the map before it grew, as of the resolver that took the imports over
     let resumable =
-        subst (λ (f : Maps). IsResumable f c.args.queue (state_by c.new-resolver.result) c.args.changed.now) (sym c.new-resolver.ensures.finished)
-        (subst (λ (s : ImportState). IsResumable (part_of c.args.world) c.args.queue s c.args.changed.now) (sym c.new-resolver.ensures.state) c.requires.resumable) in
+    subst (λ (f : Maps). IsResumable f c.args.queue (state_by c.new-resolver.result) c.args.changed.now) (sym c.new-resolver.ensures.finished)
+    (subst (λ (s : ImportState). IsResumable (part_of c.args.world) c.args.queue s c.args.changed.now) (sym c.new-resolver.ensures.state) c.requires.resumable) in
     let sound =
-        subst (λ (f : Maps). IsSound f (state_by c.new-resolver.result)) (sym c.new-resolver.ensures.finished)
-        (subst (λ (s : ImportState). IsSound (part_of c.args.world) s) (sym c.new-resolver.ensures.state) c.requires.sound) in
+    subst (λ (f : Maps). IsSound f (state_by c.new-resolver.result)) (sym c.new-resolver.ensures.finished)
+    (subst (λ (s : ImportState). IsSound (part_of c.args.world) s) (sym c.new-resolver.ensures.state) c.requires.sound) in
     let in_order = subst (λ (s : ImportState). IsInOrder s.map) (sym c.new-resolver.ensures.state) c.requires.in_order in
     begun_again (part_of c.args.world) c.append.new.self c.args.imports c.new-resolver.result c.look_again.new.self c.new-resolver.ensures.state c.new-resolver.ensures.finished c.new-resolver.ensures.queue
     c.new-resolver.ensures.changes c.look_again.ensures.rest opened.edges opened.brought c.look_again.ensures.lasted queued
@@ -40,15 +40,15 @@ returns-clause-begun c =
 pub returns-clause-over : goal.returns-clause-over
 returns-clause-over c =
     let queued =
-        queued_again (part_of c.args.world) c.args.queue (state_in c.args.imports) c.args.changed.now c.requires.resumable c.requires.lasts c.wake.new.self c.in_ok-wake.ensures.woken c.wake.ensures.apart c.wake.ensures.lasting
-        c.append.new.self c.len.result c.append.ensures.rest c.in_ok-append.ensures.longer (search (rules, c.len.ensures)) c.in_ok-append.ensures.count c.requires.there in
+    queued_again (part_of c.args.world) c.args.queue (state_in c.args.imports) c.args.changed.now c.requires.resumable c.requires.lasts c.wake.new.self c.in_ok-wake.ensures.woken c.wake.ensures.apart c.wake.ensures.lasting
+    c.append.new.self c.len.result c.append.ensures.rest c.in_ok-append.ensures.longer (search (rules, c.len.ensures)) c.in_ok-append.ensures.count c.requires.there in
     ap (λ r. (queue_by r).worklist.current) c.look_again.ensures.rest ∙ ap (λ (q : ImportQueue). q.worklist.current) c.new-resolver.ensures.queue ∙ queued.over
 
 pub returns-clause-outside : goal.returns-clause-outside
 returns-clause-outside c =
     let queued =
-        queued_again (part_of c.args.world) c.args.queue (state_in c.args.imports) c.args.changed.now c.requires.resumable c.requires.lasts c.wake.new.self c.in_ok-wake.ensures.woken c.wake.ensures.apart c.wake.ensures.lasting
-        c.append.new.self c.len.result c.append.ensures.rest c.in_ok-append.ensures.longer (search (rules, c.len.ensures)) c.in_ok-append.ensures.count c.requires.there in
+    queued_again (part_of c.args.world) c.args.queue (state_in c.args.imports) c.args.changed.now c.requires.resumable c.requires.lasts c.wake.new.self c.in_ok-wake.ensures.woken c.wake.ensures.apart c.wake.ensures.lasting
+    c.append.new.self c.len.result c.append.ensures.rest c.in_ok-append.ensures.longer (search (rules, c.len.ensures)) c.in_ok-append.ensures.count c.requires.there in
     ap (λ r. (queue_by r).worklist.end) c.look_again.ensures.rest ∙ ap (λ (q : ImportQueue). q.worklist.end) c.new-resolver.ensures.queue ∙ queued.outside
 
 pub returns-clause-state : goal.returns-clause-state

@@ -105,4 +105,3 @@ returns-clause-local c =
     c.in_ok-reopen.ensures.state c.in_ok-reopen.ensures.rest in
     ap (λ (s : ImportState). s.local) c.finish.ensures.state ∙ steps_local (finished_by c.reopen.new.self) (state_by c.reopen.new.self) (state_by c.settle.new.self) c.in_ok-settle.ensures.steps
     ∙ ap (λ (s : ImportState). s.local) at.state
-

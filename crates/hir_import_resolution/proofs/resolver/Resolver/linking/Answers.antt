@@ -11,7 +11,7 @@ use Rattle.hir_import_resolution.proofs.resolver.Resolver.linking.Goals as goal
 pub returns-clause-due : goal.returns-clause-due
 returns-clause-due c =
     let import = sym (ap (λ (xs : List ImportDirective). slice_get xs c.args.i) c.deref.ensures.value)
-        ∙ slice_get-read c.deref.result.now c.args.i c.in_ok-import.import.now c.in_ok-import.ensures.lookup.3.0 c.in_ok-import.ensures.lookup.1 in
+    ∙ slice_get-read c.deref.result.now c.args.i c.in_ok-import.import.now c.in_ok-import.ensures.lookup.3.0 c.in_ok-import.ensures.lookup.1 in
     let path = c.requires.path c.in_ok-import.import.now import in
     record {
       r = c.in_ok-import.import.now;
@@ -31,9 +31,9 @@ pub returns-then-is_for-clause-linked : goal.returns-then-is_for-clause-linked
 returns-then-is_for-clause-linked c = record {
   linked = λ r t by target r_is t_is glob reached.
       let import = sym (ap (λ (xs : List ImportDirective). slice_get xs c.args.i) c.deref.ensures.value)
-          ∙ slice_get-read c.deref.result.now c.args.i c.in_ok-import.import.now c.in_ok-import.ensures.lookup.3.0 c.in_ok-import.ensures.lookup.1 in
+      ∙ slice_get-read c.deref.result.now c.args.i c.in_ok-import.import.now c.in_ok-import.ensures.lookup.3.0 c.in_ok-import.ensures.lookup.1 in
       let before = sym (ap (λ (xs : List TakenValue). slice_get xs c.args.i) c.deref-2.ensures.value)
-          ∙ slice_get-read c.deref-2.result.now c.args.i c.in_ok-before.before.now c.in_ok-before.ensures.lookup.3.0 c.in_ok-before.ensures.lookup.1 in
+      ∙ slice_get-read c.deref-2.result.now c.args.i c.in_ok-before.before.now c.in_ok-before.ensures.lookup.3.0 c.in_ok-before.ensures.lookup.1 in
       let path = c.requires.path r r_is in
       let same : target ≡ c.in_ok-source.source = cc (reached, c.in_ok-source.ensures.value, path, c.id.ensures.value, c.map.ensures.value) in
       subst (λ (x : TakenValue). Contains x.targets target) (only_one (slice_get c.args.self.now.taken.items c.args.i) c.in_ok-before.before.now t before t_is)

@@ -14,11 +14,11 @@ pub loop-slot-preserved : goal.loop-slot-preserved
 loop-slot-preserved c =
     let here = slice_get-read c.args.slots.now c.loop-slot.slot-index c.slot-item.result c.loop-slot-test.true (sym (search (rules, c.slot-item.is))) in
     elim c.match-slot.branch [
-      in-Module+in_ok-look_at_name w ↦
+      | in-Module+in_ok-look_at_name w ↦
           subst (λ (r : Resolver). IsOpenedTo c.args.self.now r c.args.slots.now (c.loop-slot.slot-index + 1)) (sym w.self-is)
           (opened_next c.args.self.now c.loop-slot.self w.look_at_name.new.self c.args.slots.now c.loop-slot.slot-index w.in-Module.at w.in-Module.name (here ∙ ap Some (search (rules, w.in-Module.is))) c.loop-slot.invariant
           w.look_at_name.ensures.rest w.in_ok-look_at_name.ensures.opened w.look_at_name.ensures.lasted w.in_ok-look_at_name.ensures.placed)
-      | in_default w ↦ 
+      | in_default w ↦
           subst (λ (r : Resolver). IsOpenedTo c.args.self.now r c.args.slots.now (c.loop-slot.slot-index + 1)) (sym w.self-is)
           (opened_past c.args.self.now c.loop-slot.self c.args.slots.now c.loop-slot.slot-index w.in_default.field-0 (here ∙ ap Some (search (rules, w.in_default.is))) c.loop-slot.invariant)
     ]
