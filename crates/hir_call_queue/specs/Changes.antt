@@ -25,6 +25,14 @@ with_slot at name c = cond c.all c (record c { slots = c.slots ++ of_module at n
 abbrev pub with_preludes : List ℕ → ChangedValue → ChangedValue
 with_preludes name c = cond c.all c (record c { slots = c.slots ++ of_preludes name ∷ [] })
 
+-- these slots besides
+abbrev pub with_slots : List PathSlot → ChangedValue → ChangedValue
+with_slots slots c = cond c.all c (record c { slots = c.slots ++ slots })
+
+-- those of two, any where any may be of the second
+abbrev pub joined : ChangedValue → ChangedValue → ChangedValue
+joined c other = cond other.all everything (with_slots other.slots c)
+
 -- a slot isn't among them
 pub record IsUntouched (changed : ChangedValue) (slot : PathSlot) : Type 0 where
   pub some : changed.all ≡ false

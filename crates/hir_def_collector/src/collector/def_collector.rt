@@ -1,8 +1,8 @@
 //! Where a run stands, and what each change leaves.
 #![tactic(auto, unfolding(crate::specs::State::core_in))]
 
-ghost use Rattle.std.specs.Prelude.{◌≡◌, ◌≢◌, ◌<◌, ◌≤◌, ℕ, true, false, ◌∷◌, [], Some, length, option_map, slice_get, slice_set, IfNone, IfOk, IfSome, OnOk};
-ghost use Rattle.hir_def_map.specs.State.{with_enum, new_id, new_module, with_declared, with_use, with_impl, with_extern_block, with_extern_crate, with_unnamed_const};
+ghost use Rattle.std.specs.Prelude.{◌≡◌, ◌≢◌, ◌<◌, ◌≤◌, ℕ, true, false, ◌∷◌, [], Some, length, option_map, slice_get, slice_set, IfNone, IfOk, IfSome, IsSome, None, OnOk};
+ghost use Rattle.hir_def_map.specs.State.{with_enum, new_id, new_module, with_declared, with_use, with_impl, with_extern_block, with_extern_crate, with_unnamed_const, variants_at};
 ghost use Rattle.hir_def_map.specs.WorldParts.{part_of};
 ghost use Rattle.hir_def_map.specs.Macros.{with_diagnostic, with_macro_def};
 ghost use Rattle.hir_import_resolution.specs.Inner.State.{IsApart};
@@ -22,7 +22,7 @@ ghost use Rattle.hir_def_collector.specs.ModuleFiles.{file_key};
 ghost use Rattle.hir_def_collector.specs.Steps.{Steps};
 ghost use Rattle.hir_def_collector.specs.Derivation.{IsSpent, collected_view, finished_run};
 ghost use Rattle.hir_def_collector.specs.Moves.{begun};
-ghost use Rattle.hir_def_collector.specs.Waiting.{IsNoted};
+ghost use Rattle.hir_def_collector.specs.Waiting.{IsNoted, NotesSlots};
 
 use crate::collector::collected::{Asked, Collected};
 use crate::collector::diagnostics::{report_calls, report_unresolved, unresolved_crates};
@@ -143,6 +143,16 @@ fn end(fates: &mut Vec<Fate>, i: usize, fate: Fate)
 {
     if i < fates.len() {
         fates[i] = fate;
+    }
+}
+
+/// All slots may have changed where an enum gets variants that has some.
+fn note_variants(changed: &mut Changed, map: &DefMap, id: EnumId)
+    ensures fresh { variants_at map.now id ≡ None → changed.new ≡ changed.old }
+    ensures again { IsSome (variants_at map.now id) → changed.new ≡ everything }
+{
+    if map.enum_variants(id).is_some() {
+        changed.add_everything();
     }
 }
 
@@ -361,6 +371,7 @@ impl DefCollector {
         ensures ok { OnOk result (core_in self.new ≡ with_asked (with_map (core_in self.old) (with_enum (core_in self.old).map id variants)) (Key.Variants id)) }
         ensures noted { OnOk result (IsNoted self.old self.new) }
     {
+        note_variants(&mut self.changed, &self.map, id);
         self.asked.push(Key::Variants(id))?;
         self.map.add_enum(id, variants)?;
         Ok(())
@@ -523,7 +534,7 @@ impl DefCollector {
             map: MapId { krate, block: None },
             index: 0,
         };
-        self.changed.add_everything();
+        self.changed.add_prelude(&name)?;
         self.local.add_extern(name, root, Some(id))?;
         Ok(())
     }
@@ -669,7 +680,7 @@ impl DefCollector {
     pub fn spread(self, world: WorldPart<'_>) -> Result<DefCollector, CollectError>
         requires sound { IsSound (part_of world) (import_state (at_rest (core_in self))) }
         ensures ok { IfOk result (λ run. (env : Environment) → Steps env (part_of world.entry) (at_rest (core_in self)) (at_rest (core_in run))) }
-        ensures noted { IfOk result (λ run. IsNoted self run) }
+        ensures noted { IfOk result (λ run. NotesSlots self run) }
         ensures closed { IfOk result (λ run. IsClosed (part_of world.entry) (import_state (at_rest (core_in run)))) }
         ensures sound { IfOk result (λ run. IsSound (part_of world.entry) (import_state (at_rest (core_in run)))) }
         ensures others { IfOk result (λ run. core_in run ≡ core_with_imports (core_in self) (import_state (at_rest (core_in run)))) }

@@ -170,7 +170,7 @@ returns-in-Some-clause-stale g c =
     let part = part_of c.args.world in
     let tried = core_in c.try_calls.new.run in
     let fated = (ready_after (Steps-append (settles_requeued (environment c.try_calls.new.locations (g.D.SourceDatabase.workspace c.args.db.now)) (part_of c.args.world) (core_in c.args.run) (core_in c.in_ok-run.run') (core_in c.requeue.new.run) c.requeue.ensures.same (c.in_ok-run.ensures.ok (environment c.try_calls.new.locations (g.D.SourceDatabase.workspace c.args.db.now)))) (c.in_ok-try_calls.ensures.ok c.try_calls.new.locations (tables_stay c.try_calls.new.locations))) (ready_grown c.in_ok-try_calls.ensures.kept c.requires.ready)).fated in
-    stale_later part c.try_calls.new.queue c.try_calls.new.run c.give_up.new.run (stale_now part c.try_calls.new.queue c.try_calls.new.run c.in_ok-try_calls.ensures.up_to_date) c.in_ok-given.ensures.noted
+    stale_later part c.try_calls.new.queue c.try_calls.new.run c.give_up.new.run (stale_now part c.try_calls.new.queue c.try_calls.new.run c.in_ok-try_calls.ensures.up_to_date) c.in_ok-given.ensures.noted.slots
     (keeps_waiting tried (core_in c.give_up.new.run) (c.in_ok-given.ensures.ok later (tables_stay later)) fated)
 
 pub returns-in-Some-clause-counts : goal.returns-in-Some-clause-counts
@@ -205,7 +205,7 @@ returns-in-None-clause-stale g c =
     let part = part_of c.args.world in
     let tried = core_in c.try_calls.new.run in
     let fated = (ready_after (Steps-append (settles_requeued (environment c.try_calls.new.locations (g.D.SourceDatabase.workspace c.args.db.now)) (part_of c.args.world) (core_in c.args.run) (core_in c.in_ok-run.run') (core_in c.requeue.new.run) c.requeue.ensures.same (c.in_ok-run.ensures.ok (environment c.try_calls.new.locations (g.D.SourceDatabase.workspace c.args.db.now)))) (c.in_ok-try_calls.ensures.ok c.try_calls.new.locations (tables_stay c.try_calls.new.locations))) (ready_grown c.in_ok-try_calls.ensures.kept c.requires.ready)).fated in
-    stale_later part c.try_calls.new.queue c.try_calls.new.run c.give_up.new.run (stale_now part c.try_calls.new.queue c.try_calls.new.run c.in_ok-try_calls.ensures.up_to_date) c.in_ok-given.ensures.noted
+    stale_later part c.try_calls.new.queue c.try_calls.new.run c.give_up.new.run (stale_now part c.try_calls.new.queue c.try_calls.new.run c.in_ok-try_calls.ensures.up_to_date) c.in_ok-given.ensures.noted.slots
     (keeps_waiting tried (core_in c.give_up.new.run) (c.in_ok-given.ensures.ok later (tables_stay later)) fated)
 
 pub returns-in-None-clause-counts : goal.returns-in-None-clause-counts

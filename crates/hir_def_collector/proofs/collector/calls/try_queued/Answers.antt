@@ -25,7 +25,7 @@ returns-clause-up_to_date g c =
     let new = core_in c.try_call.new.run in
     let steps : Steps (environment c.try_call.new.locations w) part (at_rest old) (at_rest new) = c.in_ok-done.ensures.ok c.try_call.new.locations (tables_stay c.try_call.new.locations) in
     subst (λ (core : Core). IsUpToDate part c.wake.new.queue core None) (sym c.wake.ensures.same)
-    (up_to_date_handled part c.args.queue.now c.wake.new.queue c.args.run.now c.try_call.new.run c.in_ok-done.ensures.noted (keeps_waiting old new steps c.requires.ready.fated) c.in_ok-wake.ensures.woken
+    (up_to_date_handled part c.args.queue.now c.wake.new.queue c.args.run.now c.try_call.new.run c.in_ok-done.ensures.noted.slots (keeps_waiting old new steps c.requires.ready.fated) c.in_ok-wake.ensures.woken
     (apart_later part c.args.queue.now c.wake.new.queue old new c.in_ok-wake.ensures.woken.on.apart (id-Steps steps) c.requires.apart)
     c.args.i c.requires.up_to_date
     (waits_no_more new c.args.i (was_handled part old new c.args.i _ c.in_ok-done.ensures.tried c.if-not-done.false)))
