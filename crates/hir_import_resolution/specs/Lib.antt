@@ -11,6 +11,7 @@ pub mod Rules
 -- ---- where they rest
 pub mod Rest
 -- ---- and what may happen before they are taken up again
+pub mod Lasting
 pub mod Rounds
 pub mod Sound
 -- ---- words of private code

@@ -1,5 +1,5 @@
 -- What may happen to imports between two times that they rest?
-use Rattle.std.specs.Prelude.{◌≡◌, ℕ, ◌<◌, ◌≤◌, Bool, true, false, List, [], ◌++◌, Option, None, Some, length, slice_get}
+use Rattle.std.specs.Prelude.{◌≡◌, ℕ, ◌<◌, ◌≤◌, Bool, true, false, List, [], ◌++◌, Option, None, Some, Contains, length, slice_get}
 use Rattle.std.specs.List.{All}
 use Rattle.hir_base.specs.declared.ids.EnumId.{EnumId}
 use Rattle.hir_base.specs.declared.ids.ExternCrateId.{ExternCrateId}
@@ -12,30 +12,31 @@ use Rattle.hir_scope.specs.Scope.Reads.{unnamed_vis}
 use Rattle.hir_scope.specs.declared.imports.ImportOrExternCrate.{ImportOrExternCrate}
 use Rattle.hir_scope.specs.declared.per_ns.PerNs.{PerNs}
 use Rattle.hir_scope.specs.declared.visibility.Visibility.{Visibility}
-use Rattle.hir_scope.specs.declared.visibility.Visibility.TheVariants as visibilities
 use Rattle.hir_def_map.specs.Declaration.{listed}
-use Rattle.hir_def_map.specs.Overlay.{Maps, placed_in}
-use Rattle.hir_def_map.specs.Scoping.Slots.{is_in}
+use Rattle.hir_def_map.specs.Overlay.{Maps}
 use Rattle.hir_def_map.specs.State.{IsInOrder, Map, Variants, entry_at, globs_after, module_at, new_module, pushed, variants_at, with_enum, with_macro_use, with_module, with_scope}
 use Rattle.hir_def_map.specs.declared.nameres.declaration.Declaration.{Declaration}
 use Rattle.hir_def_map.specs.declared.nameres.origin.ModuleOrigin.{ModuleOrigin}
 use Rattle.hir_def_map.specs.declared.nameres.path_resolution.slots.Slot.{Slot as PathSlot}
-use Rattle.hir_def_map.specs.declared.world.reference.Reference.TheVariants as named
-use Rattle.hir_def_map_laws.specs.ReadLaw.{BeginsWithCrates, Grows, StandsBeside, has_no_variants}
-use Rattle.hir_def_map_laws.specs.SlotChanges.{ChangesAmong}
-use Rattle.hir_glob_imports.specs.Waves.{GlobsValue, IsKept}
+use Rattle.hir_def_map.specs.declared.nameres.path_resolution.slots.Slot.TheVariants.{Module as of_module}
+use Rattle.hir_def_map_laws.specs.ReadLaw.{AgreeAt, Grows, StandsBeside}
+use Rattle.hir_glob_imports.specs.Keys.{name_of}
+use Rattle.hir_glob_imports.specs.Waves.{GlobsValue, IsKept, update_at}
 use Rattle.hir_glob_imports.specs.declared.edge.Bound.{Bound}
 use Rattle.hir_glob_imports.specs.declared.edge.Edge.{Edge}
 use Rattle.hir_glob_imports.specs.declared.edge.Key.{Key}
-use Rattle.hir_glob_imports.specs.declared.edge.Target.{Target}
+use Rattle.hir_glob_imports.specs.declared.edge.Slot.{Slot}
 use Rattle.hir_glob_imports.specs.declared.edge.Target.TheVariants as targets
+use Rattle.hir_glob_imports.specs.declared.edge.Update.TheVariants.{Nothing}
 use Rattle.hir_worklist.specs.Queue.{count_of, is_unfinished}
 use Rattle.hir_import_resolution.specs.declared.directive.ImportDirective.{ImportDirective}
 use Rattle.hir_import_resolution.specs.declared.import_queue.ImportQueue.{ImportQueue}
 use Rattle.hir_import_resolution.specs.Inner.Queue.{AreIdleSettled}
+use Rattle.hir_import_resolution.specs.Inner.State.{IsApart}
 use Rattle.hir_import_resolution.specs.Inner.Steps.{IsBound}
+pub use Rattle.hir_import_resolution.specs.Lasting.{HasVariants, IsOrdered, IsPlaced, IsThere, Lasts, beside}
 use Rattle.hir_import_resolution.specs.Names.{ScopesValue, bound_of, trait_vis, view_of}
-use Rattle.hir_import_resolution.specs.State.{ImportState}
+use Rattle.hir_import_resolution.specs.State.{ImportState, scopes_of}
 
 -- ---- what is queued
 
@@ -43,9 +44,13 @@ use Rattle.hir_import_resolution.specs.State.{ImportState}
 abbrev pub is_apart : ImportQueue → Bool
 is_apart queue = queue.apart
 
--- a queue is up to date with where imports stand: an import that isn't queued would do nothing if it were tried, and watches what it reads
-pub record IsUpToDate (finished : Maps) (queue : ImportQueue) (s : ImportState) : Type 0 where
-  pub settled : AreIdleSettled queue.apart finished s None queue.worklist queue.watchers
+-- whether what was found out of imports and globs lasts as the map grows
+abbrev pub is_lasting : ImportQueue → Bool
+is_lasting queue = queue.lasting
+
+-- a queue has the imports that there are, and one that isn't queued would do nothing if it were tried, and watches what it reads
+pub record AreQueued (finished : Maps) (queue : ImportQueue) (s : ImportState) : Type 0 where
+  pub settled : AreIdleSettled queue.lasting queue.apart finished s None queue.worklist queue.watchers
   -- it has the imports, and none is finished
   pub count : count_of queue.worklist ≡ length s.imports
   pub unfinished : (p : ℕ) → p < length s.imports → is_unfinished queue.worklist p ≡ true
@@ -54,11 +59,25 @@ pub record IsUpToDate (finished : Maps) (queue : ImportQueue) (s : ImportState) 
   pub over : queue.worklist.current ≡ []
   pub outside : queue.worklist.end ≡ 0
 
+-- a queue is up to date with where imports stand: along no glob anything is to be done either
+pub record IsUpToDate (finished : Maps) (queue : ImportQueue) (s : ImportState) : Type 0 where
+  pub queued : AreQueued finished queue s
+  pub still : (j : ℕ) (e : Edge) (key : Key) → slice_get s.edges j ≡ Some e → update_at (view_of (scopes_of finished s)) s.brought j e key ≡ Nothing
+  pub importers : (j : ℕ) (e : Edge) → slice_get s.edges j ≡ Some e → e.importer < length s.map.modules
+  pub lasts : queue.lasting ≡ true → Lasts finished s
+
 -- ---- what may have changed since
 
--- the map and its crates grew, and what they hold differs in these slots alone; the imports that there were stand where they stood, and others may have come behind them
+-- the map and its crates grew, and what they hold differs in these slots alone; no glob was recorded, and the imports that there were stand where they stood, and others may have come behind them
 pub record Grew (old new : ImportState) (slots : List PathSlot) : Type 0 where
-  pub map : ChangesAmong old.map old.local new.map new.local slots
+  pub grows : Grows old.map new.map
+  pub modules : length old.map.modules ≤ length new.map.modules
+  pub others : (slot : PathSlot) → ¬ Contains slots slot → IsThere (length old.map.modules) slot → AgreeAt old.map old.local new.map new.local slot
+  -- names in modules that weren't there too, and traits without names
+  pub entries : (at : ℕ) (name : List ℕ) → ¬ Contains slots (of_module at name) → entry_at new.map at name ≡ entry_at old.map at name
+  pub traits : (at : ℕ) (id : TraitId) → trait_vis (module_at new.map at) id ≡ trait_vis (module_at old.map at) id
+  pub edges : new.edges ≡ old.edges
+  pub brought : (s : Slot) → ((name : List ℕ) → name_of s.key ≡ Some name → ¬ Contains slots (of_module s.at name)) → new.brought s ≡ old.brought s
   pub imports : (i : ℕ) → i < length old.imports → slice_get new.imports i ≡ slice_get old.imports i
   pub taken : (i : ℕ) → i < length old.imports → slice_get new.taken i ≡ slice_get old.taken i
 
@@ -71,9 +90,8 @@ pub record IsResumable (finished : Maps) (queue : ImportQueue) (now : ImportStat
   pub before : ImportState
   pub up_to_date : IsUpToDate finished queue before
   pub grew : Grew before now slots
-  pub stands : is_apart queue ≡ true → StandsBeside finished before.map
-  pub begins : is_apart queue ≡ true → BeginsWithCrates before.local
-  pub begins_now : is_apart queue ≡ true → BeginsWithCrates now.local
+  pub apart : is_apart queue ≡ true → IsApart finished before.map.id before.local
+  pub apart_now : is_apart queue ≡ true → IsApart finished now.map.id now.local
 
 -- ---- what globs see of it
 
@@ -84,33 +102,12 @@ pub record GrowsAround (old new : Map) : Type 0 where
   pub entries : (at : ℕ) (name : List ℕ) → entry_at new at name ≡ entry_at old at name
   pub traits : (at : ℕ) (id : TraitId) → trait_vis (module_at new at) id ≡ trait_vis (module_at old at) id
 
--- a module that a visibility names is there, where it lies in the map
-abbrev pub IsPlaced : Map → Visibility → Type 0
-IsPlaced map visibilities.Public = Unit {0}
-IsPlaced map (visibilities.PubCrate krate) = Unit {0}
-IsPlaced map (visibilities.Module m explicitness) = is_in map.id m ≡ true → m.index < length map.modules
-
--- an enum that is a target has its variants, where it lies in the map
-abbrev pub HasVariants : Map → Target → Type 0
-HasVariants map (targets.Own at) = Unit {0}
-HasVariants map (targets.Module m) = Unit {0}
-HasVariants map (targets.Enum id) = has_no_variants map (named.Enum id) ≡ false
-
 -- globs lead out of enums that have their variants, and the visibilities of globs, and of what stands at their ends, name modules that are there
 pub record ArePlaced (n : ScopesValue) (globs : List Edge) : Type 0 where
   pub edges : (j : ℕ) (e : Edge) → slice_get globs j ≡ Some e → IsPlaced n.map e.vis
   pub enums : (j : ℕ) (e : Edge) → slice_get globs j ≡ Some e → HasVariants n.map e.source
   pub sources : (j : ℕ) (e : Edge) (key : Key) (b : Bound) → slice_get globs j ≡ Some e → bound_of n e.source key ≡ Some b → IsPlaced n.map b.vis
   pub importers : (j : ℕ) (e : Edge) (key : Key) (b : Bound) → slice_get globs j ≡ Some e → bound_of n (targets.Own e.importer) key ≡ Some b → IsPlaced n.map b.vis
-
--- a map beside finished ones, and the names that globs brought
-abbrev pub beside : Maps → Map → GlobNames → ScopesValue
-beside finished map globs = record { finished = finished; map = map; globs = globs }
-
--- its modules come after what they are in, and what holds it lies outside
-pub record IsOrdered (finished : Maps) (map : Map) : Type 0 where
-  pub in_order : IsInOrder map
-  pub holders : All (λ (h : ModuleId). is_in map.id h ≡ false) (placed_in finished map).holders
 
 -- as of a map that stands beside finished ones
 abbrev pub MapsBesideAreOrdered : Type 0

@@ -1,8 +1,9 @@
 //! Which imports are to be tried.
-ghost use Rattle.std.specs.Prelude.{◌≡◌, ◌≤◌, OnOk};
+ghost use Rattle.std.specs.Prelude.{◌≡◌, ◌≤◌, false, OnOk};
 ghost use Rattle.hir_worklist.specs.Moves.{empty_queue};
 ghost use Rattle.hir_worklist.specs.Queue.{count_of};
 ghost use Rattle.hir_import_resolution.specs.Inner.Queue.{IsLonger, IsSamePass, IsWoken, WakesEach};
+ghost use Rattle.hir_import_resolution.specs.Rounds.{is_lasting};
 
 use crate::resolver::watch::wake_everything;
 use hir_def_map::nameres::path_resolution::slots::Slot;
@@ -14,6 +15,8 @@ use std::alloc::{AllocError, Global};
 pub struct ImportQueue {
     /// Whether finished maps don't refer to the map that is built.
     pub(crate) apart: bool,
+    /// Whether what was found out of imports and globs lasts as the map grows.
+    pub(crate) lasting: bool,
     /// The imports that are to be tried.
     pub(crate) worklist: Worklist,
     /// The imports by the slots that their last tries read.
@@ -47,13 +50,32 @@ fn wake_slots(
 }
 
 impl ImportQueue {
+    /// No imports, of which nothing lasts.
+    pub fn none(alloc: Global) -> ImportQueue
+        ensures value { is_lasting result ≡ false }
+    {
+        ImportQueue::new(alloc, false, false)
+    }
+
+    /// Whether what was found out of imports and globs lasts as the map grows, so that they may be resumed.
+    ///
+    /// It does but where a path stops at an enum that has no variants yet, or leads to a module that isn't there, where a glob
+    /// leads out of such an enum, or where a visibility names such a module.
+    pub fn lasts(&self) -> bool
+        ensures value { result ≡ is_lasting self.now }
+    {
+        self.lasting
+    }
+
     /// No imports.
-    pub(crate) fn new(alloc: Global, apart: bool) -> ImportQueue
+    pub(crate) fn new(alloc: Global, apart: bool, lasting: bool) -> ImportQueue
         ensures apart { result.apart ≡ apart }
+        ensures lasting { result.lasting ≡ lasting }
         ensures none { result.worklist ≡ empty_queue }
     {
         ImportQueue {
             apart,
+            lasting,
             worklist: Worklist::new(alloc),
             watchers: Watchers::new(alloc),
         }
@@ -72,6 +94,7 @@ impl ImportQueue {
     pub(crate) fn wake(&mut self, slots: &[Slot]) -> Result<(), AllocError>
         ensures woken { OnOk result (IsWoken self.old.apart slots.now self.old.worklist self.old.watchers self.new.worklist self.new.watchers) }
         ensures apart { self.new.apart ≡ self.old.apart }
+        ensures lasting { self.new.lasting ≡ self.old.lasting }
     {
         if self.apart {
             wake_slots(&mut self.watchers, &mut self.worklist, slots)

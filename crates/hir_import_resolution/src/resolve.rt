@@ -1,13 +1,11 @@
 //! Imports until no more comes of them.
 ghost use Rattle.std.specs.Prelude.{◌≡◌, ◌≤◌, ◌<◌, ℕ, true, IfOk, Some, length, slice_get};
 ghost use Rattle.hir_import_resolution.specs.declared.directive.ImportDirective.{ImportDirective};
+ghost use Rattle.hir_def_map.specs.State.{IsInOrder};
 ghost use Rattle.hir_def_map.specs.WorldParts.{part_of};
-ghost use Rattle.hir_glob_imports.specs.Waves.{IsKept};
-ghost use Rattle.hir_import_resolution.specs.Names.{view_of};
-ghost use Rattle.hir_import_resolution.specs.Rest.{IsAtRest, IsRecorded, IsSpent};
+ghost use Rattle.hir_import_resolution.specs.Rest.{IsAtRest, IsSound, IsSpent};
 ghost use Rattle.hir_import_resolution.specs.Rules.{Steps};
 ghost use Rattle.hir_import_resolution.specs.Inner.State.{IsApart, state_in};
-ghost use Rattle.hir_import_resolution.specs.State.{scopes_of};
 
 use crate::imports::Imports;
 use crate::rounds::begin_imports;
@@ -62,8 +60,8 @@ pub fn resolve_imports(
     requires small { imports.count ≤ MAX_STEPS }
     requires apart { apart ≡ true → IsApart (part_of world) imports.map.id imports.local }
     requires there { (i : ℕ) (r : ImportDirective) → slice_get imports.imports.items i ≡ Some r → r.home < length imports.map.modules }
-    requires kept { IsKept (view_of (scopes_of (part_of world) (state_in imports))) imports.globs }
-    requires recorded { (i : ℕ) → IsRecorded (state_in imports) i }
+    requires in_order { IsInOrder imports.map }
+    requires sound { IsSound (part_of world) (state_in imports) }
     ensures derived { IfOk result (λ r. Steps (part_of world.entry) (state_in imports) (state_in r)) }
     ensures rests { IfOk result (λ r. IsAtRest (part_of world.entry) (state_in r)) }
     ensures small { IfOk result (λ r. r.count ≤ MAX_STEPS) }

@@ -9,6 +9,7 @@ ghost use Rattle.hir_def_map.specs.WorldParts.{part_of};
 ghost use Rattle.hir_import_resolution.specs.Inner.State.{finished_by, queue_by, state_by, state_in};
 
 pub(crate) mod bind;
+mod lasting;
 mod settle;
 mod steps;
 pub(crate) mod watch;
@@ -39,12 +40,16 @@ pub struct Resolver<'a> {
     count: u32,
     /// Whether finished maps don't refer to the map that is built.
     apart: bool,
+    /// Whether what is found out lasts as the map grows.
+    lasting: bool,
     /// The imports that are to be tried, by their places.
     worklist: Worklist,
     /// The imports by the slots that their last tries read.
     watchers: Watchers<Slot>,
     /// The slots that the last wave changed.
     changes: Vec<hir_glob_imports::Slot>,
+    /// The slots that were changed since the imports were taken over, where what they read is watched.
+    reported: Vec<Slot>,
 }
 
 impl<'a> Resolver<'a> {
@@ -60,6 +65,7 @@ impl<'a> Resolver<'a> {
         ensures finished { finished_by result ≡ part_of world.entry }
         ensures queue { queue_by result ≡ queue }
         ensures changes { result.changes.items ≡ [] }
+        ensures reported { result.reported.items ≡ [] }
     {
         Resolver {
             alloc,
@@ -74,9 +80,11 @@ impl<'a> Resolver<'a> {
             globs: imports.globs,
             count: imports.count,
             apart: queue.apart,
+            lasting: queue.lasting,
             worklist: queue.worklist,
             watchers: queue.watchers,
             changes: Vec::new(alloc),
+            reported: Vec::new(alloc),
         }
     }
 
@@ -107,6 +115,7 @@ impl<'a> Resolver<'a> {
         ensures state { state_in result.imports ≡ state_by self.entry }
         ensures globs { result.imports.globs ≡ self.entry.globs }
         ensures queue { result.queue ≡ queue_by self.entry }
+        ensures changed { result.changed ≡ self.entry.reported }
         ensures count { result.imports.count ≡ self.entry.count }
     {
         let scopes = self.scopes;
@@ -122,9 +131,11 @@ impl<'a> Resolver<'a> {
             },
             queue: ImportQueue {
                 apart: self.apart,
+                lasting: self.lasting,
                 worklist: self.worklist,
                 watchers: self.watchers,
             },
+            changed: self.reported,
         }
     }
 }

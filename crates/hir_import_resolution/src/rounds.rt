@@ -1,17 +1,18 @@
 //! Imports that are resolved round by round, while the map that has them grows between rounds.
 ghost use Rattle.std.specs.Prelude.{◌≡◌, ◌≤◌, ◌<◌, ℕ, true, IfOk, Some, length, slice_get};
+ghost use Rattle.hir_def_map.specs.State.{IsInOrder};
 ghost use Rattle.hir_def_map.specs.WorldParts.{part_of};
-ghost use Rattle.hir_glob_imports.specs.Waves.{IsKept};
+ghost use Rattle.hir_def_map_laws.specs.SlotChanges.{ScopesChangeAmong};
 ghost use Rattle.hir_import_resolution.specs.declared.directive.ImportDirective.{ImportDirective};
 ghost use Rattle.hir_import_resolution.specs.Inner.State.{IsApart, state_in};
-ghost use Rattle.hir_import_resolution.specs.Names.{view_of};
-ghost use Rattle.hir_import_resolution.specs.Rest.{IsAtRest, IsRecorded, IsSpent};
-ghost use Rattle.hir_import_resolution.specs.Rounds.{IsResumable, IsUpToDate, is_apart};
+ghost use Rattle.hir_import_resolution.specs.Lasting.{Lasts};
+ghost use Rattle.hir_import_resolution.specs.Rest.{IsAtRest, IsSound, IsSpent};
+ghost use Rattle.hir_import_resolution.specs.Rounds.{AreQueued, IsResumable, IsUpToDate, is_apart, is_lasting};
 ghost use Rattle.hir_import_resolution.specs.Rules.{Steps};
-ghost use Rattle.hir_import_resolution.specs.State.{scopes_of};
 
 use crate::import_queue::ImportQueue;
 use crate::imports::Imports;
+use crate::lasting::do_globs_last;
 use crate::resolve::ImportError;
 use crate::resolver::Resolver;
 use hir_def_map::nameres::path_resolution::slots::Slot;
@@ -25,10 +26,12 @@ pub struct Resting {
     pub imports: Imports,
     /// What they read, so that they are tried again once that has changed.
     pub queue: ImportQueue,
+    /// The slots that changed as they were taken, where finished maps don't refer to the map that is built.
+    pub changed: Vec<Slot>,
 }
 
-/// Tries what is queued, until no more comes of the imports.
-fn settle(
+/// Looks at all names along all globs and tries what is queued, until no more comes of the imports.
+fn settle_reopened(
     alloc: Global,
     world: WorldPart<'_>,
     queue: ImportQueue,
@@ -36,24 +39,27 @@ fn settle(
 ) -> Result<Resting, ImportError>
     requires small { imports.count ≤ MAX_STEPS }
     requires apart { is_apart queue ≡ true → IsApart (part_of world) imports.map.id imports.local }
-    requires up_to_date { IsUpToDate (part_of world) queue (state_in imports) }
-    requires kept { IsKept (view_of (scopes_of (part_of world) (state_in imports))) imports.globs }
-    requires recorded { (i : ℕ) → IsRecorded (state_in imports) i }
+    requires queued { AreQueued (part_of world) queue (state_in imports) }
+    requires lasts { is_lasting queue ≡ true → Lasts (part_of world) (state_in imports) }
+    requires sound { IsSound (part_of world) (state_in imports) }
     ensures derived { IfOk result (λ r. Steps (part_of world.entry) (state_in imports) (state_in r.imports)) }
     ensures rests { IfOk result (λ r. IsAtRest (part_of world.entry) (state_in r.imports)) }
+    ensures sound { IfOk result (λ r. IsSound (part_of world.entry) (state_in r.imports)) }
     ensures up_to_date { IfOk result (λ r. IsUpToDate (part_of world.entry) r.queue (state_in r.imports)) }
-    ensures kept { IfOk result (λ r. IsKept (view_of (scopes_of (part_of world.entry) (state_in r.imports))) r.imports.globs) }
+    ensures changes { IfOk result (λ r. is_apart queue ≡ true → ScopesChangeAmong imports.map r.imports.map imports.local r.changed.items) }
+    ensures local { IfOk result (λ r. r.imports.local ≡ imports.local) }
     ensures small { IfOk result (λ r. r.imports.count ≤ MAX_STEPS) }
     ensures apart { IfOk result (λ r. is_apart r.queue ≡ is_apart queue) }
     ensures many { result ≡ Err ImportError.TooMany → IsSpent (part_of world.entry) (state_in imports) }
 {
     let mut resolver = Resolver::new(alloc, world, queue, imports);
+    resolver.reopen()?;
     resolver.settle()?;
     Ok(resolver.finish())
 }
 
-/// Takes imports, in the order in which they were found, until no more comes of them, as `resolve_imports` does. They may
-/// be taken up again by `resume_imports`.
+/// Takes imports, in the order in which they were found, until no more comes of them: tries each, and looks at all names along
+/// all globs. They may be taken up again by `resume_imports`.
 pub fn begin_imports(
     alloc: Global,
     world: WorldPart<'_>,
@@ -63,24 +69,28 @@ pub fn begin_imports(
     requires small { imports.count ≤ MAX_STEPS }
     requires apart { apart ≡ true → IsApart (part_of world) imports.map.id imports.local }
     requires there { (i : ℕ) (r : ImportDirective) → slice_get imports.imports.items i ≡ Some r → r.home < length imports.map.modules }
-    requires kept { IsKept (view_of (scopes_of (part_of world) (state_in imports))) imports.globs }
-    requires recorded { (i : ℕ) → IsRecorded (state_in imports) i }
+    requires in_order { IsInOrder imports.map }
+    requires sound { IsSound (part_of world) (state_in imports) }
     ensures derived { IfOk result (λ r. Steps (part_of world.entry) (state_in imports) (state_in r.imports)) }
     ensures rests { IfOk result (λ r. IsAtRest (part_of world.entry) (state_in r.imports)) }
+    ensures sound { IfOk result (λ r. IsSound (part_of world.entry) (state_in r.imports)) }
     ensures up_to_date { IfOk result (λ r. IsUpToDate (part_of world.entry) r.queue (state_in r.imports)) }
-    ensures kept { IfOk result (λ r. IsKept (view_of (scopes_of (part_of world.entry) (state_in r.imports))) r.imports.globs) }
+    // each scope that changed is at one of the slots
+    ensures changes { IfOk result (λ r. apart ≡ true → ScopesChangeAmong imports.map r.imports.map imports.local r.changed.items) }
+    ensures local { IfOk result (λ r. r.imports.local ≡ imports.local) }
     ensures small { IfOk result (λ r. r.imports.count ≤ MAX_STEPS) }
     ensures apart { IfOk result (λ r. is_apart r.queue ≡ apart) }
     // Steps lead on to as many as are counted, and one more may be taken.
     ensures many { result ≡ Err ImportError.TooMany → IsSpent (part_of world.entry) (state_in imports) }
 {
-    let mut queue = ImportQueue::new(alloc, apart);
+    let lasting = do_globs_last(apart, world, &imports);
+    let mut queue = ImportQueue::new(alloc, apart, lasting);
     queue.append(imports.imports.len())?;
-    settle(alloc, world, queue, imports)
+    settle_reopened(alloc, world, queue, imports)
 }
 
 /// Takes up imports that came to rest, once their map has grown: tries those that read a slot that has changed, and those
-/// that came besides, until no more comes of them.
+/// that came besides, until no more comes of them. Along globs only what stands in such slots is looked at.
 ///
 /// Between two rounds modules and enums may come, names may be bound, and imports may be found, which are pushed behind
 /// the others with nothing taken. `changed` has each slot in which the map differs from when the imports came to rest.
@@ -88,7 +98,11 @@ pub fn begin_imports(
 /// ```text
 /// let mut resting = begin_imports(alloc, world, apart, imports)?;
 /// while walk_expansions(&mut resting.imports, &mut changed)? {
-///     resting = resume_imports(alloc, world, resting.queue, resting.imports, &changed)?;
+///     resting = if resting.queue.lasts() {
+///         resume_imports(alloc, world, resting.queue, resting.imports, &changed)?
+///     } else {
+///         begin_imports(alloc, world, apart, resting.imports)?
+///     };
 ///     changed.clear();
 /// }
 /// ```
@@ -100,14 +114,18 @@ pub fn resume_imports(
     changed: &[Slot],
 ) -> Result<Resting, ImportError>
     requires small { imports.count ≤ MAX_STEPS }
-    requires resumable { IsResumable (part_of world) queue (state_in imports) changed.now }
     requires there { (i : ℕ) (r : ImportDirective) → slice_get imports.imports.items i ≡ Some r → r.home < length imports.map.modules }
-    requires kept { IsKept (view_of (scopes_of (part_of world) (state_in imports))) imports.globs }
-    requires recorded { (i : ℕ) → IsRecorded (state_in imports) i }
+    requires in_order { IsInOrder imports.map }
+    requires sound { IsSound (part_of world) (state_in imports) }
+    requires lasts { is_lasting queue ≡ true }
+    requires resumable { IsResumable (part_of world) queue (state_in imports) changed.now }
     ensures derived { IfOk result (λ r. Steps (part_of world.entry) (state_in imports) (state_in r.imports)) }
     ensures rests { IfOk result (λ r. IsAtRest (part_of world.entry) (state_in r.imports)) }
+    ensures sound { IfOk result (λ r. IsSound (part_of world.entry) (state_in r.imports)) }
     ensures up_to_date { IfOk result (λ r. IsUpToDate (part_of world.entry) r.queue (state_in r.imports)) }
-    ensures kept { IfOk result (λ r. IsKept (view_of (scopes_of (part_of world.entry) (state_in r.imports))) r.imports.globs) }
+    // each scope that changed is at one of the slots
+    ensures changes { IfOk result (λ r. is_apart queue ≡ true → ScopesChangeAmong imports.map r.imports.map imports.local r.changed.items) }
+    ensures local { IfOk result (λ r. r.imports.local ≡ imports.local) }
     ensures small { IfOk result (λ r. r.imports.count ≤ MAX_STEPS) }
     ensures apart { IfOk result (λ r. is_apart r.queue ≡ is_apart queue) }
     // Steps lead on to as many as are counted, and one more may be taken.
@@ -116,5 +134,8 @@ pub fn resume_imports(
     let mut queue = queue;
     queue.wake(changed)?;
     queue.append(imports.imports.len())?;
-    settle(alloc, world, queue, imports)
+    let mut resolver = Resolver::new(alloc, world, queue, imports);
+    resolver.look_again(changed)?;
+    resolver.settle()?;
+    Ok(resolver.finish())
 }

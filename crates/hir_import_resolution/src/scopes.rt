@@ -177,7 +177,7 @@ fn bound_scope(scope: &ItemScope, key: &Key) -> Option<Bound>
 
 /// What stands at a key of a module of a map.
 #[tactic(auto, using(crate::proofs::Found::scoped))]
-fn bound_inside(map: &DefMap, at: u32, key: &Key) -> Option<Bound>
+pub(crate) fn bound_inside(map: &DefMap, at: u32, key: &Key) -> Option<Bound>
     ensures value { result ≡ bound_inside key.now (module_at map.now at) }
 {
     match map.scope(at) {
@@ -187,7 +187,7 @@ fn bound_inside(map: &DefMap, at: u32, key: &Key) -> Option<Bound>
 }
 
 /// Who may see a trait that a module of a map has without a name.
-fn trait_vis(map: &DefMap, at: u32, id: TraitId) -> Option<Visibility>
+pub(crate) fn trait_vis(map: &DefMap, at: u32, id: TraitId) -> Option<Visibility>
     ensures value { result ≡ trait_vis (module_at map.now at) id }
 {
     match map.scope(at) {

@@ -1,9 +1,16 @@
 //! Names that go along globs while the map that has them grows.
-ghost use Rattle.std.specs.Prelude.{◌≡◌, ◌≤◌, [], Err, IfOk, OnOk};
+ghost use Rattle.std.specs.Prelude.{◌≡◌, ◌≤◌, ℕ, [], Contains, Err, IfOk, OnOk};
+ghost use Rattle.hir_base.specs.declared.ids.TraitId.{TraitId};
+ghost use Rattle.hir_def_map.specs.State.{module_at};
 ghost use Rattle.hir_def_map.specs.WorldParts.{part_of};
 ghost use Rattle.hir_def_map_laws.specs.SlotChanges.{ScopesChangeAmong};
+ghost use Rattle.hir_glob_imports.specs.Keys.{slot_at};
+ghost use Rattle.hir_glob_imports.specs.Waves.{brought_of};
+ghost use Rattle.hir_glob_imports.specs.declared.edge.Key.TheVariants.{Unnamed};
+ghost use Rattle.hir_glob_imports.specs.declared.edge.Slot.{Slot as GlobSlot};
 ghost use Rattle.hir_import_resolution.specs.Inner.State.{path_slots, state_in};
-ghost use Rattle.hir_import_resolution.specs.Rest.{IsSpent};
+ghost use Rattle.hir_import_resolution.specs.Names.{trait_vis};
+ghost use Rattle.hir_import_resolution.specs.Rest.{BroughtStands, IsClosed, IsSound, IsSpent};
 ghost use Rattle.hir_import_resolution.specs.Rules.{Steps};
 
 use crate::import_queue::ImportQueue;
@@ -28,6 +35,10 @@ pub fn spread_changes(
     // each scope that changed is at one of the slots
     ensures changes { IfOk result.1 (λ slots. ScopesChangeAmong imports.map result.0.map imports.local (path_slots slots.items)) }
     ensures settled { OnOk result.1 (result.0.globs.pending ≡ []) }
+    // no glob is recorded, and elsewhere traits without names and what globs brought stay
+    ensures edges { OnOk result.1 (result.0.globs.edges ≡ imports.globs.edges) }
+    ensures brought { IfOk result.1 (λ slots. (s : GlobSlot) → ¬ Contains slots.items s → brought_of result.0.globs s ≡ brought_of imports.globs s) }
+    ensures traits { IfOk result.1 (λ slots. (at : ℕ) (id : TraitId) → ¬ Contains slots.items (slot_at at (Unnamed id)) → trait_vis (module_at result.0.map at) id ≡ trait_vis (module_at imports.map at) id) }
     ensures local { result.0.local ≡ imports.local }
     ensures imports { result.0.imports.items ≡ imports.imports.items }
     ensures taken { result.0.taken.items ≡ imports.taken.items }
@@ -35,7 +46,7 @@ pub fn spread_changes(
     // Steps lead on to as many as are counted, and one more may be taken.
     ensures many { result.1 ≡ Err ImportError.TooMany → IsSpent (part_of world.entry) (state_in imports) }
 {
-    let queue = ImportQueue::new(alloc, false);
+    let queue = ImportQueue::none(alloc);
     let mut resolver = Resolver::new(alloc, world, queue, imports);
     let spread = resolver.spread();
     let (imports, changes) = resolver.finish_wave();
@@ -43,4 +54,28 @@ pub fn spread_changes(
         Ok(()) => (imports, Ok(changes)),
         Err(error) => (imports, Err(error)),
     }
+}
+
+/// Lets names go along globs until none is left to go. No import is taken.
+pub fn spread_globs(
+    alloc: Global,
+    world: WorldPart<'_>,
+    imports: Imports,
+) -> Result<Imports, ImportError>
+    requires small { imports.count ≤ MAX_STEPS }
+    requires sound { IsSound (part_of world) (state_in imports) }
+    ensures derived { IfOk result (λ i. Steps (part_of world.entry) (state_in imports) (state_in i)) }
+    ensures closed { IfOk result (λ i. IsClosed (part_of world.entry) (state_in i)) }
+    ensures stands { IfOk result (λ i. BroughtStands (part_of world.entry) (state_in i)) }
+    ensures sound { IfOk result (λ i. IsSound (part_of world.entry) (state_in i)) }
+    ensures small { IfOk result (λ i. i.count ≤ MAX_STEPS) }
+    // Steps lead on to as many as are counted, and one more may be taken.
+    ensures many { result ≡ Err ImportError.TooMany → IsSpent (part_of world.entry) (state_in imports) }
+{
+    let queue = ImportQueue::none(alloc);
+    let mut resolver = Resolver::new(alloc, world, queue, imports);
+    resolver.reopen()?;
+    resolver.spread()?;
+    let resting = resolver.finish();
+    Ok(resting.imports)
 }

@@ -1,16 +1,19 @@
 -- Where do the imports of a resolver stand, and what changes there?
-use Rattle.std.specs.Prelude.{◌≡◌, ℕ, ◌+◌, ◌++◌, List, [], ◌∷◌, Option, None, Some, slice_get, slice_set}
+use Rattle.std.specs.Prelude.{◌≡◌, ℕ, Bool, ◌+◌, ◌++◌, List, [], ◌∷◌, Option, None, Some, Contains, slice_get, slice_set}
 use Rattle.hir_base.specs.declared.ids.MapId.{MapId}
+use Rattle.hir_base.specs.declared.ids.TraitId.{TraitId}
+use Rattle.hir_scope.specs.declared.visibility.Visibility.{Visibility}
 use Rattle.hir_def_map.specs.Overlay.{Maps}
-use Rattle.hir_def_map.specs.State.{Local}
+use Rattle.hir_def_map.specs.State.{Local, module_at}
 use Rattle.hir_def_map.specs.WorldParts.{part_of}
 use Rattle.hir_def_map.specs.declared.nameres.path_resolution.slots.Slot.{Slot as PathSlot}
 use Rattle.hir_def_map.specs.declared.nameres.path_resolution.slots.Slot.TheVariants.{Module as of_module}
 use Rattle.hir_def_map_laws.specs.ReadLaw.{BeginsOutside, KeepApart}
 use Rattle.hir_def_map_laws.specs.SlotChanges.{ScopesChangeAmong}
-use Rattle.hir_glob_imports.specs.Keys.{name_of}
-use Rattle.hir_glob_imports.specs.Waves.{GlobsValue, IsKept, brought_of}
+use Rattle.hir_glob_imports.specs.Keys.{name_of, slot_at}
+use Rattle.hir_glob_imports.specs.Waves.{AreOfKind, GlobsValue, IsKept, brought_of}
 use Rattle.hir_glob_imports.specs.declared.edge.Edge.{Edge}
+use Rattle.hir_glob_imports.specs.declared.edge.Key.TheVariants.{Unnamed}
 use Rattle.hir_glob_imports.specs.declared.edge.Slot.{Slot}
 use Rattle.hir_glob_imports.specs.declared.step.GlobError.{GlobError}
 use Rattle.hir_glob_imports.specs.declared.step.GlobError.TheVariants as glob_errors
@@ -24,7 +27,8 @@ use Rattle.hir_import_resolution.specs.declared.resolver.Resolver.{Resolver}
 use Rattle.hir_import_resolution.specs.declared.resolver.steps.Taking.{Taking}
 use Rattle.hir_import_resolution.specs.declared.scopes.OpenScopes.{OpenScopes}
 use Rattle.hir_import_resolution.specs.Directives.{TakenValue, taken_after, taken_for}
-use Rattle.hir_import_resolution.specs.Names.{view_of}
+use Rattle.hir_import_resolution.specs.Lasting.{IsPlaced}
+use Rattle.hir_import_resolution.specs.Names.{trait_vis, view_of}
 use Rattle.hir_import_resolution.specs.Rest.{IsRecorded}
 use Rattle.hir_import_resolution.specs.Scopes.{value_of}
 use Rattle.hir_import_resolution.specs.State.{ImportState}
@@ -73,7 +77,7 @@ finished_by r = part_of r.scopes.world
 
 -- which of them are to be tried
 abbrev pub queue_by : Resolver → ImportQueue
-queue_by r = record { apart = r.apart; worklist = r.worklist; watchers = r.watchers }
+queue_by r = record { apart = r.apart; lasting = r.lasting; worklist = r.worklist; watchers = r.watchers }
 
 -- a resolver with other scopes and globs
 abbrev pub with_globs : Resolver → OpenScopes → GlobsValue → Resolver
@@ -87,6 +91,10 @@ spread_from r other = record r { scopes = other.scopes; globs = other.globs; cou
 abbrev pub with_queue : Resolver → Queue → Watchers PathSlot → Resolver
 with_queue r q watchers = record r { worklist = q; watchers = watchers }
 
+-- where this says whether what was found out lasts
+abbrev pub with_lasting : Resolver → Bool → Resolver
+with_lasting r lasting = record r { lasting = lasting }
+
 -- with one more step
 abbrev pub counted : Resolver → Resolver
 counted r = record r { count = r.count + 1 }
@@ -94,6 +102,14 @@ counted r = record r { count = r.count + 1 }
 -- what holds of its globs at each moment
 abbrev pub IsKeptIn : Resolver → Type 0
 IsKeptIn r = IsKept (view_of (value_of r.scopes)) r.globs
+
+-- the visibilities of its globs, those under which they brought what stands in a slot, and those of traits without names name modules that are there
+abbrev pub ArePlacedIn : Resolver → Type 0
+ArePlacedIn r = AreOfKind (IsPlaced r.scopes.map) (view_of (value_of r.scopes)) r.globs.edges (brought_of r.globs)
+
+-- a trait that a module has kept without a name, if it has, is seen from a module that is there
+abbrev pub IsTraitPlaced : Resolver → ℕ → Option TraitId → Type 0
+IsTraitPlaced r home kept = (id : TraitId) (vis : Visibility) → kept ≡ Some id → trait_vis (module_at r.scopes.map home) id ≡ Some vis → IsPlaced r.scopes.map vis
 
 -- what its globs were taken for is recorded
 abbrev pub AreRecorded : Resolver → Type 0
@@ -118,8 +134,10 @@ pub record ChangesSlots (old new : Resolver) (slots : List PathSlot) : Type 0 wh
   pub local : new.local ≡ old.local
   pub imports : new.imports ≡ old.imports
   pub apart : new.apart ≡ old.apart
+  pub lasting : new.lasting ≡ old.lasting
   pub worklist : new.worklist ≡ old.worklist
   pub watchers : new.watchers ≡ old.watchers
+  pub reported : new.reported ≡ old.reported
 
 -- an import is taken: what it reached is noted beside its takings before, and the name that it gives may stand for something else
 pub record IsTaken (old new : Resolver) (i : ℕ) (taking : Taking) : Type 0 where
@@ -140,3 +158,7 @@ pub record IsLinked (old new : Resolver) (i : ℕ) (edge : Edge) : Type 0 where
 pub record IsSpread (old new : Resolver) : Type 0 where
   pub changes : ChangesSlots old new (path_slots new.changes.items)
   pub taken : new.taken ≡ old.taken
+  pub edges : new.globs.edges ≡ old.globs.edges
+  -- elsewhere traits without names and what globs brought stay
+  pub brought : (s : Slot) → ¬ Contains new.changes.items s → brought_of new.globs s ≡ brought_of old.globs s
+  pub traits : (at : ℕ) (id : TraitId) → ¬ Contains new.changes.items (slot_at at (Unnamed id)) → trait_vis (module_at new.scopes.map at) id ≡ trait_vis (module_at old.scopes.map at) id

@@ -3,7 +3,7 @@ ghost use Rattle.std.specs.Prelude.{◌≡◌, ◌<◌, OnOk, Some, is_some, len
 ghost use Rattle.hir_glob_imports.specs.View.{View};
 ghost use Rattle.hir_glob_imports.specs.Waves.{IsKept, brought_of};
 ghost use Rattle.hir_import_resolution.specs.Changes.{bound_as, bound_in, forgotten, forgotten_in, with_kept};
-ghost use Rattle.hir_import_resolution.specs.Inner.State.{IsKeptIn, finished_by, state_by, with_globs};
+ghost use Rattle.hir_import_resolution.specs.Inner.State.{ArePlacedIn, IsKeptIn, IsTraitPlaced, finished_by, state_by, with_globs};
 ghost use Rattle.hir_import_resolution.specs.Inner.Steps.{IsBound, MayBind};
 
 use crate::directive::ImportSource;
@@ -73,6 +73,7 @@ impl Resolver<'_> {
         requires there { home < length self.old.scopes.map.modules }
         ensures ok { OnOk result (state_by self.new ≡ bound_in (state_by self.old) home name.now items (Some source)) }
         ensures kept { OnOk result (IsKeptIn self.old → IsKeptIn self.new) }
+        ensures placed { OnOk result (ArePlacedIn self.old → ArePlacedIn self.new) }
         ensures rest { OnOk result (self.new ≡ with_globs self.old self.new.scopes self.new.globs) }
         ensures world { OnOk result (self.new.scopes.world ≡ self.old.scopes.world) }
     {
@@ -93,6 +94,7 @@ impl Resolver<'_> {
         requires there { home < length self.old.scopes.map.modules }
         ensures ok { OnOk result (state_by self.new ≡ bound_as (state_by self.old) home name.now items (Some source)) }
         ensures kept { OnOk result (IsKeptIn self.old → IsKeptIn self.new) }
+        ensures placed { OnOk result (ArePlacedIn self.old → ArePlacedIn self.new) }
         ensures rest { OnOk result (self.new ≡ with_globs self.old self.new.scopes self.new.globs) }
         ensures world { OnOk result (self.new.scopes.world ≡ self.old.scopes.world) }
     {
@@ -112,6 +114,7 @@ impl Resolver<'_> {
     ) -> Result<(), AllocError>
         ensures ok { OnOk result (state_by self.new ≡ with_kept (finished_by self.old) (state_by self.old) home kept vis leaf) }
         ensures kept { OnOk result (IsKeptIn self.old → IsKeptIn self.new) }
+        ensures placed { OnOk result (IsTraitPlaced self.new home kept → ArePlacedIn self.old → ArePlacedIn self.new) }
         ensures rest { OnOk result (self.new ≡ with_globs self.old self.new.scopes self.new.globs) }
         ensures world { OnOk result (self.new.scopes.world ≡ self.old.scopes.world) }
     {

@@ -1,6 +1,6 @@
 //! Tries, until all imports rest.
-ghost use Rattle.std.specs.Prelude.{◌≡◌, ◌<◌, ◌≤◌, [], None, Some, OnOk};
-ghost use Rattle.hir_import_resolution.specs.Inner.Queue.{IsBegun, IsRunning, IsSamePass, IsTrying};
+ghost use Rattle.std.specs.Prelude.{◌≡◌, ◌<◌, ◌≤◌, [], true, None, Some, OnOk};
+ghost use Rattle.hir_import_resolution.specs.Inner.Queue.{IsBegun, IsRunning, IsSamePass, IsTrying, Reports};
 ghost use Rattle.hir_import_resolution.specs.Inner.State.{finished_by, state_by};
 ghost use Rattle.hir_import_resolution.specs.Inner.Steps.{IsLinking, taking_at};
 ghost use Rattle.hir_import_resolution.specs.Rest.{IsAtRest, IsSpent};
@@ -19,6 +19,7 @@ impl Resolver<'_> {
         ensures finished { OnOk result (finished_by self.new ≡ finished_by self.old) }
         ensures apart { OnOk result (self.new.apart ≡ self.old.apart) }
         ensures steps { OnOk result (Steps (finished_by self.old) (state_by self.old) (state_by self.new)) }
+        ensures reports { OnOk result (self.old.apart ≡ true → Reports self.old self.new) }
         ensures pass { OnOk result (IsSamePass self.old.worklist self.new.worklist) }
         ensures many { result ≡ Err ImportError.TooMany → IsSpent (finished_by self.old) (state_by self.old) }
     {
@@ -35,11 +36,13 @@ impl Resolver<'_> {
         ensures finished { OnOk result (finished_by self.new ≡ finished_by self.old) }
         ensures apart { OnOk result (self.new.apart ≡ self.old.apart) }
         ensures steps { OnOk result (Steps (finished_by self.old) (state_by self.old) (state_by self.new)) }
+        ensures reports { OnOk result (self.old.apart ≡ true → Reports self.old self.new) }
         ensures moves { OnOk result (self.old.count < self.new.count) }
         ensures pass { OnOk result (IsSamePass self.old.worklist self.new.worklist) }
         ensures many { result ≡ Err ImportError.TooMany → IsSpent (finished_by self.old) (state_by self.old) }
     {
         self.take(i, taking)?;
+        self.note_trait(taking.home, taking.kept);
         self.wake(taking.home, taking.name.as_ref())?;
         self.wave()?;
         Ok(())
@@ -54,10 +57,12 @@ impl Resolver<'_> {
         ensures finished { OnOk result (finished_by self.new ≡ finished_by self.old) }
         ensures apart { OnOk result (self.new.apart ≡ self.old.apart) }
         ensures steps { OnOk result (Steps (finished_by self.old) (state_by self.old) (state_by self.new)) }
+        ensures reports { OnOk result (self.old.apart ≡ true → Reports self.old self.new) }
         ensures moves { OnOk result (self.old.count < self.new.count) }
         ensures pass { OnOk result (IsSamePass self.old.worklist self.new.worklist) }
         ensures many { result ≡ Err ImportError.TooMany → IsSpent (finished_by self.old) (state_by self.old) }
     {
+        self.note_edge(edge);
         self.link(i, edge)?;
         self.wave()?;
         Ok(())
@@ -70,16 +75,21 @@ impl Resolver<'_> {
         ensures finished { OnOk result (finished_by self.new ≡ finished_by self.old) }
         ensures apart { OnOk result (self.new.apart ≡ self.old.apart) }
         ensures steps { OnOk result (Steps (finished_by self.old) (state_by self.old) (state_by self.new)) }
+        ensures reports { OnOk result (self.old.apart ≡ true → Reports self.old self.new) }
         // What takes no step queues nothing.
         ensures moves { OnOk result (self.new.count ≡ self.old.count → self.new.worklist ≡ self.old.worklist) }
         ensures pass { OnOk result (IsSamePass self.old.worklist self.new.worklist) }
         ensures many { result ≡ Err ImportError.TooMany → IsSpent (finished_by self.old) (state_by self.old) }
     {
         self.watch(i)?;
-        if let Some(taking) = self.taking(i)? {
+        let Some(path) = self.path_at(i) else {
+            return Ok(());
+        };
+        self.note_stop(path);
+        if let Some(taking) = self.taking(i, path)? {
             return self.take_import(i, &taking);
         }
-        match self.linking(i) {
+        match self.linking(i, path) {
             Some(edge) => self.take_glob(i, edge),
             None => Ok(()),
         }
@@ -93,6 +103,7 @@ impl Resolver<'_> {
         ensures finished { OnOk result (finished_by self.new ≡ finished_by self.old) }
         ensures apart { OnOk result (self.new.apart ≡ self.old.apart) }
         ensures steps { OnOk result (Steps (finished_by self.old) (state_by self.old) (state_by self.new)) }
+        ensures reports { OnOk result (self.old.apart ≡ true → Reports self.old self.new) }
         ensures moves { OnOk result (self.new.count ≡ self.old.count → self.new.worklist.later ≡ []) }
         ensures over { OnOk result (self.new.worklist.current ≡ []) }
         ensures outside { OnOk result (self.new.worklist.end ≡ 0) }
@@ -115,6 +126,7 @@ impl Resolver<'_> {
         ensures finished { OnOk result (finished_by self.new ≡ finished_by self.old) }
         ensures apart { OnOk result (self.new.apart ≡ self.old.apart) }
         ensures steps { OnOk result (Steps (finished_by self.old) (state_by self.old) (state_by self.new)) }
+        ensures reports { OnOk result (self.old.apart ≡ true → Reports self.old self.new) }
         ensures over { OnOk result (self.new.worklist.current ≡ []) }
         ensures outside { OnOk result (self.new.worklist.end ≡ 0) }
         ensures small { OnOk result (self.new.count ≤ MAX_STEPS) }

@@ -1,8 +1,10 @@
 //! One step: an import that binds what it reaches, a glob that is recorded, and what goes along globs.
-ghost use Rattle.std.specs.Prelude.{◌≡◌, ◌<◌, ◌≤◌, [], IfNone, IfOk, IfSome, OnOk, Some, length, slice_get, slice_set};
+ghost use Rattle.std.specs.Prelude.{◌≡◌, ◌<◌, ◌≤◌, [], IfNone, IfOk, IfSome, OnOk, Some, length, option_map, slice_get, slice_set};
+ghost use Rattle.hir_import_resolution.specs.declared.directive.ImportDirective.{ImportDirective};
 ghost use Rattle.hir_import_resolution.specs.Directives.{TakenValue, answer_to, path_answer, taken_after, taken_for, visibility_of};
-ghost use Rattle.hir_import_resolution.specs.Inner.State.{AreRecorded, IsKeptIn, IsLinked, IsSpread, IsTaken, counted, finished_by, spread_from, state_by, with_globs};
+ghost use Rattle.hir_import_resolution.specs.Inner.State.{ArePlacedIn, AreRecorded, IsKeptIn, IsTraitPlaced, IsLinked, IsSpread, IsTaken, counted, finished_by, spread_from, state_by, with_globs};
 ghost use Rattle.hir_import_resolution.specs.Inner.Steps.{IsLinkedAt, IsLinking, taking_at};
+ghost use Rattle.hir_import_resolution.specs.Lasting.{HasVariants, IsPlaced, Lasts};
 ghost use Rattle.hir_import_resolution.specs.Rest.{IsSound, IsSpent};
 ghost use Rattle.hir_import_resolution.specs.Rules.{Step, Steps};
 
@@ -77,15 +79,27 @@ impl Resolver<'_> {
         )
     }
 
-    /// The answer to an import: a glob binds nothing itself, and an `extern crate` the root of the crate that it names.
-    fn answer_to(&self, import: &ImportDirective) -> ResolvePathResult
+    /// What the path of the import at the place reaches, if there is one.
+    pub(crate) fn path_at(&self, i: usize) -> Option<ResolvePathResult>
+        ensures value { result ≡ option_map (path_answer (finished_by self.now) self.now.local self.now.scopes.map) (slice_get self.now.imports.items i) }
+    {
+        match self.imports.get(i) {
+            Some(import) => Some(self.path_answer(import)),
+            None => None,
+        }
+    }
+
+    /// The answer to an import whose path reaches this: a glob binds nothing itself, and an `extern crate` the root of the
+    /// crate that it names.
+    fn answer_to(&self, import: &ImportDirective, path: ResolvePathResult) -> ResolvePathResult
+        requires path { path ≡ path_answer (finished_by self.now) self.now.local self.now.scopes.map import.now }
         ensures value { result ≡ answer_to (finished_by self.now) self.now.local self.now.scopes.map import.now }
     {
         match import.source {
             ImportSource::Use {
                 kind: ImportKind::Plain | ImportKind::TypeOnly,
                 ..
-            } => self.path_answer(import),
+            } => path,
             ImportSource::Use {
                 kind: ImportKind::Glob,
                 ..
@@ -107,9 +121,14 @@ impl Resolver<'_> {
         )
     }
 
-    /// The taking that is due of the import at the place: where its path reaches a namespace that no taking of it
-    /// reached, all that it reaches now is bound.
-    pub(crate) fn taking(&self, i: usize) -> Result<Option<Taking>, AllocError>
+    /// The taking that is due of the import at the place, whose path reaches this: where that is in a namespace that no taking
+    /// of it reached, all that it reaches now is bound.
+    pub(crate) fn taking(
+        &self,
+        i: usize,
+        path: ResolvePathResult,
+    ) -> Result<Option<Taking>, AllocError>
+        requires path { (r : ImportDirective) → slice_get self.now.imports.items i ≡ Some r → path ≡ path_answer (finished_by self.now) self.now.local self.now.scopes.map r }
         ensures value { IfOk result (λ taking. taking ≡ taking_at (finished_by self.now) (state_by self.now) i) }
     {
         let Some(import) = self.imports.get(i) else {
@@ -118,7 +137,7 @@ impl Resolver<'_> {
         let Some(before) = self.taken.get(i) else {
             return Ok(None);
         };
-        let answer = self.answer_to(import);
+        let answer = self.answer_to(import, path);
         if !Namespaces::of(answer.resolved_def).goes_beyond(before.namespaces()) {
             return Ok(None);
         }
@@ -146,16 +165,16 @@ impl Resolver<'_> {
         }))
     }
 
-    /// The edge that is to be recorded of the glob at the place: to what its path reaches, if it wasn't taken for that.
-    pub(crate) fn linking(&self, i: usize) -> Option<Edge>
+    /// The edge that is to be recorded of the glob at the place, whose path reaches this: to that, if it wasn't taken for it.
+    pub(crate) fn linking(&self, i: usize, path: ResolvePathResult) -> Option<Edge>
+        requires path { (r : ImportDirective) → slice_get self.now.imports.items i ≡ Some r → path ≡ path_answer (finished_by self.now) self.now.local self.now.scopes.map r }
         ensures due { IfSome result (λ edge. IsLinking (finished_by self.now) (state_by self.now) i edge) }
         ensures linked { IfNone result (IsLinkedAt (finished_by self.now) (state_by self.now) i) }
     {
         let import = self.imports.get(i)?;
         let before = self.taken.get(i)?;
         let id = import.source.glob()?;
-        let types = self.path_answer(import).resolved_def.types;
-        let source = target_among(self.scopes.map().id(), types)?;
+        let source = target_among(self.scopes.map().id(), path.resolved_def.types)?;
         if before.is_for(source) {
             return None;
         }
@@ -188,6 +207,8 @@ impl Resolver<'_> {
         ensures is { OnOk result (IsTaken self.old self.new i taking.now) }
         ensures kept { OnOk result (IsKeptIn self.old → IsKeptIn self.new) }
         ensures recorded { OnOk result (AreRecorded self.old → AreRecorded self.new) }
+        ensures placed { OnOk result (IsTraitPlaced self.new taking.now.home taking.now.kept → ArePlacedIn self.old → ArePlacedIn self.new) }
+        ensures edges { OnOk result (self.new.globs.edges ≡ self.old.globs.edges) }
         ensures small { OnOk result (self.new.count ≤ MAX_STEPS) }
         ensures many { result ≡ Err ImportError.TooMany → IsSpent (finished_by self.old) (state_by self.old) }
     {
@@ -206,6 +227,7 @@ impl Resolver<'_> {
         ensures is { OnOk result (IsLinked self.old self.new i edge) }
         ensures kept { OnOk result (IsKeptIn self.old → IsKeptIn self.new) }
         ensures recorded { OnOk result (AreRecorded self.old → AreRecorded self.new) }
+        ensures lasts { OnOk result (IsPlaced self.old.scopes.map edge.vis → HasVariants self.old.scopes.map edge.source → Lasts (finished_by self.old) (state_by self.old) → Lasts (finished_by self.new) (state_by self.new)) }
         ensures small { OnOk result (self.new.count ≤ MAX_STEPS) }
         ensures many { result ≡ Err ImportError.TooMany → IsSpent (finished_by self.old) (state_by self.old) }
     {
@@ -224,6 +246,7 @@ impl Resolver<'_> {
         ensures kept { OnOk result (IsKeptIn self.old → IsKeptIn self.new) }
         ensures pending { OnOk result (self.new.globs.pending ≡ []) }
         ensures recorded { OnOk result (AreRecorded self.old → AreRecorded self.new) }
+        ensures lasts { OnOk result (IsKeptIn self.old → Lasts (finished_by self.old) (state_by self.old) → Lasts (finished_by self.new) (state_by self.new)) }
         ensures small { self.new.count ≤ MAX_STEPS }
         ensures rest { self.new ≡ spread_from self.old self.new }
         ensures many { result ≡ Err ImportError.TooMany → IsSpent (finished_by self.old) (state_by self.old) }

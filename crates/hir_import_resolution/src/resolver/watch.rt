@@ -1,11 +1,14 @@
 //! Which slots an import reads, and what is tried again when one changes.
-ghost use Rattle.std.specs.Prelude.{◌≡◌, ℕ, [], OnOk, option_copied};
+ghost use Rattle.std.specs.Prelude.{◌≡◌, ◌++◌, ℕ, [], true, IfOk, OnOk, length, option_copied};
+ghost use Rattle.std.specs.List.{All};
 ghost use Rattle.hir_worklist.specs.Queue.{IsIdle};
 ghost use Rattle.hir_worklist.specs.Settling.{WatchesEach};
 ghost use Rattle.hir_import_resolution.specs.Inner.Queue.{IsSamePass, IsWoken, KeepsWatched, WakesEach, reads_at, slot_cmp};
-ghost use Rattle.hir_import_resolution.specs.Inner.State.{finished_by, path_slots, slots_named, state_by, with_queue};
+ghost use Rattle.hir_import_resolution.specs.Inner.State.{finished_by, path_slots, slots_named, state_by};
+ghost use Rattle.hir_import_resolution.specs.Lasting.{IsThere};
 
 use crate::directive::ImportSource;
+use crate::lasting::is_there;
 use crate::resolver::Resolver;
 use hir_base::name::Name;
 use hir_def_map::nameres::path_resolution::slots::{PathSlots, Slot};
@@ -13,49 +16,59 @@ use hir_def_map::nameres::path_resolution::{BuiltinShadowMode, ResolveMode};
 use hir_worklist::{Watchers, Worklist};
 use std::alloc::AllocError;
 
-/// Has an import watch slots.
+/// Has an import watch slots; whether all are of modules that are there.
 fn watch_each(
     watchers: &mut Watchers<Slot>,
     i: usize,
     slots: PathSlots<'_>,
-) -> Result<(), AllocError>
+    modules: u32,
+) -> Result<bool, AllocError>
     ensures each { OnOk result (WatchesEach slot_cmp watchers.new i slots.entry) }
+    ensures there { IfOk result (λ there. there ≡ true → All (IsThere modules) slots.entry) }
     ensures others { OnOk result (KeepsWatched watchers.old watchers.new) }
 {
+    let mut there = true;
     for slot in slots {
+        there = there && is_there(slot, modules);
         watchers.watch(i, slot.to_slot()?)?;
     }
-    Ok(())
+    Ok(there)
 }
 
-/// Queues what watches the slot of a name in a module, if there is a name.
+/// Queues what watches the slot of a name in a module, if there is a name, and reports the slot.
 fn wake_named(
     watchers: &mut Watchers<Slot>,
     worklist: &mut Worklist,
+    reported: &mut Vec<Slot>,
     at: u32,
     name: Option<&Name>,
 ) -> Result<(), AllocError>
     ensures woken { OnOk result (WakesEach worklist.new watchers.new worklist.old watchers.old (slots_named at (option_copied name.entry))) }
     ensures pass { OnOk result (IsSamePass worklist.old worklist.new) }
+    ensures reported { OnOk result (reported.new.items ≡ reported.old.items ++ slots_named at (option_copied name.entry)) }
 {
     let Some(name) = name else {
         return Ok(());
     };
-    watchers.wake_all(&Slot::Module(at, name.clone()?), worklist)?;
+    let slot = Slot::Module(at, name.clone()?);
+    watchers.wake_all(&slot, worklist)?;
+    reported.push(slot)?;
     Ok(())
 }
 
-/// Queues what watches the slots of names.
+/// Queues what watches the slots of names, and reports those.
 fn wake_each(
     watchers: &mut Watchers<Slot>,
     worklist: &mut Worklist,
+    reported: &mut Vec<Slot>,
     slots: &[hir_glob_imports::Slot],
 ) -> Result<(), AllocError>
     ensures woken { OnOk result (WakesEach worklist.new watchers.new worklist.old watchers.old (path_slots slots.now)) }
     ensures pass { OnOk result (IsSamePass worklist.old worklist.new) }
+    ensures reported { OnOk result (reported.new.items ≡ reported.old.items ++ path_slots slots.now) }
 {
     for slot in slots {
-        wake_named(watchers, worklist, slot.at, slot.key.name())?;
+        wake_named(watchers, worklist, reported, slot.at, slot.key.name())?;
     }
     Ok(())
 }
@@ -72,9 +85,12 @@ pub(crate) fn wake_everything(worklist: &mut Worklist) -> Result<(), AllocError>
 }
 
 impl Resolver<'_> {
-    /// Has the import at the place watch each slot that its path reads now.
+    /// Has the import at the place watch each slot that its path reads now. Where one is of a module that isn't there, nothing
+    /// lasts.
     pub(crate) fn watch(&mut self, i: usize) -> Result<(), AllocError>
-        ensures rest { self.new ≡ with_queue self.old self.old.worklist self.new.watchers }
+        ensures rest { self.new ≡ record self.old { watchers = self.new.watchers; lasting = self.new.lasting } }
+        ensures lasted { self.new.lasting ≡ true → self.old.lasting ≡ true }
+        ensures there { OnOk result (self.new.lasting ≡ true → All (IsThere (length self.old.scopes.map.modules)) (reads_at self.old.apart (finished_by self.old) (state_by self.old) i)) }
         ensures each { OnOk result (WatchesEach slot_cmp self.new.watchers i (reads_at self.old.apart (finished_by self.old) (state_by self.old) i)) }
         ensures others { OnOk result (KeepsWatched self.old.watchers self.new.watchers) }
     {
@@ -95,25 +111,40 @@ impl Resolver<'_> {
             BuiltinShadowMode::Module,
             None,
         );
-        watch_each(&mut self.watchers, i, slots)?;
+        let there = watch_each(
+            &mut self.watchers,
+            i,
+            slots,
+            self.scopes.map().module_count(),
+        )?;
+        self.lasting = self.lasting && there;
         Ok(())
     }
 
-    /// Queues what watches the slot of a name in a module, if there is a name; all imports where they watch nothing.
+    /// Queues what watches the slot of a name in a module, if there is a name, and reports the slot; queues all imports where
+    /// they watch nothing.
     pub(crate) fn wake(&mut self, at: u32, name: Option<&Name>) -> Result<(), AllocError>
-        ensures rest { self.new ≡ with_queue self.old self.new.worklist self.new.watchers }
+        ensures rest { self.new ≡ record self.old { worklist = self.new.worklist; watchers = self.new.watchers; reported = self.new.reported } }
+        ensures reported { OnOk result (self.old.apart ≡ true → self.new.reported.items ≡ self.old.reported.items ++ slots_named at (option_copied name.entry)) }
         ensures woken { OnOk result (IsWoken self.old.apart (slots_named at (option_copied name.entry)) self.old.worklist self.old.watchers self.new.worklist self.new.watchers) }
     {
         if self.apart {
-            wake_named(&mut self.watchers, &mut self.worklist, at, name)
+            wake_named(
+                &mut self.watchers,
+                &mut self.worklist,
+                &mut self.reported,
+                at,
+                name,
+            )
         } else {
             wake_everything(&mut self.worklist)
         }
     }
 
-    /// Queues what watches the slots that a wave has changed; all imports where they watch nothing.
+    /// Queues what watches the slots that a wave has changed, and reports those; queues all imports where they watch nothing.
     pub(crate) fn wake_changes(&mut self) -> Result<(), AllocError>
-        ensures rest { OnOk result (self.new ≡ record self.old { worklist = self.new.worklist; watchers = self.new.watchers; changes = self.new.changes }) }
+        ensures rest { OnOk result (self.new ≡ record self.old { worklist = self.new.worklist; watchers = self.new.watchers; changes = self.new.changes; reported = self.new.reported }) }
+        ensures reported { OnOk result (self.old.apart ≡ true → self.new.reported.items ≡ self.old.reported.items ++ path_slots self.old.changes.items) }
         ensures woken { OnOk result (IsWoken self.old.apart (path_slots self.old.changes.items) self.old.worklist self.old.watchers self.new.worklist self.new.watchers) }
         ensures changes { OnOk result (self.new.changes.items ≡ []) }
     {
@@ -121,6 +152,7 @@ impl Resolver<'_> {
             wake_each(
                 &mut self.watchers,
                 &mut self.worklist,
+                &mut self.reported,
                 self.changes.as_slice(),
             )?;
         } else {

@@ -5,7 +5,7 @@ use Rattle.hir_import_resolution.specs.declared.import_queue.ImportQueue.{Import
 use Rattle.hir_import_resolution.specs.Inner.State.{finished_by, state_by, state_in}
 use Rattle.hir_import_resolution.proofs.Restarting.{reopened, sound_after, sound_through}
 use Rattle.hir_import_resolution.proofs.Starting.{begun_kept, rests_through, spent_through, steps_through}
-use Rattle.hir_import_resolution.proofs.restart.settle_reopened.Goals as goal
+use Rattle.hir_import_resolution.proofs.rounds.settle_reopened.Goals as goal
 
 pub reopen-requires : goal.reopen-requires
 reopen-requires c = record {

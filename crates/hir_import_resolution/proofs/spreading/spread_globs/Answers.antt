@@ -6,7 +6,7 @@ use Rattle.hir_import_resolution.specs.Inner.State.{finished_by, state_by, state
 use Rattle.hir_import_resolution.specs.State.{ImportState}
 use Rattle.hir_import_resolution.proofs.Restarting.{closed_after, recorded_in, reopened, sound_after, sound_through}
 use Rattle.hir_import_resolution.proofs.Starting.{spent_through, steps_through}
-use Rattle.hir_import_resolution.proofs.restart.spread_globs.Goals as goal
+use Rattle.hir_import_resolution.proofs.spreading.spread_globs.Goals as goal
 
 pub reopen-requires : goal.reopen-requires
 reopen-requires c = record {

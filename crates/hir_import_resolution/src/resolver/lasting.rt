@@ -1,0 +1,92 @@
+//! Whether what was found out lasts as the map grows.
+ghost use Rattle.std.specs.Prelude.{◌≡◌, true, false, OnOk, Some};
+ghost use Rattle.hir_base.specs.declared.ids.TraitId.{TraitId};
+ghost use Rattle.hir_scope.specs.declared.visibility.Visibility.{Visibility};
+ghost use Rattle.hir_def_map.specs.State.{module_at};
+ghost use Rattle.hir_def_map_laws.specs.ReadLaw.{stops_bare};
+ghost use Rattle.hir_import_resolution.specs.Inner.LookAgain.{AreOpened, ArePlacedAt, OfKey, OfName, OfSlots};
+ghost use Rattle.hir_import_resolution.specs.Inner.State.{with_lasting};
+ghost use Rattle.hir_import_resolution.specs.Lasting.{HasVariants, IsPlaced};
+ghost use Rattle.hir_import_resolution.specs.Names.{trait_vis};
+
+use crate::lasting::{has_variants, is_placed, is_placed_at, is_trait_placed, stops_bare};
+use crate::resolver::Resolver;
+use hir_base::ids::TraitId;
+use hir_base::name::Name;
+use hir_def_map::nameres::path_resolution::ResolvePathResult;
+use hir_def_map::nameres::path_resolution::slots::Slot;
+use hir_glob_imports::{Edge, Key, Slot as GlobSlot};
+use std::alloc::AllocError;
+
+impl Resolver<'_> {
+    /// Notes whether a path stops at an enum that has no variants yet.
+    pub(crate) fn note_stop(&mut self, path: ResolvePathResult)
+        ensures rest { self.new ≡ with_lasting self.old self.new.lasting }
+        ensures lasted { self.new.lasting ≡ true → self.old.lasting ≡ true }
+        ensures unstopped { self.new.lasting ≡ true → stops_bare self.old.scopes.map path ≡ false }
+    {
+        self.lasting = self.lasting && !stops_bare(self.scopes.map(), path);
+    }
+
+    /// Notes whether an edge leads out of an enum that has no variants yet, or its visibility names a module that isn't there.
+    pub(crate) fn note_edge(&mut self, edge: Edge)
+        ensures rest { self.new ≡ with_lasting self.old self.new.lasting }
+        ensures lasted { self.new.lasting ≡ true → self.old.lasting ≡ true }
+        ensures placed { self.new.lasting ≡ true → IsPlaced self.old.scopes.map edge.vis }
+        ensures enums { self.new.lasting ≡ true → HasVariants self.old.scopes.map edge.source }
+    {
+        let map = self.scopes.map();
+        self.lasting = self.lasting && is_placed(map, edge.vis) && has_variants(map, edge.source);
+    }
+
+    /// Notes whether the visibility of a trait that a module keeps without a name names a module that isn't there.
+    pub(crate) fn note_trait(&mut self, home: u32, kept: Option<TraitId>)
+        ensures rest { self.new ≡ with_lasting self.old self.new.lasting }
+        ensures lasted { self.new.lasting ≡ true → self.old.lasting ≡ true }
+        ensures placed { self.new.lasting ≡ true → (id : TraitId) (vis : Visibility) → kept ≡ Some id → trait_vis (module_at self.old.scopes.map home) id ≡ Some vis → IsPlaced self.old.scopes.map vis }
+    {
+        if let Some(id) = kept {
+            self.lasting = self.lasting && is_trait_placed(self.scopes.map(), home, id);
+        }
+    }
+
+    /// What stands at a key of a module may have changed in any way: globs are to be looked at there.
+    fn look_at(&mut self, at: u32, key: Key) -> Result<(), AllocError>
+        ensures rest { self.new ≡ record self.old { globs = self.new.globs; lasting = self.new.lasting } }
+        ensures opened { OnOk result (AreOpened self.old.globs self.new.globs (OfKey at key)) }
+        ensures lasted { self.new.lasting ≡ true → self.old.lasting ≡ true }
+        ensures placed { OnOk result (self.new.lasting ≡ true → ArePlacedAt self.old (OfKey at key)) }
+    {
+        let slot = GlobSlot { at, key };
+        self.lasting = self.lasting
+            && (self.globs.brought(&slot).is_none() || is_placed_at(self.scopes.map(), &slot));
+        self.globs.look_again(&slot)
+    }
+
+    /// What a name of a module stands for may have changed in any way.
+    fn look_at_name(&mut self, at: u32, name: &Name) -> Result<(), AllocError>
+        ensures rest { self.new ≡ record self.old { globs = self.new.globs; lasting = self.new.lasting } }
+        ensures opened { OnOk result (AreOpened self.old.globs self.new.globs (OfName at name.now)) }
+        ensures lasted { self.new.lasting ≡ true → self.old.lasting ≡ true }
+        ensures placed { OnOk result (self.new.lasting ≡ true → ArePlacedAt self.old (OfName at name.now)) }
+    {
+        self.look_at(at, Key::Types(name.clone()?))?;
+        self.look_at(at, Key::Values(name.clone()?))?;
+        self.look_at(at, Key::Macros(name.clone()?))
+    }
+
+    /// What these slots hold may have changed in any way: globs are to be looked at there.
+    pub(crate) fn look_again(&mut self, slots: &[Slot]) -> Result<(), AllocError>
+        ensures rest { self.new ≡ record self.old { globs = self.new.globs; lasting = self.new.lasting } }
+        ensures opened { OnOk result (AreOpened self.old.globs self.new.globs (OfSlots slots.now)) }
+        ensures lasted { self.new.lasting ≡ true → self.old.lasting ≡ true }
+        ensures placed { OnOk result (self.new.lasting ≡ true → ArePlacedAt self.old (OfSlots slots.now)) }
+    {
+        for slot in slots {
+            if let Slot::Module(at, name) = slot {
+                self.look_at_name(*at, name)?;
+            }
+        }
+        Ok(())
+    }
+}
