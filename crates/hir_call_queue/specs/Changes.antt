@@ -1,7 +1,8 @@
 -- Which slots stand for what they stood for?
-use Rattle.std.specs.Prelude.{◌≡◌, ℕ, ◌<◌, Bool, true, false, List, [], ◌∷◌, ◌++◌, Contains, cond}
+use Rattle.std.specs.Prelude.{◌≡◌, ℕ, Bool, true, false, List, [], ◌∷◌, ◌++◌, Contains, cond}
 use Rattle.hir_def_map.specs.declared.nameres.path_resolution.slots.Slot.{Slot as PathSlot}
 use Rattle.hir_def_map.specs.declared.nameres.path_resolution.slots.Slot.TheVariants.{Module as of_module, Preludes as of_preludes}
+pub use Rattle.hir_import_resolution.specs.Rounds.{IsThere}
 
 -- slots that may stand for something else
 pub record ChangedValue : Type 0 where
@@ -37,8 +38,3 @@ joined c other = cond other.all everything (with_slots other.slots c)
 pub record IsUntouched (changed : ChangedValue) (slot : PathSlot) : Type 0 where
   pub some : changed.all ≡ false
   pub other : ¬ Contains changed.slots slot
-
--- a slot is one of a module that is there, or of the preludes
-abbrev pub IsThere : ℕ → PathSlot → Type 0
-IsThere modules (of_module at name) = at < modules
-IsThere modules (of_preludes name) = Unit {0}

@@ -5,6 +5,7 @@ pub mod MacroEdits
 pub mod Made
 pub mod ImportSteps
 pub mod Resolved
+pub mod Resuming
 pub mod Changes
 pub mod Bound
 pub mod Kept

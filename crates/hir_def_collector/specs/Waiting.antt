@@ -19,13 +19,16 @@ use Rattle.hir_worklist.specs.Settling.{AreWatched}
 use Rattle.hir_import_resolution.specs.Inner.Queue.{slot_cmp}
 use Rattle.hir_import_resolution.specs.Inner.State.{IsApart}
 use Rattle.hir_import_resolution.specs.Names.{trait_vis}
-use Rattle.hir_call_queue.specs.Changes.{ChangedValue, IsThere, IsUntouched, everything, with_slot}
+use Rattle.hir_import_resolution.specs.Rounds.{Grew, IsUpToDate as AreUpToDate, is_lasting}
+use Rattle.hir_import_resolution.specs.State.{ImportState}
+use Rattle.hir_import_resolution.specs.declared.import_queue.ImportQueue.{ImportQueue}
+use Rattle.hir_call_queue.specs.Changes.{ChangedValue, IsThere, IsUntouched, everything, joined, with_slot}
 use Rattle.hir_call_queue.specs.Waking.{is_apart, watchers_of, worklist_of}
 use Rattle.hir_call_queue.specs.declared.queue.CallQueue.{CallQueue}
 use Rattle.hir_def_collector.specs.declared.collector.macro_directive.MacroDirective.{MacroDirective}
 use Rattle.hir_def_collector.specs.Attributes.{is_named_by}
 use Rattle.hir_def_collector.specs.Calls.{IsWaiting, by_style, called_macro, is_call, is_inert_now, path_of_call, style_of}
-use Rattle.hir_def_collector.specs.State.{Core, Run, at_rest, core_in}
+use Rattle.hir_def_collector.specs.State.{Core, Run, at_rest, core_in, import_state}
 
 -- ---- what may have changed
 
@@ -128,3 +131,20 @@ pub record IsStale (finished : Maps) (q : CallQueue) (now : Run) : Type 0 where
 -- where calls watch what they read, finished maps don't refer to the map of the run
 abbrev pub LiesApart : Maps → CallQueue → Core → Type 0
 LiesApart finished q c = is_apart q ≡ true → (local : Local) → IsApart finished c.map.id local
+
+-- ---- imports that rested
+
+-- imports were up to date with where they stood once, and what has changed since differs in these slots alone
+pub record IsOutgrown (finished : Maps) (queue : ImportQueue) (now : ImportState) (slots : List PathSlot) : Type 0 where
+  pub before : ImportState
+  pub up_to_date : AreUpToDate finished queue before
+  pub paired : length before.taken ≡ length before.imports
+  pub grew : Grew before now slots
+
+-- imports of which what was found out lasts were so, where not any slot may have changed
+abbrev pub IsBehind : Maps → ImportQueue → ChangedValue → Core → Type 0
+IsBehind finished queue changed now = is_lasting queue ≡ true → changed.all ≡ false → IsOutgrown finished queue (import_state (at_rest now)) changed.slots
+
+-- what changes of a run is gathered, or noted by it: whatever imports rested, it is all that has changed since if it was
+abbrev pub IsGathered : ChangedValue → Run → ChangedValue → Run → Type 0
+IsGathered before old after new = (finished : Maps) (queue : ImportQueue) → IsBehind finished queue (joined before old.changed) (core_in old) → IsBehind finished queue (joined after new.changed) (core_in new)
