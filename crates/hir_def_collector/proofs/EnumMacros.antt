@@ -1,38 +1,34 @@
 -- A path reaches the same macro whatever variants the enums of a map have: none lies behind an enum.
-use Rattle.std.proofs.Common.{◌≡◌, ◌∙◌, ap, sym, refl, ℕ, zero, suc, ◌+◌, List, [], ◌∷◌, Bool, true, false, ◌&&◌, ◌||◌, cond, Option, None, Some}
-use Rattle.std.specs.Option.{option_and_then, option_map}
+use Rattle.std.proofs.Common.{◌≡◌, ◌∙◌, ap, sym, refl, ℕ, ◌+◌, List, [], ◌∷◌, Bool, true, false, ◌&&◌, cond, Option, None, Some}
 use Rattle.std.specs.Prelude.{is_some, not}
 use Rattle.hir_base.specs.declared.ids.AdtId.{AdtId}
 use Rattle.hir_base.specs.declared.ids.AdtId.TheVariants as adts
 use Rattle.hir_base.specs.declared.ids.Crate.{Crate}
 use Rattle.hir_base.specs.declared.ids.EnumId.{EnumId}
-use Rattle.hir_base.specs.declared.ids.MapId.{MapId}
 use Rattle.hir_base.specs.declared.ids.ModuleId.{ModuleId as AnyModule}
 use Rattle.hir_base.specs.declared.ids.ModuleDefId.{ModuleDefId}
 use Rattle.hir_base.specs.declared.ids.ModuleDefId.TheVariants.{ModuleId, FunctionId, AdtId as AnyAdt, EnumVariantId, ConstId, StaticId, TraitId, TypeAliasId, BuiltinType, MacroId}
-use Rattle.hir_base.specs.declared.ids.UseId.{UseId}
 use Rattle.hir_base.specs.declared.macro_kind.MacroId.{MacroId as AnyMacro}
 use Rattle.hir_base.specs.declared.mod_path.PathKind.{PathKind}
 use Rattle.hir_base.specs.declared.mod_path.PathKind.TheVariants as kinds
-use Rattle.hir_base.specs.contracts.ids.MapIdPartialEq.TheImpl as map_id
 use Rattle.hir_item_tree.specs.Shape.{has_constructor}
 use Rattle.hir_scope.specs.Bindings.{first_of}
 use Rattle.hir_scope.specs.ModuleTree.{same_block, same_crate}
-use Rattle.hir_scope.specs.PerNs.{Item, keep_of, or_of, with_constructor}
-use Rattle.hir_scope.specs.Visibility.{is_visible}
+use Rattle.hir_scope.specs.PerNs.{Item, with_constructor}
 use Rattle.hir_scope.specs.declared.imports.ImportOrExternCrate.{ImportOrExternCrate}
 use Rattle.hir_scope.specs.declared.per_ns.PerNs.{PerNs}
-use Rattle.hir_def_map.specs.Ancestors.{above_by, above_in, frame_of, frames_of, holders_by, holders_in}
-use Rattle.hir_def_map.specs.Overlay.{Maps, Placed, entry_in, map_in, module_in, overlay, parent_in, placed_in}
+use Rattle.hir_def_map.specs.Ancestors.{holders_in}
+use Rattle.hir_def_map.specs.Overlay.{Maps, map_in, overlay}
 use Rattle.hir_def_map.specs.Scoping.Asking.{Asking}
 use Rattle.hir_def_map.specs.Scoping.Blocks.{from_blocks, in_preludes, inherited, joined, with_preludes}
-use Rattle.hir_def_map.specs.Scoping.FirstSegment.{builtin_name, extern_name, is_block_root, legacy_bound, legacy_of, macro_use_bound, macro_use_of, name_in_crate_root_or_extern_prelude, name_in_module, name_in_preludes, of_style, prelude_bound, prelude_name, prelude_of, shadow_before, unless_block_root, with_builtin}
-use Rattle.hir_def_map.specs.Scoping.Segments.{after_enum, nearest_non_block_among, nearest_non_block_module, rest, seen, through, through_adt, through_type, unresolved, variant_in}
-use Rattle.hir_def_map.specs.Scoping.Start.{abs_from, climb, from_start, is_dependency, is_import, is_in_edition_2015, is_in_reach, module_bound, settled_in_block, super_from}
-use Rattle.hir_def_map.specs.State.{Map, ModuleValue, Variants, crate_root, entry_of, module_at, parent_of}
+use Rattle.hir_def_map.specs.Scoping.FirstSegment.{extern_name, is_block_root, name_in_crate_root_or_extern_prelude, name_in_module, name_in_preludes, shadow_before}
+use Rattle.hir_def_map.specs.Scoping.Segments.{after_enum, nearest_non_block_module, rest, seen, through, through_adt, through_type, unresolved, variant_in}
+use Rattle.hir_def_map.specs.Scoping.Start.{abs_from, climb, from_start, is_import, is_in_edition_2015, is_in_reach, module_bound, settled_in_block, super_from}
+use Rattle.hir_def_map.specs.State.{Map, Variants, crate_root}
 use Rattle.hir_def_map.specs.declared.nameres.enum_variants.EnumVariant.{EnumVariant}
 use Rattle.hir_def_map.specs.declared.nameres.path_resolution.ReachedFixedPoint.TheVariants.{No, Yes}
 use Rattle.hir_def_map.specs.declared.nameres.path_resolution.ResolvePathResult.{ResolvePathResult}
+use Rattle.hir_def_map_laws.proofs.EnumsApart.{same_2015, same_climb, same_holders, same_in_module, same_in_preludes, same_in_root, same_nearest, same_reach, same_seen}
 
 -- the macro among what was found
 abbrev pub macros_of : ResolvePathResult → Option (Item AnyMacro ImportOrExternCrate)
@@ -67,86 +63,9 @@ module _ (finished : Maps) (map : Map) (enums : List (EnumId × Variants)) where
   abbrev other : Maps
   other = overlay finished map
 
-  -- what is read of each map but its enums is the same
-  over : {X : Type 0} (f : Option Placed → X) → f (Some (placed_in finished (record map { enums = enums }))) ≡ f (Some (placed_in finished map)) → (id : MapId) → f (one id) ≡ f (other id)
-  over f e id = go (map_id.ghosts.eq id map.id)
-    where
-      go : (b : Bool) → f (cond b (Some (placed_in finished (record map { enums = enums }))) (finished id)) ≡ f (cond b (Some (placed_in finished map)) (finished id))
-      go true = e
-      go false = refl
-
-  same_module : (m : AnyModule) → module_in one m ≡ module_in other m
-  same_module m = over (λ (o : Option Placed). option_and_then (λ (placed : Placed). module_at placed.map m.index) o) refl m.map
-
-  same_frames : frames_of one ≡ frames_of other
-  unfolding frames_of
-  same_frames = λ i id. over (λ (o : Option Placed). option_map frame_of o) refl id i
-
-  same_above : above_in one ≡ above_in other
-  unfolding above_in
-  same_above = λ i m. above_by (same_frames i) m
-
-  same_holders : (m : AnyModule) → holders_in one m ≡ holders_in other m
-  same_holders m = λ i. holders_by (same_frames i) m
-
-  same_nearest : nearest_non_block_module one ≡ nearest_non_block_module other
-  unfolding nearest_non_block_module
-  same_nearest = λ i m. nearest_non_block_among m (same_holders m i)
-
-  same_parent : (m : AnyModule) → parent_in one m ≡ parent_in other m
-  same_parent m = ap parent_of (same_module m)
-
-  same_climb : (n : ℕ) → climb one n ≡ climb other n
-  same_climb zero = λ i m. Some m
-  same_climb (suc n) = λ i m. option_and_then (λ p. same_climb n i (same_nearest i p)) (same_parent m i)
-
-  same_2015 : (id : MapId) → is_in_edition_2015 (map_in one id) ≡ is_in_edition_2015 (map_in other id)
-  same_2015 id = over (λ (o : Option Placed). is_in_edition_2015 (option_map (λ (placed : Placed). placed.map) o)) refl id
-
-  same_reach : (from : AnyModule) (c : Crate) → is_in_reach one from c ≡ is_in_reach other from c
-  same_reach from c =
-      ap (λ (b : Bool). same_crate c from.map.krate || b) (over (λ (o : Option Placed). is_dependency (option_map (λ (placed : Placed). placed.map) o) c) refl from.map)
-
-  same_prelude_of : (id : MapId) → prelude_of (map_in one id) ≡ prelude_of (map_in other id)
-  same_prelude_of id = over (λ (o : Option Placed). prelude_of (option_map (λ (placed : Placed). placed.map) o)) refl id
-
-  same_macro_use : (id : MapId) (name : List ℕ) → macro_use_of (map_in one id) name ≡ macro_use_of (map_in other id) name
-  same_macro_use id name = over (λ (o : Option Placed). macro_use_of (option_map (λ (placed : Placed). placed.map) o) name) refl id
-
   -- ---- one name
 
   module _ (name : List ℕ) where
-    same_entry : (m : AnyModule) → entry_in one m name ≡ entry_in other m name
-    same_entry m = ap (λ (o : Option ModuleValue). entry_of o name) (same_module m)
-
-    abbrev seen_under : Maps → AnyModule → AnyModule → PerNs
-    seen_under maps from at = seen maps from at name
-
-    same_seen : seen_under one ≡ seen_under other
-    same_seen = λ i from at. keep_of (λ v. is_visible (same_above i) (λ m. same_holders m i) v from) (same_entry at i)
-
-    same_bound : (o : Option (AnyModule × Option UseId)) → prelude_bound one o name ≡ prelude_bound other o name
-    same_bound None = refl
-    same_bound (Some p) = same_entry p.0
-
-    same_prelude : (at : AnyModule) → prelude_name one at name ≡ prelude_name other at name
-    same_prelude at = ap (λ (o : Option (AnyModule × Option UseId)). prelude_bound one o name) (same_prelude_of at.map) ∙ same_bound (prelude_of (map_in other at.map))
-
-    same_in_module : (asking : Asking) (ss : List (List ℕ)) (at : AnyModule)
-        → name_in_module one asking.local asking.sub_ns (shadow_before ss asking.shadow) at name ≡ name_in_module other asking.local asking.sub_ns (shadow_before ss asking.shadow) at name
-    same_in_module asking ss at = λ i.
-        or_of (or_of (or_of (or_of (legacy_bound asking.sub_ns (legacy_of (same_module at i) name))
-        (with_builtin (shadow_before ss asking.shadow) (of_style asking.sub_ns (same_entry at i)) (builtin_name at name)))
-        (unless_block_root at (extern_name asking.local name)))
-        (macro_use_bound (same_macro_use at.map name i)))
-        (unless_block_root at (same_prelude at i))
-
-    same_in_preludes : (asking : Asking) (at : AnyModule) → name_in_preludes one asking.local at name ≡ name_in_preludes other asking.local at name
-    same_in_preludes asking at = λ i. or_of (or_of (extern_name asking.local name) (macro_use_bound (same_macro_use at.map name i))) (same_prelude at i)
-
-    same_in_root : (asking : Asking) (at : AnyModule) → name_in_crate_root_or_extern_prelude one asking.local at name ≡ name_in_crate_root_or_extern_prelude other asking.local at name
-    same_in_root asking at = λ i. or_of (same_entry (crate_root at.map.krate) i) (unless_block_root at (extern_name asking.local name))
-
     through_macro : (f g : AnyModule → PerNs → ResolvePathResult) → ((from : AnyModule) (now : PerNs) → macros_of (f from now) ≡ macros_of (g from now))
         → (from : AnyModule) (ss : List (List ℕ)) (i : ℕ) (t : Option (Item ModuleDefId ImportOrExternCrate))
         → macros_of (through_type f one from ss i name t) ≡ macros_of (through_type g other from ss i name t)
@@ -161,8 +80,8 @@ module _ (finished : Maps) (map : Map) (enums : List (EnumId × Variants)) where
         go : (d : ModuleDefId) → macros_of (through f one from ss i name item d) ≡ macros_of (through g other from ss i name item d)
         go (ModuleId m) =
             either_macro (same_crate m.map.krate from.map.krate) (f from (seen one from m name)) (g from (seen other from m name)) _ _
-            (ap (λ (now : PerNs). macros_of (f from now)) (λ j. same_seen j from m) ∙ same from (seen other from m name))
-            ((λ j. macros_of (f (same_nearest j m) (same_seen j (same_nearest j m) (same_nearest j m))))
+            (ap (λ (now : PerNs). macros_of (f from now)) (λ j. same_seen finished map enums name j from m) ∙ same from (seen other from m name))
+            ((λ j. macros_of (f (same_nearest finished map enums j m) (same_seen finished map enums name j (same_nearest finished map enums j m) (same_nearest finished map enums j m))))
             ∙ same (nearest_non_block_module other m) (seen other (nearest_non_block_module other m) (nearest_non_block_module other m) name))
         go (FunctionId x) = refl
         go (AnyAdt x) = adt x
@@ -203,23 +122,23 @@ module _ (finished : Maps) (map : Map) (enums : List (EnumId × Variants)) where
     start_macro from (kinds.DollarCrate c) segs =
         let before : ResolvePathResult = rest one from segs 0 (module_bound (crate_root c)) in
         let after : ResolvePathResult = rest other from segs 0 (module_bound (crate_root c)) in
-        ap (λ (b : Bool). macros_of (cond b before (unresolved No))) (same_reach from c)
+        ap (λ (b : Bool). macros_of (cond b before (unresolved No))) (same_reach finished map enums from c)
         ∙ either_macro (is_in_reach other from c) before after (unresolved No) (unresolved No) (rest_macro segs 0 from (module_bound (crate_root c))) refl
     start_macro from (kinds.Super n) segs =
-        (λ i. macros_of (super_from one from segs (same_climb n i (same_nearest i from)))) ∙ super_macro from segs (climb other n (nearest_non_block_module other from))
+        (λ i. macros_of (super_from one from segs (same_climb finished map enums n i (same_nearest finished map enums i from)))) ∙ super_macro from segs (climb other n (nearest_non_block_module other from))
     start_macro from kinds.Plain [] = refl
     start_macro from kinds.Plain (s ∷ ss) =
         let root : ResolvePathResult = rest one from ss 1 (name_in_crate_root_or_extern_prelude one asking.local from s) in
         let named : ResolvePathResult = rest one from ss 1 (name_in_module one asking.local asking.sub_ns (shadow_before ss asking.shadow) from s) in
-        ap (λ (b : Bool). macros_of (cond (b && is_import asking.mode) root named)) (same_2015 from.map)
+        ap (λ (b : Bool). macros_of (cond (b && is_import asking.mode) root named)) (same_2015 finished map enums from.map)
         ∙ either_macro (is_in_edition_2015 (map_in other from.map) && is_import asking.mode) root _ named _
-        (from_macro ss 1 from _ _ (same_in_root s asking from)) (from_macro ss 1 from _ _ (same_in_module s asking ss from))
+        (from_macro ss 1 from _ _ (same_in_root finished map enums s asking from)) (from_macro ss 1 from _ _ (same_in_module finished map enums s asking ss from))
     start_macro from kinds.Abs [] = refl
     start_macro from kinds.Abs (s ∷ ss) =
         let root : ResolvePathResult = rest one from ss 1 (name_in_crate_root_or_extern_prelude one asking.local from s) in
-        ap (λ (b : Bool). macros_of (cond b root (abs_from one from ss (extern_name asking.local s)))) (same_2015 from.map)
+        ap (λ (b : Bool). macros_of (cond b root (abs_from one from ss (extern_name asking.local s)))) (same_2015 finished map enums from.map)
         ∙ either_macro (is_in_edition_2015 (map_in other from.map)) root _ (abs_from one from ss (extern_name asking.local s)) _
-        (from_macro ss 1 from _ _ (same_in_root s asking from)) (abs_macro from ss (extern_name asking.local s))
+        (from_macro ss 1 from _ _ (same_in_root finished map enums s asking from)) (abs_macro from ss (extern_name asking.local s))
 
     preludes_macro : (root : AnyModule) (kind : PathKind) (segs : List (List ℕ)) → macros_of (in_preludes one asking root kind segs) ≡ macros_of (in_preludes other asking root kind segs)
     preludes_macro root kinds.Crate segs = refl
@@ -229,13 +148,13 @@ module _ (finished : Maps) (map : Map) (enums : List (EnumId × Variants)) where
     preludes_macro root kinds.Plain (s ∷ ss) =
         let crates : ResolvePathResult = rest one root ss 1 (extern_name asking.local s) in
         let named : ResolvePathResult = rest one root ss 1 (name_in_preludes one asking.local root s) in
-        ap (λ (b : Bool). macros_of (cond (b && is_import asking.mode) crates named)) (same_2015 root.map)
+        ap (λ (b : Bool). macros_of (cond (b && is_import asking.mode) crates named)) (same_2015 finished map enums root.map)
         ∙ either_macro (is_in_edition_2015 (map_in other root.map) && is_import asking.mode) crates _ named _
-        (rest_macro ss 1 root (extern_name asking.local s)) (from_macro ss 1 root _ _ (same_in_preludes s asking root))
+        (rest_macro ss 1 root (extern_name asking.local s)) (from_macro ss 1 root _ _ (same_in_preludes finished map enums s asking root))
     preludes_macro root kinds.Abs [] = refl
     preludes_macro root kinds.Abs (s ∷ ss) =
         let crates : ResolvePathResult = rest one root ss 1 (extern_name asking.local s) in
-        ap (λ (b : Bool). macros_of (cond b crates (abs_from one root ss (extern_name asking.local s)))) (same_2015 root.map)
+        ap (λ (b : Bool). macros_of (cond b crates (abs_from one root ss (extern_name asking.local s)))) (same_2015 finished map enums root.map)
         ∙ either_macro (is_in_edition_2015 (map_in other root.map)) crates _ (abs_from one root ss (extern_name asking.local s)) _
         (rest_macro ss 1 root (extern_name asking.local s)) (abs_macro root ss (extern_name asking.local s))
 
@@ -261,5 +180,5 @@ module _ (finished : Maps) (map : Map) (enums : List (EnumId × Variants)) where
       -- a path reaches the same macro
       pub enums_bring_no_macro : (from : AnyModule) → macros_of (from_blocks one asking from kind segs) ≡ macros_of (from_blocks other asking from kind segs)
       enums_bring_no_macro from =
-          ap (λ (hs : List AnyModule). macros_of (inherited one asking kind segs (from_start one asking from kind segs) from hs)) (same_holders from)
+          ap (λ (hs : List AnyModule). macros_of (inherited one asking kind segs (from_start one asking from kind segs) from hs)) (same_holders finished map enums from)
           ∙ inherited_macro (holders_in other from) (from_start one asking from kind segs) (from_start other asking from kind segs) (start_macro from kind segs) from

@@ -1,26 +1,17 @@
 -- A map that grows keeps its modules, and the variants of the enums that names stand for.
-use Rattle.std.proofs.Common.{◌≡◌, ◌∙◌, sym, subst, refl, ℕ, ◌<◌, length, Bool, false, Option, None, Some, arith}
+use Rattle.std.proofs.Common.{◌≡◌, ◌∙◌, sym, refl, length, Bool, false, Option, None, Some}
 use Rattle.std.specs.Prelude.{is_some, not}
 use Rattle.hir_base.specs.declared.ids.EnumId.{EnumId}
-use Rattle.hir_base.specs.declared.ids.ModuleId.{ModuleId}
-use Rattle.hir_def_map.specs.State.{IsBefore, Map, Variants, entry_at, parent_at, variants_at}
+use Rattle.hir_def_map.specs.State.{Map, Variants, entry_at, variants_at}
 use Rattle.hir_def_map.specs.Overlay.{Maps}
 use Rattle.hir_def_map.specs.declared.world.reference.Reference.{Reference}
 use Rattle.hir_def_map.specs.declared.world.reference.Reference.TheVariants as named
 use Rattle.hir_def_map_laws.proofs.Changed.{Change, has_others}
 use Rattle.hir_def_map.proofs.Fails.{Fails-weaker}
-use Rattle.hir_def_map_laws.proofs.SameAbove.{before_at, same_numbers_above, same_parent_at}
+use Rattle.hir_def_map_laws.proofs.SameAbove.{parent_below, same_numbers_above, same_parent_at}
 use Rattle.hir_def_map_laws.specs.ReadLaw.{Grows, StandsBeside, has_no_variants}
 
 module _ (finished : Maps) (one other : Map) (stands : StandsBeside finished one) (grows : Grows one other) where
-  -- what is above a module comes before it
-  pub parent_below : (at : ℕ) (p : ModuleId) → at < length one.modules → parent_at one at ≡ Some p → p.index < length one.modules
-  parent_below at p low e = go (parent_at one at) (before_at one other grows stands.in_order at low) e
-    where
-      go : (o : Option ModuleId) → IsBefore one.id at o → o ≡ Some p → p.index < length one.modules
-      go None f g = absurd cc
-      go (Some q) f g = let same : q ≡ p = cc in let less : q.index < at = f.1 in subst (λ (x : ModuleId). x.index < length one.modules) same (omega arith)
-
   -- the enums that have no variants yet
   abbrev pub lacks : EnumId → Bool
   lacks id = not (is_some (variants_at one id))
@@ -49,7 +40,7 @@ module _ (finished : Maps) (one other : Map) (stands : StandsBeside finished one
     prelude = grows.prelude;
     bound = Some (length one.modules);
     parents = same_parent_at one other grows stands.in_order;
-    parents_below = parent_below;
+    parents_below = parent_below one other grows stands.in_order;
     above = same_numbers_above one other grows stands.in_order finished;
     changes = lacks;
     names = λ at name. Fails-weaker (has_no_variants one) (has_others one.id lacks) names_have (entry_at one at name) (stands.enums at name);

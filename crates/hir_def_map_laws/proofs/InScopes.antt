@@ -23,6 +23,12 @@ and-no : (b : Bool) → (b && false) ≡ false
 and-no true = refl
 and-no false = refl
 
+-- no enum has other variants afterwards
+pub none_changes : (own : MapId) (n : Reference) → has_others own (λ id. false) n ≡ false
+none_changes own (named.Module m) = refl
+none_changes own (named.Enum id) = and-no (map_id.ghosts.eq id.loc.container.map own)
+none_changes own (named.Map id) = refl
+
 module _ (finished : Maps) (one other : Map) (apart : KeepApart finished one.id) (differs : DiffersInScopes one other) where
   pub same_parent : (at : ℕ) → parent_at other at ≡ parent_at one at
   same_parent at =
@@ -36,11 +42,6 @@ module _ (finished : Maps) (one other : Map) (apart : KeepApart finished one.id)
     parents = differs.parents i;
     holders = holders_or (finished (differs.id i)) (holders_under finished (differs.id i) (differs.holder i));
   }
-
-  pub none_changes : (n : Reference) → has_others one.id (λ id. false) n ≡ false
-  none_changes (named.Module m) = refl
-  none_changes (named.Enum id) = and-no (map_id.ghosts.eq id.loc.container.map one.id)
-  none_changes (named.Map id) = refl
 
   abbrev pub in_scopes : Change
   in_scopes = record {
@@ -57,7 +58,7 @@ module _ (finished : Maps) (one other : Map) (apart : KeepApart finished one.id)
     parents_below = λ at p low e. tt;
     above = λ at low. ap (λ (frame : Frame). numbers_above frame at) same_frame;
     changes = λ id. false;
-    names = λ at name. Fails-nowhere (has_others one.id (λ id. false)) none_changes (entry_at one at name);
+    names = λ at name. Fails-nowhere (has_others one.id (λ id. false)) (none_changes one.id) (entry_at one at name);
     variants = λ id e. differs.enums id;
   }
 

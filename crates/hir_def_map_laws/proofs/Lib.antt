@@ -9,6 +9,8 @@ pub mod Growing
 pub mod InScopes
 pub mod ReadOutside
 pub mod ReadLaw
+pub mod EnumsApart
+pub mod EnumsGrow
 pub mod Whole
 pub mod Updates
 pub mod Apart

@@ -67,6 +67,14 @@ module _ (one other : Map) (grows : Grows one other) (in_order : IsInOrder one) 
       let found = found-below one.modules at low in
       subst (λ (o : Option ModuleValue). IsBefore one.id at (parent_of o)) (sym found.1) (in_order at found.0 found.1)
 
+  -- what is above a module comes before it
+  pub parent_below : (at : ℕ) (p : ModuleId) → at < length one.modules → parent_at one at ≡ Some p → p.index < length one.modules
+  parent_below at p low e = go (parent_at one at) (before_at at low) e
+    where
+      go : (o : Option ModuleId) → IsBefore one.id at o → o ≡ Some p → p.index < length one.modules
+      go None f g = absurd cc
+      go (Some q) f g = let same : q ≡ p = cc in let less : q.index < at = f.1 in subst (λ (x : ModuleId). x.index < length one.modules) same (omega arith)
+
   module _ (finished : Maps) where
     abbrev before : Placed
     before = placed_in finished one

@@ -1,19 +1,25 @@
 -- When does a path mean the same at two times of a map that is built?
-use Rattle.std.specs.Prelude.{◌≡◌, ℕ, ◌<◌, List, length, Bool, false, ◌&&◌, not, is_some, Option, None, Some, map as list_map, option_map}
+use Rattle.std.specs.Prelude.{◌≡◌, ℕ, ◌<◌, ◌≤◌, List, length, Bool, false, ◌&&◌, not, is_some, Option, None, Some, map as list_map, option_map}
 use Rattle.std.specs.BTreeMap.{BTreeMap}
 use Rattle.std.specs.List.{All}
 use Rattle.hir_base.specs.ModPath.{Path}
+use Rattle.hir_base.specs.declared.ids.AdtId.{AdtId}
+use Rattle.hir_base.specs.declared.ids.AdtId.TheVariants as adts
 use Rattle.hir_base.specs.declared.ids.Crate.{Crate}
 use Rattle.hir_base.specs.declared.ids.EnumId.{EnumId}
 use Rattle.hir_base.specs.declared.ids.ExternCrateId.{ExternCrateId}
 use Rattle.hir_base.specs.declared.ids.MapId.{MapId}
+use Rattle.hir_base.specs.declared.ids.ModuleDefId.{ModuleDefId}
+use Rattle.hir_base.specs.declared.ids.ModuleDefId.TheVariants as definitions
 use Rattle.hir_base.specs.declared.ids.ModuleId.{ModuleId}
 use Rattle.hir_base.specs.contracts.ids.MapIdPartialEq.TheImpl as map_id
+use Rattle.hir_scope.specs.PerNs.{Item}
+use Rattle.hir_scope.specs.declared.imports.ImportOrExternCrate.{ImportOrExternCrate}
 use Rattle.hir_def_map.specs.Ancestors.{holders_in}
 use Rattle.hir_def_map.specs.WellFormed.{AreWellFormed, HasNoDanglingReference}
 use Rattle.hir_def_map.specs.References.{map_of_reference, any_reference_in, Fails}
 use Rattle.hir_def_map.specs.Reaches.{by_import}
-use Rattle.hir_def_map.specs.Scoping.{resolution_of}
+use Rattle.hir_def_map.specs.Scoping.{Resolution, resolution_of}
 use Rattle.hir_def_map.specs.Scoping.Asking.{Asking}
 use Rattle.hir_def_map.specs.Scoping.FirstSegment.{legacy_of}
 use Rattle.hir_def_map.specs.State.{IsInOrder, Local, Map, ModuleValue, Variants, at_name, changed_at, entry_at, module_at, numbered, parent_at, variants_at}
@@ -120,6 +126,37 @@ ImportsReadAlike = (finished : Maps) (one : Map) (one_local : Local) (other : Ma
     → StandsBeside finished one → BeginsWithCrates one_local → at < length one.modules → Grows one other
     → All (AgreeAt one one_local other other_local) (reads finished (by_import one_local) one (numbered one.id at) path)
     → resolution_of (overlay finished other) (by_import other_local) (numbered one.id at) path ≡ resolution_of (overlay finished one) (by_import one_local) (numbered one.id at) path
+
+-- ---- paths that stop at no enum without variants
+
+-- whether a type is an enum of the map that has no variants yet
+abbrev pub is_bare_adt : Map → AdtId → Bool
+is_bare_adt map (adts.EnumId id) = has_no_variants map (named.Enum id)
+is_bare_adt map _ = false
+
+-- whether a definition is one
+abbrev pub is_bare_def : Map → ModuleDefId → Bool
+is_bare_def map (definitions.AdtId adt) = is_bare_adt map adt
+is_bare_def map _ = false
+
+-- whether an item is there whose definition is one
+abbrev pub is_bare : Map → Option (Item ModuleDefId ImportOrExternCrate) → Bool
+is_bare map None = false
+is_bare map (Some item) = is_bare_def map item.def
+
+-- whether an answer stops at an enum of the map that has no variants yet
+abbrev pub stops_bare : Map → Resolution → Bool
+stops_bare map answer = is_some answer.segment_index && is_bare map answer.resolved_def.types
+
+-- a path of a crate's map that doesn't stop at an enum without variants means the same as long as no slot changes that it looks at, whatever modules and variants come
+abbrev pub UnstoppedReadsDecide : Type 0
+UnstoppedReadsDecide = (finished : Maps) (one other : Map) (asking : Asking) (local : Local) (at : ℕ) (path : Path)
+    → KeepApart finished one.id → one.id.block ≡ None → IsInOrder one → at < length one.modules → Grows one other → length one.modules ≤ length other.modules
+    → stops_bare one (resolution_of (overlay finished one) asking (numbered one.id at) path) ≡ false
+    → All (AgreeAt one asking.local other local) (reads finished asking one (numbered one.id at) path)
+    → IsReadAlike finished one asking other local (numbered one.id at) path
+
+-- ---- maps that change in their scopes alone
 
 -- where a map changes in its scopes alone, it's enough that the finished maps name nothing in it
 abbrev pub ScopesReadAlike : Type 0

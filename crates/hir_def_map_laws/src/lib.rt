@@ -10,7 +10,7 @@ ghost use Rattle.hir_def_map.specs.WellFormed.{AreWellFormed, HasNoDanglingExter
 ghost use Rattle.hir_def_map.specs.Closed.{IsClosed};
 ghost use Rattle.hir_def_map.specs.State.{Local, Map};
 ghost use Rattle.hir_def_map_laws.specs.Building.{DeclarationsKeepNames, DeclarationsKeepPlaces, DeclarationsNameWhatIsThere, EnumsKeepToSources, EnumsNameWhatIsThere, ListsKeepToSources, ModulesKeepToSources, ModulesNameWhatIsThere, PushesKeepPlaces, PushesKeepToSources, PushesNameWhatIsThere, ScopesNameWhatIsThere, UpdatesNameWhatIsThere};
-ghost use Rattle.hir_def_map_laws.specs.ReadLaw.{ChangedModulesDifferInScopes, CrateMapsBeginOutside, CratesAreOutside, ImportsReadAlike, PartsKeepApart, ReadsDecide, ScopesReadAlike, SomeMapsKeepApart, WholeMapsKeepApart, WholeMapsStandBeside, WorldsKeepApart};
+ghost use Rattle.hir_def_map_laws.specs.ReadLaw.{ChangedModulesDifferInScopes, CrateMapsBeginOutside, CratesAreOutside, ImportsReadAlike, PartsKeepApart, ReadsDecide, ScopesReadAlike, SomeMapsKeepApart, UnstoppedReadsDecide, WholeMapsKeepApart, WholeMapsStandBeside, WorldsKeepApart};
 ghost use Rattle.hir_def_map_laws.specs.SlotChanges.{ChangedScopesChangeTheirSlot, ChangesFollowOneAnother, CratesChangeTheirSlot, EnumsChangeNoSlot, ListsChangeNoSlot, MacroUsesChangeTheirSlot, ModulesChangeNoSlot, NothingChangesNoScope, NothingChangesNoSlot, OneChangeIsAmongItsSlot, OneScopeChangeIsAmongItsSlot, OtherSlotsDoNotMatter, PushesChangeTheirScope, PushesChangeTheirSlot, ScopeChangesFollowOneAnother, TextualMacrosChangeTheirSlot, TraitsChangeNoScope, TraitsChangeNoSlot, UnreadScopesDoNotMatter, UnreadSlotsDoNotMatter, UpdatesChangeTheirScope, UpdatesChangeTheirSlot};
 ghost use Rattle.hir_def_map_laws.specs.Paths.{BlocksAskHolders, CratesAskThemselves, InnerModulesAskPreludes, LaterSegmentsAreSeen, RootedStepsLeadToParents, SegmentsAreSeen, StepsLeadToParents, UnnamedBindingsDoNotMatter};
 
@@ -28,6 +28,12 @@ pub fn reads_decide_answers()
     ensures paths { ReadsDecide }
     ensures imports { ImportsReadAlike }
     ensures whole { WholeMapsStandBeside }
+{}
+
+/// A path that stops at no enum without variants means the same while a map grows, as long as no slot changes that it
+/// looks at.
+pub fn unstopped_reads_decide()
+    ensures paths { UnstoppedReadsDecide }
 {}
 
 /// A change of a map changes one slot, or none; paths that don't look at it mean the same.

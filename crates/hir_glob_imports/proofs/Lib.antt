@@ -8,3 +8,4 @@ pub mod Linking
 pub mod Spreading
 pub mod Reopening
 pub mod Advancing
+pub mod OfKind

@@ -62,8 +62,9 @@ module _ (v : View) (j : ℕ) (e : Edge) (key : Key) where
       on_name false named f = on_brought named by may f
 
 module _ (v : View) (g : GlobsValue) (kept : IsKept v g) (none : g.pending ≡ []) where
-  settled : (j : ℕ) (e : Edge) (key : Key) → slice_get g.edges j ≡ Some e → update_at v (brought_of g) j e key ≡ Nothing
-  settled j e key is = go (kept.settled j e key is)
+  -- where nothing is to be looked at, nothing is to be done along any edge
+  pub nothing_along : (j : ℕ) (e : Edge) (key : Key) → slice_get g.edges j ≡ Some e → update_at v (brought_of g) j e key ≡ Nothing
+  nothing_along j e key is = go (kept.settled j e key is)
     where
       go : IsPendingOrSettled v g j e key → update_at v (brought_of g) j e key ≡ Nothing
       go (inl pending) =
@@ -80,15 +81,15 @@ module _ (v : View) (g : GlobsValue) (kept : IsKept v g) (none : g.pending ≡ [
     followed = λ j e key is. record {
       followed = λ named b by shows brought by_it.
           followed_from v j e key named b (bound_in v (slot_at e.importer key)) by by_it
-          (sym (λ i. update_of v j e key (shows i) (bound_in v (slot_at e.importer key)) (brought i)) ∙ settled j e key is);
+          (sym (λ i. update_of v j e key (shows i) (bound_in v (slot_at e.importer key)) (brought i)) ∙ nothing_along j e key is);
     };
     raised = λ j e key is. record {
       raised = λ b c shows stands may same wide greater.
           raised_from v j e key b c (brought_of g (slot_at e.importer key)) may same wide greater
-          (sym (λ i. update_of v j e key (shows i) (stands i) (brought_of g (slot_at e.importer key))) ∙ settled j e key is);
+          (sym (λ i. update_of v j e key (shows i) (stands i) (brought_of g (slot_at e.importer key))) ∙ nothing_along j e key is);
     };
   }
     where
       at : (j : ℕ) (e : Edge) (key : Key) → slice_get g.edges j ≡ Some e → (o : Option Bound) → shown v e key ≡ o
           → update_of v j e key o (bound_in v (slot_at e.importer key)) (brought_of g (slot_at e.importer key)) ≡ Nothing
-      at j e key is o shows = sym (λ i. update_of v j e key (shows i) (bound_in v (slot_at e.importer key)) (brought_of g (slot_at e.importer key))) ∙ settled j e key is
+      at j e key is o shows = sym (λ i. update_of v j e key (shows i) (bound_in v (slot_at e.importer key)) (brought_of g (slot_at e.importer key))) ∙ nothing_along j e key is

@@ -3,11 +3,13 @@ use Rattle.std.specs.Prelude.{◌≡◌, ℕ, Bool, true, false, ◌==◌, ◌&&
 use Rattle.std.specs.BTreeMap.{is_at}
 use Rattle.std.specs.Map.{lookup}
 use Rattle.hir_glob_imports.specs.contracts.edge.SlotOrd.TheImpl as slot_order
+use Rattle.hir_base.specs.declared.ids.TraitId.{TraitId}
 use Rattle.hir_scope.specs.declared.visibility.Visibility.{Visibility}
 use Rattle.hir_glob_imports.specs.declared.edge.Bound.{Bound}
 use Rattle.hir_glob_imports.specs.declared.edge.Brought.{Brought}
 use Rattle.hir_glob_imports.specs.declared.edge.Edge.{Edge}
 use Rattle.hir_glob_imports.specs.declared.edge.Key.{Key}
+use Rattle.hir_glob_imports.specs.declared.edge.Key.TheVariants.{Unnamed}
 use Rattle.hir_glob_imports.specs.declared.edge.Slot.{Slot}
 use Rattle.hir_glob_imports.specs.declared.edge.Target.{Target}
 use Rattle.hir_glob_imports.specs.declared.edge.Target.TheVariants as target
@@ -86,6 +88,20 @@ pub record IsWaved (v : View) (edges : List Edge) (brought : BroughtBy) : Type 0
   pub closed : (j : ℕ) (e : Edge) (key : Key) → slice_get edges j ≡ Some e → IsClosedAt v e key
   pub followed : (j : ℕ) (e : Edge) (key : Key) → slice_get edges j ≡ Some e → IsFollowedAt v brought j e key
   pub raised : (j : ℕ) (e : Edge) (key : Key) → slice_get edges j ≡ Some e → IsRaisedAt v brought j e key
+
+-- ---- visibilities of a kind
+
+-- the visibilities of edges, of what globs brought, and of traits without names are all of a kind
+pub record AreOfKind (P : Visibility → Type 0) (v : View) (globs : List Edge) (bringers : BroughtBy) : Type 0 where
+  pub edges : (j : ℕ) (e : Edge) → slice_get globs j ≡ Some e → P e.vis
+  pub brought : (s : Slot) (by : Brought) (b : Bound) → bringers s ≡ Some by → bound_in v s ≡ Some b → P b.vis
+  pub traits : (at : ℕ) (id : TraitId) (b : Bound) → v.bound (target.Own at) (Unnamed id) ≡ Some b → P b.vis
+
+-- what a module that is there sees is of a kind, and so are the lesser and the greater of two that are
+pub record FindsKind (P : Visibility → Type 0) (v : View) : Type 0 where
+  pub seen : (at : ℕ) (vis : Visibility) → v.has at ≡ true → v.sees at vis ≡ true → P vis
+  pub lesser : (a b : Visibility) → P a → P b → P (v.lesser a b)
+  pub greater : (a b wide : Visibility) → P a → P b → v.greater a b ≡ Some wide → P wide
 
 -- ---- recording a glob
 

@@ -2,9 +2,13 @@
 use Rattle.std.proofs.Common.{◌≡◌, ◌∙◌, ap, sym, refl, subst, ℕ, zero, suc, ◌<◌, ◌≤◌, Bool, true, false, ◌++◌, Option, None, Some, List, [], ◌∷◌, length, get_or, drop, length-append, ◌+◌, arith}
 use Rattle.std.proofs.Math.Seq.{drop-cons}
 use Rattle.std.proofs.lemmas.List.{drop_all}
+use Rattle.std.proofs.lemmas.List.Elements.{Contains-append_left, Contains-append_right}
+use Rattle.std.proofs.lemmas.Option.{slice_get_within}
 use Rattle.std.specs.Prelude.{not, slice_get, slice_index_or}
 use Rattle.hir_def_map.specs.Overlay.{Maps}
+use Rattle.hir_def_map.specs.State.{Local, Map, parent_of}
 use Rattle.hir_def_map.specs.declared.nameres.path_resolution.slots.Slot.{Slot as PathSlot}
+use Rattle.hir_def_map.specs.declared.nameres.path_resolution.slots.Slot.TheVariants.{Module as of_module, Preludes as of_preludes}
 use Rattle.hir_worklist.proofs.Idle.{idle-appended}
 use Rattle.hir_worklist.specs.Moves.{Appends, Wakes, empty_queue}
 use Rattle.hir_worklist.specs.Queue.{IsIdle, Queue, count_of, is_unfinished}
@@ -13,15 +17,13 @@ use Rattle.hir_worklist.specs.declared.watchers.Watchers.{Watchers}
 use Rattle.hir_import_resolution.specs.declared.directive.ImportDirective.{ImportDirective}
 use Rattle.hir_import_resolution.specs.declared.import_queue.ImportQueue.{ImportQueue}
 use Rattle.hir_import_resolution.specs.Inner.Queue.{AreIdleSettled, IsLonger, IsWoken, WakesEach, slot_cmp, more, none}
-use Rattle.hir_import_resolution.specs.Inner.State.{IsApart}
-use Rattle.hir_import_resolution.specs.Rounds.{Grew, GrowthsFollowOneAnother, IsResumable, IsUpToDate, is_apart}
+use Rattle.hir_import_resolution.specs.Rounds.{AreQueued, Grew, GrowthsFollowOneAnother, IsResumable, is_lasting}
 use Rattle.hir_import_resolution.specs.State.{ImportState}
+use Rattle.hir_import_resolution.proofs.Firm.{there_still}
 use Rattle.hir_import_resolution.proofs.Settled.{unchanged_grown}
 use Rattle.hir_import_resolution.proofs.Trying.{woken_anew}
-use Rattle.hir_def_map_laws.proofs.InScopes.{crates_outside}
-use Rattle.hir_def_map_laws.proofs.SlotLists.{follow}
-use Rattle.hir_def_map_laws.specs.ReadLaw.{KeepApart}
-use Rattle.hir_base.specs.declared.ids.MapId.{MapId}
+use Rattle.hir_def_map_laws.proofs.SameAbove.{found-below}
+use Rattle.hir_def_map_laws.specs.ReadLaw.{AgreeAt, Grows}
 
 -- ---- slots that are woken, one after another
 
@@ -82,10 +84,10 @@ pub none_idle : (q r : Queue) → q ≡ empty_queue → IsLonger q r → (p : �
 none_idle q r empty longer p idle =
     let before : p < 0 = below_unfinished [] p (subst (λ (x : Queue). is_unfinished x p ≡ true) empty (longer.idle p idle).unfinished) in absurd (omega arith)
 
--- so a queue of all imports is up to date
-pub up_to_date_first : (finished : Maps) (queue : ImportQueue) (q : Queue) (s : ImportState) (n : ℕ) → q ≡ empty_queue → IsLonger q queue.worklist → n ≡ length s.imports → (count_of q ≤ n → count_of queue.worklist ≡ n)
-    → ((p : ℕ) (d : ImportDirective) → slice_get s.imports p ≡ Some d → d.home < length s.map.modules) → IsUpToDate finished queue s
-up_to_date_first finished queue q s n empty longer all count there = record {
+-- so in a queue of all imports each is queued
+pub queued_first : (finished : Maps) (queue : ImportQueue) (q : Queue) (s : ImportState) (n : ℕ) → q ≡ empty_queue → IsLonger q queue.worklist → n ≡ length s.imports → (count_of q ≤ n → count_of queue.worklist ≡ n)
+    → ((p : ℕ) (d : ImportDirective) → slice_get s.imports p ≡ Some d → d.home < length s.map.modules) → AreQueued finished queue s
+queued_first finished queue q s n empty longer all count there = record {
   settled = record {
     watched = record { each = λ p idle other. absurd (none_idle q queue.worklist empty longer p idle) };
     settled = λ p idle other. absurd (none_idle q queue.worklist empty longer p idle);
@@ -106,6 +108,24 @@ up_to_date_first finished queue q s n empty longer all count there = record {
     no_more : (p : ℕ) → p < count_of q → is_unfinished q p ≡ true
     no_more p below = absurd (omega (arith, none_there))
 
+-- ---- two times one after another
+
+agree_twice : (a b c : Map) (k l m : Local) (slot : PathSlot) → AgreeAt a k b l slot → AgreeAt b l c m slot → AgreeAt a k c m slot
+agree_twice a b c k l m (of_module at name) first then = record { entries = then.entries ∙ first.entries; legacy = then.legacy ∙ first.legacy }
+agree_twice a b c k l m (of_preludes name) first then = record { crates = then.crates ∙ first.crates; macro_uses = then.macro_uses ∙ first.macro_uses }
+
+grown_twice : (a b c : Map) → length a.modules ≤ length b.modules → Grows a b → Grows b c → Grows a c
+grown_twice a b c longer first then = record {
+  id = then.id ∙ first.id;
+  holder = then.holder ∙ first.holder;
+  crate_data = then.crate_data ∙ first.crate_data;
+  prelude = then.prelude ∙ first.prelude;
+  parents = λ at m e.
+      let there = found-below b.modules at (omega (arith, longer, slice_get_within a.modules at m e)) in
+      then.parents at there.0 there.1 ∙ sym (ap parent_of there.1) ∙ first.parents at m e;
+  enums = λ id variants e. then.enums id variants (first.enums id variants e);
+}
+
 -- ---- later
 
 as_long_by_places : {A : Type 0} (xs ys : List A) → ((i : ℕ) → i < length xs → slice_get ys i ≡ slice_get xs i) → length xs ≤ length ys
@@ -115,7 +135,16 @@ as_long_by_places (x ∷ xs) (y ∷ ys) same = let rest : length xs ≤ length y
 
 pub growths_follow : GrowthsFollowOneAnother
 growths_follow one two three first then a b = record {
-  map = follow one.map two.map three.map one.local two.local three.local first then a.map b.map;
+  grows = grown_twice one.map two.map three.map a.modules a.grows b.grows;
+  modules = omega (arith, a.modules, b.modules);
+  others = λ slot apart there.
+      agree_twice one.map two.map three.map one.local two.local three.local slot (a.others slot (λ h. apart (Contains-append_left first then slot h)) there)
+      (b.others slot (λ h. apart (Contains-append_right first then slot h)) (there_still (length one.map.modules) (length two.map.modules) a.modules slot there));
+  entries = λ at name apart. b.entries at name (λ h. apart (Contains-append_right first then (of_module at name) h)) ∙ a.entries at name (λ h. apart (Contains-append_left first then (of_module at name) h));
+  traits = λ at id. b.traits at id ∙ a.traits at id;
+  edges = b.edges ∙ a.edges;
+  brought = λ s apart.
+      b.brought s (λ name e h. apart name e (Contains-append_right first then (of_module s.at name) h)) ∙ a.brought s (λ name e h. apart name e (Contains-append_left first then (of_module s.at name) h));
   imports = λ i low. b.imports i (further i low) ∙ a.imports i low;
   taken = λ i low. b.taken i (further i low) ∙ a.taken i low;
 }
@@ -126,44 +155,40 @@ growths_follow one two three first then a b = record {
     further : (i : ℕ) → i < length one.imports → i < length two.imports
     further i low = omega (arith, long)
 
-module _ (finished : Maps) (queue : ImportQueue) (now : ImportState) (slots : List PathSlot) (given : IsResumable finished queue now slots) where
-  abbrev before : ImportState
+module _ (finished : Maps) (queue : ImportQueue) (now : ImportState) (slots : List PathSlot) (given : IsResumable finished queue now slots) (lasting : is_lasting queue ≡ true) where
+  abbrev pub before : ImportState
   before = given.before
 
-  -- the map lies apart from finished ones still
-  pub apart_now : is_apart queue ≡ true → IsApart finished now.map.id now.local
-  apart_now e = record {
-    apart = subst (λ (id : MapId). KeepApart finished id) (sym given.grew.map.grows.id) (given.stands e).apart;
-    outside = crates_outside now.map.id now.local (given.begins_now e);
-  }
-
-  module _ (woken : ImportQueue) (wakes : IsWoken queue.apart slots queue.worklist queue.watchers woken.worklist woken.watchers) (apart : woken.apart ≡ queue.apart) where
+  module _ (woken : ImportQueue) (wakes : IsWoken queue.apart slots queue.worklist queue.watchers woken.worklist woken.watchers) (apart : woken.apart ≡ queue.apart) (lasts : woken.lasting ≡ queue.lasting) where
     same_count : count_of woken.worklist ≡ length before.imports
-    same_count = ap (λ (f : List Bool). length f) wakes.pass.finished ∙ given.up_to_date.count
+    same_count = ap (λ (f : List Bool). length f) wakes.pass.finished ∙ given.up_to_date.queued.count
 
     idle_there : (p : ℕ) → IsIdle woken.worklist p → p < length before.imports
     idle_there p idle = subst (λ (n : ℕ). p < n) same_count (idle_below woken.worklist p idle)
 
     -- what is idle once the readers are woken is settled
-    settled_now : AreIdleSettled queue.apart finished now None woken.worklist woken.watchers
+    settled_now : AreIdleSettled queue.lasting queue.apart finished now None woken.worklist woken.watchers
     settled_now =
-        woken_anew queue.apart finished before now slots queue.worklist woken.worklist queue.watchers woken.watchers
+        woken_anew queue.lasting queue.apart finished before now slots queue.worklist woken.worklist queue.watchers woken.watchers
         (λ p idle. record { import = given.grew.imports p (idle_there p idle); taken = given.grew.taken p (idle_there p idle) })
-        (λ e p d is unread. unchanged_grown finished before now slots d d.source refl (given.stands e) (given.begins e) (given.up_to_date.there p d is) given.grew.map unread)
-        given.up_to_date.settled wakes
+        (λ e p d is firm unread.
+        unchanged_grown finished before now slots d d.source refl (given.apart e) (given.up_to_date.lasts lasting).of_crate (given.up_to_date.lasts lasting).ordered.in_order
+        (given.up_to_date.queued.there p d is) given.grew (firm lasting) unread)
+        given.up_to_date.queued.settled wakes
 
-    pub up_to_date_again : (last : ImportQueue) (n : ℕ) → last ≡ record woken { worklist = last.worklist } → IsLonger woken.worklist last.worklist → n ≡ length now.imports
+    pub queued_again : (last : ImportQueue) (n : ℕ) → last ≡ record woken { worklist = last.worklist } → IsLonger woken.worklist last.worklist → n ≡ length now.imports
         → (count_of woken.worklist ≤ n → count_of last.worklist ≡ n)
-        → ((p : ℕ) (d : ImportDirective) → slice_get now.imports p ≡ Some d → d.home < length now.map.modules) → IsUpToDate finished last now
-    up_to_date_again last n rest longer all count there = record {
+        → ((p : ℕ) (d : ImportDirective) → slice_get now.imports p ≡ Some d → d.home < length now.map.modules) → AreQueued finished last now
+    queued_again last n rest longer all count there = record {
       settled =
-          subst (λ (w : Watchers PathSlot). AreIdleSettled last.apart finished now None last.worklist w) (sym (ap (λ (x : ImportQueue). x.watchers) rest))
-          (subst (λ (b : Bool). AreIdleSettled b finished now None last.worklist woken.watchers) (sym (ap (λ (x : ImportQueue). x.apart) rest ∙ apart)) fewer);
+          subst (λ (w : Watchers PathSlot). AreIdleSettled last.lasting last.apart finished now None last.worklist w) (sym (ap (λ (x : ImportQueue). x.watchers) rest))
+          (subst (λ (b : Bool). AreIdleSettled last.lasting b finished now None last.worklist woken.watchers) (sym (ap (λ (x : ImportQueue). x.apart) rest ∙ apart))
+          (subst (λ (b : Bool). AreIdleSettled b queue.apart finished now None last.worklist woken.watchers) (sym (ap (λ (x : ImportQueue). x.lasting) rest ∙ lasts)) fewer));
       count = as_many;
       unfinished = λ p below. longer.unfinished old_unfinished p (subst (λ (n : ℕ). p < n) (sym as_many) below);
       there = there;
-      over = longer.current ∙ wakes.pass.outside given.up_to_date.over given.up_to_date.outside;
-      outside = longer.end ∙ wakes.pass.end ∙ given.up_to_date.outside;
+      over = longer.current ∙ wakes.pass.outside given.up_to_date.queued.over given.up_to_date.queued.outside;
+      outside = longer.end ∙ wakes.pass.end ∙ given.up_to_date.queued.outside;
     }
       where
         grown : length before.imports ≤ length now.imports
@@ -175,9 +200,9 @@ module _ (finished : Maps) (queue : ImportQueue) (now : ImportState) (slots : Li
         old_unfinished : (p : ℕ) → p < count_of woken.worklist → is_unfinished woken.worklist p ≡ true
         old_unfinished p below =
             ap (λ (f : List Bool). not (slice_index_or f p true)) wakes.pass.finished
-            ∙ given.up_to_date.unfinished p (subst (λ (n : ℕ). p < n) same_count below)
+            ∙ given.up_to_date.queued.unfinished p (subst (λ (n : ℕ). p < n) same_count below)
 
-        fewer : AreIdleSettled queue.apart finished now None last.worklist woken.watchers
+        fewer : AreIdleSettled queue.lasting queue.apart finished now None last.worklist woken.watchers
         fewer = record {
           watched = record { each = λ p idle other. settled_now.watched.each p (longer.idle p idle) other };
           settled = λ p idle other. settled_now.settled p (longer.idle p idle) other;

@@ -12,6 +12,10 @@ pub mod Along
 -- what a push changes
 pub mod Binding
 pub mod Bound
+-- what lasts
+pub mod Firm
+pub mod Placed
+pub mod LookingAgain
 -- what a resolver does
 pub mod Spread
 pub mod TakenImports

@@ -12,7 +12,7 @@ use Rattle.hir_worklist.specs.Moves.{Takes, closed, opened}
 use Rattle.hir_worklist.specs.Queue.{Queue}
 use Rattle.hir_import_resolution.specs.declared.directive.ImportDirective.{ImportDirective}
 use Rattle.hir_import_resolution.specs.declared.resolver.Resolver.{Resolver}
-use Rattle.hir_import_resolution.specs.Inner.Queue.{AreIdleSettled, IsRunning, reads_at, slot_cmp}
+use Rattle.hir_import_resolution.specs.Inner.Queue.{AreIdleSettled, IsRunning, IsSettledFor, reads_at, slot_cmp}
 use Rattle.hir_import_resolution.specs.Inner.State.{finished_by, state_by}
 use Rattle.hir_import_resolution.specs.Names.{view_of}
 use Rattle.hir_import_resolution.specs.Rest.{IsAtRest, IsSettled, IsSpent}
@@ -26,20 +26,20 @@ use Rattle.hir_import_resolution.proofs.Running.{requeued}
 pub opened_running : (r : Resolver) (q : Queue) → IsRunning r None → r.worklist.current ≡ [] → q ≡ opened r.worklist → IsRunning (record r { worklist = q }) None
 opened_running r q old over e =
     requeued r None None q old
-    (subst (λ (x : Queue). AreIdleSettled r.apart (finished_by r) (state_by r) None x r.watchers) (sym e)
-    (pass_opened slot_cmp slot_total (reads_at r.apart (finished_by r) (state_by r)) (IsSettled (finished_by r) (state_by r)) None r.worklist r.watchers old.begun.settled over))
+    (subst (λ (x : Queue). AreIdleSettled r.lasting r.apart (finished_by r) (state_by r) None x r.watchers) (sym e)
+    (pass_opened slot_cmp slot_total (reads_at r.apart (finished_by r) (state_by r)) (IsSettledFor r.lasting (finished_by r) (state_by r)) None r.worklist r.watchers old.begun.settled over))
     (ap (λ (x : Queue). x.finished) e)
 
 pub taken_running : (r : Resolver) (q : Queue) (i : ℕ) → IsRunning r None → Takes r.worklist q i → IsRunning (record r { worklist = q }) (Some i)
 taken_running r q i old takes =
     requeued r None (Some i) q old
-    (taken slot_cmp slot_total (reads_at r.apart (finished_by r) (state_by r)) (IsSettled (finished_by r) (state_by r)) r.worklist q i r.watchers old.begun.settled takes) takes.finished
+    (taken slot_cmp slot_total (reads_at r.apart (finished_by r) (state_by r)) (IsSettledFor r.lasting (finished_by r) (state_by r)) r.worklist q i r.watchers old.begun.settled takes) takes.finished
 
 pub closed_running : (r : Resolver) (q : Queue) → IsRunning r None → q ≡ closed r.worklist → IsRunning (record r { worklist = q }) None
 closed_running r q old e =
     requeued r None None q old
-    (subst (λ (x : Queue). AreIdleSettled r.apart (finished_by r) (state_by r) None x r.watchers) (sym e)
-    (pass_closed slot_cmp slot_total (reads_at r.apart (finished_by r) (state_by r)) (IsSettled (finished_by r) (state_by r)) None r.worklist r.watchers old.begun.settled))
+    (subst (λ (x : Queue). AreIdleSettled r.lasting r.apart (finished_by r) (state_by r) None x r.watchers) (sym e)
+    (pass_closed slot_cmp slot_total (reads_at r.apart (finished_by r) (state_by r)) (IsSettledFor r.lasting (finished_by r) (state_by r)) None r.worklist r.watchers old.begun.settled))
     (ap (λ (x : Queue). x.finished) e)
 
 -- ---- steps of one try after another
@@ -88,7 +88,7 @@ at_rest r old current later = record {
   where
     settled : (i : ℕ) (d : ImportDirective) → slice_get r.imports.items i ≡ Some d → IsSettled (finished_by r) (state_by r) i
     settled i d e =
-        old.begun.settled.settled i (idle-settled r.worklist i current later (old.begun.unfinished i (slice_get_within r.imports.items i d e))) (λ none. absurd cc)
+        (old.begun.settled.settled i (idle-settled r.worklist i current later (old.begun.unfinished i (slice_get_within r.imports.items i d e))) (λ none. absurd cc)).settled
 
 pub rest_on : (r0 r1 : Resolver) → finished_by r1 ≡ finished_by r0 → IsAtRest (finished_by r1) (state_by r1) → IsAtRest (finished_by r0) (state_by r1)
 rest_on r0 r1 same rests = subst (λ (f : Maps). IsAtRest f (state_by r1)) same rests

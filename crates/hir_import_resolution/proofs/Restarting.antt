@@ -36,14 +36,16 @@ pub record Reopened (finished : Maps) (queue : ImportQueue) (s : ImportState) (r
   pub beside : finished_by r ≡ finished
   pub queued : queue_by r ≡ queue
   pub fresh : r.changes.items ≡ []
+  pub unreported : r.reported.items ≡ []
 
-pub reopened : (finished : Maps) (queue : ImportQueue) (s : ImportState) (r0 r : Resolver) → state_by r0 ≡ s → finished_by r0 ≡ finished → queue_by r0 ≡ queue → r0.changes.items ≡ []
+pub reopened : (finished : Maps) (queue : ImportQueue) (s : ImportState) (r0 r : Resolver) → state_by r0 ≡ s → finished_by r0 ≡ finished → queue_by r0 ≡ queue → r0.changes.items ≡ [] → r0.reported.items ≡ []
     → state_by r ≡ state_by r0 → r ≡ with_globs r0 r0.scopes r.globs → Reopened finished queue s r
-reopened finished queue s r0 r state beside queued fresh same rest = record {
+reopened finished queue s r0 r state beside queued fresh unreported same rest = record {
   state = same ∙ state;
   beside = ap finished_by rest ∙ beside;
   queued = ap queue_by rest ∙ queued;
   fresh = ap (λ (x : Resolver). x.changes.items) rest ∙ fresh;
+  unreported = ap (λ (x : Resolver). x.reported.items) rest ∙ unreported;
 }
 
 pub sound_through : (f g : Maps) (b d : ImportState) → f ≡ g → d ≡ b → IsSound f b → IsSound g d
@@ -65,11 +67,3 @@ pub closed_after : (f : Maps) (s : ImportState) (r : Resolver) → IsKeptIn r �
 closed_after f s r kept none same state =
     subst (λ (x : Maps). IsClosed x s) same
     (subst (λ (x : ImportState). IsClosed (finished_by r) x) (sym state) (waved (view_of (scopes_of (finished_by r) (state_by r))) r.globs kept none))
-
--- the scopes of a map that was handed over have changed at the slots at which names went along globs
-pub changed_through : (given left : Imports) (r new : Resolver) (slots : List GlobSlot) → state_by r ≡ state_in given → state_in left ≡ state_by new → slots ≡ new.changes.items
-    → IsSpread r new → ScopesChangeAmong given.map left.map given.local (path_slots slots)
-changed_through given left r new slots first last listed spread =
-    subst (λ (ss : List GlobSlot). ScopesChangeAmong given.map left.map given.local (path_slots ss)) (sym listed)
-    (subst (λ (s : ImportState). ScopesChangeAmong s.map left.map s.local (path_slots new.changes.items)) first
-    (subst (λ (s : ImportState). ScopesChangeAmong r.scopes.map s.map r.local (path_slots new.changes.items)) (sym last) spread.changes.among))

@@ -1,8 +1,9 @@
 -- Which imports are settled as the state changes?
-use Rattle.std.proofs.Common.{◌≡◌, ◌≢◌, ◌∙◌, ap, sym, refl, subst, ℕ, ◌<◌, Bool, true, false, not, ◌&&◌, ◌||◌, Option, None, Some, List, [], ◌∷◌, ◌++◌, length, cond, arith}
+use Rattle.std.proofs.Common.{◌≡◌, ◌≢◌, ◌∙◌, ap, sym, refl, subst, ℕ, ◌<◌, Bool, true, false, not, ◌&&◌, ◌||◌, Option, None, Some, List, [], ◌∷◌, ◌++◌, length, cond, get_or, arith}
 use Rattle.std.specs.Prelude.{Contains, slice_get, slice_set}
 use Rattle.std.specs.Option.{option_and_then}
-use Rattle.std.proofs.lemmas.List.Elements.{Contains-append_left, Contains-append_right}
+use Rattle.std.proofs.lemmas.List.Elements.{All-contains_itself, Contains-append_left, Contains-append_right}
+use Rattle.std.specs.List.{All}
 use Rattle.hir_base.specs.declared.ids.Crate.{Crate}
 use Rattle.hir_base.specs.declared.ids.ExternCrateId.{ExternCrateId}
 use Rattle.hir_scope.specs.declared.imports.GlobId.{GlobId}
@@ -14,11 +15,12 @@ use Rattle.hir_def_map.specs.Overlay.{Maps, overlay}
 use Rattle.hir_def_map.specs.Reaches.{by_import}
 use Rattle.hir_def_map.specs.Scoping.{Resolution, resolution_of}
 use Rattle.hir_def_map.specs.Scoping.Slots.{reads}
-use Rattle.hir_def_map.specs.State.{numbered}
+use Rattle.hir_def_map.specs.State.{IsInOrder, numbered}
 use Rattle.hir_def_map.specs.declared.nameres.path_resolution.slots.Slot.{Slot as PathSlot}
-use Rattle.hir_def_map_laws.proofs.SlotLists.{unread as unread_slots, unread_scopes}
-use Rattle.hir_def_map_laws.specs.ReadLaw.{BeginsWithCrates, IsReadAlike, StandsBeside}
-use Rattle.hir_def_map_laws.specs.SlotChanges.{ChangesAmong, ScopesChangeAmong}
+use Rattle.hir_def_map_laws.proofs.EnumsGrow.{unstopped_reads_decide}
+use Rattle.hir_def_map_laws.proofs.SlotLists.{unread_scopes}
+use Rattle.hir_def_map_laws.specs.ReadLaw.{AgreeAt, IsReadAlike, stops_bare}
+use Rattle.hir_def_map_laws.specs.SlotChanges.{ScopesChangeAmong}
 use Rattle.hir_glob_imports.specs.declared.edge.Target.{Target}
 use Rattle.hir_import_resolution.specs.declared.directive.ImportDirective.{ImportDirective}
 use Rattle.hir_import_resolution.specs.declared.directive.ImportSource.{ImportSource}
@@ -26,12 +28,15 @@ use Rattle.hir_import_resolution.specs.declared.directive.ImportSource.TheVarian
 use Rattle.hir_import_resolution.specs.declared.namespaces.Namespaces.{Namespaces}
 use Rattle.hir_import_resolution.specs.declared.resolver.steps.Taking.{Taking}
 use Rattle.hir_import_resolution.specs.Directives.{AreAmong, TakenValue, answer_by_source, answer_in, answer_to, both_of, edge_to, glob_of, goes_beyond, namespaces_of, path_answer, reached_by, taken_after, taken_for, target_among, target_of}
-use Rattle.hir_import_resolution.specs.Inner.Queue.{path_reads}
+use Rattle.hir_import_resolution.specs.Inner.Queue.{IsFirmBy, path_reads}
 use Rattle.hir_import_resolution.specs.Inner.State.{IsApart}
 use Rattle.hir_import_resolution.specs.Inner.Steps.{IsLinkedAt, IsLinking, taking_at, taking_for, taking_of}
+use Rattle.hir_import_resolution.specs.Lasting.{IsThere}
 use Rattle.hir_import_resolution.specs.Rest.{IsSettled}
+use Rattle.hir_import_resolution.specs.Rounds.{Grew}
 use Rattle.hir_import_resolution.specs.State.{ImportState, with_taken}
 use Rattle.hir_import_resolution.proofs.Due.{Due}
+use Rattle.hir_import_resolution.proofs.Firm.{all_there_still, as_many, more_variants, same_variants, still_unstopped}
 use Rattle.hir_import_resolution.proofs.Recorded.{set_elsewhere, set_here}
 
 -- ---- what an import reaches at two times
@@ -57,6 +62,8 @@ stays_settled finished s t p same taken alike old = record {
 pub record IsUnchanged (finished : Maps) (s t : ImportState) (r : ImportDirective) (source : ImportSource) : Type 0 where
   pub alike : IsAlike finished s t r
   pub slots : path_reads finished t r source ≡ path_reads finished s r source
+  -- and where its path's meaning stayed as modules and enums came, it does so still
+  pub firm : IsFirmBy finished s r source → IsFirmBy finished t r source
 
 -- an `extern crate` reads nothing
 extern_alike : (finished : Maps) (s t : ImportState) (r : ImportDirective) (id : ExternCrateId) (krate : Option Crate) → r.source ≡ sources.ExternCrate id krate → IsAlike finished s t r
@@ -77,7 +84,13 @@ unchanged finished s t slots r (sources.Use id kind) e apart changes local unrea
     reached = ap (λ (a : Resolution). (answer_by_source r.source a).resolved_def) same;
     target = λ by g i. target_among (changes.differs.id i) (same i).resolved_def.types;
   };
-  slots = (λ i. reads finished (by_import (local i)) t.map (numbered (changes.differs.id i) r.home) r.path) ∙ read.slots;
+  slots = same_slots;
+  firm = λ old. record {
+    unstopped = ap (stops_bare t.map) same ∙ still_unstopped s.map t.map (same_variants s.map t.map changes.differs) (path_answer finished s.local s.map r) old.unstopped;
+    there =
+        subst (λ (n : ℕ). All (IsThere n) (path_reads finished t r (sources.Use id kind))) (sym (as_many s.map t.map changes.differs))
+        (subst (All (IsThere (length s.map.modules))) (sym same_slots) old.there);
+  };
 }
   where
     read : IsReadAlike finished s.map (by_import s.local) t.map s.local (numbered s.map.id r.home) r.path
@@ -85,29 +98,46 @@ unchanged finished s t slots r (sources.Use id kind) e apart changes local unrea
 
     same : path_answer finished t.local t.map r ≡ path_answer finished s.local s.map r
     same = (λ i. resolution_of (overlay finished t.map) (by_import (local i)) (numbered (changes.differs.id i) r.home) r.path) ∙ read.answers
-unchanged finished s t slots r (sources.ExternCrate id krate) e apart changes local unread =
-    record { alike = extern_alike finished s t r id krate e; slots = refl }
 
--- the same while the map grows: where it reads none of the slots that change, it reaches the same
-pub unchanged_grown : (finished : Maps) (s t : ImportState) (slots : List PathSlot) (r : ImportDirective) (source : ImportSource) → r.source ≡ source → StandsBeside finished s.map
-    → BeginsWithCrates s.local → r.home < length s.map.modules → ChangesAmong s.map s.local t.map t.local slots
+    same_slots : path_reads finished t r (sources.Use id kind) ≡ path_reads finished s r (sources.Use id kind)
+    same_slots = (λ i. reads finished (by_import (local i)) t.map (numbered (changes.differs.id i) r.home) r.path) ∙ read.slots
+unchanged finished s t slots r (sources.ExternCrate id krate) e apart changes local unread =
+    record { alike = extern_alike finished s t r id krate e; slots = refl; firm = λ old. tt }
+
+-- the same while the map of a crate grows, where its path's meaning stays as modules and enums come
+pub unchanged_grown : (finished : Maps) (s t : ImportState) (slots : List PathSlot) (r : ImportDirective) (source : ImportSource) → r.source ≡ source → IsApart finished s.map.id s.local
+    → s.map.id.block ≡ None → IsInOrder s.map → r.home < length s.map.modules → Grew s t slots → IsFirmBy finished s r source
     → ((slot : PathSlot) → Contains slots slot → ¬ Contains (path_reads finished s r source) slot) → IsUnchanged finished s t r source
 unfolding answer_in
-unchanged_grown finished s t slots r (sources.Use id kind) e stands begins there changes unread = record {
+unchanged_grown finished s t slots r (sources.Use id kind) e apart of_crate in_order there grew firm unread = record {
   alike = record {
     reached = ap (λ (a : Resolution). (answer_by_source r.source a).resolved_def) same;
-    target = λ by g i. target_among (changes.grows.id i) (same i).resolved_def.types;
+    target = λ by g i. target_among (grew.grows.id i) (same i).resolved_def.types;
   };
-  slots = (λ i. reads finished (by_import t.local) t.map (numbered (changes.grows.id i) r.home) r.path) ∙ read.slots;
+  slots = same_slots;
+  firm = λ old. record {
+    unstopped = ap (stops_bare t.map) same ∙ still_unstopped s.map t.map (more_variants s.map t.map grew.grows) (path_answer finished s.local s.map r) old.unstopped;
+    there =
+        all_there_still (length s.map.modules) (length t.map.modules) grew.modules (path_reads finished t r (sources.Use id kind))
+        (subst (All (IsThere (length s.map.modules))) (sym same_slots) old.there);
+  };
 }
   where
+    agree : All (AgreeAt s.map s.local t.map t.local) (path_reads finished s r (sources.Use id kind))
+    agree = λ n d l.
+        let slot : PathSlot = get_or (path_reads finished s r (sources.Use id kind)) n d in
+        grew.others slot (λ among. unread slot among (All-contains_itself (path_reads finished s r (sources.Use id kind)) n d l)) (firm.there n d l)
+
     read : IsReadAlike finished s.map (by_import s.local) t.map t.local (numbered s.map.id r.home) r.path
-    read = unread_slots finished s.map t.map (by_import s.local) t.local slots r.home r.path stands begins there changes unread
+    read = unstopped_reads_decide finished s.map t.map (by_import s.local) t.local r.home r.path apart.apart of_crate in_order there grew.grows grew.modules firm.unstopped agree
 
     same : path_answer finished t.local t.map r ≡ path_answer finished s.local s.map r
-    same = (λ i. resolution_of (overlay finished t.map) (by_import t.local) (numbered (changes.grows.id i) r.home) r.path) ∙ read.answers
-unchanged_grown finished s t slots r (sources.ExternCrate id krate) e stands begins there changes unread =
-    record { alike = extern_alike finished s t r id krate e; slots = refl }
+    same = (λ i. resolution_of (overlay finished t.map) (by_import t.local) (numbered (grew.grows.id i) r.home) r.path) ∙ read.answers
+
+    same_slots : path_reads finished t r (sources.Use id kind) ≡ path_reads finished s r (sources.Use id kind)
+    same_slots = (λ i. reads finished (by_import t.local) t.map (numbered (grew.grows.id i) r.home) r.path) ∙ read.slots
+unchanged_grown finished s t slots r (sources.ExternCrate id krate) e apart of_crate in_order there grew firm unread =
+    record { alike = extern_alike finished s t r id krate e; slots = refl; firm = λ old. tt }
 
 -- ---- takings
 

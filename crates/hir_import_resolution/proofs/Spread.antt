@@ -1,8 +1,11 @@
 -- Names that went along globs in a resolver.
-use Rattle.std.proofs.Common.{◌≡◌, sym, subst, refl, List}
+use Rattle.std.proofs.Common.{◌≡◌, ◌∙◌, ap, sym, subst, refl, List}
+use Rattle.std.specs.Prelude.{Contains}
 use Rattle.hir_def_map_laws.specs.SlotChanges.{ScopesChangeAmong}
 use Rattle.hir_glob_imports.specs.Rules.{IsSpent as IsSpentAlong, StepsIn}
-use Rattle.hir_glob_imports.specs.Waves.{state_of}
+use Rattle.hir_glob_imports.specs.Keys.{slot_at}
+use Rattle.hir_glob_imports.specs.Waves.{AreOfKind, IsKept, state_of}
+use Rattle.hir_glob_imports.specs.declared.edge.Key.TheVariants.{Unnamed}
 use Rattle.hir_glob_imports.specs.declared.edge.Slot.{Slot}
 use Rattle.hir_glob_imports.specs.declared.step.GlobError.{GlobError}
 use Rattle.hir_glob_imports.specs.declared.step.GlobError.TheVariants as glob_errors
@@ -17,8 +20,8 @@ use Rattle.hir_import_resolution.proofs.Recorded.{recorded_kept}
 
 -- the resolver once names went along globs
 module _ (r new : Resolver) (slots : List Slot) (steps : StepsIn open_table slots (state_of r.scopes r.globs r.count) (state_of new.scopes new.globs new.count))
-    (local : new.local ≡ r.local) (imports : new.imports ≡ r.imports) (taken : new.taken ≡ r.taken) (apart : new.apart ≡ r.apart)
-    (worklist : new.worklist ≡ r.worklist) (watchers : new.watchers ≡ r.watchers) where
+    (local : new.local ≡ r.local) (imports : new.imports ≡ r.imports) (taken : new.taken ≡ r.taken) (apart : new.apart ≡ r.apart) (lasting : new.lasting ≡ r.lasting)
+    (worklist : new.worklist ≡ r.worklist) (watchers : new.watchers ≡ r.watchers) (reported : new.reported ≡ r.reported) where
   gone : Goes (finished_by r) (state_by r) slots (shown (state_of new.scopes new.globs new.count))
   gone = goes (finished_by r) (state_by r) slots (shown (state_of new.scopes new.globs new.count))
       (steps_in_shown slots (state_of r.scopes r.globs r.count) (state_of new.scopes new.globs new.count) steps)
@@ -40,10 +43,15 @@ module _ (r new : Resolver) (slots : List Slot) (steps : StepsIn open_table slot
       local = local;
       imports = imports;
       apart = apart;
+      lasting = lasting;
       worklist = worklist;
       watchers = watchers;
+      reported = reported;
     };
     taken = taken;
+    edges = gone.edges;
+    brought = λ s other. gone.brought s (λ among. other (subst (λ (ss : List Slot). Contains ss s) (sym listed) among));
+    traits = λ at id other. gone.traits at id (λ among. other (subst (λ (ss : List Slot). Contains ss (slot_at at (Unnamed id))) (sym listed) among));
   }
 
   pub spread_recorded : AreRecorded r → AreRecorded new

@@ -1,5 +1,5 @@
 -- An import that was taken in a resolver.
-use Rattle.std.proofs.Common.{◌≡◌, ◌∙◌, ap, sym, subst, refl, ℕ, ◌+◌, List, [], Option, None, Some, arith}
+use Rattle.std.proofs.Common.{◌≡◌, ◌∙◌, ◌⊎◌, inl, inr, ap, sym, subst, refl, ℕ, ◌+◌, List, [], length, Option, None, Some, arith}
 use Rattle.std.specs.Prelude.{slice_get, slice_set}
 use Rattle.std.specs.declared.vec.Vec.{Vec}
 use Rattle.std.specs.declared.alloc.Global.{Global}
@@ -13,12 +13,16 @@ use Rattle.hir_def_map.specs.WorldParts.{part_of}
 use Rattle.hir_def_map.specs.declared.nameres.path_resolution.slots.Slot.{Slot as PathSlot}
 use Rattle.hir_def_map_laws.specs.SlotChanges.{ScopesChangeAmong}
 use Rattle.hir_def_map_laws.proofs.SlotLists.{scope_pushed, scope_traits}
-use Rattle.hir_glob_imports.specs.Waves.{GlobsValue, IsKept, Records, brought_of}
+use Rattle.hir_glob_imports.proofs.Linking.{one_or_last, one_or_written}
+use Rattle.hir_glob_imports.proofs.OfKind.{kind_linked}
+use Rattle.hir_glob_imports.specs.Rules.{BroughtBy}
+use Rattle.hir_glob_imports.specs.Waves.{AreOfKind, GlobsValue, IsKept, Records, adds, brought_of, edge_with_vis, stays as stays_recorded, widens}
 use Rattle.hir_glob_imports.specs.declared.edge.Edge.{Edge}
 use Rattle.hir_import_resolution.specs.Changes.{bound_as, kept_vis, pushing, with_kept}
 use Rattle.hir_import_resolution.specs.Directives.{TakenValue, leaf_of, taken_after, taken_for}
-use Rattle.hir_import_resolution.specs.Inner.State.{AreRecorded, IsKeptIn, IsLinked, IsTaken, finished_by, slots_named, state_by, with_globs}
+use Rattle.hir_import_resolution.specs.Inner.State.{ArePlacedIn, AreRecorded, IsKeptIn, IsLinked, IsTaken, IsTraitPlaced, finished_by, slots_named, state_by, with_globs}
 use Rattle.hir_import_resolution.specs.Inner.Steps.{IsLinking, taking_at}
+use Rattle.hir_import_resolution.specs.Lasting.{HasVariants, IsPlaced, Lasts}
 use Rattle.hir_import_resolution.specs.Names.{trait_vis, view_of}
 use Rattle.hir_import_resolution.specs.Scopes.{value_of}
 use Rattle.hir_import_resolution.specs.Rules.{Step}
@@ -27,6 +31,7 @@ use Rattle.hir_import_resolution.specs.declared.directive.ImportSource.{ImportSo
 use Rattle.hir_import_resolution.specs.declared.resolver.Resolver.{Resolver}
 use Rattle.hir_import_resolution.specs.declared.resolver.steps.Taking.{Taking}
 use Rattle.hir_import_resolution.proofs.Due.{Due, due, linked_to, linking_steps, noted_apart, taken_to, taking_steps}
+use Rattle.hir_import_resolution.proofs.Placing.{placed_kind}
 use Rattle.hir_import_resolution.proofs.Recorded.{recorded_linked, recorded_taken}
 use Rattle.hir_import_resolution.proofs.Writes.{again, stays, wider}
 
@@ -67,6 +72,8 @@ pub record Took (r new : Resolver) (i : ℕ) (taking : Taking) : Type 0 where
   pub is : IsTaken r new i taking
   pub kept : IsKeptIn r → IsKeptIn new
   pub recorded : AreRecorded r → AreRecorded new
+  pub placed : IsTraitPlaced new taking.home taking.kept → ArePlacedIn r → ArePlacedIn new
+  pub edges : new.globs.edges ≡ r.globs.edges
   pub count : new.count ≡ r.count + 1
 
 module _ (r m r2 r3 : Resolver) (i : ℕ) (taking : Taking) (leaf : Option ImportId) (taken : Vec TakenValue Global)
@@ -125,6 +132,8 @@ module _ (r m r2 r3 : Resolver) (i : ℕ) (taking : Taking) (leaf : Option Impor
       local = rest (λ x. x.local) (λ x. refl) (λ x. refl) ∙ ap (λ (x : Resolver). x.local) begun;
       imports = imports_stay;
       apart = rest (λ x. x.apart) (λ x. refl) (λ x. refl) ∙ ap (λ (x : Resolver). x.apart) begun;
+      lasting = rest (λ x. x.lasting) (λ x. refl) (λ x. refl) ∙ ap (λ (x : Resolver). x.lasting) begun;
+      reported = rest (λ x. x.reported) (λ x. refl) (λ x. refl) ∙ ap (λ (x : Resolver). x.reported) begun;
       worklist = rest (λ x. x.worklist) (λ x. refl) (λ x. refl) ∙ ap (λ (x : Resolver). x.worklist) begun;
       watchers = rest (λ x. x.watchers) (λ x. refl) (λ x. refl) ∙ ap (λ (x : Resolver). x.watchers) begun;
     };
@@ -132,14 +141,18 @@ module _ (r m r2 r3 : Resolver) (i : ℕ) (taking : Taking) (leaf : Option Impor
     reported = rest (λ x. x.changes) (λ x. refl) (λ x. refl) ∙ ap (λ (x : Resolver). x.changes) begun;
   }
 
+  edges_stay : Due (finished_by r) (state_by r) i taking → r3.globs.edges ≡ r.globs.edges
+  edges_stay e =
+      ap (λ (s : ImportState). s.edges) (taken_is e.t e.before)
+      ∙ taken_edges (finished_by r) (state_by r) taking.home taking.name taking.items (Some taking.source) taking.kept taking.vis (leaf_of taking.source)
+
   pub taken_recorded : AreRecorded r → AreRecorded r3
   taken_recorded old = of_due d
     where
       of_due : Due (finished_by r) (state_by r) i taking → AreRecorded r3
       of_due e = recorded_taken (state_by r) (state_by r3) i e.t (taken_after e.t taking.answer) e.before refl
           (λ j. (imports_stay j).items)
-          (ap (λ (s : ImportState). s.edges) (taken_is e.t e.before)
-          ∙ taken_edges (finished_by r) (state_by r) taking.home taking.name taking.items (Some taking.source) taking.kept taking.vis (leaf_of taking.source))
+          (edges_stay e)
           (items_are ∙ noted e.t e.before) old
 
   pub taken_count : r3.count ≡ r.count + 1
@@ -148,9 +161,20 @@ module _ (r m r2 r3 : Resolver) (i : ℕ) (taking : Taking) (leaf : Option Impor
   pub taken_kept : (IsKeptIn m → IsKeptIn r2) → (IsKeptIn r2 → IsKeptIn r3) → IsKeptIn r → IsKeptIn r3
   taken_kept first then kept_before = then (first (subst IsKeptIn (sym begun) kept_before))
 
+  pub taken_placed : (ArePlacedIn m → ArePlacedIn r2) → (IsTraitPlaced r3 taking.home taking.kept → ArePlacedIn r2 → ArePlacedIn r3) → IsTraitPlaced r3 taking.home taking.kept → ArePlacedIn r → ArePlacedIn r3
+  taken_placed first then of_trait before = then of_trait (first (subst ArePlacedIn (sym begun) before))
+
   -- all of it
-  pub took : (IsKeptIn m → IsKeptIn r2) → (IsKeptIn r2 → IsKeptIn r3) → Took r r3 i taking
-  took first then = record { step = taken_steps; is = taken_changes; kept = taken_kept first then; recorded = taken_recorded; count = taken_count }
+  pub took : (IsKeptIn m → IsKeptIn r2) → (IsKeptIn r2 → IsKeptIn r3) → (ArePlacedIn m → ArePlacedIn r2) → (IsTraitPlaced r3 taking.home taking.kept → ArePlacedIn r2 → ArePlacedIn r3) → Took r r3 i taking
+  took first then place place_trait = record {
+    step = taken_steps;
+    is = taken_changes;
+    kept = taken_kept first then;
+    recorded = taken_recorded;
+    placed = taken_placed place place_trait;
+    edges = edges_stay d;
+    count = taken_count;
+  }
 
 -- ---- a glob
 
@@ -160,6 +184,7 @@ pub record WasLinked (r new : Resolver) (i : ℕ) (edge : Edge) : Type 0 where
   pub is : IsLinked r new i edge
   pub recorded : AreRecorded r → AreRecorded new
   pub kept : IsKeptIn r → IsKeptIn new
+  pub lasts : IsPlaced r.scopes.map edge.vis → HasVariants r.scopes.map edge.source → Lasts (finished_by r) (state_by r) → Lasts (finished_by new) (state_by new)
 
 module _ (r r3 : Resolver) (i : ℕ) (edge : Edge) (globs : GlobsValue) (taken : Vec TakenValue Global)
     (d : IsLinking (finished_by r) (state_by r) i edge)
@@ -183,6 +208,8 @@ module _ (r r3 : Resolver) (i : ℕ) (edge : Edge) (globs : GlobsValue) (taken :
       local = ap (λ (x : Resolver). x.local) begun;
       imports = ap (λ (x : Resolver). x.imports) begun;
       apart = ap (λ (x : Resolver). x.apart) begun;
+      lasting = ap (λ (x : Resolver). x.lasting) begun;
+      reported = ap (λ (x : Resolver). x.reported) begun;
       worklist = ap (λ (x : Resolver). x.worklist) begun;
       watchers = ap (λ (x : Resolver). x.watchers) begun;
     };
@@ -201,6 +228,33 @@ module _ (r r3 : Resolver) (i : ℕ) (edge : Edge) (globs : GlobsValue) (taken :
   linked_kept : (IsKept (view_of (value_of r.scopes)) r.globs → IsKept (view_of (value_of r.scopes)) globs) → IsKeptIn r → IsKeptIn r3
   linked_kept keeps kept_before = subst IsKeptIn (sym begun) (keeps kept_before)
 
+  -- each edge leads out of an enum that has its variants, if it leads out of one
+  have_variants : HasVariants r.scopes.map edge.source → ((j : ℕ) (e : Edge) → slice_get r.globs.edges j ≡ Some e → HasVariants r.scopes.map e.source)
+      → Records (view_of (value_of r.scopes)) r.globs.edges globs.edges edge → (j : ℕ) (e : Edge) → slice_get globs.edges j ≡ Some e → HasVariants r.scopes.map e.source
+  have_variants new old (widens k x wide there ends wider is) j e found =
+      one_more k (edge_with_vis x wide) (old k x there) j e (one_or_written r.globs.edges k (edge_with_vis x wide) j e (subst (λ (es : List Edge). slice_get es j ≡ Some e) is found))
+    where
+      one_more : (k : ℕ) (y : Edge) → HasVariants r.scopes.map y.source → (j : ℕ) (d : Edge) → (slice_get r.globs.edges j ≡ Some d) ⊎ ((j ≡ k) × (d ≡ y)) → HasVariants r.scopes.map d.source
+      one_more k y has j d (inl before) = old j d before
+      one_more k y has j d (inr now) = subst (λ (z : Edge). HasVariants r.scopes.map z.source) (sym now.1) has
+  have_variants new old (stays_recorded k x there ends wider is) j e found = old j e (subst (λ (es : List Edge). slice_get es j ≡ Some e) is found)
+  have_variants new old (adds apart is) j e found = go (one_or_last r.globs.edges edge j e (subst (λ (es : List Edge). slice_get es j ≡ Some e) is found))
+    where
+      go : (slice_get r.globs.edges j ≡ Some e) ⊎ ((j ≡ length r.globs.edges) × (e ≡ edge)) → HasVariants r.scopes.map e.source
+      go (inl before) = old j e before
+      go (inr now) = subst (λ (z : Edge). HasVariants r.scopes.map z.source) (sym now.1) new
+
+  linked_lasts : IsPlaced r.scopes.map edge.vis → HasVariants r.scopes.map edge.source → Lasts (finished_by r) (state_by r) → Lasts (finished_by r3) (state_by r3)
+  linked_lasts placed has old = subst (λ (x : Resolver). Lasts (finished_by x) (state_by x)) (sym begun) (record {
+    of_crate = old.of_crate;
+    ordered = old.ordered;
+    placed =
+        subst (λ (b : BroughtBy). AreOfKind (IsPlaced r.scopes.map) (view_of (value_of r.scopes)) globs.edges b) (sym globs_are)
+        (kind_linked (IsPlaced r.scopes.map) (view_of (value_of r.scopes)) r.globs.edges globs.edges edge (brought_of r.globs) records placed
+        (placed_kind (finished_by r) r.scopes.map r.scopes.globs old.ordered) old.placed);
+    enums = have_variants has old.enums records;
+  })
+
   -- all of it
   pub linked : (IsKept (view_of (value_of r.scopes)) r.globs → IsKept (view_of (value_of r.scopes)) globs) → WasLinked r r3 i edge
-  linked keeps = record { step = linked_steps; is = linked_changes; recorded = linked_recorded; kept = linked_kept keeps }
+  linked keeps = record { step = linked_steps; is = linked_changes; recorded = linked_recorded; kept = linked_kept keeps; lasts = linked_lasts }

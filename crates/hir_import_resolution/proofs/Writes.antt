@@ -1,25 +1,38 @@
 -- What do writes along globs change?
-use Rattle.std.proofs.Common.{◌≡◌, ◌⊎◌, inl, inr, refl, ℕ, ◌++◌, List, [], ◌∷◌, Option, None, Some, arith}
+use Rattle.std.proofs.Common.{◌≡◌, ◌≢◌, ◌⊎◌, inl, inr, ap, refl, ℕ, Bool, true, false, ◌++◌, List, [], ◌∷◌, Option, None, Some, arith}
 use Rattle.std.specs.Prelude.{Contains}
 use Rattle.std.proofs.lemmas.List.Elements.{Contains-append_cases}
+use Rattle.hir_base.specs.declared.ids.TraitId.{TraitId}
+use Rattle.hir_scope.proofs.AfterPush.{declarations_stay}
+use Rattle.hir_scope.specs.PerNs.{Item}
+use Rattle.hir_scope.specs.Scope.{ScopeValue}
+use Rattle.hir_scope.specs.Scope.Reads.{unnamed_vis}
 use Rattle.hir_scope.specs.declared.imports.GlobId.{GlobId}
+use Rattle.hir_scope.specs.declared.imports.ImportId.{ImportId}
+use Rattle.hir_scope.specs.declared.imports.ImportOrExternCrate.{ImportOrExternCrate}
 use Rattle.hir_scope.specs.declared.imports.ImportOrExternCrate.TheVariants as ways
 use Rattle.hir_scope.specs.declared.item_in_ns.ItemInNs.{ItemInNs}
 use Rattle.hir_scope.specs.declared.item_in_ns.ItemInNs.TheVariants as in_ns
+use Rattle.hir_scope.specs.declared.per_ns.PerNs.{PerNs}
 use Rattle.hir_scope.specs.declared.visibility.Visibility.{Visibility}
-use Rattle.hir_def_map.specs.State.{Local, Map, with_scope}
+use Rattle.hir_def_map.proofs.Grown.{kept}
+use Rattle.hir_def_map.specs.State.{Local, Map, ModuleValue, module_at, place_at, pushed, pushed_module, with_module_scope, with_scope}
 use Rattle.hir_def_map.specs.declared.nameres.path_resolution.slots.Slot.{Slot as PathSlot}
 use Rattle.hir_def_map.specs.declared.nameres.path_resolution.slots.Slot.TheVariants.{Module as of_module}
 use Rattle.hir_def_map_laws.specs.SlotChanges.{ScopesChangeAmong}
 use Rattle.hir_def_map_laws.proofs.SlotLists.{follow_scopes, no_scope, scope_pushed, scope_traits, scope_updates}
-use Rattle.hir_glob_imports.specs.Keys.{name_of}
+use Rattle.hir_glob_imports.proofs.Exact.{exact_slot}
+use Rattle.hir_glob_imports.specs.Keys.{name_of, same_slot, slot_at}
 use Rattle.hir_glob_imports.specs.declared.edge.Bound.{Bound}
 use Rattle.hir_glob_imports.specs.declared.edge.Key.{Key}
 use Rattle.hir_glob_imports.specs.declared.edge.Key.TheVariants.{Types, Values, Macros, Unnamed}
 use Rattle.hir_glob_imports.specs.declared.edge.Slot.{Slot}
 use Rattle.hir_glob_imports.specs.declared.edge.Target.{Target}
+use Rattle.hir_glob_imports.specs.declared.edge.Target.TheVariants as targets
 use Rattle.hir_import_resolution.specs.Inner.State.{slots_named}
-use Rattle.hir_import_resolution.specs.Names.{ScopesValue, bound_of, copied, copied_to, copied_where, followed, followed_to, followed_where, items_by, raised, redefined, revised}
+use Rattle.hir_import_resolution.specs.Inner.ScopeLaws.{keeps-trait}
+use Rattle.hir_import_resolution.specs.Inner.ViewLaws.{changes_in_slot}
+use Rattle.hir_import_resolution.specs.Names.{ScopesValue, bound_of, bound_trait, copied, copied_to, copied_where, followed, followed_to, followed_where, items_by, raised, redefined, revised, trait_vis, with_trait}
 
 -- scopes change among more slots
 pub wider : (old new : Map) (local : Local) (xs ys : List PathSlot) → ((p : PathSlot) → Contains xs p → Contains ys p) → ScopesChangeAmong old new local xs → ScopesChangeAmong old new local ys
@@ -43,15 +56,66 @@ again one two three local slots first then = wider one three local (slots ++ slo
 pub record Writes (at : ℕ) (key : Key) (old new : ScopesValue) : Type 0 where
   pub finished : new.finished ≡ old.finished
   pub among : (local : Local) → ScopesChangeAmong old.map new.map local (slots_named at (name_of key))
+  pub traits : (other : ℕ) (id : TraitId) → slot_at at key ≢ slot_at other (Unnamed id) → trait_vis (module_at new.map other) id ≡ trait_vis (module_at old.map other) id
 
 pub writes_none : (n : ScopesValue) (at : ℕ) (key : Key) → Writes at key n n
-writes_none n at key = record { finished = refl; among = λ local. stays n.map local (slots_named at (name_of key)) }
+writes_none n at key = record { finished = refl; among = λ local. stays n.map local (slots_named at (name_of key)); traits = λ other id apart. refl }
+
+-- ---- traits without names
+
+-- a push brings none
+push_traits : (n : ScopesValue) (at : ℕ) (name : List ℕ) (items : PerNs) (import : Option ImportOrExternCrate) (other : ℕ) (id : TraitId)
+    → trait_vis (module_at (pushed n.map n.globs at name items import) other) id ≡ trait_vis (module_at n.map other) id
+push_traits n at name items import other id =
+    kept (λ (o : Option ModuleValue). trait_vis o id) n.map.modules at (pushed_module n.globs (place_at n.map.id at name) items import)
+    (λ m. ap (λ (ts : List (TraitId × Item (Unit {0}) ImportId)). unnamed_vis (record m.scope { unnamed_traits = ts }) id)
+    (declarations_stay n.globs (place_at n.map.id at name) import m.scope items).unnamed_traits) other
+
+-- nor does what leaves them in a scope
+scope_traits_stay : (map : Map) (at : ℕ) (change : ScopeValue → ScopeValue) → ((s : ScopeValue) (id : TraitId) → unnamed_vis (change s) id ≡ unnamed_vis s id)
+    → (other : ℕ) (id : TraitId) → trait_vis (module_at (with_scope map at change) other) id ≡ trait_vis (module_at map other) id
+scope_traits_stay map at change leaves other id = kept (λ (o : Option ModuleValue). trait_vis o id) map.modules at (with_module_scope change) (λ m. leaves m.scope id) other
+
+same_trait : (id : TraitId) (a b : Option Visibility) → bound_trait id a ≡ bound_trait id b → a ≡ b
+same_trait id None None e = refl
+same_trait id None (Some v) e = absurd cc
+same_trait id (Some v) None e = absurd cc
+same_trait id (Some v) (Some w) e = cc
+
+pub not_same : (a b : Slot) → a ≢ b → same_slot a b ≡ false
+not_same a b apart = go (same_slot a b) refl
+  where
+    go : (t : Bool) → same_slot a b ≡ t → same_slot a b ≡ false
+    go true e = absurd (apart (exact_slot a b e))
+    go false e = e
+
+-- a trait that is kept is one of a slot
+one_trait : (n : ScopesValue) (at : ℕ) (kept_id : TraitId) (vis : Visibility) (other : ℕ) (id : TraitId) → slot_at at (Unnamed kept_id) ≢ slot_at other (Unnamed id)
+    → trait_vis (module_at (with_scope n.map at (with_trait kept_id vis None)) other) id ≡ trait_vis (module_at n.map other) id
+one_trait n at kept_id vis other id apart =
+    same_trait id _ _
+    ((changes_in_slot n at (with_trait kept_id vis None) n.globs (Unnamed kept_id) (keeps-trait kept_id vis None)).bound (targets.Own other) (Unnamed id)
+    (not_same (slot_at at (Unnamed kept_id)) (slot_at other (Unnamed id)) apart))
+
+-- ---- writes
 
 copied_writes : (n : ScopesValue) (at : ℕ) (key : Key) (vis : Visibility) (by : GlobId) (b : Bound) → Writes at key n (copied_to n at key vis by b)
-copied_writes n at (Types name) vis by b = record { finished = refl; among = λ local. scope_pushed n.map local n.globs at name (items_by b.def vis) (Some (ways.Glob by)) }
-copied_writes n at (Values name) vis by b = record { finished = refl; among = λ local. scope_pushed n.map local n.globs at name (items_by b.def vis) (Some (ways.Glob by)) }
-copied_writes n at (Macros name) vis by b = record { finished = refl; among = λ local. scope_pushed n.map local n.globs at name (items_by b.def vis) (Some (ways.Glob by)) }
-copied_writes n at (Unnamed id) vis by b = record { finished = refl; among = λ local. scope_traits n.map local at id vis None }
+copied_writes n at (Types name) vis by b = record {
+  finished = refl;
+  among = λ local. scope_pushed n.map local n.globs at name (items_by b.def vis) (Some (ways.Glob by));
+  traits = λ other id apart. push_traits n at name (items_by b.def vis) (Some (ways.Glob by)) other id;
+}
+copied_writes n at (Values name) vis by b = record {
+  finished = refl;
+  among = λ local. scope_pushed n.map local n.globs at name (items_by b.def vis) (Some (ways.Glob by));
+  traits = λ other id apart. push_traits n at name (items_by b.def vis) (Some (ways.Glob by)) other id;
+}
+copied_writes n at (Macros name) vis by b = record {
+  finished = refl;
+  among = λ local. scope_pushed n.map local n.globs at name (items_by b.def vis) (Some (ways.Glob by));
+  traits = λ other id apart. push_traits n at name (items_by b.def vis) (Some (ways.Glob by)) other id;
+}
+copied_writes n at (Unnamed id) vis by b = record { finished = refl; among = λ local. scope_traits n.map local at id vis None; traits = one_trait n at id vis }
 
 redefined_among : (map : Map) (local : Local) (at : ℕ) (name : List ℕ) (def : ItemInNs) (vis : Visibility)
     → ScopesChangeAmong map (with_scope map at (redefined name def vis)) local (of_module at name ∷ [])
@@ -59,17 +123,35 @@ redefined_among map local at name (in_ns.Types def) vis = (scope_updates map loc
 redefined_among map local at name (in_ns.Values def) vis = (scope_updates map local at name).values def vis
 redefined_among map local at name (in_ns.Macros def) vis = (scope_updates map local at name).macros def vis
 
+redefined_traits : (map : Map) (at : ℕ) (name : List ℕ) (def : ItemInNs) (vis : Visibility) (other : ℕ) (id : TraitId)
+    → trait_vis (module_at (with_scope map at (redefined name def vis)) other) id ≡ trait_vis (module_at map other) id
+redefined_traits map at name (in_ns.Types def) vis other id = scope_traits_stay map at (redefined name (in_ns.Types def) vis) (λ s i. refl) other id
+redefined_traits map at name (in_ns.Values def) vis other id = scope_traits_stay map at (redefined name (in_ns.Values def) vis) (λ s i. refl) other id
+redefined_traits map at name (in_ns.Macros def) vis other id = scope_traits_stay map at (redefined name (in_ns.Macros def) vis) (λ s i. refl) other id
+
 followed_writes : (n : ScopesValue) (at : ℕ) (key : Key) (vis : Visibility) (b : Bound) → Writes at key n (followed_to n at key vis b)
-followed_writes n at (Types name) vis b = record { finished = refl; among = λ local. redefined_among n.map local at name b.def vis }
-followed_writes n at (Values name) vis b = record { finished = refl; among = λ local. redefined_among n.map local at name b.def vis }
-followed_writes n at (Macros name) vis b = record { finished = refl; among = λ local. redefined_among n.map local at name b.def vis }
-followed_writes n at (Unnamed id) vis b = record { finished = refl; among = λ local. scope_traits n.map local at id vis None }
+followed_writes n at (Types name) vis b = record { finished = refl; among = λ local. redefined_among n.map local at name b.def vis; traits = λ other id apart. redefined_traits n.map at name b.def vis other id }
+followed_writes n at (Values name) vis b = record { finished = refl; among = λ local. redefined_among n.map local at name b.def vis; traits = λ other id apart. redefined_traits n.map at name b.def vis other id }
+followed_writes n at (Macros name) vis b = record { finished = refl; among = λ local. redefined_among n.map local at name b.def vis; traits = λ other id apart. redefined_traits n.map at name b.def vis other id }
+followed_writes n at (Unnamed id) vis b = record { finished = refl; among = λ local. scope_traits n.map local at id vis None; traits = one_trait n at id vis }
 
 pub revised_writes : (n : ScopesValue) (at : ℕ) (key : Key) (vis : Visibility) → Writes at key n (record n { map = with_scope n.map at (revised key vis) })
-revised_writes n at (Types name) vis = record { finished = refl; among = λ local. (scope_updates n.map local at name).type_vis vis }
-revised_writes n at (Values name) vis = record { finished = refl; among = λ local. (scope_updates n.map local at name).value_vis vis }
-revised_writes n at (Macros name) vis = record { finished = refl; among = λ local. (scope_updates n.map local at name).macro_vis vis }
-revised_writes n at (Unnamed id) vis = record { finished = refl; among = λ local. scope_traits n.map local at id vis None }
+revised_writes n at (Types name) vis = record {
+  finished = refl;
+  among = λ local. (scope_updates n.map local at name).type_vis vis;
+  traits = λ other id apart. scope_traits_stay n.map at (revised (Types name) vis) (λ s i. refl) other id;
+}
+revised_writes n at (Values name) vis = record {
+  finished = refl;
+  among = λ local. (scope_updates n.map local at name).value_vis vis;
+  traits = λ other id apart. scope_traits_stay n.map at (revised (Values name) vis) (λ s i. refl) other id;
+}
+revised_writes n at (Macros name) vis = record {
+  finished = refl;
+  among = λ local. (scope_updates n.map local at name).macro_vis vis;
+  traits = λ other id apart. scope_traits_stay n.map at (revised (Macros name) vis) (λ s i. refl) other id;
+}
+revised_writes n at (Unnamed id) vis = record { finished = refl; among = λ local. scope_traits n.map local at id vis None; traits = one_trait n at id vis }
 
 pub copies_write : (n : ScopesValue) (s : Slot) (of : Target) (vis : Visibility) (by : GlobId) → Writes s.at s.key n (copied n s of vis by)
 copies_write n s of vis by = go (bound_of n of s.key)

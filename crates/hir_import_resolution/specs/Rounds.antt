@@ -65,6 +65,7 @@ pub record IsUpToDate (finished : Maps) (queue : ImportQueue) (s : ImportState) 
   pub still : (j : ℕ) (e : Edge) (key : Key) → slice_get s.edges j ≡ Some e → update_at (view_of (scopes_of finished s)) s.brought j e key ≡ Nothing
   pub importers : (j : ℕ) (e : Edge) → slice_get s.edges j ≡ Some e → e.importer < length s.map.modules
   pub lasts : queue.lasting ≡ true → Lasts finished s
+  pub watches : queue.lasting ≡ true → queue.apart ≡ true
 
 -- ---- what may have changed since
 

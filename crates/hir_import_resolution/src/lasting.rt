@@ -172,6 +172,7 @@ pub(crate) fn do_globs_last(apart: bool, world: WorldPart<'_>, imports: &Imports
     requires apart { apart ≡ true → IsApart (part_of world) imports.now.map.id imports.now.local }
     requires in_order { IsInOrder imports.now.map }
     ensures lasts { result ≡ true → Lasts (part_of world) (state_in imports.now) }
+    ensures apart { result ≡ true → apart ≡ true }
 {
     let map = &imports.map;
     apart

@@ -41,6 +41,7 @@ fn settle_reopened(
     requires apart { is_apart queue ≡ true → IsApart (part_of world) imports.map.id imports.local }
     requires queued { AreQueued (part_of world) queue (state_in imports) }
     requires lasts { is_lasting queue ≡ true → Lasts (part_of world) (state_in imports) }
+    requires watches { is_lasting queue ≡ true → is_apart queue ≡ true }
     requires sound { IsSound (part_of world) (state_in imports) }
     ensures derived { IfOk result (λ r. Steps (part_of world.entry) (state_in imports) (state_in r.imports)) }
     ensures rests { IfOk result (λ r. IsAtRest (part_of world.entry) (state_in r.imports)) }

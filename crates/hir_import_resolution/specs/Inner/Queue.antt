@@ -103,6 +103,7 @@ pub record IsBegun (r : Resolver) (tried : Option ℕ) : Type 0 where
   pub kept : IsKeptIn r
   pub recorded : AreRecorded r
   pub lasts : r.lasting ≡ true → Lasts (finished_by r) (state_by r)
+  pub watches : r.lasting ≡ true → r.apart ≡ true
   pub fresh : r.changes.items ≡ []
   pub small : r.count ≤ MAX_STEPS
 
