@@ -52,6 +52,7 @@ pub mod Deriving
 pub mod Passing
 pub mod EnumMacros
 pub mod CallReads
+pub mod Forgetting
 pub mod Noted
 pub mod NotedImports
 pub mod Spreading

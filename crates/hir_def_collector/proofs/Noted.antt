@@ -1,5 +1,5 @@
 -- What each change of a run notes.
-use Rattle.std.proofs.Common.{◌≡◌, ◌≢◌, ◌∙◌, ap, sym, refl, subst, ℕ, zero, suc, ◌+◌, ◌<◌, ◌≤◌, slice_get, Bool, true, false, ◌||◌, List, [], ◌∷◌, ◌++◌, length, length-append, Option, None, Some, Contains, cond, is_some, unwrap_or, bytes_eq, arith}
+use Rattle.std.proofs.Common.{◌≡◌, ◌≢◌, ◌∙◌, ap, sym, refl, subst, ℕ, zero, suc, ◌+◌, ◌<◌, ◌≤◌, slice_get, Bool, true, false, ◌||◌, List, [], ◌∷◌, ◌++◌, length, length-append, Option, None, Some, Contains, cond, unwrap_or, bytes_eq, arith}
 use Rattle.std.specs.Prelude.{IsSome}
 use Rattle.std.proofs.lemmas.List.Elements.{Contains-append_left, Contains-append_right}
 use Rattle.std.proofs.lemmas.Slice.Eq.{bytes_eq-Decides}
@@ -45,15 +45,10 @@ use Rattle.hir_def_map_laws.proofs.SlotLists.{textual_macros}
 use Rattle.hir_def_map_laws.specs.ReadLaw.{AgreeAt, Grows}
 use Rattle.hir_def_map_laws.specs.SlotChanges.{ChangesOnly}
 use Rattle.hir_textual_scope.specs.Macros.{with_macro}
-use Rattle.hir_glob_imports.proofs.Exact.{exact_slot}
-use Rattle.hir_glob_imports.specs.Keys.{name_of, same_slot, slot_at}
 use Rattle.hir_glob_imports.specs.Rules.{BroughtBy}
 use Rattle.hir_glob_imports.specs.Waves.{GlobsValue, brought_of}
-use Rattle.hir_glob_imports.specs.declared.edge.Key.{Key}
-use Rattle.hir_glob_imports.specs.declared.edge.Key.TheVariants.{Types, Values, Macros}
-use Rattle.hir_glob_imports.specs.declared.edge.Slot.{Slot as GlobSlot}
 use Rattle.hir_import_resolution.proofs.GrowingAround.{enums_around, lists_around, modules_around, scopes_around}
-use Rattle.hir_import_resolution.specs.Changes.{forgotten, forgotten_in}
+use Rattle.hir_import_resolution.specs.Changes.{forgotten}
 use Rattle.hir_import_resolution.specs.Directives.{TakenValue}
 use Rattle.hir_import_resolution.specs.Names.{trait_vis}
 use Rattle.hir_import_resolution.specs.Rounds.{GrowsAround}
@@ -66,6 +61,7 @@ use Rattle.hir_def_collector.specs.Moves.{begun}
 use Rattle.hir_def_collector.specs.State.{Run}
 use Rattle.hir_def_collector.specs.Waiting.{IsNoted, KeepsModules, LeavesImports, NotesSlots, is_helped}
 use Rattle.hir_def_collector.proofs.CallReads.{agree_itself, agree_later, modules_kept_itself}
+use Rattle.hir_def_collector.proofs.Forgetting.{brought_still}
 use Rattle.hir_def_collector.proofs.Lists.{get_inside, get_left}
 
 -- ---- modules that are kept
@@ -416,30 +412,7 @@ elsewhere (x ∷ xs) zero change k low = absurd (omega arith)
 elsewhere (x ∷ xs) (suc at) change zero low = refl
 elsewhere (x ∷ xs) (suc at) change (suc k) low = elsewhere xs at change k (omega arith)
 
--- ---- what globs brought, where something is bound explicitly
-
--- in another slot it stays
-forgets_other : (home : ℕ) (key : Key) (binds : Bool) (brought : BroughtBy) (s : GlobSlot) → slot_at home key ≢ s → forgotten_in home key binds brought s ≡ brought s
-forgets_other home key false brought s other = refl
-forgets_other home key true brought s other = go (same_slot (slot_at home key) s) refl
-  where
-    go : (m : Bool) → same_slot (slot_at home key) s ≡ m → (if m then None else brought s) ≡ brought s
-    go true e = absurd (other (exact_slot (slot_at home key) s e))
-    go false e = refl
-
-module _ (home : ℕ) (name : List ℕ) (s : GlobSlot) (other : (found : List ℕ) → name_of s.key ≡ Some found → of_module s.at found ≢ of_module home name) where
-  other_key : (key : Key) → name_of key ≡ Some name → slot_at home key ≢ s
-  other_key key named same =
-      other name (ap (λ (x : GlobSlot). name_of x.key) (sym same) ∙ named) (ap (λ (x : GlobSlot). of_module x.at name) (sym same))
-
-  brought_still : (items : PerNs) (brought : BroughtBy) → forgotten home name items brought s ≡ brought s
-  brought_still items brought =
-      forgets_other home (Macros name) (is_some items.macros) (forgotten_in home (Values name) (is_some items.values) with_types) s (other_key (Macros name) refl)
-      ∙ forgets_other home (Values name) (is_some items.values) with_types s (other_key (Values name) refl)
-      ∙ forgets_other home (Types name) (is_some items.types) brought s (other_key (Types name) refl)
-    where
-      with_types : BroughtBy
-      with_types = forgotten_in home (Types name) (is_some items.types) brought
+-- ---- each change of the map
 
 -- a push leaves traits without names
 traits_pushed : (globs : GlobNames) (place : Place) (items : PerNs) (import : Option ImportOrExternCrate) (scope : ScopeValue) (id : TraitId)
@@ -449,8 +422,6 @@ traits_pushed globs place items import scope id = go (is_nothing items)
     go : (b : Bool) → unnamed_vis (cond b (with_unresolved scope place.1) (written_scope place.1 (taken_candidates scope globs place items import) scope)) id ≡ unnamed_vis scope id
     go true = refl
     go false = refl
-
--- ---- each change of the map
 
 -- a push
 pub noted_push : (a b : Run) (home : ℕ) (name : List ℕ) (items : PerNs) → b.map ≡ pushed a.map a.names home name items None → b.local ≡ a.local → b.changed ≡ with_slot home name a.changed
@@ -612,4 +583,4 @@ noted_variants a b local stay id variants map fresh again = go (variants_at a.ma
   where
     go : (had : Option Variants) → variants_at a.map id ≡ had → IsNoted a b
     go None none = noted_enum a b local (fresh none) stay id variants none map
-    go (Some v) had = noted_everything a b (again (subst (λ (o : Option Variants). IsSome o) (sym had) tt))
+    go (Some v) had = noted_everything a b (again (subst (λ (o : Option Variants). IsSome o) (sym had) refl))

@@ -70,7 +70,7 @@ first_or_later : {A : Type 0} (y : A) (ys : List A) (x : A) → Contains (y ∷ 
 first_or_later y ys x has = go (Contains-append_cases (y ∷ []) ys x has)
   where
     only : Contains [] x ⊎ (y ≡ x) → (y ≡ x) ⊎ Contains ys x
-    only (inl none) = absurd (no_member x none)
+    only (inl nowhere) = absurd (no_member x nowhere)
     only (inr same) = inl same
 
     go : Contains (y ∷ []) x ⊎ Contains ys x → (y ≡ x) ⊎ Contains ys x
@@ -94,7 +94,7 @@ named_apart at (Some name) c slot e has = go (first_or_later (of_module at name)
   where
     go : (of_module at name ≡ slot) ⊎ Contains [] slot → ⊥
     go (inl same) = untouched_other (of_module at name) c slot e (sym same)
-    go (inr none) = no_member slot none
+    go (inr nowhere) = no_member slot nowhere
 
 along_some : (slots : List GlobSlot) (c : ChangedValue) → (noted_along slots c).all ≡ false → c.all ≡ false
 along_some [] c e = e
@@ -106,38 +106,38 @@ along_before (s ∷ ss) c slot e = named_before s.at (name_of s.key) c slot (alo
 
 along_apart : (slots : List GlobSlot) (c : ChangedValue) (slot : PathSlot) → IsUntouched (noted_along slots c) slot → ¬ Contains (path_slots slots) slot
 along_apart [] c slot e has = no_member slot has
-along_apart (s ∷ ss) c slot e has = go (Contains-append_cases (slots_named s.at (name_of s.key)) (path_slots ss) slot has)
+along_apart (s ∷ ss) c slot e has = go (along_apart ss (noted_name s.at (name_of s.key) c) slot e) (Contains-append_cases (slots_named s.at (name_of s.key)) (path_slots ss) slot has)
   where
-    go : Contains (slots_named s.at (name_of s.key)) slot ⊎ Contains (path_slots ss) slot → ⊥
-    go (inl here) = named_apart s.at (name_of s.key) c slot (along_before ss (noted_name s.at (name_of s.key) c) slot e) here
-    go (inr later) = along_apart ss (noted_name s.at (name_of s.key) c) slot e later
+    go : ¬ Contains (path_slots ss) slot → Contains (slots_named s.at (name_of s.key)) slot ⊎ Contains (path_slots ss) slot → ⊥
+    go apart (inl here) = named_apart s.at (name_of s.key) c slot (along_before ss (noted_name s.at (name_of s.key) c) slot e) here
+    go apart (inr later) = apart later
 
 -- a slot that has a name has the slot of the name
 named_slot : (slots : List GlobSlot) (s : GlobSlot) (name : List ℕ) → Contains slots s → name_of s.key ≡ Some name → Contains (path_slots slots) (of_module s.at name)
 named_slot [] s name has named = absurd (no_member s has)
-named_slot (t ∷ ts) s name has named = go (first_or_later t ts s has)
+named_slot (t ∷ ts) s name has named = go (λ later. named_slot ts s name later named) (first_or_later t ts s has)
   where
     there : Contains (slots_named s.at (name_of s.key)) (of_module s.at name)
     there = subst (λ (n : Option (List ℕ)). Contains (slots_named s.at n) (of_module s.at name)) (sym named) (zero, omega arith, refl)
 
-    go : (t ≡ s) ⊎ Contains ts s → Contains (slots_named t.at (name_of t.key) ++ path_slots ts) (of_module s.at name)
-    go (inl same) =
+    go : (Contains ts s → Contains (path_slots ts) (of_module s.at name)) → (t ≡ s) ⊎ Contains ts s → Contains (slots_named t.at (name_of t.key) ++ path_slots ts) (of_module s.at name)
+    go among (inl same) =
         Contains-append_left (slots_named t.at (name_of t.key)) (path_slots ts) (of_module s.at name)
         (subst (λ (x : GlobSlot). Contains (slots_named x.at (name_of x.key)) (of_module s.at name)) (sym same) there)
-    go (inr later) = Contains-append_right (slots_named t.at (name_of t.key)) (path_slots ts) (of_module s.at name) (named_slot ts s name later named)
+    go among (inr later) = Contains-append_right (slots_named t.at (name_of t.key)) (path_slots ts) (of_module s.at name) (among later)
 
 -- where not any slot is noted, each has a name
 along_named : (slots : List GlobSlot) (c : ChangedValue) → (noted_along slots c).all ≡ false → (s : GlobSlot) → Contains slots s → name_of s.key ≢ None
 along_named [] c e s has unnamed = no_member s has
-along_named (t ∷ ts) c e s has unnamed = go (first_or_later t ts s has)
+along_named (t ∷ ts) c e s has unnamed = go (λ later. along_named ts (noted_name t.at (name_of t.key) c) e s later unnamed) (first_or_later t ts s has)
   where
-    go : (t ≡ s) ⊎ Contains ts s → ⊥
-    go (inl same) =
+    go : ¬ Contains ts s → (t ≡ s) ⊎ Contains ts s → ⊥
+    go among (inl same) =
         let here : (noted_name t.at (name_of t.key) c).all ≡ false = along_some ts (noted_name t.at (name_of t.key) c) e in
         let none : name_of t.key ≡ None = ap (λ (x : GlobSlot). name_of x.key) same ∙ unnamed in
         let wrong : true ≡ false = subst (λ (n : Option (List ℕ)). (noted_name t.at n c).all ≡ false) none here in
         absurd (let no : ⊥ = cc in no)
-    go (inr later) = along_named ts (noted_name t.at (name_of t.key) c) e s later unnamed
+    go among (inr later) = among later
 
 -- ---- modules are kept where scopes alone change
 

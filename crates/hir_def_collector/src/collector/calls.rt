@@ -701,9 +701,9 @@ fn take_turn<D: SourceDatabase>(
 /// were cut off.
 ///
 /// A round tries each call, path of a derive and attribute that waits once imports rest, those aside that would be tried in
-/// vain. So are imports taken up: those that rested are tried where they have read what has changed since. Where nothing that waits reaches anything, the first attribute that waits is given up, which isn't counted as a
-/// round. More rounds than `ROUND_LIMIT` end the run, with imports and calls that would go on; names go along globs all the
-/// same.
+/// vain. Imports that rested are taken up again where they have read something that has changed since. Where nothing that
+/// waits reaches anything, the first attribute that waits is given up, which isn't counted as a round. More rounds than
+/// `ROUND_LIMIT` end the run, with imports and calls that would go on; names go along globs all the same.
 pub fn resolve_rounds<D: SourceDatabase>(
     run: DefCollector,
     db: &mut D,
