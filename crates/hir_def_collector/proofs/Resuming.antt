@@ -68,13 +68,13 @@ module _ (before : ImportState) (a b : Run) (old new : List PathSlot) (grew : Gr
           enums = λ id variants e. left.enums id variants (grew.grows.enums id variants e);
         };
         modules = kept.count;
-        others = λ slot no there.
-            agree_later before.map a.map b.map before.local a.local b.local slot (grew.others slot (unread slot no) there)
-            (slots.others slot (untouched slot no) (there_later (length before.map.modules) (length a.map.modules) grew.modules slot there));
-        entries = λ at name no. left.entries at name (untouched (of_module at name) no) ∙ grew.entries at name (unread (of_module at name) no);
+        others = λ slot absent there.
+            agree_later before.map a.map b.map before.local a.local b.local slot (grew.others slot (unread slot absent) there)
+            (slots.others slot (untouched slot absent) (there_later (length before.map.modules) (length a.map.modules) grew.modules slot there));
+        entries = λ at name absent. left.entries at name (untouched (of_module at name) absent) ∙ grew.entries at name (unread (of_module at name) absent);
         traits = λ at id. left.traits at id ∙ grew.traits at id;
         edges = left.edges ∙ grew.edges;
-        brought = λ s no. left.brought s (λ name is. untouched (of_module s.at name) (no name is)) ∙ grew.brought s (λ name is. unread (of_module s.at name) (no name is));
+        brought = λ s absent. left.brought s (λ name is. untouched (of_module s.at name) (absent name is)) ∙ grew.brought s (λ name is. unread (of_module s.at name) (absent name is));
         imports = λ i low. left.reached i (inside_later before.imports a.reached i low (grew.imports i low)) ∙ grew.imports i low;
         taken = λ i low. left.taken i (inside_later before.taken a.taken i (omega (arith, low, paired)) (grew.taken i low)) ∙ grew.taken i low;
       }
@@ -91,18 +91,18 @@ module _ (finished : Maps) (queue : ImportQueue) (g : ChangedValue) (a b : Run) 
   }
     where
       untouched : (slot : PathSlot) → ¬ Contains (joined g b.changed).slots slot → IsUntouched b.changed slot
-      untouched slot no = record {
+      untouched slot absent = record {
         some = some;
-        other = λ has. no (subst (λ (xs : List PathSlot). Contains xs slot) (sym (joined_slots g b.changed some first)) (Contains-append_right g.slots b.changed.slots slot has));
+        other = λ has. absent (subst (λ (xs : List PathSlot). Contains xs slot) (sym (joined_slots g b.changed some first)) (Contains-append_right g.slots b.changed.slots slot has));
       }
 
       unread : (slot : PathSlot) → ¬ Contains (joined g b.changed).slots slot → ¬ Contains (joined g a.changed).slots slot
-      unread slot no has = go (Contains-append_cases g.slots a.changed.slots slot (subst (λ (xs : List PathSlot). Contains xs slot) (joined_slots g a.changed (noted.slots.some some) first) has))
+      unread slot absent has = go (Contains-append_cases g.slots a.changed.slots slot (subst (λ (xs : List PathSlot). Contains xs slot) (joined_slots g a.changed (noted.slots.some some) first) has))
         where
           go : Contains g.slots slot ⊎ Contains a.changed.slots slot → ⊥
           go (inl gathered) =
-              no (subst (λ (xs : List PathSlot). Contains xs slot) (sym (joined_slots g b.changed some first)) (Contains-append_left g.slots b.changed.slots slot gathered))
-          go (inr later) = (noted.slots.noted slot (untouched slot no)).other later
+              absent (subst (λ (xs : List PathSlot). Contains xs slot) (sym (joined_slots g b.changed some first)) (Contains-append_left g.slots b.changed.slots slot gathered))
+          go (inr later) = (noted.slots.noted slot (untouched slot absent)).other later
 
   pub behind_later : IsBehind finished queue (joined g a.changed) (core_in a) → IsBehind finished queue (joined g b.changed) (core_in b)
   behind_later behind lasting all =
@@ -127,11 +127,11 @@ behind_settled finished queue changed c d up is paired lasting all = record {
   grew = subst (λ (x : Core). Grew (import_state (at_rest c)) (import_state (at_rest x)) changed.slots) (sym is) (record {
     grows = (around_itself c.map).grows;
     modules = omega arith;
-    others = λ slot no there. agree_itself c.map c.local slot;
-    entries = λ at name no. refl;
+    others = λ slot absent there. agree_itself c.map c.local slot;
+    entries = λ at name absent. refl;
     traits = λ at id. refl;
     edges = refl;
-    brought = λ s no. refl;
+    brought = λ s absent. refl;
     imports = λ i low. refl;
     taken = λ i low. refl;
   });

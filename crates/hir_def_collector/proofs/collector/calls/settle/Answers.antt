@@ -42,4 +42,4 @@ returns-clause-noted c = slots_follow c.in_ok-run.ensures.noted c.in_ok-rest.ens
 
 pub returns-clause-behind : goal.returns-clause-behind
 returns-clause-behind c = λ paired changed.
-    behind_settled (part_of c.args.world) c.in_ok-run.imports' changed (core_in c.in_ok-run.run') (core_in c.rest.new.self) c.in_ok-run.ensures.up_to_date c.in_ok-rest.ensures.ok paired
+    behind_settled (part_of c.args.world) c.in_ok-run.imports changed (core_in c.in_ok-run.run') (core_in c.rest.new.self) c.in_ok-run.ensures.up_to_date c.in_ok-rest.ensures.ok paired

@@ -89,7 +89,7 @@ pub returns-then-branch-clause-behind : goal.returns-then-branch-clause-behind
 returns-then-branch-clause-behind g c =
     let here = environment c.args.locations.now (g.D.SourceDatabase.workspace c.args.db.now) in
     let part = part_of c.args.world in
-    behind_tried part c.in_ok-run.imports' c.clear.new.self c.try_calls.new.grown (core_in c.in_ok-run.run') c.requeue.new.run c.try_calls.new.run c.requeue.ensures.same
+    behind_tried part c.in_ok-run.imports c.clear.new.self c.try_calls.new.grown (core_in c.in_ok-run.run') c.requeue.new.run c.try_calls.new.run c.requeue.ensures.same
     (c.in_ok-run.ensures.behind (ready_after (c.in_ok-run.ensures.ok here) c.requires.ready).paired) c.in_ok-try_calls.ensures.gathered
 
 pub returns-then-branch-clause-counts : goal.returns-then-branch-clause-counts
@@ -195,8 +195,8 @@ pub returns-in-Some-clause-behind : goal.returns-in-Some-clause-behind
 returns-in-Some-clause-behind g c =
     let here = environment c.args.locations.now (g.D.SourceDatabase.workspace c.args.db.now) in
     let part = part_of c.args.world in
-    behind_later part c.in_ok-run.imports' c.try_calls.new.grown c.try_calls.new.run c.give_up.new.run c.in_ok-given.ensures.noted
-    (behind_tried part c.in_ok-run.imports' c.clear.new.self c.try_calls.new.grown (core_in c.in_ok-run.run') c.requeue.new.run c.try_calls.new.run c.requeue.ensures.same
+    behind_later part c.in_ok-run.imports c.try_calls.new.grown c.try_calls.new.run c.give_up.new.run c.in_ok-given.ensures.noted
+    (behind_tried part c.in_ok-run.imports c.clear.new.self c.try_calls.new.grown (core_in c.in_ok-run.run') c.requeue.new.run c.try_calls.new.run c.requeue.ensures.same
     (c.in_ok-run.ensures.behind (ready_after (c.in_ok-run.ensures.ok here) c.requires.ready).paired) c.in_ok-try_calls.ensures.gathered)
 
 pub returns-in-Some-clause-counts : goal.returns-in-Some-clause-counts
@@ -238,8 +238,8 @@ pub returns-in-None-clause-behind : goal.returns-in-None-clause-behind
 returns-in-None-clause-behind g c =
     let here = environment c.args.locations.now (g.D.SourceDatabase.workspace c.args.db.now) in
     let part = part_of c.args.world in
-    behind_later part c.in_ok-run.imports' c.try_calls.new.grown c.try_calls.new.run c.give_up.new.run c.in_ok-given.ensures.noted
-    (behind_tried part c.in_ok-run.imports' c.clear.new.self c.try_calls.new.grown (core_in c.in_ok-run.run') c.requeue.new.run c.try_calls.new.run c.requeue.ensures.same
+    behind_later part c.in_ok-run.imports c.try_calls.new.grown c.try_calls.new.run c.give_up.new.run c.in_ok-given.ensures.noted
+    (behind_tried part c.in_ok-run.imports c.clear.new.self c.try_calls.new.grown (core_in c.in_ok-run.run') c.requeue.new.run c.try_calls.new.run c.requeue.ensures.same
     (c.in_ok-run.ensures.behind (ready_after (c.in_ok-run.ensures.ok here) c.requires.ready).paired) c.in_ok-try_calls.ensures.gathered)
 
 pub returns-in-None-clause-counts : goal.returns-in-None-clause-counts
