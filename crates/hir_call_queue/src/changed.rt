@@ -1,6 +1,6 @@
 //! Which slots may have changed.
-ghost use Rattle.std.specs.Prelude.{◌≡◌, OnOk};
-ghost use Rattle.hir_call_queue.specs.Changes.{everything, nothing, with_preludes, with_slot};
+ghost use Rattle.std.specs.Prelude.{◌≡◌, ◌∷◌, [], OnOk};
+ghost use Rattle.hir_call_queue.specs.Changes.{everything, joined, nothing, with_preludes, with_slot, with_slots};
 
 use hir_base::name::Name;
 use hir_def_map::nameres::path_resolution::slots::Slot;
@@ -66,6 +66,39 @@ impl Changed {
             self.slots.push(Slot::Preludes(name.clone()?))?;
         }
         Ok(())
+    }
+
+    /// Adds a slot.
+    fn add_slot(&mut self, slot: &Slot) -> Result<(), AllocError>
+        ensures ok { OnOk result (self.new ≡ with_slots (slot.now ∷ []) self.old) }
+    {
+        match slot {
+            Slot::Module(at, name) => self.add(*at, name),
+            Slot::Preludes(name) => self.add_prelude(name),
+        }
+    }
+
+    /// Adds slots.
+    pub fn add_each(&mut self, slots: &[Slot]) -> Result<(), AllocError>
+        ensures ok { OnOk result (self.new ≡ with_slots slots.now self.old) }
+    {
+        let mut left = slots;
+        'next: while let [slot, others @ ..] = left {
+            self.add_slot(slot)?;
+            left = others;
+        }
+        Ok(())
+    }
+
+    /// Adds those of another, all where any may have changed there.
+    pub fn append(&mut self, other: &Changed) -> Result<(), AllocError>
+        ensures ok { OnOk result (self.new ≡ joined self.old other.now) }
+    {
+        if other.all {
+            self.add_everything();
+            return Ok(());
+        }
+        self.add_each(other.slots())
     }
 
     /// Adds all slots.

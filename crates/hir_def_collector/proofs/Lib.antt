@@ -5,6 +5,7 @@ pub mod MacroEdits
 pub mod Made
 pub mod ImportSteps
 pub mod Resolved
+pub mod Resuming
 pub mod Changes
 pub mod Bound
 pub mod Kept
@@ -51,6 +52,7 @@ pub mod Deriving
 pub mod Passing
 pub mod EnumMacros
 pub mod CallReads
+pub mod Forgetting
 pub mod Noted
 pub mod NotedImports
 pub mod Spreading

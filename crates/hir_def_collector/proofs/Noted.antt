@@ -1,5 +1,6 @@
 -- What each change of a run notes.
-use Rattle.std.proofs.Common.{◌≡◌, ◌≢◌, ◌∙◌, ap, sym, refl, subst, ℕ, zero, suc, ◌+◌, ◌<◌, ◌≤◌, slice_get, Bool, true, false, ◌||◌, List, [], ◌∷◌, ◌++◌, length, Option, None, Some, Contains, cond, unwrap_or, bytes_eq, arith}
+use Rattle.std.proofs.Common.{◌≡◌, ◌≢◌, ◌∙◌, ap, sym, refl, subst, ℕ, zero, suc, ◌+◌, ◌<◌, ◌≤◌, slice_get, Bool, true, false, ◌||◌, List, [], ◌∷◌, ◌++◌, length, length-append, Option, None, Some, Contains, cond, unwrap_or, bytes_eq, arith}
+use Rattle.std.specs.Prelude.{IsSome}
 use Rattle.std.proofs.lemmas.List.Elements.{Contains-append_left, Contains-append_right}
 use Rattle.std.proofs.lemmas.Slice.Eq.{bytes_eq-Decides}
 use Rattle.std.specs.BTreeMap.{insert_entry, is_at}
@@ -12,20 +13,25 @@ use Rattle.hir_base.specs.contracts.ast_id.AstIdOrd.TheImpl as ast_order
 use Rattle.hir_base.specs.contracts.ast_id.AstIdOrd.TheImpl.Laws.{total-law as ast_total}
 use Rattle.hir_base.specs.declared.ast_id.AstId.{AstId}
 use Rattle.hir_base.specs.declared.ids.EnumId.{EnumId}
+use Rattle.hir_base.specs.declared.ids.ExternCrateId.{ExternCrateId}
 use Rattle.hir_base.specs.declared.ids.FunctionId.{FunctionId}
 use Rattle.hir_base.specs.declared.ids.ModuleId.{ModuleId}
+use Rattle.hir_base.specs.declared.ids.TraitId.{TraitId}
 use Rattle.hir_base.specs.declared.macro_kind.BuiltinDeriveImplId.{BuiltinDeriveImplId}
 use Rattle.hir_base.specs.declared.macro_kind.MacroId.{MacroId}
 use Rattle.hir_base.specs.declared.macro_kind.ProcMacroId.{ProcMacroId}
-use Rattle.hir_scope.specs.Globs.{GlobNames}
+use Rattle.hir_scope.specs.Globs.{GlobNames, Place}
+use Rattle.hir_scope.specs.PerNs.{is_nothing}
 use Rattle.hir_scope.specs.Scope.{ScopeValue}
+use Rattle.hir_scope.specs.Scope.Push.{pushed_scope, taken_candidates, with_unresolved, written_scope}
+use Rattle.hir_scope.specs.Scope.Reads.{unnamed_vis}
+use Rattle.hir_scope.specs.declared.imports.ImportOrExternCrate.{ImportOrExternCrate}
 use Rattle.hir_scope.specs.declared.per_ns.PerNs.{PerNs}
 use Rattle.hir_scope.specs.declared.visibility.Visibility.{Visibility}
 use Rattle.hir_def_map.proofs.Grown.{kept, length-changed}
-use Rattle.hir_def_map.proofs.StaysWellFormed.{length-made}
 use Rattle.hir_def_map.specs.Declaration.{listed}
 use Rattle.hir_def_map.specs.Macros.{helpers_at, with_derive_helper, with_diagnostic, with_exported, with_helper, with_macro_data, with_macro_def}
-use Rattle.hir_def_map.specs.State.{Local, MacroDataValue, Map, ModuleValue, changed_at, entry_of, module_at, new_module, parent_at, parent_of, pushed, pushed_module, place_at, Variants, with_enum, with_module, with_module_scope, with_scope}
+use Rattle.hir_def_map.specs.State.{Local, MacroDataValue, Map, ModuleValue, changed_at, entry_at, entry_of, module_at, new_module, parent_at, parent_of, pushed, pushed_module, place_at, Variants, variants_at, with_enum, with_extern, with_module, with_module_scope, with_scope}
 use Rattle.hir_def_map.specs.declared.nameres.declaration.Declaration.{Declaration as Listing}
 use Rattle.hir_def_map.specs.declared.nameres.derive_helpers.DeriveHelper.{DeriveHelper}
 use Rattle.hir_def_map.specs.declared.nameres.diagnostics.DefDiagnostic.{DefDiagnostic}
@@ -34,20 +40,29 @@ use Rattle.hir_def_map.specs.declared.nameres.path_resolution.slots.Slot.{Slot a
 use Rattle.hir_def_map.specs.declared.nameres.path_resolution.slots.Slot.TheVariants.{Module as of_module, Preludes as of_preludes}
 use Rattle.hir_def_map.specs.Scoping.FirstSegment.{legacy_of}
 use Rattle.hir_def_map_laws.proofs.SameAbove.{found-below}
-use Rattle.hir_def_map_laws.proofs.SlotChanges.{Grows-changed, changes-listed, changes-made, changes-pushed}
+use Rattle.hir_def_map_laws.proofs.SlotChanges.{Grows-itself, changes-crate, changes-listed, changes-made, changes-pushed}
 use Rattle.hir_def_map_laws.proofs.SlotLists.{textual_macros}
 use Rattle.hir_def_map_laws.specs.ReadLaw.{AgreeAt, Grows}
 use Rattle.hir_def_map_laws.specs.SlotChanges.{ChangesOnly}
 use Rattle.hir_textual_scope.specs.Macros.{with_macro}
+use Rattle.hir_glob_imports.specs.Rules.{BroughtBy}
+use Rattle.hir_glob_imports.specs.Waves.{GlobsValue, brought_of}
+use Rattle.hir_import_resolution.proofs.GrowingAround.{enums_around, lists_around, modules_around, scopes_around}
+use Rattle.hir_import_resolution.specs.Changes.{forgotten}
+use Rattle.hir_import_resolution.specs.Directives.{TakenValue}
+use Rattle.hir_import_resolution.specs.Names.{trait_vis}
+use Rattle.hir_import_resolution.specs.Rounds.{GrowsAround}
+use Rattle.hir_import_resolution.specs.declared.directive.ImportDirective.{ImportDirective}
 use Rattle.hir_call_queue.specs.Changes.{ChangedValue, IsThere, IsUntouched, everything, with_preludes, with_slot}
 use Rattle.hir_def_collector.specs.Attributes.{is_named_by}
 use Rattle.hir_def_collector.specs.Changes.{with_builtin_derive, with_derived}
 use Rattle.hir_def_collector.specs.Macros.{textual_at, with_textual_macro}
 use Rattle.hir_def_collector.specs.Moves.{begun}
 use Rattle.hir_def_collector.specs.State.{Run}
-use Rattle.hir_def_collector.specs.Waiting.{IsNoted, KeepsModules, is_helped}
+use Rattle.hir_def_collector.specs.Waiting.{IsNoted, KeepsModules, LeavesImports, NotesSlots, is_helped}
 use Rattle.hir_def_collector.proofs.CallReads.{agree_itself, agree_later, modules_kept_itself}
-use Rattle.hir_def_collector.proofs.Lists.{get_inside}
+use Rattle.hir_def_collector.proofs.Forgetting.{brought_still}
+use Rattle.hir_def_collector.proofs.Lists.{get_inside, get_left}
 
 -- ---- modules that are kept
 
@@ -75,14 +90,36 @@ grown_kept old new grows longer = record { id = grows.id; holder = grows.holder;
 pub helped_alike : (old new : Map) → new.derive_helpers ≡ old.derive_helpers → (node : AstId) (name : List ℕ) → is_helped new node name ≡ is_helped old node name
 helped_alike old new same node name = ap (λ (helpers : List (AstId × List DeriveHelper)). is_helped (record old { derive_helpers = helpers }) node name) same
 
+-- ---- maps that grow around their names
+
+pub around_itself : (m : Map) → GrowsAround m m
+around_itself m = record { grows = Grows-itself m; modules = omega arith; entries = λ at name. refl; traits = λ at id. refl }
+
+around_later : (a b c : Map) → GrowsAround a b → GrowsAround b c → GrowsAround a c
+around_later a b c first then =
+    let kept : KeepsModules a c = modules_kept_later a b c (grown_kept a b first.grows first.modules) (grown_kept b c then.grows then.modules) in
+    record {
+      grows = record {
+        id = kept.id;
+        holder = kept.holder;
+        crate_data = kept.crate_data;
+        prelude = kept.prelude;
+        parents = kept.parents;
+        enums = λ id variants e. then.grows.enums id variants (first.grows.enums id variants e);
+      };
+      modules = kept.count;
+      entries = λ at name. then.entries at name ∙ first.entries at name;
+      traits = λ at id. then.traits at id ∙ first.traits at id;
+    }
+
 -- ---- what is noted, one change after another
 
 pub there_later : (m n : ℕ) → m ≤ n → (slot : PathSlot) → IsThere m slot → IsThere n slot
 there_later m n low (of_module at name) there = omega (arith, low, there)
 there_later m n low (of_preludes name) there = tt
 
-pub noted_follow : {a b c : Run} → IsNoted a b → IsNoted b c → IsNoted a c
-noted_follow {a} {b} {c} first then = record {
+pub slots_follow : {a b c : Run} → NotesSlots a b → NotesSlots b c → NotesSlots a c
+slots_follow {a} {b} {c} first then = record {
   some = λ e. first.some (then.some e);
   noted = λ slot e. first.noted slot (then.noted slot e);
   keeps = λ e. modules_kept_later a.map b.map c.map (first.keeps (then.some e)) (then.keeps e);
@@ -93,9 +130,62 @@ noted_follow {a} {b} {c} first then = record {
   helpers = λ node name e. then.helpers node name e ∙ first.helpers node name (then.noted (of_preludes name) e);
 }
 
+imports_follow : (a b c : Run) → ((slot : PathSlot) → IsUntouched c.changed slot → IsUntouched b.changed slot) → LeavesImports a b → LeavesImports b c → LeavesImports a c
+imports_follow a b c before first then = record {
+  enums = λ id variants e. then.enums id variants (first.enums id variants e);
+  entries = λ at name e. then.entries at name e ∙ first.entries at name (before (of_module at name) e);
+  traits = λ at id. then.traits at id ∙ first.traits at id;
+  edges = then.edges ∙ first.edges;
+  brought = λ s e. then.brought s e ∙ first.brought s (λ name is. before (of_module s.at name) (e name is));
+  reached = λ i low. then.reached i (omega (arith, low, first.longer)) ∙ first.reached i low;
+  taken = λ i low. then.taken i (omega (arith, low, first.taken_longer)) ∙ first.taken i low;
+  longer = omega (arith, first.longer, then.longer);
+  taken_longer = omega (arith, first.taken_longer, then.taken_longer);
+}
+
+pub noted_follow : {a b c : Run} → IsNoted a b → IsNoted b c → IsNoted a c
+noted_follow {a} {b} {c} first then = record {
+  slots = slots_follow first.slots then.slots;
+  imports = λ e. imports_follow a b c then.slots.noted (first.imports (then.slots.some e)) (then.imports e);
+}
+
+-- ---- imports that stay
+
+-- globs and imports stay
+abbrev pub KeepsImports : Run → Run → Type 0
+KeepsImports a b = (b.globs ≡ a.globs) × (b.reached ≡ a.reached) × (b.taken ≡ a.taken)
+
+module _ (a b : Run) (stay : KeepsImports a b) where
+  imports_left : ((id : EnumId) (variants : Variants) → variants_at a.map id ≡ Some variants → variants_at b.map id ≡ Some variants)
+      → ((at : ℕ) (name : List ℕ) → IsUntouched b.changed (of_module at name) → entry_at b.map at name ≡ entry_at a.map at name)
+      → ((at : ℕ) (id : TraitId) → trait_vis (module_at b.map at) id ≡ trait_vis (module_at a.map at) id) → LeavesImports a b
+  imports_left enums entries traits = record {
+    enums = enums;
+    entries = entries;
+    traits = traits;
+    edges = ap (λ (g : GlobsValue). g.edges) stay.0;
+    brought = λ s e. ap (λ (g : GlobsValue). brought_of g s) stay.0;
+    reached = λ i low. ap (λ (rs : List ImportDirective). slice_get rs i) stay.1;
+    taken = λ i low. ap (λ (ts : List TakenValue). slice_get ts i) stay.2;
+    longer = let same : length b.reached ≡ length a.reached = ap (λ (rs : List ImportDirective). length rs) stay.1 in omega (arith, same);
+    taken_longer = let same : length b.taken ≡ length a.taken = ap (λ (ts : List TakenValue). length ts) stay.2 in omega (arith, same);
+  }
+
+  -- where the map grows around its names
+  imports_around : (m : Map) → b.map ≡ m → GrowsAround a.map m → LeavesImports a b
+  imports_around m is around =
+      imports_left
+      (λ id variants e. ap (λ (x : Map). variants_at x id) is ∙ around.grows.enums id variants e)
+      (λ at name e. ap (λ (x : Map). entry_at x at name) is ∙ around.entries at name)
+      (λ at id. ap (λ (x : Map). trait_vis (module_at x at) id) is ∙ around.traits at id)
+
+  -- where it stays
+  imports_same : b.map ≡ a.map → LeavesImports a b
+  imports_same is = imports_around a.map is (around_itself a.map)
+
 -- where the map stays, and nothing else is noted
-pub noted_same : (a b : Run) → b.map ≡ a.map → b.local ≡ a.local → b.changed ≡ a.changed → IsNoted a b
-noted_same a b map local changed = record {
+pub slots_same : (a b : Run) → b.map ≡ a.map → b.local ≡ a.local → b.changed ≡ a.changed → NotesSlots a b
+slots_same a b map local changed = record {
   some = λ e. ap (λ (c : ChangedValue). c.all) (sym changed) ∙ e;
   noted = λ slot e. subst (λ (c : ChangedValue). IsUntouched c slot) changed e;
   keeps = λ e. subst (KeepsModules a.map) (sym map) (modules_kept_itself a.map);
@@ -103,36 +193,63 @@ noted_same a b map local changed = record {
   helpers = λ node name e. ap (λ (m : Map). is_helped m node name) map;
 }
 
+pub noted_same : (a b : Run) → b.map ≡ a.map → b.local ≡ a.local → b.changed ≡ a.changed → KeepsImports a b → IsNoted a b
+noted_same a b map local changed stay = record { slots = slots_same a b map local changed; imports = λ e. imports_same a b stay map }
+
 -- where nothing changes at all
 pub noted_itself : (a : Run) → IsNoted a a
-noted_itself a = noted_same a a refl refl refl
+noted_itself a = noted_same a a refl refl refl (refl, refl, refl)
 
 pub noted_still : {a b : Run} → a ≡ b → IsNoted a b
 noted_still {a} same = subst (IsNoted a) same (noted_itself a)
 
--- where all slots are noted
-pub noted_everything : (a b : Run) → b.changed ≡ everything → IsNoted a b
-noted_everything a b all = record {
-  some = λ e. absurd (no e);
-  noted = λ slot e. absurd (no e.some);
-  keeps = λ e. absurd (no e);
-  others = λ slot e there. absurd (no e.some);
-  helpers = λ node name e. absurd (no e.some);
-}
+-- where one more import is come upon
+pub noted_reached : (a b : Run) (r : ImportDirective) (t : TakenValue) → b.map ≡ a.map → b.local ≡ a.local → b.changed ≡ a.changed → b.globs ≡ a.globs → b.reached ≡ a.reached ++ r ∷ [] → b.taken ≡ a.taken ++ t ∷ []
+    → IsNoted a b
+noted_reached a b r t map local changed globs reached taken = record { slots = slots_same a b map local changed; imports = λ e. left }
   where
-    no : b.changed.all ≡ false → ⊥
-    no e = let is : b.changed.all ≡ true = ap (λ (c : ChangedValue). c.all) all in absurd (let wrong : ⊥ = cc in wrong)
+    left : LeavesImports a b
+    left = record {
+      enums = λ id variants e. ap (λ (x : Map). variants_at x id) map ∙ e;
+      entries = λ at name e. ap (λ (x : Map). entry_at x at name) map;
+      traits = λ at id. ap (λ (x : Map). trait_vis (module_at x at) id) map;
+      edges = ap (λ (g : GlobsValue). g.edges) globs;
+      brought = λ s e. ap (λ (g : GlobsValue). brought_of g s) globs;
+      reached = λ i low. ap (λ (rs : List ImportDirective). slice_get rs i) reached ∙ get_left a.reached (r ∷ []) i low;
+      taken = λ i low. ap (λ (ts : List TakenValue). slice_get ts i) taken ∙ get_left a.taken (t ∷ []) i low;
+      longer = let long : length b.reached ≡ length a.reached + 1 = ap (λ (rs : List ImportDirective). length rs) reached ∙ length-append a.reached (r ∷ []) in omega (arith, long);
+      taken_longer = let long : length b.taken ≡ length a.taken + 1 = ap (λ (ts : List TakenValue). length ts) taken ∙ length-append a.taken (t ∷ []) in omega (arith, long);
+    }
 
--- where the map grows, and no slot of a module that was there changes, nor helpers
-module _ (a b : Run) (local : b.local ≡ a.local) (changed : b.changed ≡ a.changed) (helpers : b.map.derive_helpers ≡ a.map.derive_helpers) (keeps : KeepsModules a.map b.map)
-    (agree : (slot : PathSlot) → IsThere (length a.map.modules) slot → AgreeAt a.map a.local b.map a.local slot) where
-  pub noted_around : IsNoted a b
-  noted_around = record {
-    some = λ e. ap (λ (c : ChangedValue). c.all) (sym changed) ∙ e;
-    noted = λ slot e. subst (λ (c : ChangedValue). IsUntouched c slot) changed e;
-    keeps = λ e. keeps;
-    others = λ slot e there. subst (λ (l : Local). AgreeAt a.map a.local b.map l slot) (sym local) (agree slot there);
-    helpers = λ node name e. helped_alike a.map b.map helpers node name;
+-- where all slots are noted
+not_all : (c : ChangedValue) → c ≡ everything → c.all ≡ false → ⊥
+not_all c all e = let is : c.all ≡ true = ap (λ (x : ChangedValue). x.all) all in absurd (let wrong : ⊥ = cc in wrong)
+
+pub slots_everything : (a b : Run) → b.changed ≡ everything → NotesSlots a b
+slots_everything a b all = record {
+  some = λ e. absurd (not_all b.changed all e);
+  noted = λ slot e. absurd (not_all b.changed all e.some);
+  keeps = λ e. absurd (not_all b.changed all e);
+  others = λ slot e there. absurd (not_all b.changed all e.some);
+  helpers = λ node name e. absurd (not_all b.changed all e.some);
+}
+
+pub noted_everything : (a b : Run) → b.changed ≡ everything → IsNoted a b
+noted_everything a b all = record { slots = slots_everything a b all; imports = λ e. absurd (not_all b.changed all e) }
+
+-- where the map grows around its names, and no slot of a module that was there changes, nor helpers
+module _ (a b : Run) (local : b.local ≡ a.local) (changed : b.changed ≡ a.changed) (stay : KeepsImports a b) where
+  pub noted_around : (m : Map) → b.map ≡ m → m.derive_helpers ≡ a.map.derive_helpers → GrowsAround a.map m → ((slot : PathSlot) → IsThere (length a.map.modules) slot → AgreeAt a.map a.local m a.local slot)
+      → IsNoted a b
+  noted_around m map helpers around agree = record {
+    slots = record {
+      some = λ e. ap (λ (c : ChangedValue). c.all) (sym changed) ∙ e;
+      noted = λ slot e. subst (λ (c : ChangedValue). IsUntouched c slot) changed e;
+      keeps = λ e. subst (KeepsModules a.map) (sym map) (grown_kept a.map m around.grows around.modules);
+      others = λ slot e there. subst (λ (x : Map). AgreeAt a.map a.local x b.local slot) (sym map) (subst (λ (l : Local). AgreeAt a.map a.local m l slot) (sym local) (agree slot there));
+      helpers = λ node name e. helped_alike a.map b.map (ap (λ (x : Map). x.derive_helpers) map ∙ helpers) node name;
+    };
+    imports = λ e. imports_around a b stay m map around;
   }
 
 -- where one slot is noted besides
@@ -140,7 +257,7 @@ abbrev with_one : PathSlot → ChangedValue → ChangedValue
 with_one one c = cond c.all c (record c { slots = c.slots ++ one ∷ [] })
 
 module _ (one : PathSlot) (c : ChangedValue) where
-  some_before : (with_one one c).all ≡ false → c.all ≡ false
+  pub some_before : (with_one one c).all ≡ false → c.all ≡ false
   some_before e = go c.all refl e
     where
       go : (all : Bool) → c.all ≡ all → (cond all c (record c { slots = c.slots ++ one ∷ [] })).all ≡ false → c.all ≡ false
@@ -148,7 +265,7 @@ module _ (one : PathSlot) (c : ChangedValue) where
       go false is e = is
 
   -- of what isn't touched now nothing was touched
-  untouched_before : (slot : PathSlot) → IsUntouched (with_one one c) slot → IsUntouched c slot
+  pub untouched_before : (slot : PathSlot) → IsUntouched (with_one one c) slot → IsUntouched c slot
   untouched_before slot e = go c.all refl e
     where
       go : (all : Bool) → c.all ≡ all → IsUntouched (cond all c (record c { slots = c.slots ++ one ∷ [] })) slot → IsUntouched c slot
@@ -156,29 +273,36 @@ module _ (one : PathSlot) (c : ChangedValue) where
       go false is e = record { some = is; other = λ among. e.other (Contains-append_left c.slots (one ∷ []) slot among) }
 
   -- and it isn't the slot
-  untouched_other : (slot : PathSlot) → IsUntouched (with_one one c) slot → slot ≢ one
+  pub untouched_other : (slot : PathSlot) → IsUntouched (with_one one c) slot → slot ≢ one
   untouched_other slot e same = go c.all refl e
     where
       go : (all : Bool) → c.all ≡ all → IsUntouched (cond all c (record c { slots = c.slots ++ one ∷ [] })) slot → ⊥
       go true is e = let wrong : c.all ≡ false = e.some in absurd (let no : ⊥ = cc in no)
       go false is e = e.other (subst (λ (x : PathSlot). Contains (c.slots ++ one ∷ []) x) (sym same) (Contains-append_right c.slots (one ∷ []) one (zero, omega arith, refl)))
 
--- where one slot of a module may change, which is noted
-module _ (a b : Run) (home : ℕ) (name : List ℕ) (local : b.local ≡ a.local) (changed : b.changed ≡ with_slot home name a.changed) (helpers : b.map.derive_helpers ≡ a.map.derive_helpers) (changes : ChangesOnly a.map a.local b.map a.local (Some (of_module home name)))
-    (count : length a.map.modules ≤ length b.map.modules) where
-  pub noted_slot : IsNoted a b
-  noted_slot = record {
-    some = λ e. some_before (of_module home name) a.changed (ap (λ (c : ChangedValue). c.all) (sym changed) ∙ e);
-    noted = λ slot e. untouched_before (of_module home name) a.changed slot (subst (λ (c : ChangedValue). IsUntouched c slot) changed e);
-    keeps = λ e. grown_kept a.map b.map changes.grows count;
-    others = λ slot e there.
-        subst (λ (l : Local). AgreeAt a.map a.local b.map l slot) (sym local)
-        (changes.others slot (apart slot (untouched_other (of_module home name) a.changed slot (subst (λ (c : ChangedValue). IsUntouched c slot) changed e))));
-    helpers = λ node name e. helped_alike a.map b.map helpers node name;
-  }
+-- where one slot may change, which is noted
+module _ (a b : Run) (one : PathSlot) (changed : b.changed ≡ with_one one a.changed) where
+  -- what isn't touched is another
+  noted_other : (slot : PathSlot) → IsUntouched b.changed slot → slot ≢ one
+  noted_other slot e = untouched_other one a.changed slot (subst (λ (c : ChangedValue). IsUntouched c slot) changed e)
+
+  others_agree : ChangesOnly a.map a.local b.map b.local (Some one) → (slot : PathSlot) → IsUntouched b.changed slot → AgreeAt a.map a.local b.map b.local slot
+  others_agree changes slot e = changes.others slot (apart (noted_other slot e))
     where
-      apart : (slot : PathSlot) → slot ≢ of_module home name → Some slot ≢ Some (of_module home name)
-      apart slot other same = other (let here : slot ≡ of_module home name = cc in here)
+      apart : slot ≢ one → Some slot ≢ Some one
+      apart other same = other (let here : slot ≡ one = cc in here)
+
+  noted_slot : b.map.derive_helpers ≡ a.map.derive_helpers → ChangesOnly a.map a.local b.map b.local (Some one) → length a.map.modules ≤ length b.map.modules → LeavesImports a b → IsNoted a b
+  noted_slot helpers changes count left = record {
+    slots = record {
+      some = λ e. some_before one a.changed (ap (λ (c : ChangedValue). c.all) (sym changed) ∙ e);
+      noted = λ slot e. untouched_before one a.changed slot (subst (λ (c : ChangedValue). IsUntouched c slot) changed e);
+      keeps = λ e. grown_kept a.map b.map changes.grows count;
+      others = λ slot e there. others_agree changes slot e;
+      helpers = λ node name e. helped_alike a.map b.map helpers node name;
+    };
+    imports = λ e. left;
+  }
 
 -- ---- helpers
 
@@ -247,18 +371,28 @@ module _ (helper : DeriveHelper) (name : List ℕ) (other : bytes_eq helper.name
   named_with helpers node item (Some hs) e = seen_set ast_order.ghosts.cmp is_named item node hs (hs ++ helper ∷ []) (named_behind hs) helpers e
 
 -- a helper comes into scope on an item, and the slot of its name in the preludes is noted
-pub noted_helper : (a b : Run) (item : AstId) (helper : DeriveHelper) → b.map ≡ with_derive_helper a.map item helper → b.local ≡ a.local → b.changed ≡ with_preludes helper.name a.changed → IsNoted a b
-noted_helper a b item helper map local changed = record {
-  some = λ e. some_before (of_preludes helper.name) a.changed (ap (λ (c : ChangedValue). c.all) (sym changed) ∙ e);
-  noted = λ slot e. untouched_before (of_preludes helper.name) a.changed slot (subst (λ (c : ChangedValue). IsUntouched c slot) changed e);
-  keeps = λ e. subst (KeepsModules a.map) (sym map) (record { id = refl; holder = refl; crate_data = refl; prelude = refl; parents = λ at m e. ap parent_of e; count = omega arith });
-  others = λ slot e there. subst (λ (m : Map). AgreeAt a.map a.local m b.local slot) (sym map) (subst (λ (l : Local). AgreeAt a.map a.local (with_derive_helper a.map item helper) l slot) (sym local) (same slot));
-  helpers = λ node name e.
-      ap (λ (m : Map). is_helped m node name) map
-      ∙ named_with helper name (other name (untouched_other (of_preludes helper.name) a.changed (of_preludes name) (subst (λ (c : ChangedValue). IsUntouched c (of_preludes name)) changed e)))
-      a.map.derive_helpers node item (helpers_at a.map item) refl;
+pub noted_helper : (a b : Run) (item : AstId) (helper : DeriveHelper) → b.map ≡ with_derive_helper a.map item helper → b.local ≡ a.local → b.changed ≡ with_preludes helper.name a.changed → KeepsImports a b → IsNoted a b
+noted_helper a b item helper map local changed stay = record {
+  slots = record {
+    some = λ e. some_before (of_preludes helper.name) a.changed (ap (λ (c : ChangedValue). c.all) (sym changed) ∙ e);
+    noted = λ slot e. untouched_before (of_preludes helper.name) a.changed slot (subst (λ (c : ChangedValue). IsUntouched c slot) changed e);
+    keeps = λ e. subst (KeepsModules a.map) (sym map) (grown_kept a.map (with_derive_helper a.map item helper) around.grows around.modules);
+    others = λ slot e there. subst (λ (m : Map). AgreeAt a.map a.local m b.local slot) (sym map) (subst (λ (l : Local). AgreeAt a.map a.local (with_derive_helper a.map item helper) l slot) (sym local) (same slot));
+    helpers = λ node name e.
+        ap (λ (m : Map). is_helped m node name) map
+        ∙ named_with helper name (other name (noted_other a b (of_preludes helper.name) changed (of_preludes name) e)) a.map.derive_helpers node item (helpers_at a.map item) refl;
+  };
+  imports = λ e. imports_around a b stay (with_derive_helper a.map item helper) map around;
 }
   where
+    around : GrowsAround a.map (with_derive_helper a.map item helper)
+    around = record {
+      grows = record { id = refl; holder = refl; crate_data = refl; prelude = refl; parents = λ at m e. ap parent_of e; enums = λ id variants e. e };
+      modules = omega arith;
+      entries = λ at name. refl;
+      traits = λ at id. refl;
+    }
+
     same : (slot : PathSlot) → AgreeAt a.map a.local (with_derive_helper a.map item helper) a.local slot
     same (of_module at name) = record { entries = refl; legacy = refl }
     same (of_preludes name) = record { crates = refl; macro_uses = refl }
@@ -278,44 +412,84 @@ elsewhere (x ∷ xs) zero change k low = absurd (omega arith)
 elsewhere (x ∷ xs) (suc at) change zero low = refl
 elsewhere (x ∷ xs) (suc at) change (suc k) low = elsewhere xs at change k (omega arith)
 
--- a change of one scope keeps the modules
-scope_kept : (map : Map) (at : ℕ) (change : ScopeValue → ScopeValue) → KeepsModules map (with_scope map at change)
-scope_kept map at change =
-    grown_kept map (with_scope map at change) (Grows-changed map at (with_module_scope change) (λ m. refl))
-    (let same = length-changed map.modules at (with_module_scope change) in omega (arith, same))
-
 -- ---- each change of the map
 
+-- a push leaves traits without names
+traits_pushed : (globs : GlobNames) (place : Place) (items : PerNs) (import : Option ImportOrExternCrate) (scope : ScopeValue) (id : TraitId)
+    → unnamed_vis (pushed_scope globs place items import scope) id ≡ unnamed_vis scope id
+traits_pushed globs place items import scope id = go (is_nothing items)
+  where
+    go : (b : Bool) → unnamed_vis (cond b (with_unresolved scope place.1) (written_scope place.1 (taken_candidates scope globs place items import) scope)) id ≡ unnamed_vis scope id
+    go true = refl
+    go false = refl
+
 -- a push
-pub noted_push : (a b : Run) (globs : GlobNames) (home : ℕ) (name : List ℕ) (items : PerNs) → b.map ≡ pushed a.map globs home name items None → b.local ≡ a.local → b.changed ≡ with_slot home name a.changed → IsNoted a b
-noted_push a b globs home name items map local changed =
-    noted_slot a b home name local changed (ap (λ (m : Map). m.derive_helpers) map)
-    (subst (λ (m : Map). ChangesOnly a.map a.local m a.local (Some (of_module home name))) (sym map) (changes-pushed a.map a.local globs home name items None))
-    (subst (λ (m : Map). length a.map.modules ≤ length m.modules) (sym map)
-    (let same = length-changed a.map.modules home (pushed_module globs (place_at a.map.id home name) items None) in omega (arith, same)))
+pub noted_push : (a b : Run) (home : ℕ) (name : List ℕ) (items : PerNs) → b.map ≡ pushed a.map a.names home name items None → b.local ≡ a.local → b.changed ≡ with_slot home name a.changed
+    → b.globs.edges ≡ a.globs.edges → brought_of b.globs ≡ forgotten home name items (brought_of a.globs) → b.reached ≡ a.reached → b.taken ≡ a.taken → IsNoted a b
+noted_push a b home name items map local changed edges brought reached taken = noted_slot a b (of_module home name) changed (ap (λ (m : Map). m.derive_helpers) map) changes count left
+  where
+    once : Map
+    once = pushed a.map a.names home name items None
+
+    changes : ChangesOnly a.map a.local b.map b.local (Some (of_module home name))
+    changes =
+        subst (λ (m : Map). ChangesOnly a.map a.local m b.local (Some (of_module home name))) (sym map)
+        (subst (λ (l : Local). ChangesOnly a.map a.local once l (Some (of_module home name))) (sym local) (changes-pushed a.map a.local a.names home name items None))
+
+    count : length a.map.modules ≤ length b.map.modules
+    count =
+        subst (λ (m : Map). length a.map.modules ≤ length m.modules) (sym map)
+        (let same = length-changed a.map.modules home (pushed_module a.names (place_at a.map.id home name) items None) in omega (arith, same))
+
+    entries : (at : ℕ) (found : List ℕ) → AgreeAt a.map a.local b.map b.local (of_module at found) → entry_at b.map at found ≡ entry_at a.map at found
+    entries at found agree = agree.entries
+
+    left : LeavesImports a b
+    left = record {
+      enums = changes.grows.enums;
+      entries = λ at found e. entries at found (others_agree a b (of_module home name) changed changes (of_module at found) e);
+      traits = λ at id.
+          ap (λ (m : Map). trait_vis (module_at m at) id) map
+          ∙ kept (λ (o : Option ModuleValue). trait_vis o id) a.map.modules home (pushed_module a.names (place_at a.map.id home name) items None)
+          (λ m. traits_pushed a.names (place_at a.map.id home name) items None m.scope id) at;
+      edges = edges;
+      brought = λ s e.
+          ap (λ (f : BroughtBy). f s) brought
+          ∙ brought_still home name s (λ found is. noted_other a b (of_module home name) changed (of_module s.at found) (e found is)) items (brought_of a.globs);
+      reached = λ i low. ap (λ (rs : List ImportDirective). slice_get rs i) reached;
+      taken = λ i low. ap (λ (ts : List TakenValue). slice_get ts i) taken;
+      longer = let same : length b.reached ≡ length a.reached = ap (λ (rs : List ImportDirective). length rs) reached in omega (arith, same);
+      taken_longer = let same : length b.taken ≡ length a.taken = ap (λ (ts : List TakenValue). length ts) taken in omega (arith, same);
+    }
 
 -- a macro in textual scope
-pub noted_textual : (a b : Run) (home : ℕ) (name : List ℕ) (makro : MacroId) → b.map ≡ with_textual_macro a.map home name makro → b.local ≡ a.local → b.changed ≡ with_slot home name a.changed → IsNoted a b
-noted_textual a b home name makro map local changed =
-    noted_slot a b home name local changed (ap (λ (m : Map). m.derive_helpers) map)
-    (subst (λ (m : Map). ChangesOnly a.map a.local m a.local (Some (of_module home name))) (sym map) (textual_macros a.map a.local home name makro))
-    (subst (λ (m : Map). length a.map.modules ≤ length m.modules) (sym map) (let same = length-changed a.map.modules home (with_module_scope (λ (s : ScopeValue). record s { legacy_macros = with_macro s.legacy_macros name makro })) in omega (arith, same)))
+pub noted_textual : (a b : Run) (home : ℕ) (name : List ℕ) (makro : MacroId) → b.map ≡ with_textual_macro a.map home name makro → b.local ≡ a.local → b.changed ≡ with_slot home name a.changed → KeepsImports a b → IsNoted a b
+noted_textual a b home name makro map local changed stay =
+    noted_slot a b (of_module home name) changed (ap (λ (m : Map). m.derive_helpers) map)
+    (subst (λ (m : Map). ChangesOnly a.map a.local m b.local (Some (of_module home name))) (sym map)
+    (subst (λ (l : Local). ChangesOnly a.map a.local (with_textual_macro a.map home name makro) l (Some (of_module home name))) (sym local) (textual_macros a.map a.local home name makro)))
+    (subst (λ (m : Map). length a.map.modules ≤ length m.modules) (sym map) around.modules) (imports_around a b stay (with_textual_macro a.map home name makro) map around)
+  where
+    around : GrowsAround a.map (with_textual_macro a.map home name makro)
+    around = scopes_around a.map home (λ (s : ScopeValue). record s { legacy_macros = with_macro s.legacy_macros name makro }) (λ s other. refl) (λ s id. refl)
+
+-- a crate that paths may begin with
+pub noted_extern : (a b : Run) (name : List ℕ) (entry : ModuleId × Option ExternCrateId) → b.map ≡ a.map → b.local ≡ with_extern a.local name entry → b.changed ≡ with_preludes name a.changed → KeepsImports a b → IsNoted a b
+noted_extern a b name entry map local changed stay =
+    noted_slot a b (of_preludes name) changed (ap (λ (m : Map). m.derive_helpers) map)
+    (subst (λ (m : Map). ChangesOnly a.map a.local m b.local (Some (of_preludes name))) (sym map)
+    (subst (λ (l : Local). ChangesOnly a.map a.local a.map l (Some (of_preludes name))) (sym local) (changes-crate a.map a.local name entry)))
+    (let same : length b.map.modules ≡ length a.map.modules = ap (λ (m : Map). length m.modules) map in omega (arith, same)) (imports_same a b stay map)
 
 -- what is listed
-pub noted_list : (a b : Run) (home : ℕ) (d : Listing) → b.map ≡ with_scope a.map home (listed d) → b.local ≡ a.local → b.changed ≡ a.changed → IsNoted a b
-noted_list a b home d map local changed =
-    let changes : ChangesOnly a.map a.local b.map a.local None = subst (λ (m : Map). ChangesOnly a.map a.local m a.local None) (sym map) (changes-listed a.map a.local home d) in
-    noted_around a b local changed (ap (λ (m : Map). m.derive_helpers) map)
-    (grown_kept a.map b.map changes.grows
-    (subst (λ (m : Map). length a.map.modules ≤ length m.modules) (sym map) (let same = length-changed a.map.modules home (with_module_scope (listed d)) in omega (arith, same))))
-    (λ slot there. changes.others slot (λ e. absurd cc))
+pub noted_list : (a b : Run) (home : ℕ) (d : Listing) → b.map ≡ with_scope a.map home (listed d) → b.local ≡ a.local → b.changed ≡ a.changed → KeepsImports a b → IsNoted a b
+noted_list a b home d map local changed stay =
+    noted_around a b local changed stay (with_scope a.map home (listed d)) map refl (lists_around a.map home d) (λ slot there. (changes-listed a.map a.local home d).others slot (λ e. absurd cc))
 
 -- an impl for which a builtin derive stands
-pub noted_derived : (a b : Run) → b.local ≡ a.local → b.changed ≡ a.changed → (home : ℕ) (imp : BuiltinDeriveImplId) → b.map ≡ with_derived a.map home imp → IsNoted a b
-noted_derived a b local changed home imp map =
-    noted_around a b local changed (ap (λ (m : Map). m.derive_helpers) map)
-    (subst (KeepsModules a.map) (sym map) (scope_kept a.map home (with_builtin_derive imp)))
-    (λ slot there. subst (λ (m : Map). AgreeAt a.map a.local m a.local slot) (sym map) (same slot))
+pub noted_derived : (a b : Run) → b.local ≡ a.local → b.changed ≡ a.changed → KeepsImports a b → (home : ℕ) (imp : BuiltinDeriveImplId) → b.map ≡ with_derived a.map home imp → IsNoted a b
+noted_derived a b local changed stay home imp map =
+    noted_around a b local changed stay (with_derived a.map home imp) map refl (scopes_around a.map home (with_builtin_derive imp) (λ s other. refl) (λ s id. refl)) (λ slot there. same slot)
   where
     same : (slot : PathSlot) → AgreeAt a.map a.local (with_derived a.map home imp) a.local slot
     same (of_module at name) = record {
@@ -333,48 +507,46 @@ other_scope_agrees map local bound home change above (of_preludes name) there = 
 
 -- a module that is made, and begins with the macros in textual scope around it
 pub noted_module : (a b : Run) (home : ℕ) (name : List ℕ) (origin : ModuleOrigin) (visibility : Visibility) (parent : Option ModuleId)
-    → b.map ≡ begun a.map home name (new_module origin visibility parent) → b.local ≡ a.local → b.changed ≡ a.changed → IsNoted a b
-noted_module a b home name origin visibility parent map local changed =
+    → b.map ≡ begun a.map home name (new_module origin visibility parent) → b.local ≡ a.local → b.changed ≡ a.changed → KeepsImports a b → IsNoted a b
+noted_module a b home name origin visibility parent map local changed stay =
     let made : Map = with_module a.map home name (new_module origin visibility parent) in
     let count : ℕ = length a.map.modules in
     let changes : ChangesOnly a.map a.local made a.local None = changes-made a.map a.local home name origin visibility parent in
-    let longer : length made.modules ≡ count + 1 = length-made a.map home name (new_module origin visibility parent) in
     let change : ScopeValue → ScopeValue = λ s. record s { legacy_macros = textual_at made home } in
-    let scopes : KeepsModules made (with_scope made count change) = scope_kept made count change in
-    let kept : KeepsModules a.map made = grown_kept a.map made changes.grows (omega (arith, longer)) in
-    noted_around a b local changed (ap (λ (m : Map). m.derive_helpers) map)
-    (subst (KeepsModules a.map) (sym map) (modules_kept_later a.map made (with_scope made count change) kept scopes))
-    (λ slot there. subst (λ (m : Map). AgreeAt a.map a.local m a.local slot) (sym map)
-    (agree_later a.map made (with_scope made count change) a.local a.local a.local slot (changes.others slot (λ e. absurd cc)) (other_scope_agrees made a.local count count change (omega arith) slot there)))
+    noted_around a b local changed stay (begun a.map home name (new_module origin visibility parent)) map refl
+    (around_later a.map made (with_scope made count change) (modules_around a.map home name origin visibility parent) (scopes_around made count change (λ s other. refl) (λ s id. refl)))
+    (λ slot there.
+    agree_later a.map made (with_scope made count change) a.local a.local a.local slot (changes.others slot (λ e. absurd cc)) (other_scope_agrees made a.local count count change (omega arith) slot there))
 
 -- what lies beside modules and preludes
-module _ (a b : Run) (local : b.local ≡ a.local) (changed : b.changed ≡ a.changed) where
-  beside : (m : Map) → b.map ≡ m → m.derive_helpers ≡ a.map.derive_helpers → KeepsModules a.map m → ((slot : PathSlot) → AgreeAt a.map a.local m a.local slot) → IsNoted a b
-  beside m map helpers keeps agree =
-      noted_around a b local changed (ap (λ (m : Map). m.derive_helpers) map ∙ helpers) (subst (KeepsModules a.map) (sym map) keeps) (λ slot there. subst (λ (x : Map). AgreeAt a.map a.local x a.local slot) (sym map) (agree slot))
-
+module _ (a b : Run) (local : b.local ≡ a.local) (changed : b.changed ≡ a.changed) (stay : KeepsImports a b) where
   -- a diagnostic
   pub noted_told : (d : DefDiagnostic) → b.map ≡ with_diagnostic a.map d → IsNoted a b
-  noted_told d map = beside (with_diagnostic a.map d) map refl
-      (record { id = refl; holder = refl; crate_data = refl; prelude = refl; parents = λ at m e. ap parent_of e; count = omega arith }) same
+  noted_told d map = noted_around a b local changed stay (with_diagnostic a.map d) map refl (record { grows = around; modules = omega arith; entries = λ at name. refl; traits = λ at id. refl }) (λ slot there. same slot)
     where
+      around : Grows a.map (with_diagnostic a.map d)
+      around = record { id = refl; holder = refl; crate_data = refl; prelude = refl; parents = λ at m e. ap parent_of e; enums = λ id variants e. e }
+
       same : (slot : PathSlot) → AgreeAt a.map a.local (with_diagnostic a.map d) a.local slot
       same (of_module at name) = record { entries = refl; legacy = refl }
       same (of_preludes name) = record { crates = refl; macro_uses = refl }
 
   -- the macro that an item defines
   pub noted_defined : (node : AstId) (makro : MacroId) → b.map ≡ with_macro_def a.map node makro → IsNoted a b
-  noted_defined node makro map = beside (with_macro_def a.map node makro) map refl
-      (record { id = refl; holder = refl; crate_data = refl; prelude = refl; parents = λ at m e. ap parent_of e; count = omega arith }) same
+  noted_defined node makro map =
+      noted_around a b local changed stay (with_macro_def a.map node makro) map refl (record { grows = around; modules = omega arith; entries = λ at name. refl; traits = λ at id. refl }) (λ slot there. same slot)
     where
+      around : Grows a.map (with_macro_def a.map node makro)
+      around = record { id = refl; holder = refl; crate_data = refl; prelude = refl; parents = λ at m e. ap parent_of e; enums = λ id variants e. e }
+
       same : (slot : PathSlot) → AgreeAt a.map a.local (with_macro_def a.map node makro) a.local slot
       same (of_module at name) = record { entries = refl; legacy = refl }
       same (of_preludes name) = record { crates = refl; macro_uses = refl }
 
-  -- the variants of an enum
-  pub noted_enum : (id : EnumId) (variants : Variants) → b.map ≡ with_enum a.map id variants → IsNoted a b
-  noted_enum id variants map = beside (with_enum a.map id variants) map refl
-      (record { id = refl; holder = refl; crate_data = refl; prelude = refl; parents = λ at m e. ap parent_of e; count = omega arith }) same
+  -- the variants of an enum that had none
+  noted_enum : (id : EnumId) (variants : Variants) → variants_at a.map id ≡ None → b.map ≡ with_enum a.map id variants → IsNoted a b
+  noted_enum id variants fresh map =
+      noted_around a b local changed stay (with_enum a.map id variants) map refl (enums_around a.map id variants (λ before e. absurd (let no : ⊥ = cc in no))) (λ slot there. same slot)
     where
       same : (slot : PathSlot) → AgreeAt a.map a.local (with_enum a.map id variants) a.local slot
       same (of_module at name) = record { entries = refl; legacy = refl }
@@ -382,18 +554,33 @@ module _ (a b : Run) (local : b.local ≡ a.local) (changed : b.changed ≡ a.ch
 
   -- what is kept of a macro
   pub noted_described : (makro : MacroId) (what : MacroDataValue) → b.map ≡ with_macro_data a.map makro what → IsNoted a b
-  noted_described makro what map = beside (with_macro_data a.map makro what) map refl
-      (record { id = refl; holder = refl; crate_data = refl; prelude = refl; parents = λ at m e. ap parent_of e; count = omega arith }) same
+  noted_described makro what map =
+      noted_around a b local changed stay (with_macro_data a.map makro what) map refl (record { grows = around; modules = omega arith; entries = λ at name. refl; traits = λ at id. refl }) (λ slot there. same slot)
     where
+      around : Grows a.map (with_macro_data a.map makro what)
+      around = record { id = refl; holder = refl; crate_data = refl; prelude = refl; parents = λ at m e. ap parent_of e; enums = λ id variants e. e }
+
       same : (slot : PathSlot) → AgreeAt a.map a.local (with_macro_data a.map makro what) a.local slot
       same (of_module at name) = record { entries = refl; legacy = refl }
       same (of_preludes name) = record { crates = refl; macro_uses = refl }
 
   -- a function that exports a macro
   pub noted_exported : (function : FunctionId) (makro : ProcMacroId) → b.map ≡ with_exported a.map function makro → IsNoted a b
-  noted_exported function makro map = beside (with_exported a.map function makro) map refl
-      (record { id = refl; holder = refl; crate_data = refl; prelude = refl; parents = λ at m e. ap parent_of e; count = omega arith }) same
+  noted_exported function makro map =
+      noted_around a b local changed stay (with_exported a.map function makro) map refl (record { grows = around; modules = omega arith; entries = λ at name. refl; traits = λ at id. refl }) (λ slot there. same slot)
     where
+      around : Grows a.map (with_exported a.map function makro)
+      around = record { id = refl; holder = refl; crate_data = refl; prelude = refl; parents = λ at m e. ap parent_of e; enums = λ id variants e. e }
+
       same : (slot : PathSlot) → AgreeAt a.map a.local (with_exported a.map function makro) a.local slot
       same (of_module at name) = record { entries = refl; legacy = refl }
       same (of_preludes name) = record { crates = refl; macro_uses = refl }
+
+-- an enum gets variants; where it had some, all slots are noted
+pub noted_variants : (a b : Run) → b.local ≡ a.local → KeepsImports a b → (id : EnumId) (variants : Variants) → b.map ≡ with_enum a.map id variants
+    → (variants_at a.map id ≡ None → b.changed ≡ a.changed) → (IsSome (variants_at a.map id) → b.changed ≡ everything) → IsNoted a b
+noted_variants a b local stay id variants map fresh again = go (variants_at a.map id) refl
+  where
+    go : (had : Option Variants) → variants_at a.map id ≡ had → IsNoted a b
+    go None none = noted_enum a b local (fresh none) stay id variants none map
+    go (Some v) had = noted_everything a b (again (subst (λ (o : Option Variants). IsSome o) (sym had) refl))

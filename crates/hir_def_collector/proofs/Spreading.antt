@@ -1,75 +1,143 @@
 -- Names that go along globs while items are walked are noted.
-use Rattle.std.proofs.Common.{◌≡◌, ◌∙◌, ap, sym, refl, subst, ℕ, Bool, true, false, List, [], ◌∷◌, ◌++◌, length, Option, None, Some, Contains, cond, slice_get, arith, append-nil, append_assoc}
-use Rattle.std.proofs.lemmas.List.Elements.{Contains-append_left, Contains-append_right}
+use Rattle.std.proofs.Common.{◌≡◌, ◌≢◌, ◌⊎◌, inl, inr, ◌∙◌, ap, sym, refl, subst, ℕ, zero, Bool, true, false, List, [], ◌∷◌, ◌++◌, length, Option, None, Some, Contains, cond, slice_get, arith}
+use Rattle.std.proofs.lemmas.List.Elements.{Contains-append_cases, Contains-append_left, Contains-append_right, Contains-push_cases}
 use Rattle.std.specs.Option.{option_and_then}
 use Rattle.std.specs.Prelude.{Result, Ok, Err, IfOk, IsOkAnd, OnOk}
 use Rattle.hir_base.specs.declared.ids.ModuleId.{ModuleId}
+use Rattle.hir_base.specs.declared.ids.TraitId.{TraitId}
 use Rattle.hir_scope.specs.declared.imports.GlobId.{GlobId}
 use Rattle.hir_scope.specs.declared.visibility.Visibility.{Visibility}
 use Rattle.hir_def_map.proofs.WellFormed.{parent_listed}
 use Rattle.hir_def_map.specs.Overlay.{Maps}
-use Rattle.hir_def_map.specs.State.{Map, ModuleValue, parent_at, parent_of}
+use Rattle.hir_def_map.specs.State.{Map, ModuleValue, entry_at, module_at, parent_at, parent_of}
 use Rattle.hir_def_map.specs.declared.nameres.path_resolution.slots.Slot.{Slot as PathSlot}
+use Rattle.hir_def_map.specs.declared.nameres.path_resolution.slots.Slot.TheVariants.{Module as of_module}
 use Rattle.hir_def_map_laws.specs.ReadLaw.{AgreeAt, DiffersInScopes}
 use Rattle.hir_def_map_laws.specs.SlotChanges.{ScopesChangeAmong}
+use Rattle.hir_glob_imports.specs.Keys.{name_of, slot_at}
 use Rattle.hir_glob_imports.specs.Rules.{brings, copies, follows, raises}
+use Rattle.hir_glob_imports.specs.Waves.{brought_of}
 use Rattle.hir_glob_imports.specs.declared.edge.Bound.{Bound}
 use Rattle.hir_glob_imports.specs.declared.edge.Key.{Key}
 use Rattle.hir_glob_imports.specs.declared.edge.Key.TheVariants.{Types, Values, Macros, Unnamed}
-use Rattle.hir_glob_imports.specs.declared.edge.Slot.{Slot}
+use Rattle.hir_glob_imports.specs.declared.edge.Slot.{Slot as GlobSlot}
 use Rattle.hir_glob_imports.specs.declared.edge.Target.{Target}
 use Rattle.hir_import_resolution.specs.Changes.{Change as ImportChange, act, along, keeps_trait, perform, pushes, records, takes}
-use Rattle.hir_import_resolution.specs.Names.{ScopesValue, bound_of, copied, copied_to, copied_where, followed, followed_to, followed_where}
+use Rattle.hir_import_resolution.specs.Directives.{TakenValue}
+use Rattle.hir_import_resolution.specs.Inner.State.{path_slots, slots_named}
+use Rattle.hir_import_resolution.specs.Names.{ScopesValue, bound_of, copied, copied_to, copied_where, followed, followed_to, followed_where, trait_vis}
 use Rattle.hir_import_resolution.specs.Rules.{Step, Steps, acts, more, none}
 use Rattle.hir_import_resolution.specs.State.{ImportState, scopes_of}
-use Rattle.hir_call_queue.specs.Changes.{ChangedValue, IsUntouched}
+use Rattle.hir_import_resolution.specs.declared.directive.ImportDirective.{ImportDirective}
+use Rattle.hir_call_queue.specs.Changes.{ChangedValue, IsUntouched, with_slots}
 use Rattle.hir_def_collector.specs.State.{Run, at_rest, core_in, import_state}
-use Rattle.hir_def_collector.specs.Waiting.{IsNoted, KeepsModules, with_slots}
+use Rattle.hir_def_collector.specs.Waiting.{IsNoted, KeepsModules, LeavesImports, NotesSlots, noted_along, noted_name}
 use Rattle.hir_def_collector.proofs.Lists.{length_mapped}
-use Rattle.hir_def_collector.proofs.Noted.{helped_alike}
+use Rattle.hir_def_collector.proofs.Noted.{helped_alike, some_before, untouched_before, untouched_other}
 
 -- ---- slots that are noted
 
-module _ (c : ChangedValue) where
-  pub no_slots : with_slots [] c ≡ c
-  no_slots = go c.all
+module _ (c : ChangedValue) (slots : List PathSlot) where
+  some_before_each : (with_slots slots c).all ≡ false → c.all ≡ false
+  some_before_each e = go c.all refl e
     where
-      go : (all : Bool) → cond all c (record c { slots = c.slots ++ [] }) ≡ c
-      go true = refl
-      go false = λ i. record { all = c.all; slots = append-nil c.slots i }
+      go : (all : Bool) → c.all ≡ all → (cond all c (record c { slots = c.slots ++ slots })).all ≡ false → c.all ≡ false
+      go true is e = e
+      go false is e = is
 
-  pub more_slots : (first then : List PathSlot) → with_slots (first ++ then) c ≡ with_slots then (with_slots first c)
-  more_slots first then = go c.all refl
+  -- of what isn't touched now nothing was touched
+  untouched_before_each : (slot : PathSlot) → IsUntouched (with_slots slots c) slot → IsUntouched c slot
+  untouched_before_each slot e = go c.all refl e
     where
-      go : (all : Bool) → c.all ≡ all → cond all c (record c { slots = c.slots ++ (first ++ then) }) ≡ with_slots then (cond all c (record c { slots = c.slots ++ first }))
-      go true is = sym (ap (λ (b : Bool). cond b c (record c { slots = c.slots ++ then })) is)
-      go false is =
-          (λ i. record { all = c.all; slots = sym (append_assoc c.slots first then) i })
-          ∙ sym (ap (λ (b : Bool). cond b (record c { slots = c.slots ++ first }) (record c { slots = (c.slots ++ first) ++ then })) is)
+      go : (all : Bool) → c.all ≡ all → IsUntouched (cond all c (record c { slots = c.slots ++ slots })) slot → IsUntouched c slot
+      go true is e = e
+      go false is e = record { some = is; other = λ among. e.other (Contains-append_left c.slots slots slot among) }
 
-  module _ (slots : List PathSlot) where
-    some_before_each : (with_slots slots c).all ≡ false → c.all ≡ false
-    some_before_each e = go c.all refl e
-      where
-        go : (all : Bool) → c.all ≡ all → (cond all c (record c { slots = c.slots ++ slots })).all ≡ false → c.all ≡ false
-        go true is e = e
-        go false is e = is
+  -- and it isn't one of the slots
+  untouched_apart : (slot : PathSlot) → IsUntouched (with_slots slots c) slot → ¬ Contains slots slot
+  untouched_apart slot e among = go c.all refl e
+    where
+      go : (all : Bool) → c.all ≡ all → IsUntouched (cond all c (record c { slots = c.slots ++ slots })) slot → ⊥
+      go true is e = let wrong : c.all ≡ false = e.some in absurd (let no : ⊥ = cc in no)
+      go false is e = e.other (Contains-append_right c.slots slots slot among)
 
-    -- of what isn't touched now nothing was touched
-    untouched_before_each : (slot : PathSlot) → IsUntouched (with_slots slots c) slot → IsUntouched c slot
-    untouched_before_each slot e = go c.all refl e
-      where
-        go : (all : Bool) → c.all ≡ all → IsUntouched (cond all c (record c { slots = c.slots ++ slots })) slot → IsUntouched c slot
-        go true is e = e
-        go false is e = record { some = is; other = λ among. e.other (Contains-append_left c.slots slots slot among) }
+-- ---- lists
 
-    -- and it isn't one of the slots
-    untouched_apart : (slot : PathSlot) → IsUntouched (with_slots slots c) slot → ¬ Contains slots slot
-    untouched_apart slot e among = go c.all refl e
-      where
-        go : (all : Bool) → c.all ≡ all → IsUntouched (cond all c (record c { slots = c.slots ++ slots })) slot → ⊥
-        go true is e = let wrong : c.all ≡ false = e.some in absurd (let no : ⊥ = cc in no)
-        go false is e = e.other (Contains-append_right c.slots slots slot among)
+no_member : {A : Type 0} (x : A) → Contains [] x → ⊥
+no_member x has = let low = has.1 in absurd (omega (arith, low))
+
+first_or_later : {A : Type 0} (y : A) (ys : List A) (x : A) → Contains (y ∷ ys) x → (y ≡ x) ⊎ Contains ys x
+first_or_later y ys x has = go (Contains-append_cases (y ∷ []) ys x has)
+  where
+    only : Contains [] x ⊎ (y ≡ x) → (y ≡ x) ⊎ Contains ys x
+    only (inl nowhere) = absurd (no_member x nowhere)
+    only (inr same) = inl same
+
+    go : Contains (y ∷ []) x ⊎ Contains ys x → (y ≡ x) ⊎ Contains ys x
+    go (inl first) = only (Contains-push_cases [] y x first)
+    go (inr later) = inr later
+
+-- ---- what is noted along globs
+
+-- where there is a name, its slot is noted besides
+named_some : (at : ℕ) (name : Option (List ℕ)) (c : ChangedValue) → (noted_name at name c).all ≡ false → c.all ≡ false
+named_some at None c e = absurd (let no : ⊥ = cc in no)
+named_some at (Some name) c e = some_before (of_module at name) c e
+
+named_before : (at : ℕ) (name : Option (List ℕ)) (c : ChangedValue) (slot : PathSlot) → IsUntouched (noted_name at name c) slot → IsUntouched c slot
+named_before at None c slot e = let wrong : true ≡ false = e.some in absurd (let no : ⊥ = cc in no)
+named_before at (Some name) c slot e = untouched_before (of_module at name) c slot e
+
+named_apart : (at : ℕ) (name : Option (List ℕ)) (c : ChangedValue) (slot : PathSlot) → IsUntouched (noted_name at name c) slot → ¬ Contains (slots_named at name) slot
+named_apart at None c slot e has = absurd (no_member slot has)
+named_apart at (Some name) c slot e has = go (first_or_later (of_module at name) [] slot has)
+  where
+    go : (of_module at name ≡ slot) ⊎ Contains [] slot → ⊥
+    go (inl same) = untouched_other (of_module at name) c slot e (sym same)
+    go (inr nowhere) = no_member slot nowhere
+
+along_some : (slots : List GlobSlot) (c : ChangedValue) → (noted_along slots c).all ≡ false → c.all ≡ false
+along_some [] c e = e
+along_some (s ∷ ss) c e = named_some s.at (name_of s.key) c (along_some ss (noted_name s.at (name_of s.key) c) e)
+
+along_before : (slots : List GlobSlot) (c : ChangedValue) (slot : PathSlot) → IsUntouched (noted_along slots c) slot → IsUntouched c slot
+along_before [] c slot e = e
+along_before (s ∷ ss) c slot e = named_before s.at (name_of s.key) c slot (along_before ss (noted_name s.at (name_of s.key) c) slot e)
+
+along_apart : (slots : List GlobSlot) (c : ChangedValue) (slot : PathSlot) → IsUntouched (noted_along slots c) slot → ¬ Contains (path_slots slots) slot
+along_apart [] c slot e has = no_member slot has
+along_apart (s ∷ ss) c slot e has = go (along_apart ss (noted_name s.at (name_of s.key) c) slot e) (Contains-append_cases (slots_named s.at (name_of s.key)) (path_slots ss) slot has)
+  where
+    go : ¬ Contains (path_slots ss) slot → Contains (slots_named s.at (name_of s.key)) slot ⊎ Contains (path_slots ss) slot → ⊥
+    go apart (inl here) = named_apart s.at (name_of s.key) c slot (along_before ss (noted_name s.at (name_of s.key) c) slot e) here
+    go apart (inr later) = apart later
+
+-- a slot that has a name has the slot of the name
+named_slot : (slots : List GlobSlot) (s : GlobSlot) (name : List ℕ) → Contains slots s → name_of s.key ≡ Some name → Contains (path_slots slots) (of_module s.at name)
+named_slot [] s name has named = absurd (no_member s has)
+named_slot (t ∷ ts) s name has named = go (λ later. named_slot ts s name later named) (first_or_later t ts s has)
+  where
+    there : Contains (slots_named s.at (name_of s.key)) (of_module s.at name)
+    there = subst (λ (n : Option (List ℕ)). Contains (slots_named s.at n) (of_module s.at name)) (sym named) (zero, omega arith, refl)
+
+    go : (Contains ts s → Contains (path_slots ts) (of_module s.at name)) → (t ≡ s) ⊎ Contains ts s → Contains (slots_named t.at (name_of t.key) ++ path_slots ts) (of_module s.at name)
+    go among (inl same) =
+        Contains-append_left (slots_named t.at (name_of t.key)) (path_slots ts) (of_module s.at name)
+        (subst (λ (x : GlobSlot). Contains (slots_named x.at (name_of x.key)) (of_module s.at name)) (sym same) there)
+    go among (inr later) = Contains-append_right (slots_named t.at (name_of t.key)) (path_slots ts) (of_module s.at name) (among later)
+
+-- where not any slot is noted, each has a name
+along_named : (slots : List GlobSlot) (c : ChangedValue) → (noted_along slots c).all ≡ false → (s : GlobSlot) → Contains slots s → name_of s.key ≢ None
+along_named [] c e s has unnamed = no_member s has
+along_named (t ∷ ts) c e s has unnamed = go (λ later. along_named ts (noted_name t.at (name_of t.key) c) e s later unnamed) (first_or_later t ts s has)
+  where
+    go : ¬ Contains ts s → (t ≡ s) ⊎ Contains ts s → ⊥
+    go among (inl same) =
+        let here : (noted_name t.at (name_of t.key) c).all ≡ false = along_some ts (noted_name t.at (name_of t.key) c) e in
+        let none : name_of t.key ≡ None = ap (λ (x : GlobSlot). name_of x.key) same ∙ unnamed in
+        let wrong : true ≡ false = subst (λ (n : Option (List ℕ)). (noted_name t.at n c).all ≡ false) none here in
+        absurd (let no : ⊥ = cc in no)
+    go among (inr later) = among later
 
 -- ---- modules are kept where scopes alone change
 
@@ -95,7 +163,7 @@ module _ (old new : Map) (differs : DiffersInScopes old new) where
 
 -- ---- helpers stay where imports are taken and names go along globs
 
-copied_helpers : (n : ScopesValue) (s : Slot) (of : Target) (vis : Visibility) (by : GlobId) → (copied n s of vis by).map.derive_helpers ≡ n.map.derive_helpers
+copied_helpers : (n : ScopesValue) (s : GlobSlot) (of : Target) (vis : Visibility) (by : GlobId) → (copied n s of vis by).map.derive_helpers ≡ n.map.derive_helpers
 copied_helpers n s of vis by = go (bound_of n of s.key)
   where
     on : (key : Key) (b : Bound) → (copied_to n s.at key vis by b).map.derive_helpers ≡ n.map.derive_helpers
@@ -108,7 +176,7 @@ copied_helpers n s of vis by = go (bound_of n of s.key)
     go None = refl
     go (Some b) = on s.key b
 
-followed_helpers : (n : ScopesValue) (s : Slot) (of : Target) (vis : Visibility) → (followed n s of vis).map.derive_helpers ≡ n.map.derive_helpers
+followed_helpers : (n : ScopesValue) (s : GlobSlot) (of : Target) (vis : Visibility) → (followed n s of vis).map.derive_helpers ≡ n.map.derive_helpers
 followed_helpers n s of vis = go (bound_of n of s.key)
   where
     on : (key : Key) (b : Bound) → (followed_to n s.at key vis b).map.derive_helpers ≡ n.map.derive_helpers
@@ -147,20 +215,74 @@ steps_helpers finished a b (more old _ steps step) = step_helpers finished old b
 -- ---- what is noted
 
 module _ (finished : Maps) (a b : Run) (slots : List PathSlot) (steps : Steps finished (import_state (at_rest (core_in a))) (import_state (at_rest (core_in b))))
-    (among : ScopesChangeAmong a.map b.map a.local slots) (local : b.local ≡ a.local) (changed : b.changed ≡ with_slots slots a.changed) where
+    (among : ScopesChangeAmong a.map b.map a.local slots) (local : b.local ≡ a.local) where
   same_helpers : b.map.derive_helpers ≡ a.map.derive_helpers
   unfolding core_in
   same_helpers = steps_helpers finished (import_state (at_rest (core_in a))) (import_state (at_rest (core_in b))) steps
 
-  pub noted_spread : IsNoted a b
-  noted_spread = record {
-    some = λ e. some_before_each a.changed slots (ap (λ (c : ChangedValue). c.all) (sym changed) ∙ e);
-    noted = λ slot e. untouched_before_each a.changed slots slot (subst (λ (c : ChangedValue). IsUntouched c slot) changed e);
+  slots_among : (b.changed.all ≡ false → a.changed.all ≡ false) → ((slot : PathSlot) → IsUntouched b.changed slot → IsUntouched a.changed slot)
+      → ((slot : PathSlot) → IsUntouched b.changed slot → ¬ Contains slots slot) → NotesSlots a b
+  slots_among some noted apart = record {
+    some = some;
+    noted = noted;
     keeps = λ e. differs_kept a.map b.map among.differs;
-    others = λ slot e there.
-        subst (λ l. AgreeAt a.map a.local b.map l slot) (sym local)
-        (among.others slot (untouched_apart a.changed slots slot (subst (λ (c : ChangedValue). IsUntouched c slot) changed e)));
+    others = λ slot e there. subst (λ l. AgreeAt a.map a.local b.map l slot) (sym local) (among.others slot (apart slot e));
     helpers = λ node name e. helped_alike a.map b.map same_helpers node name;
+  }
+
+  -- where these slots are noted besides
+  pub slots_with : b.changed ≡ with_slots slots a.changed → NotesSlots a b
+  slots_with changed =
+      slots_among
+      (λ e. some_before_each a.changed slots (ap (λ (c : ChangedValue). c.all) (sym changed) ∙ e))
+      (λ slot e. untouched_before_each a.changed slots slot (subst (λ (c : ChangedValue). IsUntouched c slot) changed e))
+      (λ slot e. untouched_apart a.changed slots slot (subst (λ (c : ChangedValue). IsUntouched c slot) changed e))
+
+-- what globs leave in the slots that didn't change
+pub record SpreadsTo (a b : Run) (slots : List GlobSlot) : Type 0 where
+  pub edges : b.globs.edges ≡ a.globs.edges
+  pub brought : (s : GlobSlot) → ¬ Contains slots s → brought_of b.globs s ≡ brought_of a.globs s
+  pub traits : (at : ℕ) (id : TraitId) → ¬ Contains slots (slot_at at (Unnamed id)) → trait_vis (module_at b.map at) id ≡ trait_vis (module_at a.map at) id
+  pub reached : b.reached ≡ a.reached
+  pub taken : b.taken ≡ a.taken
+
+module _ (finished : Maps) (a b : Run) (slots : List GlobSlot) (steps : Steps finished (import_state (at_rest (core_in a))) (import_state (at_rest (core_in b))))
+    (among : ScopesChangeAmong a.map b.map a.local (path_slots slots)) (local : b.local ≡ a.local) (changed : b.changed ≡ noted_along slots a.changed) where
+  along_slot : (slot : PathSlot) → IsUntouched b.changed slot → IsUntouched (noted_along slots a.changed) slot
+  along_slot slot e = subst (λ (c : ChangedValue). IsUntouched c slot) changed e
+
+  left_along : SpreadsTo a b slots → b.changed.all ≡ false → LeavesImports a b
+  left_along spread e = record {
+    enums = λ id variants is. among.differs.enums id ∙ is;
+    entries = λ at name untouched. entries at name (among.others (of_module at name) (along_apart slots a.changed (of_module at name) (along_slot (of_module at name) untouched)));
+    traits = λ at id. spread.traits at id (λ has. along_named slots a.changed some (slot_at at (Unnamed id)) has refl);
+    edges = spread.edges;
+    brought = λ s untouched. spread.brought s (λ has. go s has untouched (name_of s.key) refl);
+    reached = λ i low. ap (λ (rs : List ImportDirective). slice_get rs i) spread.reached;
+    taken = λ i low. ap (λ (ts : List TakenValue). slice_get ts i) spread.taken;
+    longer = let same : length b.reached ≡ length a.reached = ap (λ (rs : List ImportDirective). length rs) spread.reached in omega (arith, same);
+    taken_longer = let same : length b.taken ≡ length a.taken = ap (λ (ts : List TakenValue). length ts) spread.taken in omega (arith, same);
+  }
+    where
+      some : (noted_along slots a.changed).all ≡ false
+      some = ap (λ (c : ChangedValue). c.all) (sym changed) ∙ e
+
+      entries : (at : ℕ) (name : List ℕ) → AgreeAt a.map a.local b.map a.local (of_module at name) → entry_at b.map at name ≡ entry_at a.map at name
+      entries at name agree = agree.entries
+
+      go : (s : GlobSlot) → Contains slots s → ((name : List ℕ) → name_of s.key ≡ Some name → IsUntouched b.changed (of_module s.at name)) → (o : Option (List ℕ)) → name_of s.key ≡ o → ⊥
+      go s has untouched None is = along_named slots a.changed some s has is
+      go s has untouched (Some name) is =
+          along_apart slots a.changed (of_module s.at name) (along_slot (of_module s.at name) (untouched name is)) (named_slot slots s name has is)
+
+  pub noted_spread : SpreadsTo a b slots → IsNoted a b
+  noted_spread spread = record {
+    slots =
+        slots_among finished a b (path_slots slots) steps among local
+        (λ e. along_some slots a.changed (ap (λ (c : ChangedValue). c.all) (sym changed) ∙ e))
+        (λ slot e. along_before slots a.changed slot (along_slot slot e))
+        (λ slot e. along_apart slots a.changed slot (along_slot slot e));
+    imports = λ e. left_along spread e;
   }
 
 -- ---- where two calls succeed

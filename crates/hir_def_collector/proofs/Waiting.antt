@@ -26,15 +26,15 @@ use Rattle.hir_def_collector.specs.Calls.{IsWaiting, LeadsNowhere, called_macro,
 use Rattle.hir_def_collector.specs.Keys.{Environment}
 use Rattle.hir_def_collector.specs.State.{Core, Run, at_rest, core_in}
 use Rattle.hir_def_collector.specs.Steps.{Steps}
-use Rattle.hir_def_collector.specs.Waiting.{IsNoted, IsStale, IsUpToDate, KeepsWaiting, LiesApart, StandsStill, call_reads, is_helped}
+use Rattle.hir_def_collector.specs.Waiting.{IsStale, IsUpToDate, KeepsWaiting, LiesApart, NotesSlots, StandsStill, call_reads, is_helped}
 use Rattle.hir_def_collector.proofs.CallReads.{agree_itself, agree_later, inert_by_kind, modules_kept_itself, stands_nowhere}
-use Rattle.hir_def_collector.proofs.Noted.{modules_kept_later, noted_follow, noted_itself, there_later}
+use Rattle.hir_def_collector.proofs.Noted.{modules_kept_later, slots_follow, slots_same, there_later}
 use Rattle.hir_def_collector.proofs.Tried.{calls_longer, waiting_before}
 
 -- ---- what a call has seen
 
 -- it stands still as long as nothing of it is noted
-stands_later : (finished : Maps) (before now : Run) (d : MacroDirective) (seen : List PathSlot) → IsNoted before now → now.changed.all ≡ false
+stands_later : (finished : Maps) (before now : Run) (d : MacroDirective) (seen : List PathSlot) → NotesSlots before now → now.changed.all ≡ false
     → ((slot : PathSlot) → Contains seen slot → IsUntouched now.changed slot) → StandsStill finished (core_in before) d seen → StandsStill finished (core_in now) d seen
 unfolding core_in
 stands_later finished before now d seen noted some untouched s = record {
@@ -142,7 +142,7 @@ module _ (finished : Maps) (q : CallQueue) (before now : Run) (waits : KeepsWait
       go a p d false e idle waiting = up.stands a p d idle (other_place i p e) (waits.before p d (inside_of up.count p idle) waiting)
 
 -- what has read what has changed is queued
-module _ (finished : Maps) (q r : CallQueue) (before now : Run) (noted : IsNoted before now) (waits : KeepsWaiting (core_in before) (core_in now)) (woken : IsWoken now.changed q r) (apart : LiesApart finished r (core_in now)) where
+module _ (finished : Maps) (q r : CallQueue) (before now : Run) (noted : NotesSlots before now) (waits : KeepsWaiting (core_in before) (core_in now)) (woken : IsWoken now.changed q r) (apart : LiesApart finished r (core_in now)) where
   was_apart : is_apart r ≡ true → is_apart q ≡ true
   was_apart a = sym woken.on.apart ∙ a
 
@@ -356,14 +356,14 @@ keeps_waiting c d steps fated = record { longer = calls_longer steps; before = �
 
 -- a queue that was up to date is so but for what is noted
 pub stale_now : (finished : Maps) (q : CallQueue) (a : Run) → IsUpToDate finished q (core_in a) None → IsStale finished q a
-stale_now finished q a up = record { before = a; up_to_date = up; noted = noted_itself a; waits = record { longer = omega arith; before = λ p d low waiting. waiting } }
+stale_now finished q a up = record { before = a; up_to_date = up; noted = slots_same a a refl refl refl; waits = record { longer = omega arith; before = λ p d low waiting. waiting } }
 
 -- and later too
-pub stale_later : (finished : Maps) (q : CallQueue) (a b : Run) → IsStale finished q a → IsNoted a b → KeepsWaiting (core_in a) (core_in b) → IsStale finished q b
+pub stale_later : (finished : Maps) (q : CallQueue) (a b : Run) → IsStale finished q a → NotesSlots a b → KeepsWaiting (core_in a) (core_in b) → IsStale finished q b
 stale_later finished q a b stale noted waits = record {
   before = stale.before;
   up_to_date = stale.up_to_date;
-  noted = noted_follow stale.noted noted;
+  noted = slots_follow stale.noted noted;
   waits = record {
     longer = omega (arith, stale.waits.longer, waits.longer);
     before = λ p d low waiting. stale.waits.before p d low (waits.before p d (omega (arith, low, stale.waits.longer)) waiting);

@@ -1,31 +1,36 @@
 -- Which calls wait, and when is it in vain to try them?
-use Rattle.std.specs.Prelude.{◌≡◌, ◌≢◌, ℕ, ◌<◌, ◌≤◌, Bool, true, false, [], List, ◌++◌, Option, None, Some, cond, length, option_map, unwrap_or}
+use Rattle.std.specs.Prelude.{◌≡◌, ◌≢◌, ℕ, ◌<◌, ◌≤◌, Bool, true, false, [], ◌∷◌, List, Option, None, Some, length, option_map, slice_get, unwrap_or}
 use Rattle.std.specs.List.{All}
 use Rattle.hir_base.specs.declared.ast_id.AstId.{AstId}
+use Rattle.hir_base.specs.declared.ids.EnumId.{EnumId}
+use Rattle.hir_base.specs.declared.ids.TraitId.{TraitId}
 use Rattle.hir_def_map.specs.Macros.{helpers_at}
 use Rattle.hir_def_map.specs.Overlay.{Maps}
 use Rattle.hir_def_map.specs.Scoping.Slots.{reads}
-use Rattle.hir_def_map.specs.State.{IsInOrder, Local, Map, ModuleValue, module_at, numbered, parent_at}
+use Rattle.hir_def_map.specs.State.{IsInOrder, Local, Map, ModuleValue, Variants, entry_at, module_at, numbered, parent_at, variants_at}
 use Rattle.hir_def_map.specs.declared.nameres.path_resolution.slots.Slot.{Slot as PathSlot}
-use Rattle.hir_def_map.specs.declared.nameres.path_resolution.slots.Slot.TheVariants.{Preludes as of_preludes}
+use Rattle.hir_def_map.specs.declared.nameres.path_resolution.slots.Slot.TheVariants.{Module as of_module, Preludes as of_preludes}
 use Rattle.hir_def_map_laws.specs.ReadLaw.{AgreeAt}
+use Rattle.hir_glob_imports.specs.Keys.{name_of}
+use Rattle.hir_glob_imports.specs.Waves.{brought_of}
+use Rattle.hir_glob_imports.specs.declared.edge.Slot.{Slot as GlobSlot}
 use Rattle.hir_worklist.specs.Queue.{IsIdle, count_of, is_unfinished}
 use Rattle.hir_worklist.specs.Settling.{AreWatched}
 use Rattle.hir_import_resolution.specs.Inner.Queue.{slot_cmp}
 use Rattle.hir_import_resolution.specs.Inner.State.{IsApart}
-use Rattle.hir_call_queue.specs.Changes.{ChangedValue, IsThere, IsUntouched}
+use Rattle.hir_import_resolution.specs.Names.{trait_vis}
+use Rattle.hir_import_resolution.specs.Rounds.{Grew, IsUpToDate as AreUpToDate, is_lasting}
+use Rattle.hir_import_resolution.specs.State.{ImportState}
+use Rattle.hir_import_resolution.specs.declared.import_queue.ImportQueue.{ImportQueue}
+use Rattle.hir_call_queue.specs.Changes.{ChangedValue, IsThere, IsUntouched, everything, joined, with_slot}
 use Rattle.hir_call_queue.specs.Waking.{is_apart, watchers_of, worklist_of}
 use Rattle.hir_call_queue.specs.declared.queue.CallQueue.{CallQueue}
 use Rattle.hir_def_collector.specs.declared.collector.macro_directive.MacroDirective.{MacroDirective}
 use Rattle.hir_def_collector.specs.Attributes.{is_named_by}
 use Rattle.hir_def_collector.specs.Calls.{IsWaiting, by_style, called_macro, is_call, is_inert_now, path_of_call, style_of}
-use Rattle.hir_def_collector.specs.State.{Core, Run, at_rest, core_in}
+use Rattle.hir_def_collector.specs.State.{Core, Run, at_rest, core_in, import_state}
 
 -- ---- what may have changed
-
--- these slots besides may stand for something else
-abbrev pub with_slots : List PathSlot → ChangedValue → ChangedValue
-with_slots slots c = cond c.all c (record c { slots = c.slots ++ slots })
 
 -- a map has the modules that it had, each in that in which it was, and may have more
 pub record KeepsModules (old new : Map) : Type 0 where
@@ -40,14 +45,41 @@ pub record KeepsModules (old new : Map) : Type 0 where
 abbrev pub is_helped : Map → AstId → List ℕ → Bool
 is_helped m node name = is_named_by (unwrap_or (helpers_at m node) []) name
 
+-- the slot of a name in a module besides; any where there is no name, as of a trait without one
+abbrev pub noted_name : ℕ → Option (List ℕ) → ChangedValue → ChangedValue
+noted_name at None c = everything
+noted_name at (Some name) c = with_slot at name c
+
+-- what globs have changed besides
+abbrev pub noted_along : List GlobSlot → ChangedValue → ChangedValue
+noted_along [] c = c
+noted_along (s ∷ ss) c = noted_along ss (noted_name s.at (name_of s.key) c)
+
 -- what has changed of a run is noted: any other slot of a module that was there stands for what it stood for, and helpers that came into scope are noted by the slots of their names in the preludes, which attributes of those names read
-pub record IsNoted (old new : Run) : Type 0 where
+pub record NotesSlots (old new : Run) : Type 0 where
   -- what was noted is noted still
   pub some : new.changed.all ≡ false → old.changed.all ≡ false
   pub noted : (slot : PathSlot) → IsUntouched new.changed slot → IsUntouched old.changed slot
   pub keeps : new.changed.all ≡ false → KeepsModules old.map new.map
   pub others : (slot : PathSlot) → IsUntouched new.changed slot → IsThere (length old.map.modules) slot → AgreeAt old.map old.local new.map new.local slot
   pub helpers : (node : AstId) (name : List ℕ) → IsUntouched new.changed (of_preludes name) → is_helped new.map node name ≡ is_helped old.map node name
+
+-- imports and globs stand where they stood: enums keep their variants; but at noted slots names stand for what they stood for, and what globs brought stays; so do traits without names; no glob was recorded, and imports come behind the others
+pub record LeavesImports (old new : Run) : Type 0 where
+  pub enums : (id : EnumId) (variants : Variants) → variants_at old.map id ≡ Some variants → variants_at new.map id ≡ Some variants
+  pub entries : (at : ℕ) (name : List ℕ) → IsUntouched new.changed (of_module at name) → entry_at new.map at name ≡ entry_at old.map at name
+  pub traits : (at : ℕ) (id : TraitId) → trait_vis (module_at new.map at) id ≡ trait_vis (module_at old.map at) id
+  pub edges : new.globs.edges ≡ old.globs.edges
+  pub brought : (s : GlobSlot) → ((name : List ℕ) → name_of s.key ≡ Some name → IsUntouched new.changed (of_module s.at name)) → brought_of new.globs s ≡ brought_of old.globs s
+  pub reached : (i : ℕ) → i < length old.reached → slice_get new.reached i ≡ slice_get old.reached i
+  pub taken : (i : ℕ) → i < length old.taken → slice_get new.taken i ≡ slice_get old.taken i
+  pub longer : length old.reached ≤ length new.reached
+  pub taken_longer : length old.taken ≤ length new.taken
+
+-- what has changed of a run is noted, and where not any slot may have changed, imports and globs stand where they stood
+pub record IsNoted (old new : Run) : Type 0 where
+  pub slots : NotesSlots old new
+  pub imports : new.changed.all ≡ false → LeavesImports old new
 
 -- ---- what waits
 
@@ -93,9 +125,26 @@ pub record KeepsWaiting (old new : Core) : Type 0 where
 pub record IsStale (finished : Maps) (q : CallQueue) (now : Run) : Type 0 where
   pub before : Run
   pub up_to_date : IsUpToDate finished q (core_in before) None
-  pub noted : IsNoted before now
+  pub noted : NotesSlots before now
   pub waits : KeepsWaiting (core_in before) (core_in now)
 
 -- where calls watch what they read, finished maps don't refer to the map of the run
 abbrev pub LiesApart : Maps → CallQueue → Core → Type 0
 LiesApart finished q c = is_apart q ≡ true → (local : Local) → IsApart finished c.map.id local
+
+-- ---- imports that rested
+
+-- imports were up to date with where they stood once, and what has changed since differs in these slots alone
+pub record IsOutgrown (finished : Maps) (queue : ImportQueue) (now : ImportState) (slots : List PathSlot) : Type 0 where
+  pub before : ImportState
+  pub up_to_date : AreUpToDate finished queue before
+  pub paired : length before.taken ≡ length before.imports
+  pub grew : Grew before now slots
+
+-- imports of which what was found out lasts were so, where not any slot may have changed
+abbrev pub IsBehind : Maps → ImportQueue → ChangedValue → Core → Type 0
+IsBehind finished queue changed now = is_lasting queue ≡ true → changed.all ≡ false → IsOutgrown finished queue (import_state (at_rest now)) changed.slots
+
+-- what changes of a run is gathered, or noted by it: whatever imports rested, it is all that has changed since if it was
+abbrev pub IsGathered : ChangedValue → Run → ChangedValue → Run → Type 0
+IsGathered before old after new = (finished : Maps) (queue : ImportQueue) → IsBehind finished queue (joined before old.changed) (core_in old) → IsBehind finished queue (joined after new.changed) (core_in new)

@@ -20,8 +20,10 @@
 //! they were tried (`hir_call_queue`): where one reaches a macro, that macro's text and the input of the call or the item are
 //! asked for, and with them the expansion, whose items are handled as those of a file are, in the module of the call; those
 //! of an attribute come in place of its item. A builtin derive stands for an impl instead, and the item of a builtin
-//! attribute goes on behind it. Then imports are taken up again, and so on, round by round, until a round handles nothing.
-//! Then the first attribute that waits is given up, and its item goes on behind it. More rounds than `ROUND_LIMIT` end a run.
+//! attribute goes on behind it. Then imports are taken up again, those that came besides and those that have read something
+//! that has changed since they rested, or all where not enough is known of that (`hir_import_resolution`); and so on, round by
+//! round, until a round handles nothing. Then the first attribute that waits is given up, and its item goes on behind it. More
+//! rounds than `ROUND_LIMIT` end a run.
 //!
 //! When no import waits, none would bind anything, no name is left to go along an edge, nothing that waits reaches a macro,
 //! and no attribute waits, a run ends. That isn't told by these loops but by the rules in `specs/Steps`: each function below

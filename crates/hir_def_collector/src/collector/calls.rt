@@ -1,5 +1,5 @@
 //! Macro calls, derives and attributes: what each expands to, and rounds in which they are tried.
-ghost use Rattle.std.specs.Prelude.{◌≡◌, ◌<◌, ℕ, cond, true, [], IfOk, None, OnOk, Some, length, option_map, slice_get, unwrap_or};
+ghost use Rattle.std.specs.Prelude.{◌≡◌, ◌<◌, ℕ, cond, true, false, [], IfOk, None, OnOk, Some, length, option_map, slice_get, unwrap_or};
 ghost use Rattle.hir_item_tree.specs.SyntaxIds.{node_id};
 ghost use Rattle.hir_tables.specs.SourcePlaces.{expansion_value};
 ghost use Rattle.hir_tables.specs.Tables.{KeepsTables};
@@ -7,8 +7,10 @@ ghost use Rattle.hir_def_map.specs.State.{IsInOrder, Local};
 ghost use Rattle.hir_def_map.specs.WorldParts.{part_of};
 ghost use Rattle.hir_import_resolution.specs.Inner.State.{IsApart};
 ghost use Rattle.hir_import_resolution.specs.Rest.{IsAtRest, IsSound};
+ghost use Rattle.hir_import_resolution.specs.Rounds.{IsResumable, is_apart as are_apart, is_lasting};
 ghost use Rattle.hir_import_resolution.specs.declared.directive.ImportDirective.{ImportDirective};
 ghost use Rattle.hir_worklist.specs.Queue.{count_of};
+ghost use Rattle.hir_call_queue.specs.Changes.{ChangedValue, joined, nothing};
 ghost use Rattle.hir_call_queue.specs.Waking.{GoesOn, IsWoken, is_apart, worklist_of};
 ghost use Rattle.hir_def_collector.specs.CallMoves.{ComesToRest, IsDueOf, IsReady, NoneWaitsBefore, SeesCall, TakesTurn, TriesCall, TriesCalls};
 ghost use Rattle.hir_def_collector.specs.Calls.{AreCallsPlaced, Expanding, IsMeantCall, LeadsNowhere, call_site, called_text, error_of, expansion_of_call, text_readings, waiting_item};
@@ -21,7 +23,7 @@ ghost use Rattle.hir_def_collector.specs.Moves.{Makes, OnceGrown};
 ghost use Rattle.hir_def_collector.specs.State.{at_rest, core_in, import_state};
 ghost use Rattle.hir_def_collector.specs.Steps.{CallsMacro, IsDue, Steps, failing, keys_read, with_keys};
 ghost use Rattle.hir_def_collector.specs.Workspace.{entry_look};
-ghost use Rattle.hir_def_collector.specs.Waiting.{IsBetweenPasses, IsNoted, IsStale, IsUpToDate, LiesApart};
+ghost use Rattle.hir_def_collector.specs.Waiting.{IsBehind, IsBetweenPasses, IsGathered, IsNoted, IsStale, IsUpToDate, LiesApart, NotesSlots};
 
 use crate::collector::def_collector::DefCollector;
 use crate::collector::derives::{
@@ -39,9 +41,10 @@ use hir_base::ast_id::{AstId, AstKind, HirFileId, MacroCallId};
 use hir_base::ids::{Crate, HasModule};
 use hir_base::macro_kind::{CallStyle, ExpansionKey, MacroCallLoc, MacroId, MacroLoc, MacroText};
 use hir_base::text::Text;
-use hir_call_queue::CallQueue;
+use hir_call_queue::{CallQueue, Changed};
 use hir_def_map::nameres::diagnostics::DefDiagnostic;
 use hir_def_map::world::part::WorldPart;
+use hir_import_resolution::ImportQueue;
 use hir_item_tree::check::NodeId;
 use hir_item_tree::source_tree::SourceTree;
 use hir_item_tree::tree_id::{TreeId, TreeKey};
@@ -498,6 +501,7 @@ fn watch(
 fn wake(run: &mut DefCollector, queue: &mut CallQueue) -> Result<(), AllocError>
     ensures woken { OnOk result (IsWoken run.old.changed queue.old queue.new) }
     ensures same { core_in run.new ≡ core_in run.old }
+    ensures none { OnOk result (run.new.changed ≡ nothing) }
 {
     queue.wake(run.changed())?;
     run.forget_changes();
@@ -505,13 +509,14 @@ fn wake(run: &mut DefCollector, queue: &mut CallQueue) -> Result<(), AllocError>
 }
 
 /// Tries the call at the place, which was taken off the queue: whether it was handled. Where it was, what has read what
-/// has changed by that is queued; where it wasn't, it watches what it has read.
+/// has changed by that is queued, and what has changed is gathered in `grown`; where it wasn't, it watches what it has read.
 fn try_queued<D: SourceDatabase>(
     run: &mut DefCollector,
     db: &mut D,
     world: WorldPart<'_>,
     locations: &mut Tables,
     queue: &mut CallQueue,
+    grown: &mut Changed,
     i: usize,
 ) -> Result<bool, CollectError>
     requires ready { IsReady locations.old (part_of world) (core_in run.old) }
@@ -525,6 +530,7 @@ fn try_queued<D: SourceDatabase>(
     ensures tried { IfOk result (λ done. TriesCall (part_of world.entry) (core_in run.old) (core_in run.new) i done) }
     ensures up_to_date { OnOk result (IsUpToDate (part_of world.entry) queue.new (core_in run.new) None) }
     ensures stays { OnOk result (GoesOn queue.old queue.new) }
+    ensures gathered { OnOk result (IsGathered grown.old run.old grown.new run.new) }
     ensures many { result ≡ Err CollectError.TooMany → OnceGrown locations.new (D.workspace db.old) (λ env. IsSpent env (part_of world.entry) (at_rest (core_in run.old))) }
 {
     let done = try_call(run, db, world, locations, i)?;
@@ -532,6 +538,7 @@ fn try_queued<D: SourceDatabase>(
         watch(run, world, queue, i)?;
         return Ok(false);
     }
+    grown.append(run.changed())?;
     wake(run, queue)?;
     Ok(true)
 }
@@ -545,13 +552,14 @@ fn either(first: bool, second: bool) -> bool
 
 /// Tries each call that is queued, one after another: whether one was handled. A call sees what those before it have
 /// expanded to; those that are come upon meanwhile wait for the next round. A call that isn't queued would be tried in
-/// vain.
+/// vain. What has changed is gathered in `grown`.
 fn try_calls<D: SourceDatabase>(
     run: &mut DefCollector,
     db: &mut D,
     world: WorldPart<'_>,
     locations: &mut Tables,
     queue: &mut CallQueue,
+    grown: &mut Changed,
 ) -> Result<bool, CollectError>
     requires ready { IsReady locations.old (part_of world) (core_in run.old) }
     requires settled { (core_in run.old).settled ≡ length (core_in run.old).calls }
@@ -567,36 +575,46 @@ fn try_calls<D: SourceDatabase>(
     ensures up_to_date { OnOk result (IsUpToDate (part_of world.entry) queue.new (core_in run.new) None) }
     ensures between { OnOk result (IsBetweenPasses queue.new) }
     ensures queue { OnOk result (is_apart queue.new ≡ is_apart queue.old) }
+    ensures gathered { OnOk result (IsGathered grown.old run.old grown.new run.new) }
     ensures many { result ≡ Err CollectError.TooMany → OnceGrown locations.new (D.workspace db.old) (λ env. IsSpent env (part_of world.entry) (at_rest (core_in run.old))) }
 {
     let mut progress = false;
     queue.open();
     'tries: while let Some(i) = queue.take() {
-        let done = try_queued(run, db, world, locations, queue, i)?;
+        let done = try_queued(run, db, world, locations, queue, grown, i)?;
         progress = either(done, progress);
     }
     Ok(progress)
 }
 
-/// Takes imports until no more comes of them; then those calls may be expanded that there are.
+/// Takes imports until no more comes of them, those that rested where they have read one of the slots that have changed since,
+/// `grown`; then those calls may be expanded that there are.
 fn settle(
     run: DefCollector,
     world: WorldPart<'_>,
     apart: bool,
-) -> Result<DefCollector, CollectError>
+    imports: ImportQueue,
+    grown: &Changed,
+) -> Result<(DefCollector, ImportQueue), CollectError>
     requires apart { apart ≡ true → IsApart (part_of world) (core_in run).map.id (core_in run).local }
     requires imports { (i : ℕ) (r : ImportDirective) → slice_get (core_in run).reached i ≡ Some r → r.home < length (core_in run).map.modules }
+    requires in_order { IsInOrder (core_in run).map }
     requires sound { IsSound (part_of world) (import_state (at_rest (core_in run))) }
-    ensures ok { IfOk result (λ run'. (env : Environment) → Steps env (part_of world.entry) (at_rest (core_in run)) (at_rest (core_in run'))) }
-    ensures rests { IfOk result (λ run'. IsAtRest (part_of world.entry) (import_state (at_rest (core_in run')))) }
-    ensures settled { IfOk result (λ run'. (core_in run').settled ≡ length (core_in run').calls) }
-    ensures counts { IfOk result (λ run'. ((core_in run).count < (core_in run').count) × ((core_in run).count < STEP_LIMIT)) }
-    ensures noted { IfOk result (λ run'. IsNoted run run') }
+    requires queue { is_lasting imports ≡ true → are_apart imports ≡ apart }
+    requires resumable { is_lasting imports ≡ true → grown.now.all ≡ false → IsResumable (part_of world) imports (import_state (at_rest (core_in run))) grown.now.slots }
+    ensures ok { IfOk result (λ r. (env : Environment) → Steps env (part_of world.entry) (at_rest (core_in run)) (at_rest (core_in r.0))) }
+    ensures rests { IfOk result (λ r. IsAtRest (part_of world.entry) (import_state (at_rest (core_in r.0)))) }
+    ensures settled { IfOk result (λ r. (core_in r.0).settled ≡ length (core_in r.0).calls) }
+    ensures counts { IfOk result (λ r. ((core_in run).count < (core_in r.0).count) × ((core_in run).count < STEP_LIMIT)) }
+    ensures noted { IfOk result (λ r. NotesSlots run r.0) }
+    ensures queue { IfOk result (λ r. are_apart r.1 ≡ apart) }
+    // nothing has changed since
+    ensures behind { IfOk result (λ r. length (core_in r.0).taken ≡ length (core_in r.0).reached → (changed : ChangedValue) → IsBehind (part_of world.entry) r.1 changed (core_in r.0)) }
     ensures many { result ≡ Err CollectError.TooMany → (env : Environment) → IsSpent env (part_of world.entry) (at_rest (core_in run)) }
 {
-    let mut run = run.settle(world, apart)?;
+    let (mut run, imports) = run.settle(world, apart, imports, grown)?;
     run.rest()?;
-    Ok(run)
+    Ok((run, imports))
 }
 
 /// Queues the calls that have read what has changed, and those that came besides.
@@ -632,20 +650,24 @@ enum Turn {
 }
 
 /// Takes imports until no more comes of them, and tries what waits; where nothing is handled, gives up the first
-/// attribute that waits.
+/// attribute that waits. What has changed since imports rested last is gathered in `grown`.
 fn take_turn<D: SourceDatabase>(
     run: DefCollector,
     db: &mut D,
     world: WorldPart<'_>,
     locations: &mut Tables,
     queue: &mut CallQueue,
+    imports: ImportQueue,
+    grown: &mut Changed,
     apart: bool,
     first: usize,
-) -> Result<(DefCollector, Turn), CollectError>
+) -> Result<(DefCollector, ImportQueue, Turn), CollectError>
     requires apart { apart ≡ true → (local : Local) → IsApart (part_of world) (core_in run).map.id local }
     requires queue { is_apart queue.old ≡ apart }
     requires stale { IsStale (part_of world) queue.old run }
     requires between { IsBetweenPasses queue.old }
+    requires imports { is_lasting imports ≡ true → are_apart imports ≡ apart }
+    requires behind { IsBehind (part_of world) imports (joined grown.old run.changed) (core_in run) }
     requires ready { IsReady locations.old (part_of world) (core_in run) }
     requires first { NoneWaitsBefore (core_in run) first }
     ensures kept { KeepsTables locations.old locations.new }
@@ -655,19 +677,23 @@ fn take_turn<D: SourceDatabase>(
     ensures queue { OnOk result (is_apart queue.new ≡ is_apart queue.old) }
     ensures stale { IfOk result (λ r. IsStale (part_of world.entry) queue.new r.0) }
     ensures between { OnOk result (IsBetweenPasses queue.new) }
+    ensures imports { IfOk result (λ r. are_apart r.1 ≡ apart) }
+    ensures behind { IfOk result (λ r. IsBehind (part_of world.entry) r.1 (joined grown.new r.0.changed) (core_in r.0)) }
     ensures counts { IfOk result (λ r. ((core_in run).count < (core_in r.0).count) × ((core_in run).count < STEP_LIMIT)) }
-    ensures turned { IfOk result (λ r. OnceGrown locations.new (D.workspace db.old) (λ env. TakesTurn env (part_of world.entry) (core_in run) (core_in r.0) first r.1)) }
+    ensures turned { IfOk result (λ r. OnceGrown locations.new (D.workspace db.old) (λ env. TakesTurn env (part_of world.entry) (core_in run) (core_in r.0) first r.2)) }
     ensures many { result ≡ Err CollectError.TooMany → OnceGrown locations.new (D.workspace db.old) (λ env. IsSpent env (part_of world.entry) (at_rest (core_in run))) }
 {
-    let mut run = settle(run, world, apart)?;
+    grown.append(run.changed())?;
+    let (mut run, imports) = settle(run, world, apart, imports, grown)?;
+    grown.clear();
     requeue(&mut run, world, queue)?;
-    if try_calls(&mut run, db, world, locations, queue)? {
-        return Ok((run, Turn::Round));
+    if try_calls(&mut run, db, world, locations, queue, grown)? {
+        return Ok((run, imports, Turn::Round));
     }
     let given = give_up(&mut run, db, world, locations, first)?;
     match given {
-        Some(next) => Ok((run, Turn::GaveUp(next))),
-        None => Ok((run, Turn::Rests)),
+        Some(next) => Ok((run, imports, Turn::GaveUp(next))),
+        None => Ok((run, imports, Turn::Rests)),
     }
 }
 
@@ -675,9 +701,9 @@ fn take_turn<D: SourceDatabase>(
 /// were cut off.
 ///
 /// A round tries each call, path of a derive and attribute that waits once imports rest, those aside that would be tried in
-/// vain. Where nothing that waits reaches anything, the first attribute that waits is given up, which isn't counted as a
-/// round. More rounds than `ROUND_LIMIT` end the run, with imports and calls that would go on; names go along globs all the
-/// same.
+/// vain. Imports that rested are taken up again where they have read something that has changed since. Where nothing that
+/// waits reaches anything, the first attribute that waits is given up, which isn't counted as a round. More rounds than
+/// `ROUND_LIMIT` end the run, with imports and calls that would go on; names go along globs all the same.
 pub fn resolve_rounds<D: SourceDatabase>(
     run: DefCollector,
     db: &mut D,
@@ -695,12 +721,18 @@ pub fn resolve_rounds<D: SourceDatabase>(
     ensures many { result ≡ Err CollectError.TooMany → OnceGrown locations.new (D.workspace db.old) (λ env. IsSpent env (part_of world.entry) (at_rest (core_in run))) }
 {
     let mut run = run;
-    let mut queue = CallQueue::new(run.allocator(), apart);
+    let alloc = run.allocator();
+    let mut queue = CallQueue::new(alloc, apart);
+    let mut imports = ImportQueue::none(alloc);
+    let mut grown = Changed::everything(alloc);
     let mut rounds: u32 = 0;
     let mut first: usize = 0;
     'rounds: while rounds <= ROUND_LIMIT {
-        let (next, turn) = take_turn(run, db, world, locations, &mut queue, apart, first)?;
+        let (next, rested, turn) = take_turn(
+            run, db, world, locations, &mut queue, imports, &mut grown, apart, first,
+        )?;
         run = next;
+        imports = rested;
         match turn {
             Turn::Round => rounds += 1,
             Turn::GaveUp(behind) => first = behind,

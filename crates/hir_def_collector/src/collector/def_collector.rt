@@ -1,14 +1,17 @@
 //! Where a run stands, and what each change leaves.
 #![tactic(auto, unfolding(crate::specs::State::core_in))]
 
-ghost use Rattle.std.specs.Prelude.{◌≡◌, ◌≢◌, ◌<◌, ◌≤◌, ℕ, true, false, ◌∷◌, [], Some, length, option_map, slice_get, slice_set, IfNone, IfOk, IfSome, OnOk};
-ghost use Rattle.hir_def_map.specs.State.{with_enum, new_id, new_module, with_declared, with_use, with_impl, with_extern_block, with_extern_crate, with_unnamed_const};
+ghost use Rattle.std.specs.Prelude.{◌≡◌, ◌≢◌, ◌<◌, ◌≤◌, ℕ, true, false, ◌∷◌, [], Some, length, option_map, slice_get, slice_set, IfNone, IfOk, IfSome, IsSome, None, OnOk};
+ghost use Rattle.hir_def_map.specs.State.{IsInOrder, with_enum, new_id, new_module, with_declared, with_use, with_impl, with_extern_block, with_extern_crate, with_unnamed_const, variants_at};
 ghost use Rattle.hir_def_map.specs.WorldParts.{part_of};
 ghost use Rattle.hir_def_map.specs.Macros.{with_diagnostic, with_macro_def};
-ghost use Rattle.hir_import_resolution.specs.Inner.State.{IsApart};
-ghost use Rattle.hir_import_resolution.specs.Rest.{IsAtRest, IsClosed, IsSound};
+ghost use Rattle.hir_def_map_laws.specs.SlotChanges.{ScopesChangeAmong};
+ghost use Rattle.hir_import_resolution.specs.Inner.State.{IsApart, state_in};
+ghost use Rattle.hir_import_resolution.specs.Rest.{IsAtRest, IsClosed, IsSound, IsSpent as ImportsAreSpent};
+ghost use Rattle.hir_import_resolution.specs.Rounds.{IsResumable, IsUpToDate as AreUpToDate, is_apart, is_lasting};
+ghost use Rattle.hir_import_resolution.specs.Rules.{Steps as StepsOfImports};
 ghost use Rattle.hir_import_resolution.specs.Visibilities.{visibility_in};
-ghost use Rattle.hir_call_queue.specs.Changes.{everything, nothing};
+ghost use Rattle.hir_call_queue.specs.Changes.{everything, nothing, with_slots};
 ghost use Rattle.hir_def_collector.specs.Keys.{Environment};
 ghost use Rattle.hir_def_collector.specs.State.{at_rest, core_in, core_with_imports, counted, import_state, with_asked, with_bound, with_calls, with_fate, with_imports, with_local, with_map, with_settled};
 ghost use Rattle.hir_def_collector.specs.ItemIds.{container_of, module_id};
@@ -22,7 +25,7 @@ ghost use Rattle.hir_def_collector.specs.ModuleFiles.{file_key};
 ghost use Rattle.hir_def_collector.specs.Steps.{Steps};
 ghost use Rattle.hir_def_collector.specs.Derivation.{IsSpent, collected_view, finished_run};
 ghost use Rattle.hir_def_collector.specs.Moves.{begun};
-ghost use Rattle.hir_def_collector.specs.Waiting.{IsNoted};
+ghost use Rattle.hir_def_collector.specs.Waiting.{IsNoted, NotesSlots};
 
 use crate::collector::collected::{Asked, Collected};
 use crate::collector::diagnostics::{report_calls, report_unresolved, unresolved_crates};
@@ -51,11 +54,13 @@ use hir_def_map::nameres::enum_variants::EnumVariants;
 use hir_def_map::nameres::local_def_map::LocalDefMap;
 use hir_def_map::nameres::module_data::ModuleData;
 use hir_def_map::nameres::origin::ModuleOrigin;
+use hir_def_map::nameres::path_resolution::slots::Slot;
 use hir_def_map::world::part::WorldPart;
 use hir_glob_imports::GlobImports;
 use hir_import_resolution::answers::visibility;
 use hir_import_resolution::{
-    ImportDirective, ImportSource, Imports, Taken, forget, restart_imports, spread_globs,
+    ImportDirective, ImportError, ImportQueue, ImportSource, Imports, Resting, Taken,
+    begin_imports, forget, resume_imports, spread_globs,
 };
 use hir_item_tree::raw_visibility::RawVisibility;
 use hir_item_tree::shape::ExternCrateName;
@@ -146,6 +151,16 @@ fn end(fates: &mut Vec<Fate>, i: usize, fate: Fate)
     }
 }
 
+/// All slots may have changed where an enum gets variants that has some.
+fn note_variants(changed: &mut Changed, map: &DefMap, id: EnumId)
+    ensures fresh { variants_at map.now id ≡ None → changed.new ≡ changed.old }
+    ensures again { IsSome (variants_at map.now id) → changed.new ≡ everything }
+{
+    if map.enum_variants(id).is_some() {
+        changed.add_everything();
+    }
+}
+
 /// What may have changed once steps were counted: anything, where any was.
 fn changed_by(changed: Changed, before: u32, count: u32) -> Changed
     ensures still { count ≡ before → result ≡ changed }
@@ -157,6 +172,59 @@ fn changed_by(changed: Changed, before: u32, count: u32) -> Changed
     let mut changed = changed;
     changed.add_everything();
     changed
+}
+
+/// What may have changed once imports were taken: the slots that they changed besides, where those are known.
+fn changed_by_imports(
+    changed: Changed,
+    apart: bool,
+    slots: &[Slot],
+    before: u32,
+    count: u32,
+) -> Result<Changed, AllocError>
+    ensures known { apart ≡ true → IfOk result (λ c. c ≡ with_slots slots.now changed) }
+    ensures still { apart ≡ false → count ≡ before → IfOk result (λ c. c ≡ changed) }
+    ensures moves { apart ≡ false → count ≢ before → IfOk result (λ c. c ≡ everything) }
+{
+    if !apart {
+        return Ok(changed_by(changed, before, count));
+    }
+    let mut changed = changed;
+    changed.add_each(slots)?;
+    Ok(changed)
+}
+
+/// Takes imports until no more comes of them: those of the queue alone that have read one of the slots, where what was found out
+/// of them lasts and not any slot may have changed, and those that came besides.
+fn take_imports(
+    alloc: Global,
+    world: WorldPart<'_>,
+    apart: bool,
+    queue: ImportQueue,
+    grown: &Changed,
+    imports: Imports,
+) -> Result<Resting, ImportError>
+    requires small { imports.count ≤ STEP_LIMIT }
+    requires apart { apart ≡ true → IsApart (part_of world) imports.map.id imports.local }
+    requires there { (i : ℕ) (r : ImportDirective) → slice_get imports.imports.items i ≡ Some r → r.home < length imports.map.modules }
+    requires in_order { IsInOrder imports.map }
+    requires sound { IsSound (part_of world) (state_in imports) }
+    requires queue { is_lasting queue ≡ true → is_apart queue ≡ apart }
+    requires resumable { is_lasting queue ≡ true → grown.now.all ≡ false → IsResumable (part_of world) queue (state_in imports) grown.now.slots }
+    ensures derived { IfOk result (λ r. StepsOfImports (part_of world.entry) (state_in imports) (state_in r.imports)) }
+    ensures rests { IfOk result (λ r. IsAtRest (part_of world.entry) (state_in r.imports)) }
+    ensures sound { IfOk result (λ r. IsSound (part_of world.entry) (state_in r.imports)) }
+    ensures up_to_date { IfOk result (λ r. AreUpToDate (part_of world.entry) r.queue (state_in r.imports)) }
+    ensures changes { IfOk result (λ r. apart ≡ true → ScopesChangeAmong imports.map r.imports.map imports.local r.changed.items) }
+    ensures local { IfOk result (λ r. r.imports.local ≡ imports.local) }
+    ensures small { IfOk result (λ r. r.imports.count ≤ STEP_LIMIT) }
+    ensures apart { IfOk result (λ r. is_apart r.queue ≡ apart) }
+    ensures many { result ≡ Err ImportError.TooMany → ImportsAreSpent (part_of world.entry) (state_in imports) }
+{
+    if queue.lasts() && !grown.is_everything() {
+        return resume_imports(alloc, world, queue, imports, grown.slots());
+    }
+    begin_imports(alloc, world, apart, imports)
 }
 
 impl DefCollector {
@@ -361,6 +429,7 @@ impl DefCollector {
         ensures ok { OnOk result (core_in self.new ≡ with_asked (with_map (core_in self.old) (with_enum (core_in self.old).map id variants)) (Key.Variants id)) }
         ensures noted { OnOk result (IsNoted self.old self.new) }
     {
+        note_variants(&mut self.changed, &self.map, id);
         self.asked.push(Key::Variants(id))?;
         self.map.add_enum(id, variants)?;
         Ok(())
@@ -523,7 +592,7 @@ impl DefCollector {
             map: MapId { krate, block: None },
             index: 0,
         };
-        self.changed.add_everything();
+        self.changed.add_prelude(&name)?;
         self.local.add_extern(name, root, Some(id))?;
         Ok(())
     }
@@ -617,24 +686,38 @@ impl DefCollector {
         self.tick()
     }
 
-    /// Takes imports, and what comes of them along globs, until no more comes.
-    pub fn settle(self, world: WorldPart<'_>, apart: bool) -> Result<DefCollector, CollectError>
+    /// Takes imports, and what comes of them along globs, until no more comes. Of those in `queue`, where what was found out of
+    /// them lasts, only those are tried that have read one of the slots that have changed since they rested, `grown`.
+    pub fn settle(
+        self,
+        world: WorldPart<'_>,
+        apart: bool,
+        queue: ImportQueue,
+        grown: &Changed,
+    ) -> Result<(DefCollector, ImportQueue), CollectError>
         requires apart { apart ≡ true → IsApart (part_of world) (core_in self).map.id (core_in self).local }
         requires there { (i : ℕ) (r : ImportDirective) → slice_get (core_in self).reached i ≡ Some r → r.home < length (core_in self).map.modules }
+        requires in_order { IsInOrder (core_in self).map }
         requires sound { IsSound (part_of world) (import_state (at_rest (core_in self))) }
-        ensures ok { IfOk result (λ run. (env : Environment) → Steps env (part_of world.entry) (at_rest (core_in self)) (at_rest (core_in run))) }
-        ensures noted { IfOk result (λ run. IsNoted self run) }
-        ensures rests { IfOk result (λ run. IsAtRest (part_of world.entry) (import_state (at_rest (core_in run)))) }
-        ensures sound { IfOk result (λ run. IsSound (part_of world.entry) (import_state (at_rest (core_in run)))) }
-        ensures others { IfOk result (λ run. core_in run ≡ core_with_imports (core_in self) (import_state (at_rest (core_in run)))) }
+        requires queue { is_lasting queue ≡ true → is_apart queue ≡ apart }
+        requires resumable { is_lasting queue ≡ true → grown.now.all ≡ false → IsResumable (part_of world) queue (import_state (at_rest (core_in self))) grown.now.slots }
+        ensures ok { IfOk result (λ r. (env : Environment) → Steps env (part_of world.entry) (at_rest (core_in self)) (at_rest (core_in r.0))) }
+        ensures noted { IfOk result (λ r. NotesSlots self r.0) }
+        ensures rests { IfOk result (λ r. IsAtRest (part_of world.entry) (import_state (at_rest (core_in r.0)))) }
+        ensures sound { IfOk result (λ r. IsSound (part_of world.entry) (import_state (at_rest (core_in r.0)))) }
+        ensures up_to_date { IfOk result (λ r. AreUpToDate (part_of world.entry) r.1 (import_state (at_rest (core_in r.0)))) }
+        ensures apart { IfOk result (λ r. is_apart r.1 ≡ apart) }
+        ensures others { IfOk result (λ r. core_in r.0 ≡ core_with_imports (core_in self) (import_state (at_rest (core_in r.0)))) }
         ensures many { result ≡ Err CollectError.TooMany → (env : Environment) → IsSpent env (part_of world.entry) (at_rest (core_in self)) }
     {
         let alloc = self.allocator();
         let before = self.count;
-        let imports = restart_imports(
+        let resting = take_imports(
             alloc,
             world,
             apart,
+            queue,
+            grown,
             Imports {
                 map: self.map,
                 local: self.local,
@@ -645,7 +728,10 @@ impl DefCollector {
                 count: self.count,
             },
         )?;
-        Ok(DefCollector {
+        let imports = resting.imports;
+        let slots = resting.changed.as_slice();
+        let changed = changed_by_imports(self.changed, apart, slots, before, imports.count)?;
+        let run = DefCollector {
             map: imports.map,
             local: imports.local,
             dependencies: self.dependencies,
@@ -661,15 +747,16 @@ impl DefCollector {
             exported: self.exported,
             asked: self.asked,
             count: imports.count,
-            changed: changed_by(self.changed, before, imports.count),
-        })
+            changed,
+        };
+        Ok((run, resting.queue))
     }
 
     /// Lets names go along globs until none is left to go.
     pub fn spread(self, world: WorldPart<'_>) -> Result<DefCollector, CollectError>
         requires sound { IsSound (part_of world) (import_state (at_rest (core_in self))) }
         ensures ok { IfOk result (λ run. (env : Environment) → Steps env (part_of world.entry) (at_rest (core_in self)) (at_rest (core_in run))) }
-        ensures noted { IfOk result (λ run. IsNoted self run) }
+        ensures noted { IfOk result (λ run. NotesSlots self run) }
         ensures closed { IfOk result (λ run. IsClosed (part_of world.entry) (import_state (at_rest (core_in run)))) }
         ensures sound { IfOk result (λ run. IsSound (part_of world.entry) (import_state (at_rest (core_in run)))) }
         ensures others { IfOk result (λ run. core_in run ≡ core_with_imports (core_in self) (import_state (at_rest (core_in run)))) }

@@ -3,12 +3,11 @@
 
 ghost use Rattle.std.specs.Prelude.{◌≡◌, [], IsOkAnd, List, OnOk, length, option_copied};
 ghost use Rattle.hir_def_map.specs.WorldParts.{part_of};
-ghost use Rattle.hir_import_resolution.specs.Inner.State.{path_slots, slots_named};
 ghost use Rattle.hir_def_collector.specs.Derivation.{IsSpent};
 ghost use Rattle.hir_def_collector.specs.Keys.{Environment};
 ghost use Rattle.hir_def_collector.specs.State.{Task, core_in, joined};
 ghost use Rattle.hir_def_collector.specs.Steps.{Steps};
-ghost use Rattle.hir_def_collector.specs.Waiting.{IsNoted, with_slots};
+ghost use Rattle.hir_def_collector.specs.Waiting.{IsNoted, noted_along, noted_name};
 
 use crate::collector::CollectError;
 use crate::collector::def_collector::DefCollector;
@@ -20,19 +19,20 @@ use hir_glob_imports::Slot;
 use hir_import_resolution::{ImportError, Imports, spread_changes};
 use std::alloc::AllocError;
 
-/// Notes the slot of a name in a module, if there is a name.
+/// Notes the slot of a name in a module; all where there is no name, since the slots of paths have names.
 fn note(changed: &mut Changed, at: u32, name: Option<&Name>) -> Result<(), AllocError>
-    ensures ok { OnOk result (changed.new ≡ with_slots (slots_named at (option_copied name.entry)) changed.old) }
+    ensures ok { OnOk result (changed.new ≡ noted_name at (option_copied name.entry) changed.old) }
 {
     let Some(name) = name else {
+        changed.add_everything();
         return Ok(());
     };
     changed.add(at, name)
 }
 
-/// Notes the slots of paths among those that globs have changed.
+/// Notes the slots that globs have changed.
 fn note_each(changed: &mut Changed, slots: &[Slot]) -> Result<(), AllocError>
-    ensures ok { OnOk result (changed.new ≡ with_slots (path_slots slots.now) changed.old) }
+    ensures ok { OnOk result (changed.new ≡ noted_along slots.now changed.old) }
 {
     let mut left = slots;
     'next: while let [slot, others @ ..] = left {
@@ -47,7 +47,7 @@ fn note_changes(
     changed: &mut Changed,
     slots: Result<Vec<Slot>, ImportError>,
 ) -> Result<(), CollectError>
-    ensures ok { OnOk result (IsOkAnd slots (λ s. changed.new ≡ with_slots (path_slots s.items) changed.old)) }
+    ensures ok { OnOk result (IsOkAnd slots (λ s. changed.new ≡ noted_along s.items changed.old)) }
     ensures many { result ≡ Err CollectError.TooMany → slots ≡ Err ImportError.TooMany }
 {
     let slots = slots?;

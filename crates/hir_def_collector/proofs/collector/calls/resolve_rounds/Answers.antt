@@ -6,6 +6,8 @@ use Rattle.hir_def_map.specs.Overlay.{Maps}
 use Rattle.hir_def_map.specs.WorldParts.{part_of}
 use Rattle.hir_worklist.specs.Queue.{Queue}
 use Rattle.hir_import_resolution.specs.Inner.State.{IsApart}
+use Rattle.hir_import_resolution.specs.Rounds.{is_lasting}
+use Rattle.hir_call_queue.specs.Changes.{joined}
 use Rattle.hir_def_collector.specs.declared.collector.calls.Turn.{Turn}
 use Rattle.hir_def_collector.specs.CallMoves.{ComesToRest, EndsInRound, NoneWaitsBefore, TakesTurn, cut_off, rested}
 use Rattle.hir_def_collector.specs.Derivation.{IsSpent}
@@ -21,6 +23,7 @@ use Rattle.hir_def_collector.proofs.Numbers.{tables_stay}
 use Rattle.hir_def_collector.proofs.Ready.{ready_after, ready_grown}
 use Rattle.hir_def_collector.proofs.Changes.{id-Steps}
 use Rattle.hir_def_collector.proofs.Queued.{has_rounds_steps, rounds_next, rounds_then}
+use Rattle.hir_def_collector.proofs.Resuming.{behind_first}
 use Rattle.hir_def_collector.proofs.Waiting.{stale_now, up_to_date_first}
 use Rattle.hir_def_collector.proofs.collector.calls.resolve_rounds.Goals as goal
 
@@ -34,6 +37,8 @@ rounds-init g c = record {
   apart = c.new-queue.ensures.apart;
   stale = stale_now (part_of c.args.world) c.new-queue.result c.args.run (up_to_date_first (part_of c.args.world) c.new-queue.result (core_in c.args.run) c.new-queue.ensures.none);
   between = record { over = ap (λ (q : Queue). q.current) c.new-queue.ensures.none; outside = ap (λ (q : Queue). q.end) c.new-queue.ensures.none };
+  imports = λ lasting. absurd (let none : is_lasting c.none-imports.result ≡ false = c.none-imports.ensures.value in let no : ⊥ = cc in no);
+  behind = behind_first (part_of c.args.world) c.none-imports.result (joined c.everything-grown.result c.args.run.changed) (core_in c.args.run) c.none-imports.ensures.value;
   rounds = λ grown k. record { last = at_rest (core_in c.args.run); rounds = rounds.none (at_rest (core_in c.args.run)) steps.none; after = steps.none };
   first = record { inside = omega arith; none = λ j w. omega arith };
 }
@@ -80,6 +85,8 @@ rounds-preserved-in-Round g c =
       apart = c.in_ok-next.ensures.queue ∙ c.rounds.invariant.apart;
       stale = c.in_ok-next.ensures.stale;
       between = c.in_ok-next.ensures.between;
+      imports = λ lasting. c.in_ok-next.ensures.imports;
+      behind = c.in_ok-next.ensures.behind;
       rounds = λ grown k.
           let before = c.rounds.invariant.rounds grown (KeepsTables-trans c.rounds.locations later grown kept k) in
           let t = turned grown k in rounds_next (environment grown w) part old (at_rest now) t.begun new c.rounds.rounds before t.before t.round;
@@ -110,6 +117,8 @@ rounds-preserved g c =
       apart = c.in_ok-next.ensures.queue ∙ c.rounds.invariant.apart;
       stale = c.in_ok-next.ensures.stale;
       between = c.in_ok-next.ensures.between;
+      imports = λ lasting. c.in_ok-next.ensures.imports;
+      behind = c.in_ok-next.ensures.behind;
       rounds = λ grown k.
           let before = c.rounds.invariant.rounds grown (KeepsTables-trans c.rounds.locations later grown kept k) in
           rounds_then (environment grown w) part old (at_rest now) (at_rest new) c.rounds.rounds before (step grown k);

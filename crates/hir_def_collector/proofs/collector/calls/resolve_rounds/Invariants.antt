@@ -1,13 +1,15 @@
-use Rattle.std.proofs.Common.{◌≡◌, ◌-◌}
+use Rattle.std.proofs.Common.{◌≡◌, ◌-◌, true}
 use Rattle.hir_tables.specs.Tables.{KeepsTables}
 use Rattle.hir_def_map.specs.WorldParts.{part_of}
+use Rattle.hir_import_resolution.specs.Rounds.{is_apart as are_apart, is_lasting}
+use Rattle.hir_call_queue.specs.Changes.{joined}
 use Rattle.hir_call_queue.specs.Waking.{is_apart}
 use Rattle.hir_def_collector.specs.CallMoves.{IsReady, NoneWaitsBefore}
 use Rattle.hir_def_collector.specs.declared.collector.TheConstants.{STEP_LIMIT}
 use Rattle.hir_def_collector.specs.Calls.{AreCallsPlaced}
 use Rattle.hir_def_collector.specs.Moves.{OnceGrown}
 use Rattle.hir_def_collector.specs.State.{at_rest, core_in}
-use Rattle.hir_def_collector.specs.Waiting.{IsBetweenPasses, IsStale}
+use Rattle.hir_def_collector.specs.Waiting.{IsBehind, IsBetweenPasses, IsStale}
 use Rattle.hir_def_collector.proofs.Queued.{HasRounds}
 use Rattle.hir_def_collector.proofs.collector.calls.resolve_rounds.Given as goal
 
@@ -21,6 +23,8 @@ invariant-rounds g l = record {
   apart : is_apart l.queue ≡ l.apart;
   stale : IsStale (part_of l.world) l.queue l.run;
   between : IsBetweenPasses l.queue;
+  imports : is_lasting l.imports ≡ true → are_apart l.imports ≡ l.apart;
+  behind : IsBehind (part_of l.world) l.imports (joined l.grown l.run.changed) (core_in l.run);
   rounds : OnceGrown l.locations (g.D.SourceDatabase.workspace l.initial.db) (λ env. HasRounds env (part_of l.world) (at_rest (core_in l.initial.run)) (at_rest (core_in l.run)) l.rounds);
   first : NoneWaitsBefore (core_in l.run) l.first;
 }

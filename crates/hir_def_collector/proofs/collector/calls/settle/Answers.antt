@@ -7,7 +7,8 @@ use Rattle.hir_def_collector.specs.State.{Core, at_rest, core_in, import_state}
 use Rattle.hir_def_collector.proofs.Changes.{count-Steps}
 use Rattle.hir_def_collector.proofs.CallSteps.{rest_counted, rested, rested_past}
 use Rattle.hir_def_collector.proofs.Moves.{Steps-append, spent_after}
-use Rattle.hir_def_collector.proofs.Noted.{noted_follow}
+use Rattle.hir_def_collector.proofs.Noted.{slots_follow}
+use Rattle.hir_def_collector.proofs.Resuming.{behind_settled}
 use Rattle.hir_def_collector.proofs.Walked.{nowhere}
 use Rattle.hir_def_collector.proofs.collector.calls.settle.Goals as goal
 
@@ -37,4 +38,8 @@ returns-clause-counts c =
     (omega (arith, before, one), omega (arith, before, below))
 
 pub returns-clause-noted : goal.returns-clause-noted
-returns-clause-noted c = noted_follow c.in_ok-run.ensures.noted c.in_ok-rest.ensures.noted
+returns-clause-noted c = slots_follow c.in_ok-run.ensures.noted c.in_ok-rest.ensures.noted.slots
+
+pub returns-clause-behind : goal.returns-clause-behind
+returns-clause-behind c = λ paired changed.
+    behind_settled (part_of c.args.world) c.in_ok-run.imports changed (core_in c.in_ok-run.run') (core_in c.rest.new.self) c.in_ok-run.ensures.up_to_date c.in_ok-rest.ensures.ok paired

@@ -5,6 +5,7 @@ use Rattle.hir_tables.proofs.Growth.{KeepsTables-trans}
 use Rattle.hir_def_map.specs.WorldParts.{part_of}
 use Rattle.hir_import_resolution.specs.Inner.State.{IsApart}
 use Rattle.hir_import_resolution.specs.Rest.{IsAtRest}
+use Rattle.hir_call_queue.specs.Changes.{ChangedValue, joined}
 use Rattle.hir_def_collector.specs.CallMoves.{IsGivenUp, IsReady, NoneWaitsBefore, TriesCalls}
 use Rattle.hir_def_collector.specs.Calls.{LeadsNowhere}
 use Rattle.hir_def_collector.specs.Derivation.{IsSpent}
@@ -12,6 +13,7 @@ use Rattle.hir_def_collector.specs.Keys.{Environment, environment}
 use Rattle.hir_def_collector.specs.Moves.{OnceGrown}
 use Rattle.hir_def_collector.specs.State.{Core, at_rest, core_in, import_state}
 use Rattle.hir_def_collector.specs.Steps.{Steps}
+use Rattle.hir_def_collector.specs.Waiting.{IsBehind}
 use Rattle.hir_def_collector.specs.Workspace.{Workspace}
 use Rattle.hir_def_collector.proofs.Changes.{count-Steps, id-Steps}
 use Rattle.hir_def_collector.proofs.GivingUp.{none_waits_later}
@@ -19,6 +21,7 @@ use Rattle.hir_def_collector.proofs.Moves.{Steps-append, spent_after}
 use Rattle.hir_def_collector.proofs.Numbers.{tables_stay}
 use Rattle.hir_def_collector.proofs.Queued.{none_handled, of_round, rests_idle, settles_requeued}
 use Rattle.hir_def_collector.proofs.Ready.{ready_after, ready_grown}
+use Rattle.hir_def_collector.proofs.Resuming.{behind_later, behind_tried, resumable_behind}
 use Rattle.hir_def_collector.proofs.Waiting.{keeps_waiting, stale_later, stale_now}
 use Rattle.hir_def_collector.proofs.collector.calls.take_turn.Goals as goal
 
@@ -26,6 +29,14 @@ use Rattle.hir_def_collector.proofs.collector.calls.take_turn.Goals as goal
 
 pub settle-requires-clause-apart : goal.settle-requires-clause-apart
 settle-requires-clause-apart g c = λ yes. c.requires.apart yes (core_in c.args.run).local
+
+pub settle-requires-clause-resumable : goal.settle-requires-clause-resumable
+settle-requires-clause-resumable g c =
+    let part = part_of c.args.world in
+    let now = core_in c.args.run in
+    let all : c.append.new.self ≡ joined c.args.grown.now c.args.run.changed = c.in_ok-append.ensures.ok ∙ ap (joined c.args.grown.now) c.changed.ensures.value in
+    resumable_behind part c.args.imports c.append.new.self now c.args.apart c.requires.imports c.requires.apart
+    (subst (λ (x : ChangedValue). IsBehind part c.args.imports x now) (sym all) c.requires.behind)
 
 pub requeue-requires-clause-apart : goal.requeue-requires-clause-apart
 requeue-requires-clause-apart g c = λ yes local.
@@ -73,6 +84,13 @@ returns-then-branch-clause-queue g c = c.in_ok-try_calls.ensures.queue ∙ c.in_
 
 pub returns-then-branch-clause-stale : goal.returns-then-branch-clause-stale
 returns-then-branch-clause-stale g c = stale_now (part_of c.args.world) c.try_calls.new.queue c.try_calls.new.run c.in_ok-try_calls.ensures.up_to_date
+
+pub returns-then-branch-clause-behind : goal.returns-then-branch-clause-behind
+returns-then-branch-clause-behind g c =
+    let here = environment c.args.locations.now (g.D.SourceDatabase.workspace c.args.db.now) in
+    let part = part_of c.args.world in
+    behind_tried part c.in_ok-run.imports c.clear.new.self c.try_calls.new.grown (core_in c.in_ok-run.run') c.requeue.new.run c.try_calls.new.run c.requeue.ensures.same
+    (c.in_ok-run.ensures.behind (ready_after (c.in_ok-run.ensures.ok here) c.requires.ready).paired) c.in_ok-try_calls.ensures.gathered
 
 pub returns-then-branch-clause-counts : goal.returns-then-branch-clause-counts
 returns-then-branch-clause-counts g c =
@@ -170,8 +188,16 @@ returns-in-Some-clause-stale g c =
     let part = part_of c.args.world in
     let tried = core_in c.try_calls.new.run in
     let fated = (ready_after (Steps-append (settles_requeued (environment c.try_calls.new.locations (g.D.SourceDatabase.workspace c.args.db.now)) (part_of c.args.world) (core_in c.args.run) (core_in c.in_ok-run.run') (core_in c.requeue.new.run) c.requeue.ensures.same (c.in_ok-run.ensures.ok (environment c.try_calls.new.locations (g.D.SourceDatabase.workspace c.args.db.now)))) (c.in_ok-try_calls.ensures.ok c.try_calls.new.locations (tables_stay c.try_calls.new.locations))) (ready_grown c.in_ok-try_calls.ensures.kept c.requires.ready)).fated in
-    stale_later part c.try_calls.new.queue c.try_calls.new.run c.give_up.new.run (stale_now part c.try_calls.new.queue c.try_calls.new.run c.in_ok-try_calls.ensures.up_to_date) c.in_ok-given.ensures.noted
+    stale_later part c.try_calls.new.queue c.try_calls.new.run c.give_up.new.run (stale_now part c.try_calls.new.queue c.try_calls.new.run c.in_ok-try_calls.ensures.up_to_date) c.in_ok-given.ensures.noted.slots
     (keeps_waiting tried (core_in c.give_up.new.run) (c.in_ok-given.ensures.ok later (tables_stay later)) fated)
+
+pub returns-in-Some-clause-behind : goal.returns-in-Some-clause-behind
+returns-in-Some-clause-behind g c =
+    let here = environment c.args.locations.now (g.D.SourceDatabase.workspace c.args.db.now) in
+    let part = part_of c.args.world in
+    behind_later part c.in_ok-run.imports c.try_calls.new.grown c.try_calls.new.run c.give_up.new.run c.in_ok-given.ensures.noted
+    (behind_tried part c.in_ok-run.imports c.clear.new.self c.try_calls.new.grown (core_in c.in_ok-run.run') c.requeue.new.run c.try_calls.new.run c.requeue.ensures.same
+    (c.in_ok-run.ensures.behind (ready_after (c.in_ok-run.ensures.ok here) c.requires.ready).paired) c.in_ok-try_calls.ensures.gathered)
 
 pub returns-in-Some-clause-counts : goal.returns-in-Some-clause-counts
 returns-in-Some-clause-counts g c =
@@ -205,8 +231,16 @@ returns-in-None-clause-stale g c =
     let part = part_of c.args.world in
     let tried = core_in c.try_calls.new.run in
     let fated = (ready_after (Steps-append (settles_requeued (environment c.try_calls.new.locations (g.D.SourceDatabase.workspace c.args.db.now)) (part_of c.args.world) (core_in c.args.run) (core_in c.in_ok-run.run') (core_in c.requeue.new.run) c.requeue.ensures.same (c.in_ok-run.ensures.ok (environment c.try_calls.new.locations (g.D.SourceDatabase.workspace c.args.db.now)))) (c.in_ok-try_calls.ensures.ok c.try_calls.new.locations (tables_stay c.try_calls.new.locations))) (ready_grown c.in_ok-try_calls.ensures.kept c.requires.ready)).fated in
-    stale_later part c.try_calls.new.queue c.try_calls.new.run c.give_up.new.run (stale_now part c.try_calls.new.queue c.try_calls.new.run c.in_ok-try_calls.ensures.up_to_date) c.in_ok-given.ensures.noted
+    stale_later part c.try_calls.new.queue c.try_calls.new.run c.give_up.new.run (stale_now part c.try_calls.new.queue c.try_calls.new.run c.in_ok-try_calls.ensures.up_to_date) c.in_ok-given.ensures.noted.slots
     (keeps_waiting tried (core_in c.give_up.new.run) (c.in_ok-given.ensures.ok later (tables_stay later)) fated)
+
+pub returns-in-None-clause-behind : goal.returns-in-None-clause-behind
+returns-in-None-clause-behind g c =
+    let here = environment c.args.locations.now (g.D.SourceDatabase.workspace c.args.db.now) in
+    let part = part_of c.args.world in
+    behind_later part c.in_ok-run.imports c.try_calls.new.grown c.try_calls.new.run c.give_up.new.run c.in_ok-given.ensures.noted
+    (behind_tried part c.in_ok-run.imports c.clear.new.self c.try_calls.new.grown (core_in c.in_ok-run.run') c.requeue.new.run c.try_calls.new.run c.requeue.ensures.same
+    (c.in_ok-run.ensures.behind (ready_after (c.in_ok-run.ensures.ok here) c.requires.ready).paired) c.in_ok-try_calls.ensures.gathered)
 
 pub returns-in-None-clause-counts : goal.returns-in-None-clause-counts
 returns-in-None-clause-counts g c =

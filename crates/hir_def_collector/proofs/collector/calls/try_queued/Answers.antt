@@ -1,7 +1,8 @@
 -- A call is tried, and then what has read what has changed is queued, or it watches what it has read.
-use Rattle.std.proofs.Common.{◌≡◌, ◌<◌, subst, sym, true, None, Some, length, slice_get}
+use Rattle.std.proofs.Common.{◌≡◌, ◌∙◌, ◌<◌, ap, subst, sym, true, None, Some, length, slice_get}
 use Rattle.hir_def_map.specs.State.{IsInOrder}
 use Rattle.hir_def_map.specs.WorldParts.{part_of}
+use Rattle.hir_call_queue.specs.Changes.{joined}
 use Rattle.hir_def_collector.specs.CallMoves.{TriesCall}
 use Rattle.hir_def_collector.specs.Calls.{LeadsNowhere}
 use Rattle.hir_def_collector.specs.Keys.{environment}
@@ -12,6 +13,7 @@ use Rattle.hir_def_collector.specs.declared.collector.macro_directive.MacroDirec
 use Rattle.hir_def_collector.proofs.Changes.{id-Steps}
 use Rattle.hir_def_collector.proofs.Numbers.{tables_stay}
 use Rattle.hir_def_collector.proofs.Queued.{was_handled, was_left}
+use Rattle.hir_def_collector.proofs.Resuming.{behind_gathered, behind_later}
 use Rattle.hir_def_collector.proofs.Waiting.{apart_later, keeps_waiting, up_to_date_handled, waits_no_more}
 use Rattle.hir_def_collector.proofs.collector.calls.try_queued.Goals as goal
 
@@ -25,7 +27,7 @@ returns-clause-up_to_date g c =
     let new = core_in c.try_call.new.run in
     let steps : Steps (environment c.try_call.new.locations w) part (at_rest old) (at_rest new) = c.in_ok-done.ensures.ok c.try_call.new.locations (tables_stay c.try_call.new.locations) in
     subst (λ (core : Core). IsUpToDate part c.wake.new.queue core None) (sym c.wake.ensures.same)
-    (up_to_date_handled part c.args.queue.now c.wake.new.queue c.args.run.now c.try_call.new.run c.in_ok-done.ensures.noted (keeps_waiting old new steps c.requires.ready.fated) c.in_ok-wake.ensures.woken
+    (up_to_date_handled part c.args.queue.now c.wake.new.queue c.args.run.now c.try_call.new.run c.in_ok-done.ensures.noted.slots (keeps_waiting old new steps c.requires.ready.fated) c.in_ok-wake.ensures.woken
     (apart_later part c.args.queue.now c.wake.new.queue old new c.in_ok-wake.ensures.woken.on.apart (id-Steps steps) c.requires.apart)
     c.args.i c.requires.up_to_date
     (waits_no_more new c.args.i (was_handled part old new c.args.i _ c.in_ok-done.ensures.tried c.if-not-done.false)))
@@ -64,3 +66,13 @@ returns-clause-tried g c =
 
 pub returns-clause-stays : goal.returns-clause-stays
 returns-clause-stays g c = c.in_ok-wake.ensures.woken.on
+
+-- ---- what has changed is gathered
+
+pub returns-clause-gathered : goal.returns-clause-gathered
+returns-clause-gathered g c = λ finished imports behind.
+    behind_gathered finished imports c.args.grown.now c.append.new.self c.try_call.new.run c.wake.new.run (c.in_ok-append.ensures.ok ∙ ap (joined c.args.grown.now) c.changed.ensures.value) c.wake.ensures.same
+    c.in_ok-wake.ensures.none (behind_later finished imports c.args.grown.now c.args.run.now c.try_call.new.run c.in_ok-done.ensures.noted behind)
+
+pub returns-then-not-done-clause-gathered : goal.returns-then-not-done-clause-gathered
+returns-then-not-done-clause-gathered g c = λ finished imports behind. behind_later finished imports c.args.grown.now c.args.run.now c.try_call.new.run c.in_ok-done.ensures.noted behind

@@ -10,4 +10,4 @@ pub returns-clause-noted : goal.returns-clause-noted
 returns-clause-noted c =
     let before : Run = the_view c.self.inside in
     let after : Run = record before { calls = c.push.new.self.items; fates = c.push-2.new.self.items } in
-    subst (λ (r : Run). IsNoted r after) c.self.view_is (noted_same before after refl refl refl)
+    subst (λ (r : Run). IsNoted r after) c.self.view_is (noted_same before after refl refl refl (refl, refl, refl))

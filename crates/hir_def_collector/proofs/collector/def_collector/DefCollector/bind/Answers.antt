@@ -44,5 +44,5 @@ returns c =
           ∙ ap (λ (r : Run). with_bound (core_in r) c.args.home c.args.name c.args.items) c.self.view_is;
       noted =
           subst (λ (r : Run). IsNoted r after) c.self.view_is
-          (noted_push before after c.self.inside.from_glob_import c.args.home c.args.name c.args.items c.in_ok-push.ensures.ok refl c.in_ok-add.ensures.ok);
+          (noted_push before after c.args.home c.args.name c.args.items c.in_ok-push.ensures.ok refl c.in_ok-add.ensures.ok c.in_ok-forget.ensures.edges c.in_ok-forget.ensures.brought refl refl);
     }

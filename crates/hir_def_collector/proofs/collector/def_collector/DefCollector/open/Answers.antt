@@ -28,4 +28,4 @@ returns-clause-noted c =
     let last : c.in_ok-id.id.index ≡ length before.map.modules = search (rules, c.in_ok-id.ensures.answer) in
     let map : after.map ≡ begun before.map c.args.home c.args.name (new_module c.args.origin c.args.visibility parent) =
     search (rules, last, c.in_ok-take.ensures.ok, c.in_ok-id.ensures.ok, c.new-module.ensures.value, c.module_id-parent.ensures.value) in
-    subst (λ (r : Run). IsNoted r after) c.self.view_is (noted_module before after c.args.home c.args.name c.args.origin c.args.visibility parent map refl refl)
+    subst (λ (r : Run). IsNoted r after) c.self.view_is (noted_module before after c.args.home c.args.name c.args.origin c.args.visibility parent map refl refl (refl, refl, refl))

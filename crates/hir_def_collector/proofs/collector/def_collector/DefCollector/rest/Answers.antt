@@ -12,4 +12,4 @@ returns-clause-noted c =
     let before : Run = the_view c.self.inside in
     let after : Run = record before { settled = c.len-self-inside.result } in
     subst (λ (r : Run). OnOk c.tick.result (IsNoted r c.tick.new.self)) c.self.view_is
-    (on_ok_weaker c.tick.result (noted_follow (noted_same before after refl refl refl)) c.tick.ensures.noted)
+    (on_ok_weaker c.tick.result (noted_follow (noted_same before after refl refl refl (refl, refl, refl))) c.tick.ensures.noted)

@@ -6,7 +6,7 @@ use Rattle.hir_def_collector.specs.Derivation.{IsSpent}
 use Rattle.hir_def_collector.specs.contracts.collector.def_collector.DefCollector.{the_view}
 use Rattle.hir_def_collector.specs.State.{Run, State, at_rest, core_in, import_state, with_import_state}
 use Rattle.hir_def_collector.specs.Steps.{Steps}
-use Rattle.hir_def_collector.specs.Waiting.{IsNoted}
+use Rattle.hir_def_collector.specs.Waiting.{NotesSlots}
 use Rattle.hir_def_collector.proofs.ImportSteps.{spent_from, steps_from}
 use Rattle.hir_def_collector.proofs.NotedImports.{noted_imports}
 use Rattle.hir_def_collector.proofs.collector.def_collector.DefCollector.spread.Goals as goal
@@ -38,5 +38,5 @@ returns-clause-noted c =
       count = c.in_ok-imports.imports.count;
       changed = c.changed_by.result;
     } in
-    subst (λ (r : Run). IsNoted r after) c.self.view_is
+    subst (λ (r : Run). NotesSlots r after) c.self.view_is
     (noted_imports (part_of c.args.world) before after c.in_ok-imports.ensures.derived c.changed_by.ensures.still c.changed_by.ensures.moves)

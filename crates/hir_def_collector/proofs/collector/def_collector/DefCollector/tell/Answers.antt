@@ -10,4 +10,4 @@ pub returns-clause-noted : goal.returns-clause-noted
 returns-clause-noted c =
     let before : Run = the_view c.self.inside in
     let after : Run = record before { map = c.add_diagnostic.new.self } in
-    subst (λ (r : Run). IsNoted r after) c.self.view_is (noted_told before after refl refl c.args.report c.in_ok-add_diagnostic.ensures.ok)
+    subst (λ (r : Run). IsNoted r after) c.self.view_is (noted_told before after refl refl (refl, refl, refl) c.args.report c.in_ok-add_diagnostic.ensures.ok)

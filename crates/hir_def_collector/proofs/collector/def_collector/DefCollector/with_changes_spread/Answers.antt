@@ -2,7 +2,7 @@
 use Rattle.std.proofs.Common.{◌≡◌, refl, length, subst}
 use Rattle.hir_def_map.specs.State.{Map}
 use Rattle.hir_def_map.specs.WorldParts.{part_of}
-use Rattle.hir_import_resolution.specs.Inner.State.{path_slots, state_in}
+use Rattle.hir_import_resolution.specs.Inner.State.{state_in}
 use Rattle.hir_def_collector.specs.Derivation.{IsSpent}
 use Rattle.hir_def_collector.specs.contracts.collector.def_collector.DefCollector.{the_view}
 use Rattle.hir_def_collector.specs.State.{Run, State, core_in, import_state, joined, with_import_state}
@@ -36,11 +36,14 @@ returns-clause-noted c =
       count = found.count;
       changed = c.note_changes-noted.new.changed;
     } in
-    through_both _ _ _ c.spread_changes-imports.result.1 c.note_changes-noted.result c.note_changes-noted.ensures.ok
-    (both_of_each _ _ c.spread_changes-imports.result.1 c.spread_changes-imports.ensures.derived c.spread_changes-imports.ensures.changes)
-    (λ slots noted both.
+    let slots = c.spread_changes-imports.result.1 in
+    let given = c.spread_changes-imports.ensures in
+    let globs = both_of_each _ _ slots given.edges (both_of_each _ _ slots given.brought given.traits) in
+    through_both _ _ _ slots c.note_changes-noted.result c.note_changes-noted.ensures.ok (both_of_each _ _ slots (both_of_each _ _ slots given.derived given.changes) globs)
+    (λ slots noted all.
     subst (λ (r : Run). IsNoted r after) c.self.view_is
-    (noted_spread (part_of c.args.world) before after (path_slots slots.items) both.0 both.1 c.spread_changes-imports.ensures.local noted))
+    (noted_spread (part_of c.args.world) before after slots.items all.0.0 all.0.1 given.local noted
+    (record { edges = all.1.0; brought = all.1.1.0; traits = all.1.1.1; reached = given.imports; taken = given.taken })))
 
 pub returns-clause-modules : goal.returns-clause-modules
 unfolding core_in

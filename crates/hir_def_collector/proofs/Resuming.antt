@@ -1,0 +1,163 @@
+-- What has changed since imports rested is gathered.
+use Rattle.std.proofs.Common.{◌≡◌, ◌⊎◌, inl, inr, ◌∙◌, ap, sym, refl, subst, ℕ, ◌<◌, ◌≤◌, Bool, true, false, List, [], ◌++◌, length, slice_get, Contains, Some, cond, append-nil, arith}
+use Rattle.std.proofs.lemmas.List.Elements.{Contains-append_cases, Contains-append_left, Contains-append_right}
+use Rattle.hir_base.specs.declared.ids.MapId.{MapId}
+use Rattle.hir_def_map.specs.Overlay.{Maps}
+use Rattle.hir_def_map.specs.State.{Local, Map}
+use Rattle.hir_def_map.specs.declared.nameres.path_resolution.slots.Slot.{Slot as PathSlot}
+use Rattle.hir_def_map.specs.declared.nameres.path_resolution.slots.Slot.TheVariants.{Module as of_module}
+use Rattle.hir_import_resolution.specs.Inner.State.{IsApart}
+use Rattle.hir_import_resolution.specs.Rounds.{Grew, IsResumable, IsUpToDate as AreUpToDate, is_apart, is_lasting}
+use Rattle.hir_import_resolution.specs.State.{ImportState}
+use Rattle.hir_import_resolution.specs.declared.import_queue.ImportQueue.{ImportQueue}
+use Rattle.hir_call_queue.specs.Changes.{ChangedValue, IsUntouched, everything, joined, nothing, with_slots}
+use Rattle.hir_def_collector.specs.State.{Core, Run, at_rest, core_in, counted, import_state, with_settled}
+use Rattle.hir_def_collector.specs.Waiting.{IsBehind, IsGathered, IsNoted, IsOutgrown, KeepsModules, LeavesImports, NotesSlots}
+use Rattle.hir_def_collector.proofs.CallReads.{agree_itself, agree_later}
+use Rattle.hir_def_collector.proofs.Lists.{get_inside, get_there}
+use Rattle.hir_def_collector.proofs.Noted.{around_itself, grown_kept, modules_kept_later, there_later}
+
+-- ---- slots of two
+
+module _ (g c : ChangedValue) where
+  -- where not any slot may have changed, not any may of either
+  joined_some : (joined g c).all ≡ false → (c.all ≡ false) × (g.all ≡ false)
+  joined_some e = of_second c.all refl e
+    where
+      of_first : (b : Bool) → g.all ≡ b → (cond b g (record g { slots = g.slots ++ c.slots })).all ≡ false → g.all ≡ false
+      of_first true is e = e
+      of_first false is e = is
+
+      of_second : (b : Bool) → c.all ≡ b → (cond b everything (with_slots c.slots g)).all ≡ false → (c.all ≡ false) × (g.all ≡ false)
+      of_second true is e = absurd (let no : ⊥ = cc in no)
+      of_second false is e = (is, of_first g.all refl e)
+
+  joined_is : c.all ≡ false → g.all ≡ false → joined g c ≡ record g { slots = g.slots ++ c.slots }
+  joined_is second first = ap (λ (b : Bool). cond b everything (with_slots c.slots g)) second ∙ ap (λ (b : Bool). cond b g (record g { slots = g.slots ++ c.slots })) first
+
+  joined_slots : c.all ≡ false → g.all ≡ false → (joined g c).slots ≡ g.slots ++ c.slots
+  joined_slots second first = ap (λ (x : ChangedValue). x.slots) (joined_is second first)
+
+-- nothing comes besides
+joined_nothing : (g : ChangedValue) → joined g nothing ≡ g
+joined_nothing g = go g.all
+  where
+    go : (b : Bool) → cond b g (record g { slots = g.slots ++ [] }) ≡ g
+    go true = refl
+    go false = λ i. record { all = g.all; slots = append-nil g.slots i }
+
+-- ---- what has grown grows on
+
+-- a place of a list is one of a list that has the same there
+inside_later : {A : Type 0} (xs ys : List A) (i : ℕ) → i < length xs → slice_get ys i ≡ slice_get xs i → i < length ys
+inside_later xs ys i low same = let there = get_there xs i low in get_inside ys i there.0 (same ∙ there.1)
+
+module _ (before : ImportState) (a b : Run) (old new : List PathSlot) (grew : Grew before (import_state (at_rest (core_in a))) old) (paired : length before.taken ≡ length before.imports) (slots : NotesSlots a b)
+    (left : LeavesImports a b) (some : b.changed.all ≡ false) (untouched : (slot : PathSlot) → ¬ Contains new slot → IsUntouched b.changed slot) (unread : (slot : PathSlot) → ¬ Contains new slot → ¬ Contains old slot) where
+  grew_on : Grew before (import_state (at_rest (core_in b))) new
+  unfolding core_in
+  grew_on =
+      let kept : KeepsModules before.map b.map = modules_kept_later before.map a.map b.map (grown_kept before.map a.map grew.grows grew.modules) (slots.keeps some) in
+      record {
+        grows = record {
+          id = kept.id;
+          holder = kept.holder;
+          crate_data = kept.crate_data;
+          prelude = kept.prelude;
+          parents = kept.parents;
+          enums = λ id variants e. left.enums id variants (grew.grows.enums id variants e);
+        };
+        modules = kept.count;
+        others = λ slot absent there.
+            agree_later before.map a.map b.map before.local a.local b.local slot (grew.others slot (unread slot absent) there)
+            (slots.others slot (untouched slot absent) (there_later (length before.map.modules) (length a.map.modules) grew.modules slot there));
+        entries = λ at name absent. left.entries at name (untouched (of_module at name) absent) ∙ grew.entries at name (unread (of_module at name) absent);
+        traits = λ at id. left.traits at id ∙ grew.traits at id;
+        edges = left.edges ∙ grew.edges;
+        brought = λ s absent. left.brought s (λ name is. untouched (of_module s.at name) (absent name is)) ∙ grew.brought s (λ name is. unread (of_module s.at name) (absent name is));
+        imports = λ i low. left.reached i (inside_later before.imports a.reached i low (grew.imports i low)) ∙ grew.imports i low;
+        taken = λ i low. left.taken i (inside_later before.taken a.taken i (omega (arith, low, paired)) (grew.taken i low)) ∙ grew.taken i low;
+      }
+
+-- what is gathered stays all that has changed, as long as the rest is noted
+module _ (finished : Maps) (queue : ImportQueue) (g : ChangedValue) (a b : Run) (noted : IsNoted a b) where
+  outgrown_on : IsOutgrown finished queue (import_state (at_rest (core_in a))) (joined g a.changed).slots → b.changed.all ≡ false → g.all ≡ false
+      → IsOutgrown finished queue (import_state (at_rest (core_in b))) (joined g b.changed).slots
+  outgrown_on old some first = record {
+    before = old.before;
+    up_to_date = old.up_to_date;
+    paired = old.paired;
+    grew = grew_on old.before a b (joined g a.changed).slots (joined g b.changed).slots old.grew old.paired noted.slots (noted.imports some) some untouched unread;
+  }
+    where
+      untouched : (slot : PathSlot) → ¬ Contains (joined g b.changed).slots slot → IsUntouched b.changed slot
+      untouched slot absent = record {
+        some = some;
+        other = λ has. absent (subst (λ (xs : List PathSlot). Contains xs slot) (sym (joined_slots g b.changed some first)) (Contains-append_right g.slots b.changed.slots slot has));
+      }
+
+      unread : (slot : PathSlot) → ¬ Contains (joined g b.changed).slots slot → ¬ Contains (joined g a.changed).slots slot
+      unread slot absent has = go (Contains-append_cases g.slots a.changed.slots slot (subst (λ (xs : List PathSlot). Contains xs slot) (joined_slots g a.changed (noted.slots.some some) first) has))
+        where
+          go : Contains g.slots slot ⊎ Contains a.changed.slots slot → ⊥
+          go (inl gathered) =
+              absent (subst (λ (xs : List PathSlot). Contains xs slot) (sym (joined_slots g b.changed some first)) (Contains-append_left g.slots b.changed.slots slot gathered))
+          go (inr later) = (noted.slots.noted slot (untouched slot absent)).other later
+
+  pub behind_later : IsBehind finished queue (joined g a.changed) (core_in a) → IsBehind finished queue (joined g b.changed) (core_in b)
+  behind_later behind lasting all =
+      let each = joined_some g b.changed all in
+      let before : (joined g a.changed).all ≡ false = ap (λ (x : ChangedValue). x.all) (joined_is g a.changed (noted.slots.some each.0) each.1) ∙ each.1 in
+      outgrown_on (behind lasting before) each.0 each.1
+
+-- what was noted is gathered, and then nothing is noted
+pub behind_gathered : (finished : Maps) (queue : ImportQueue) (g h : ChangedValue) (a b : Run) → h ≡ joined g a.changed → core_in b ≡ core_in a → b.changed ≡ nothing
+    → IsBehind finished queue (joined g a.changed) (core_in a) → IsBehind finished queue (joined h b.changed) (core_in b)
+behind_gathered finished queue g h a b gathered same none behind =
+    let is : joined h b.changed ≡ joined g a.changed = ap (joined h) none ∙ joined_nothing h ∙ gathered in
+    subst (λ (x : ChangedValue). IsBehind finished queue x (core_in b)) (sym is) (subst (IsBehind finished queue (joined g a.changed)) (sym same) behind)
+
+-- where imports rest nothing has changed since, and a step that lets calls be expanded changes nothing
+pub behind_settled : (finished : Maps) (queue : ImportQueue) (changed : ChangedValue) (c d : Core) → AreUpToDate finished queue (import_state (at_rest c)) → d ≡ counted (with_settled c) → length d.taken ≡ length d.reached
+    → IsBehind finished queue changed d
+behind_settled finished queue changed c d up is paired lasting all = record {
+  before = import_state (at_rest c);
+  up_to_date = up;
+  paired = ap (λ (x : Core). length x.taken) (sym is) ∙ paired ∙ ap (λ (x : Core). length x.reached) is;
+  grew = subst (λ (x : Core). Grew (import_state (at_rest c)) (import_state (at_rest x)) changed.slots) (sym is) (record {
+    grows = (around_itself c.map).grows;
+    modules = omega arith;
+    others = λ slot absent there. agree_itself c.map c.local slot;
+    entries = λ at name absent. refl;
+    traits = λ at id. refl;
+    edges = refl;
+    brought = λ s absent. refl;
+    imports = λ i low. refl;
+    taken = λ i low. refl;
+  });
+}
+
+-- imports that lie apart may be resumed
+pub resumable_behind : (finished : Maps) (queue : ImportQueue) (changed : ChangedValue) (c : Core) (apart : Bool) → (is_lasting queue ≡ true → is_apart queue ≡ apart)
+    → (apart ≡ true → (local : Local) → IsApart finished c.map.id local) → IsBehind finished queue changed c → is_lasting queue ≡ true → changed.all ≡ false
+    → IsResumable finished queue (import_state (at_rest c)) changed.slots
+resumable_behind finished queue changed c apart same lies behind lasting some =
+    let old : IsOutgrown finished queue (import_state (at_rest c)) changed.slots = behind lasting some in
+    let yes : is_apart queue ≡ true → apart ≡ true = λ e. sym (same lasting) ∙ e in
+    record {
+      before = old.before;
+      up_to_date = old.up_to_date;
+      grew = old.grew;
+      apart = λ e. subst (λ (own : MapId). IsApart finished own old.before.local) old.grew.grows.id (lies (yes e) old.before.local);
+      apart_now = λ e. lies (yes e) c.local;
+    }
+
+-- where nothing lasts, nothing is asked
+pub behind_first : (finished : Maps) (queue : ImportQueue) (changed : ChangedValue) (c : Core) → is_lasting queue ≡ false → IsBehind finished queue changed c
+behind_first finished queue changed c none lasting all = absurd (let no : ⊥ = cc in no)
+
+-- where imports rested, calls were queued and tried, and what has changed was gathered
+pub behind_tried : (finished : Maps) (queue : ImportQueue) (g h : ChangedValue) (rested : Core) (requeued tried : Run) → core_in requeued ≡ rested → ((changed : ChangedValue) → IsBehind finished queue changed rested)
+    → IsGathered g requeued h tried → IsBehind finished queue (joined h tried.changed) (core_in tried)
+behind_tried finished queue g h rested requeued tried same behind gathered =
+    gathered finished queue (subst (IsBehind finished queue (joined g requeued.changed)) (sym same) (behind (joined g requeued.changed)))
