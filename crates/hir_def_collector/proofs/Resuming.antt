@@ -1,5 +1,5 @@
 -- What has changed since imports rested is gathered.
-use Rattle.std.proofs.Common.{◌≡◌, ◌⊎◌, inl, inr, ◌∙◌, ap, sym, refl, subst, ℕ, ◌<◌, ◌≤◌, Bool, true, false, List, [], ◌++◌, length, slice_get, Contains, Some, cond, append-nil, arith}
+use Rattle.std.proofs.Common.{Result, Err, ◌≡◌, ◌⊎◌, inl, inr, ◌∙◌, ap, sym, refl, subst, ℕ, ◌<◌, ◌≤◌, Bool, true, false, List, [], ◌++◌, length, slice_get, Contains, Some, cond, append-nil, arith}
 use Rattle.std.proofs.lemmas.List.Elements.{Contains-append_cases, Contains-append_left, Contains-append_right}
 use Rattle.hir_base.specs.declared.ids.MapId.{MapId}
 use Rattle.hir_def_map.specs.Overlay.{Maps}
@@ -161,3 +161,8 @@ pub behind_tried : (finished : Maps) (queue : ImportQueue) (g h : ChangedValue) 
     → IsGathered g requeued h tried → IsBehind finished queue (joined h tried.changed) (core_in tried)
 behind_tried finished queue g h rested requeued tried same behind gathered =
     gathered finished queue (subst (IsBehind finished queue (joined g requeued.changed)) (sym same) (behind (joined g requeued.changed)))
+
+-- ---- what a run fails with
+
+pub one_error : {T E : Type 0} (r : Result T E) (x y : E) → r ≡ Err x → r ≡ Err y → x ≡ y
+one_error r x y e f = cc (e, f)

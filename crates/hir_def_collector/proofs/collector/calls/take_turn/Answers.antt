@@ -1,5 +1,6 @@
 -- One turn: imports rest, what is queued is tried, and where nothing was handled the first attribute that waits is given up.
-use Rattle.std.proofs.Common.{rules, ◌≡◌, ◌∙◌, ◌<◌, ◌≤◌, None, Some, ap, false, length, refl, subst, sym, true, arith}
+use Rattle.std.proofs.lemmas.Result.{err_from_is_err_and}
+use Rattle.std.proofs.Common.{rules, Err, ◌≡◌, ◌∙◌, ◌<◌, ◌≤◌, None, Some, ap, false, length, refl, subst, sym, true, arith}
 use Rattle.hir_base.specs.declared.ids.MapId.{MapId}
 use Rattle.hir_tables.proofs.Growth.{KeepsTables-trans}
 use Rattle.hir_def_map.specs.WorldParts.{part_of}
@@ -21,8 +22,9 @@ use Rattle.hir_def_collector.proofs.Moves.{Steps-append, spent_after}
 use Rattle.hir_def_collector.proofs.Numbers.{tables_stay}
 use Rattle.hir_def_collector.proofs.Queued.{none_handled, of_round, rests_idle, settles_requeued}
 use Rattle.hir_def_collector.proofs.Ready.{ready_after, ready_grown}
-use Rattle.hir_def_collector.proofs.Resuming.{behind_later, behind_tried, resumable_behind}
+use Rattle.hir_def_collector.proofs.Resuming.{behind_later, behind_tried, one_error, resumable_behind}
 use Rattle.hir_def_collector.proofs.Waiting.{keeps_waiting, stale_later, stale_now}
+use Rattle.hir_def_collector.specs.declared.collector.CollectError.TheVariants.{TooMany}
 use Rattle.hir_def_collector.proofs.collector.calls.take_turn.Goals as goal
 
 -- what each goal below needs: `now` is where the turn begins, `settled` where imports rest and the queue is up to date, `tried` where what is queued was tried
@@ -67,10 +69,13 @@ try_calls-requires-clause-apart g c = λ yes local.
 
 pub returns-in_err-try_calls-clause-many : goal.returns-in_err-try_calls-clause-many
 returns-in_err-try_calls-clause-many g c = λ h grown k.
+    let p = err_from_is_err_and c.from_residual-in_err-try_calls.result c.from_residual-in_err-try_calls.ensures.1 in
+    let many : p.0 ≡ TooMany = one_error _ p.0 TooMany p.1 h in
+    let same : c.in_err-try_calls.field-0.0 ≡ TooMany = sym p.2 ∙ many in
     let env = environment grown (g.D.SourceDatabase.workspace c.args.db.now) in
     let part = part_of c.args.world in
     spent_after (settles_requeued env part (core_in c.args.run) (core_in c.in_ok-run.run') (core_in c.requeue.new.run) c.requeue.ensures.same (c.in_ok-run.ensures.ok env))
-    (c.in_err-try_calls.ensures.many (search rules) grown k)
+    (c.in_err-try_calls.ensures.many (λ i. Err (same i)) grown k)
 
 -- ---- something was handled
 
@@ -157,12 +162,15 @@ returns-in_err-given-clause-kept g c = KeepsTables-trans c.args.locations.now c.
 
 pub returns-in_err-given-clause-many : goal.returns-in_err-given-clause-many
 returns-in_err-given-clause-many g c = λ h grown k.
+    let p = err_from_is_err_and c.from_residual-in_err-given.result c.from_residual-in_err-given.ensures.1 in
+    let many : p.0 ≡ TooMany = one_error _ p.0 TooMany p.1 h in
+    let same : c.in_err-given.field-0.0 ≡ TooMany = sym p.2 ∙ many in
     let w = g.D.SourceDatabase.workspace c.args.db.now in
     let env = environment grown w in
     let part = part_of c.args.world in
     let later = c.give_up.new.locations in
     let far : OnceGrown later w (λ env. IsSpent env part (at_rest (core_in c.try_calls.new.run))) =
-    subst (λ (v : Workspace). OnceGrown later v (λ env. IsSpent env part (at_rest (core_in c.try_calls.new.run)))) c.in_ok-try_calls.ensures.same (c.in_err-given.ensures.many (search rules)) in
+    subst (λ (v : Workspace). OnceGrown later v (λ env. IsSpent env part (at_rest (core_in c.try_calls.new.run)))) c.in_ok-try_calls.ensures.same (c.in_err-given.ensures.many (λ i. Err (same i))) in
     spent_after (Steps-append (settles_requeued env (part_of c.args.world) (core_in c.args.run) (core_in c.in_ok-run.run') (core_in c.requeue.new.run) c.requeue.ensures.same (c.in_ok-run.ensures.ok env)) (c.in_ok-try_calls.ensures.ok grown (KeepsTables-trans c.try_calls.new.locations later grown c.in_err-given.ensures.kept k))) (far grown k)
 
 pub returns-in-Some-clause-kept : goal.returns-in-Some-clause-kept
