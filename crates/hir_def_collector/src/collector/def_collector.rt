@@ -1,8 +1,8 @@
 //! Where a run stands, and what each change leaves.
 #![tactic(auto, unfolding(crate::specs::State::core_in))]
 
-ghost use Rattle.std.specs.Prelude.{◌≡◌, ◌≢◌, ◌<◌, ◌≤◌, ℕ, true, false, ◌∷◌, [], Some, length, option_map, slice_get, slice_set, IfNone, IfOk, IfSome, IsSome, None, OnOk};
-ghost use Rattle.hir_def_map.specs.State.{IsInOrder, with_enum, new_id, new_module, with_declared, with_use, with_impl, with_extern_block, with_extern_crate, with_unnamed_const, variants_at};
+ghost use Rattle.std.specs.Prelude.{◌≡◌, ◌<◌, ◌≤◌, ℕ, true, false, ◌∷◌, [], Some, length, option_map, slice_get, slice_set, IfNone, IfOk, IfSome, None, OnOk};
+ghost use Rattle.hir_def_map.specs.State.{IsInOrder, with_enum, new_id, new_module, with_declared, with_use, with_impl, with_extern_block, with_extern_crate, with_unnamed_const};
 ghost use Rattle.hir_def_map.specs.WorldParts.{part_of};
 ghost use Rattle.hir_def_map.specs.Macros.{with_diagnostic, with_macro_def};
 ghost use Rattle.hir_def_map_laws.specs.SlotChanges.{ScopesChangeAmong};
@@ -11,7 +11,7 @@ ghost use Rattle.hir_import_resolution.specs.Rest.{IsAtRest, IsClosed, IsSound, 
 ghost use Rattle.hir_import_resolution.specs.Rounds.{IsResumable, IsUpToDate as AreUpToDate, is_apart, is_lasting};
 ghost use Rattle.hir_import_resolution.specs.Rules.{Steps as StepsOfImports};
 ghost use Rattle.hir_import_resolution.specs.Visibilities.{visibility_in};
-ghost use Rattle.hir_call_queue.specs.Changes.{everything, nothing, with_slots};
+ghost use Rattle.hir_call_queue.specs.Changes.{nothing};
 ghost use Rattle.hir_def_collector.specs.Keys.{Environment};
 ghost use Rattle.hir_def_collector.specs.State.{at_rest, core_in, core_with_imports, counted, import_state, with_asked, with_bound, with_calls, with_fate, with_imports, with_local, with_map, with_settled};
 ghost use Rattle.hir_def_collector.specs.ItemIds.{container_of, module_id};
@@ -28,6 +28,7 @@ ghost use Rattle.hir_def_collector.specs.Moves.{begun};
 ghost use Rattle.hir_def_collector.specs.Waiting.{IsNoted, NotesSlots};
 
 use crate::collector::collected::{Asked, Collected};
+use crate::collector::def_collector::changes::{changed_by, changed_by_imports, note_variants};
 use crate::collector::diagnostics::{report_calls, report_unresolved, unresolved_crates};
 use crate::collector::exports::{ExportedFunction, censor_root};
 use crate::collector::leftovers::untaken;
@@ -54,7 +55,6 @@ use hir_def_map::nameres::enum_variants::EnumVariants;
 use hir_def_map::nameres::local_def_map::LocalDefMap;
 use hir_def_map::nameres::module_data::ModuleData;
 use hir_def_map::nameres::origin::ModuleOrigin;
-use hir_def_map::nameres::path_resolution::slots::Slot;
 use hir_def_map::world::part::WorldPart;
 use hir_glob_imports::GlobImports;
 use hir_import_resolution::answers::visibility;
@@ -73,6 +73,7 @@ use std::alloc::{AllocError, Global};
 use std::marker::Model;
 use std::rc::Rc;
 
+mod changes;
 mod spreading;
 mod waiting;
 
@@ -149,49 +150,6 @@ fn end(fates: &mut Vec<Fate>, i: usize, fate: Fate)
     if i < fates.len() {
         fates[i] = fate;
     }
-}
-
-/// All slots may have changed where an enum gets variants that has some.
-fn note_variants(changed: &mut Changed, map: &DefMap, id: EnumId)
-    ensures fresh { variants_at map.now id ≡ None → changed.new ≡ changed.old }
-    ensures again { IsSome (variants_at map.now id) → changed.new ≡ everything }
-{
-    if map.enum_variants(id).is_some() {
-        changed.add_everything();
-    }
-}
-
-/// What may have changed once steps were counted: anything, where any was.
-fn changed_by(changed: Changed, before: u32, count: u32) -> Changed
-    ensures still { count ≡ before → result ≡ changed }
-    ensures moves { count ≢ before → result ≡ everything }
-{
-    if count == before {
-        return changed;
-    }
-    let mut changed = changed;
-    changed.add_everything();
-    changed
-}
-
-/// What may have changed once imports were taken: the slots that they changed besides, where those are known.
-fn changed_by_imports(
-    changed: Changed,
-    apart: bool,
-    slots: &[Slot],
-    before: u32,
-    count: u32,
-) -> Result<Changed, AllocError>
-    ensures known { apart ≡ true → IfOk result (λ c. c ≡ with_slots slots.now changed) }
-    ensures still { apart ≡ false → count ≡ before → IfOk result (λ c. c ≡ changed) }
-    ensures moves { apart ≡ false → count ≢ before → IfOk result (λ c. c ≡ everything) }
-{
-    if !apart {
-        return Ok(changed_by(changed, before, count));
-    }
-    let mut changed = changed;
-    changed.add_each(slots)?;
-    Ok(changed)
 }
 
 /// Takes imports until no more comes of them: those of the queue alone that have read one of the slots, where what was found out
