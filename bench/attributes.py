@@ -109,7 +109,7 @@ INPUTS = {
     inert: [8000, 16000],
     builtin_derives: [4000, 8000],
     derives_with_a_helper: [4000, 8000],
-    beside_imports: [250, 500],
+    beside_imports: [2000, 4000],
 }
 EDITS = {edit_of_a_body: [8000, 16000]}
 

@@ -90,6 +90,33 @@ def beside_imports(n):
     return items + chained(made, n), made.entries, [0], "S"
 
 
+def beside_globs(n):
+    """n calls that each define a struct, in the root, which globs n modules of a struct each."""
+    made = Calls()
+    nodes = [made.module(f"m{k}", made.struct(f"T{k}")) for k in range(n)] + [made.glob(f"m{k}") for k in range(n)]
+    nodes += [made.rules("m")] + [made.call("m", str(k)) for k in range(n)]
+    for k in range(n):
+        made.expand("m", str(k), made.struct(f"S{k}"))
+    return nodes, made.entries, [0], f"S{n - 1}"
+
+
+def in_rounds_beside_globs(n):
+    """n calls of which each waits for the next, in the root, which globs n modules of a struct each."""
+    made = Calls()
+    nodes = [made.module(f"m{k}", made.struct(f"T{k}")) for k in range(n)] + [made.glob(f"m{k}") for k in range(n)]
+    return nodes + chained(made, n), made.entries, [0], "S"
+
+
+def brought_by_globs(n):
+    """n modules that the root globs, in each a call that defines a struct."""
+    made = Calls()
+    nodes = [made.rules("m")] + [made.module(f"m{k}", made.call("m", str(k))) for k in range(n)]
+    nodes += [made.glob(f"m{k}") for k in range(n)]
+    for k in range(n):
+        made.expand("m", str(k), made.struct(f"S{k}"))
+    return nodes, made.entries, [0], f"S{n - 1}"
+
+
 def through_a_glob(n):
     """n calls in a module that another globs; each defines the macro that the next one names through the glob."""
     made = Calls()
@@ -151,7 +178,10 @@ INPUTS = {
     each_by_the_one_before: [2000, 4000],
     of_nothing: [4000, 8000],
     of_nothing_beside_a_chain: [1000, 2000],
-    beside_imports: [250, 500],
+    beside_imports: [2000, 4000],
+    beside_globs: [2000, 4000],
+    in_rounds_beside_globs: [2000, 4000],
+    brought_by_globs: [2000, 4000],
     through_a_glob: [1000, 2000, 4000],
     of_nothing_beside_a_glob: [1000, 2000, 4000],
     textual_scope: [1000, 2000],

@@ -8,7 +8,7 @@ pub use Rattle.hir_import_resolution.specs.Rounds.{IsThere}
 pub record ChangedValue : Type 0 where
   -- whether any slot may
   pub all : Bool
-  -- those that may, where not any may
+  -- those that may, unless any slot may
   pub slots : List PathSlot
 
 -- any slot, and none

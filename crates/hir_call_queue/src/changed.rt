@@ -40,7 +40,7 @@ impl Changed {
         self.all
     }
 
-    /// The slots that may, where not any may.
+    /// The slots that may, unless any slot may.
     pub fn slots(&self) -> &[Slot]
         ensures value { result.now ≡ self.now.slots }
     {

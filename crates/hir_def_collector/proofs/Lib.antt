@@ -2,6 +2,7 @@ pub mod Lists
 pub mod Entries
 pub mod ImportEdits
 pub mod MacroEdits
+pub mod MacroUses
 pub mod Made
 pub mod ImportSteps
 pub mod Resolved
@@ -37,7 +38,6 @@ pub mod WholeEdits
 pub mod WholeChanges
 pub mod WholeEnded
 pub mod Whole
-pub mod Placed
 pub mod SourcedItems
 pub mod SourcedEdits
 pub mod SourcedMacros
@@ -52,7 +52,6 @@ pub mod Deriving
 pub mod Passing
 pub mod EnumMacros
 pub mod CallReads
-pub mod Forgetting
 pub mod Noted
 pub mod NotedImports
 pub mod Spreading

@@ -16,22 +16,17 @@ use Rattle.hir_base.specs.declared.ids.EnumId.{EnumId}
 use Rattle.hir_base.specs.declared.ids.ExternCrateId.{ExternCrateId}
 use Rattle.hir_base.specs.declared.ids.FunctionId.{FunctionId}
 use Rattle.hir_base.specs.declared.ids.ModuleId.{ModuleId}
-use Rattle.hir_base.specs.declared.ids.TraitId.{TraitId}
 use Rattle.hir_base.specs.declared.macro_kind.BuiltinDeriveImplId.{BuiltinDeriveImplId}
 use Rattle.hir_base.specs.declared.macro_kind.MacroId.{MacroId}
 use Rattle.hir_base.specs.declared.macro_kind.ProcMacroId.{ProcMacroId}
-use Rattle.hir_scope.specs.Globs.{GlobNames, Place}
-use Rattle.hir_scope.specs.PerNs.{is_nothing}
 use Rattle.hir_scope.specs.Scope.{ScopeValue}
-use Rattle.hir_scope.specs.Scope.Push.{pushed_scope, taken_candidates, with_unresolved, written_scope}
-use Rattle.hir_scope.specs.Scope.Reads.{unnamed_vis}
-use Rattle.hir_scope.specs.declared.imports.ImportOrExternCrate.{ImportOrExternCrate}
 use Rattle.hir_scope.specs.declared.per_ns.PerNs.{PerNs}
 use Rattle.hir_scope.specs.declared.visibility.Visibility.{Visibility}
 use Rattle.hir_def_map.proofs.Grown.{kept, length-changed}
 use Rattle.hir_def_map.specs.Declaration.{listed}
+use Rattle.hir_def_map.specs.Overlay.{Maps}
 use Rattle.hir_def_map.specs.Macros.{helpers_at, with_derive_helper, with_diagnostic, with_exported, with_helper, with_macro_data, with_macro_def}
-use Rattle.hir_def_map.specs.State.{Local, MacroDataValue, Map, ModuleValue, changed_at, entry_at, entry_of, module_at, new_module, parent_at, parent_of, pushed, pushed_module, place_at, Variants, variants_at, with_enum, with_extern, with_module, with_module_scope, with_scope}
+use Rattle.hir_def_map.specs.State.{IsInOrder, Local, MacroDataValue, Map, ModuleValue, changed_at, entry_of, module_at, new_module, numbered, parent_at, parent_of, pushed, pushed_module, place_at, Variants, variants_at, with_enum, with_extern, with_module, with_module_scope, with_scope}
 use Rattle.hir_def_map.specs.declared.nameres.declaration.Declaration.{Declaration as Listing}
 use Rattle.hir_def_map.specs.declared.nameres.derive_helpers.DeriveHelper.{DeriveHelper}
 use Rattle.hir_def_map.specs.declared.nameres.diagnostics.DefDiagnostic.{DefDiagnostic}
@@ -45,23 +40,24 @@ use Rattle.hir_def_map_laws.proofs.SlotLists.{textual_macros}
 use Rattle.hir_def_map_laws.specs.ReadLaw.{AgreeAt, Grows}
 use Rattle.hir_def_map_laws.specs.SlotChanges.{ChangesOnly}
 use Rattle.hir_textual_scope.specs.Macros.{with_macro}
-use Rattle.hir_glob_imports.specs.Rules.{BroughtBy}
-use Rattle.hir_glob_imports.specs.Waves.{GlobsValue, brought_of}
+use Rattle.hir_glob_imports.specs.View.{View}
+use Rattle.hir_glob_imports.specs.Waves.{GlobsValue, IsKept, brought_of}
+use Rattle.hir_import_resolution.proofs.GlobsLasting.{globs_pushed, globs_still}
 use Rattle.hir_import_resolution.proofs.GrowingAround.{enums_around, lists_around, modules_around, scopes_around}
 use Rattle.hir_import_resolution.specs.Changes.{forgotten}
 use Rattle.hir_import_resolution.specs.Directives.{TakenValue}
-use Rattle.hir_import_resolution.specs.Names.{trait_vis}
-use Rattle.hir_import_resolution.specs.Rounds.{GrowsAround}
+use Rattle.hir_import_resolution.specs.Inner.Steps.{IsBound}
+use Rattle.hir_import_resolution.specs.Rounds.{GlobsLast, GrowsAround, HaveGlobs}
 use Rattle.hir_import_resolution.specs.declared.directive.ImportDirective.{ImportDirective}
 use Rattle.hir_call_queue.specs.Changes.{ChangedValue, IsThere, IsUntouched, everything, with_preludes, with_slot}
 use Rattle.hir_def_collector.specs.Attributes.{is_named_by}
 use Rattle.hir_def_collector.specs.Changes.{with_builtin_derive, with_derived}
 use Rattle.hir_def_collector.specs.Macros.{textual_at, with_textual_macro}
 use Rattle.hir_def_collector.specs.Moves.{begun}
-use Rattle.hir_def_collector.specs.State.{Run}
-use Rattle.hir_def_collector.specs.Waiting.{IsNoted, KeepsModules, LeavesImports, NotesSlots, is_helped}
+use Rattle.hir_def_collector.specs.State.{Run, at_rest, core_in, import_state}
+use Rattle.hir_def_collector.specs.Waiting.{IsNoted, IsNotedBeside, KeepsModules, LeavesGlobs, LeavesImports, NotesSlots, is_helped}
 use Rattle.hir_def_collector.proofs.CallReads.{agree_itself, agree_later, modules_kept_itself}
-use Rattle.hir_def_collector.proofs.Forgetting.{brought_still}
+use Rattle.hir_def_collector.proofs.InOrder.{in_order_made, in_order_scope}
 use Rattle.hir_def_collector.proofs.Lists.{get_inside, get_left}
 
 -- ---- modules that are kept
@@ -130,13 +126,9 @@ slots_follow {a} {b} {c} first then = record {
   helpers = λ node name e. then.helpers node name e ∙ first.helpers node name (then.noted (of_preludes name) e);
 }
 
-imports_follow : (a b c : Run) → ((slot : PathSlot) → IsUntouched c.changed slot → IsUntouched b.changed slot) → LeavesImports a b → LeavesImports b c → LeavesImports a c
-imports_follow a b c before first then = record {
+imports_follow : (a b c : Run) → LeavesImports a b → LeavesImports b c → LeavesImports a c
+imports_follow a b c first then = record {
   enums = λ id variants e. then.enums id variants (first.enums id variants e);
-  entries = λ at name e. then.entries at name e ∙ first.entries at name (before (of_module at name) e);
-  traits = λ at id. then.traits at id ∙ first.traits at id;
-  edges = then.edges ∙ first.edges;
-  brought = λ s e. then.brought s e ∙ first.brought s (λ name is. before (of_module s.at name) (e name is));
   reached = λ i low. then.reached i (omega (arith, low, first.longer)) ∙ first.reached i low;
   taken = λ i low. then.taken i (omega (arith, low, first.taken_longer)) ∙ first.taken i low;
   longer = omega (arith, first.longer, then.longer);
@@ -146,7 +138,19 @@ imports_follow a b c before first then = record {
 pub noted_follow : {a b c : Run} → IsNoted a b → IsNoted b c → IsNoted a c
 noted_follow {a} {b} {c} first then = record {
   slots = slots_follow first.slots then.slots;
-  imports = λ e. imports_follow a b c then.slots.noted (first.imports (then.slots.some e)) (then.imports e);
+  imports = λ e. imports_follow a b c (first.imports (then.slots.some e)) (then.imports e);
+  globs = λ e finished last. then.globs e finished (first.globs (then.slots.some e) finished last);
+}
+
+-- what is noted whatever maps are finished is noted beside these
+pub noted_beside : {finished : Maps} {a b : Run} → IsNoted a b → IsNotedBeside finished a b
+noted_beside {finished} noted = record { slots = noted.slots; imports = noted.imports; globs = λ e. noted.globs e finished }
+
+pub beside_follow : {finished : Maps} {a b c : Run} → IsNotedBeside finished a b → IsNotedBeside finished b c → IsNotedBeside finished a c
+beside_follow {finished} {a} {b} {c} first then = record {
+  slots = slots_follow first.slots then.slots;
+  imports = λ e. imports_follow a b c (first.imports (then.slots.some e)) (then.imports e);
+  globs = λ e last. then.globs e (first.globs (then.slots.some e) last);
 }
 
 -- ---- imports that stay
@@ -155,16 +159,25 @@ noted_follow {a} {b} {c} first then = record {
 abbrev pub KeepsImports : Run → Run → Type 0
 KeepsImports a b = (b.globs ≡ a.globs) × (b.reached ≡ a.reached) × (b.taken ≡ a.taken)
 
+-- the globs of a run are those of its imports
+pub have_globs : (r : Run) → HaveGlobs (import_state (at_rest (core_in r))) r.globs
+unfolding core_in
+have_globs r = record { edges = refl; brought = refl }
+
+module _ (a b : Run) (stay : b.globs ≡ a.globs) (m : Map) (is : b.map ≡ m) (around : GrowsAround a.map m) (in_order : IsInOrder a.map → IsInOrder m) where
+  -- where the map grows around its names
+  globs_around : (finished : Maps) → LeavesGlobs finished a b
+  unfolding core_in
+  globs_around finished last =
+      subst (λ (g : GlobsValue). GlobsLast finished (import_state (at_rest (core_in b))) g) (sym stay)
+      (globs_still finished (import_state (at_rest (core_in a))) (import_state (at_rest (core_in b))) a.globs (have_globs a)
+      (subst (HaveGlobs (import_state (at_rest (core_in b)))) stay (have_globs b)) (subst (GrowsAround a.map) (sym is) around)
+      (subst IsInOrder (sym is) (in_order last.lasts.ordered.in_order)) last)
+
 module _ (a b : Run) (stay : KeepsImports a b) where
-  imports_left : ((id : EnumId) (variants : Variants) → variants_at a.map id ≡ Some variants → variants_at b.map id ≡ Some variants)
-      → ((at : ℕ) (name : List ℕ) → IsUntouched b.changed (of_module at name) → entry_at b.map at name ≡ entry_at a.map at name)
-      → ((at : ℕ) (id : TraitId) → trait_vis (module_at b.map at) id ≡ trait_vis (module_at a.map at) id) → LeavesImports a b
-  imports_left enums entries traits = record {
+  imports_left : ((id : EnumId) (variants : Variants) → variants_at a.map id ≡ Some variants → variants_at b.map id ≡ Some variants) → LeavesImports a b
+  imports_left enums = record {
     enums = enums;
-    entries = entries;
-    traits = traits;
-    edges = ap (λ (g : GlobsValue). g.edges) stay.0;
-    brought = λ s e. ap (λ (g : GlobsValue). brought_of g s) stay.0;
     reached = λ i low. ap (λ (rs : List ImportDirective). slice_get rs i) stay.1;
     taken = λ i low. ap (λ (ts : List TakenValue). slice_get ts i) stay.2;
     longer = let same : length b.reached ≡ length a.reached = ap (λ (rs : List ImportDirective). length rs) stay.1 in omega (arith, same);
@@ -173,15 +186,15 @@ module _ (a b : Run) (stay : KeepsImports a b) where
 
   -- where the map grows around its names
   imports_around : (m : Map) → b.map ≡ m → GrowsAround a.map m → LeavesImports a b
-  imports_around m is around =
-      imports_left
-      (λ id variants e. ap (λ (x : Map). variants_at x id) is ∙ around.grows.enums id variants e)
-      (λ at name e. ap (λ (x : Map). entry_at x at name) is ∙ around.entries at name)
-      (λ at id. ap (λ (x : Map). trait_vis (module_at x at) id) is ∙ around.traits at id)
+  imports_around m is around = imports_left (λ id variants e. ap (λ (x : Map). variants_at x id) is ∙ around.grows.enums id variants e)
 
   -- where it stays
   imports_same : b.map ≡ a.map → LeavesImports a b
   imports_same is = imports_around a.map is (around_itself a.map)
+
+-- globs stay where the map does
+globs_same : (a b : Run) → b.globs ≡ a.globs → b.map ≡ a.map → (finished : Maps) → LeavesGlobs finished a b
+globs_same a b stay is = globs_around a b stay a.map is (around_itself a.map) (λ h. h)
 
 -- where the map stays, and nothing else is noted
 pub slots_same : (a b : Run) → b.map ≡ a.map → b.local ≡ a.local → b.changed ≡ a.changed → NotesSlots a b
@@ -194,7 +207,7 @@ slots_same a b map local changed = record {
 }
 
 pub noted_same : (a b : Run) → b.map ≡ a.map → b.local ≡ a.local → b.changed ≡ a.changed → KeepsImports a b → IsNoted a b
-noted_same a b map local changed stay = record { slots = slots_same a b map local changed; imports = λ e. imports_same a b stay map }
+noted_same a b map local changed stay = record { slots = slots_same a b map local changed; imports = λ e. imports_same a b stay map; globs = λ e. globs_same a b stay.0 map }
 
 -- where nothing changes at all
 pub noted_itself : (a : Run) → IsNoted a a
@@ -206,15 +219,11 @@ noted_still {a} same = subst (IsNoted a) same (noted_itself a)
 -- where one more import is come upon
 pub noted_reached : (a b : Run) (r : ImportDirective) (t : TakenValue) → b.map ≡ a.map → b.local ≡ a.local → b.changed ≡ a.changed → b.globs ≡ a.globs → b.reached ≡ a.reached ++ r ∷ [] → b.taken ≡ a.taken ++ t ∷ []
     → IsNoted a b
-noted_reached a b r t map local changed globs reached taken = record { slots = slots_same a b map local changed; imports = λ e. left }
+noted_reached a b r t map local changed globs reached taken = record { slots = slots_same a b map local changed; imports = λ e. left; globs = λ e. globs_same a b globs map }
   where
     left : LeavesImports a b
     left = record {
       enums = λ id variants e. ap (λ (x : Map). variants_at x id) map ∙ e;
-      entries = λ at name e. ap (λ (x : Map). entry_at x at name) map;
-      traits = λ at id. ap (λ (x : Map). trait_vis (module_at x at) id) map;
-      edges = ap (λ (g : GlobsValue). g.edges) globs;
-      brought = λ s e. ap (λ (g : GlobsValue). brought_of g s) globs;
       reached = λ i low. ap (λ (rs : List ImportDirective). slice_get rs i) reached ∙ get_left a.reached (r ∷ []) i low;
       taken = λ i low. ap (λ (ts : List TakenValue). slice_get ts i) taken ∙ get_left a.taken (t ∷ []) i low;
       longer = let long : length b.reached ≡ length a.reached + 1 = ap (λ (rs : List ImportDirective). length rs) reached ∙ length-append a.reached (r ∷ []) in omega (arith, long);
@@ -235,13 +244,13 @@ slots_everything a b all = record {
 }
 
 pub noted_everything : (a b : Run) → b.changed ≡ everything → IsNoted a b
-noted_everything a b all = record { slots = slots_everything a b all; imports = λ e. absurd (not_all b.changed all e) }
+noted_everything a b all = record { slots = slots_everything a b all; imports = λ e. absurd (not_all b.changed all e); globs = λ e. absurd (not_all b.changed all e) }
 
 -- where the map grows around its names, and no slot of a module that was there changes, nor helpers
 module _ (a b : Run) (local : b.local ≡ a.local) (changed : b.changed ≡ a.changed) (stay : KeepsImports a b) where
-  pub noted_around : (m : Map) → b.map ≡ m → m.derive_helpers ≡ a.map.derive_helpers → GrowsAround a.map m → ((slot : PathSlot) → IsThere (length a.map.modules) slot → AgreeAt a.map a.local m a.local slot)
-      → IsNoted a b
-  noted_around m map helpers around agree = record {
+  pub noted_around : (m : Map) → b.map ≡ m → m.derive_helpers ≡ a.map.derive_helpers → GrowsAround a.map m → (IsInOrder a.map → IsInOrder m)
+      → ((slot : PathSlot) → IsThere (length a.map.modules) slot → AgreeAt a.map a.local m a.local slot) → IsNoted a b
+  noted_around m map helpers around in_order agree = record {
     slots = record {
       some = λ e. ap (λ (c : ChangedValue). c.all) (sym changed) ∙ e;
       noted = λ slot e. subst (λ (c : ChangedValue). IsUntouched c slot) changed e;
@@ -250,6 +259,7 @@ module _ (a b : Run) (local : b.local ≡ a.local) (changed : b.changed ≡ a.ch
       helpers = λ node name e. helped_alike a.map b.map (ap (λ (x : Map). x.derive_helpers) map ∙ helpers) node name;
     };
     imports = λ e. imports_around a b stay m map around;
+    globs = λ e. globs_around a b stay.0 m map around in_order;
   }
 
 -- where one slot is noted besides
@@ -292,8 +302,9 @@ module _ (a b : Run) (one : PathSlot) (changed : b.changed ≡ with_one one a.ch
       apart : slot ≢ one → Some slot ≢ Some one
       apart other same = other (let here : slot ≡ one = cc in here)
 
-  noted_slot : b.map.derive_helpers ≡ a.map.derive_helpers → ChangesOnly a.map a.local b.map b.local (Some one) → length a.map.modules ≤ length b.map.modules → LeavesImports a b → IsNoted a b
-  noted_slot helpers changes count left = record {
+  noted_slot : b.map.derive_helpers ≡ a.map.derive_helpers → ChangesOnly a.map a.local b.map b.local (Some one) → length a.map.modules ≤ length b.map.modules → LeavesImports a b
+      → ((finished : Maps) → LeavesGlobs finished a b) → IsNoted a b
+  noted_slot helpers changes count left globs = record {
     slots = record {
       some = λ e. some_before one a.changed (ap (λ (c : ChangedValue). c.all) (sym changed) ∙ e);
       noted = λ slot e. untouched_before one a.changed slot (subst (λ (c : ChangedValue). IsUntouched c slot) changed e);
@@ -302,6 +313,7 @@ module _ (a b : Run) (one : PathSlot) (changed : b.changed ≡ with_one one a.ch
       helpers = λ node name e. helped_alike a.map b.map helpers node name;
     };
     imports = λ e. left;
+    globs = λ e. globs;
   }
 
 -- ---- helpers
@@ -383,6 +395,7 @@ noted_helper a b item helper map local changed stay = record {
         ∙ named_with helper name (other name (noted_other a b (of_preludes helper.name) changed (of_preludes name) e)) a.map.derive_helpers node item (helpers_at a.map item) refl;
   };
   imports = λ e. imports_around a b stay (with_derive_helper a.map item helper) map around;
+  globs = λ e. globs_around a b stay.0 (with_derive_helper a.map item helper) map around (λ h. h);
 }
   where
     around : GrowsAround a.map (with_derive_helper a.map item helper)
@@ -414,19 +427,12 @@ elsewhere (x ∷ xs) (suc at) change (suc k) low = elsewhere xs at change k (ome
 
 -- ---- each change of the map
 
--- a push leaves traits without names
-traits_pushed : (globs : GlobNames) (place : Place) (items : PerNs) (import : Option ImportOrExternCrate) (scope : ScopeValue) (id : TraitId)
-    → unnamed_vis (pushed_scope globs place items import scope) id ≡ unnamed_vis scope id
-traits_pushed globs place items import scope id = go (is_nothing items)
-  where
-    go : (b : Bool) → unnamed_vis (cond b (with_unresolved scope place.1) (written_scope place.1 (taken_candidates scope globs place items import) scope)) id ≡ unnamed_vis scope id
-    go true = refl
-    go false = refl
-
--- a push
+-- a push, once it's noted where globs are to be looked at
 pub noted_push : (a b : Run) (home : ℕ) (name : List ℕ) (items : PerNs) → b.map ≡ pushed a.map a.names home name items None → b.local ≡ a.local → b.changed ≡ with_slot home name a.changed
-    → b.globs.edges ≡ a.globs.edges → brought_of b.globs ≡ forgotten home name items (brought_of a.globs) → b.reached ≡ a.reached → b.taken ≡ a.taken → IsNoted a b
-noted_push a b home name items map local changed edges brought reached taken = noted_slot a b (of_module home name) changed (ap (λ (m : Map). m.derive_helpers) map) changes count left
+    → b.globs.edges ≡ a.globs.edges → brought_of b.globs ≡ forgotten home name items (brought_of a.globs) → ((v w : View) → IsKept v a.globs → IsBound home name items v w → IsKept w b.globs)
+    → b.reached ≡ a.reached → b.taken ≡ a.taken → IsNoted a b
+unfolding core_in
+noted_push a b home name items map local changed edges brought forgets reached taken = noted_slot a b (of_module home name) changed (ap (λ (m : Map). m.derive_helpers) map) changes count left globs
   where
     once : Map
     once = pushed a.map a.names home name items None
@@ -441,26 +447,18 @@ noted_push a b home name items map local changed edges brought reached taken = n
         subst (λ (m : Map). length a.map.modules ≤ length m.modules) (sym map)
         (let same = length-changed a.map.modules home (pushed_module a.names (place_at a.map.id home name) items None) in omega (arith, same))
 
-    entries : (at : ℕ) (found : List ℕ) → AgreeAt a.map a.local b.map b.local (of_module at found) → entry_at b.map at found ≡ entry_at a.map at found
-    entries at found agree = agree.entries
-
     left : LeavesImports a b
     left = record {
       enums = changes.grows.enums;
-      entries = λ at found e. entries at found (others_agree a b (of_module home name) changed changes (of_module at found) e);
-      traits = λ at id.
-          ap (λ (m : Map). trait_vis (module_at m at) id) map
-          ∙ kept (λ (o : Option ModuleValue). trait_vis o id) a.map.modules home (pushed_module a.names (place_at a.map.id home name) items None)
-          (λ m. traits_pushed a.names (place_at a.map.id home name) items None m.scope id) at;
-      edges = edges;
-      brought = λ s e.
-          ap (λ (f : BroughtBy). f s) brought
-          ∙ brought_still home name s (λ found is. noted_other a b (of_module home name) changed (of_module s.at found) (e found is)) items (brought_of a.globs);
       reached = λ i low. ap (λ (rs : List ImportDirective). slice_get rs i) reached;
       taken = λ i low. ap (λ (ts : List TakenValue). slice_get ts i) taken;
       longer = let same : length b.reached ≡ length a.reached = ap (λ (rs : List ImportDirective). length rs) reached in omega (arith, same);
       taken_longer = let same : length b.taken ≡ length a.taken = ap (λ (ts : List TakenValue). length ts) taken in omega (arith, same);
     }
+
+    globs : (finished : Maps) → LeavesGlobs finished a b
+    globs finished last =
+        globs_pushed finished (import_state (at_rest (core_in a))) (import_state (at_rest (core_in b))) a.globs b.globs home name items (have_globs a) (have_globs b) map edges brought forgets last
 
 -- a macro in textual scope
 pub noted_textual : (a b : Run) (home : ℕ) (name : List ℕ) (makro : MacroId) → b.map ≡ with_textual_macro a.map home name makro → b.local ≡ a.local → b.changed ≡ with_slot home name a.changed → KeepsImports a b → IsNoted a b
@@ -469,9 +467,13 @@ noted_textual a b home name makro map local changed stay =
     (subst (λ (m : Map). ChangesOnly a.map a.local m b.local (Some (of_module home name))) (sym map)
     (subst (λ (l : Local). ChangesOnly a.map a.local (with_textual_macro a.map home name makro) l (Some (of_module home name))) (sym local) (textual_macros a.map a.local home name makro)))
     (subst (λ (m : Map). length a.map.modules ≤ length m.modules) (sym map) around.modules) (imports_around a b stay (with_textual_macro a.map home name makro) map around)
+    (globs_around a b stay.0 (with_textual_macro a.map home name makro) map around (λ h. in_order_scope a.map h home change))
   where
+    change : ScopeValue → ScopeValue
+    change = λ s. record s { legacy_macros = with_macro s.legacy_macros name makro }
+
     around : GrowsAround a.map (with_textual_macro a.map home name makro)
-    around = scopes_around a.map home (λ (s : ScopeValue). record s { legacy_macros = with_macro s.legacy_macros name makro }) (λ s other. refl) (λ s id. refl)
+    around = scopes_around a.map home change (λ s other. refl) (λ s id. refl)
 
 -- a crate that paths may begin with
 pub noted_extern : (a b : Run) (name : List ℕ) (entry : ModuleId × Option ExternCrateId) → b.map ≡ a.map → b.local ≡ with_extern a.local name entry → b.changed ≡ with_preludes name a.changed → KeepsImports a b → IsNoted a b
@@ -479,17 +481,18 @@ noted_extern a b name entry map local changed stay =
     noted_slot a b (of_preludes name) changed (ap (λ (m : Map). m.derive_helpers) map)
     (subst (λ (m : Map). ChangesOnly a.map a.local m b.local (Some (of_preludes name))) (sym map)
     (subst (λ (l : Local). ChangesOnly a.map a.local a.map l (Some (of_preludes name))) (sym local) (changes-crate a.map a.local name entry)))
-    (let same : length b.map.modules ≡ length a.map.modules = ap (λ (m : Map). length m.modules) map in omega (arith, same)) (imports_same a b stay map)
+    (let same : length b.map.modules ≡ length a.map.modules = ap (λ (m : Map). length m.modules) map in omega (arith, same)) (imports_same a b stay map) (globs_same a b stay.0 map)
 
 -- what is listed
 pub noted_list : (a b : Run) (home : ℕ) (d : Listing) → b.map ≡ with_scope a.map home (listed d) → b.local ≡ a.local → b.changed ≡ a.changed → KeepsImports a b → IsNoted a b
 noted_list a b home d map local changed stay =
-    noted_around a b local changed stay (with_scope a.map home (listed d)) map refl (lists_around a.map home d) (λ slot there. (changes-listed a.map a.local home d).others slot (λ e. absurd cc))
+    noted_around a b local changed stay (with_scope a.map home (listed d)) map refl (lists_around a.map home d) (λ h. in_order_scope a.map h home (listed d)) (λ slot there. (changes-listed a.map a.local home d).others slot (λ e. absurd cc))
 
 -- an impl for which a builtin derive stands
 pub noted_derived : (a b : Run) → b.local ≡ a.local → b.changed ≡ a.changed → KeepsImports a b → (home : ℕ) (imp : BuiltinDeriveImplId) → b.map ≡ with_derived a.map home imp → IsNoted a b
 noted_derived a b local changed stay home imp map =
-    noted_around a b local changed stay (with_derived a.map home imp) map refl (scopes_around a.map home (with_builtin_derive imp) (λ s other. refl) (λ s id. refl)) (λ slot there. same slot)
+    noted_around a b local changed stay (with_derived a.map home imp) map refl (scopes_around a.map home (with_builtin_derive imp) (λ s other. refl) (λ s id. refl))
+    (λ h. in_order_scope a.map h home (with_builtin_derive imp)) (λ slot there. same slot)
   where
     same : (slot : PathSlot) → AgreeAt a.map a.local (with_derived a.map home imp) a.local slot
     same (of_module at name) = record {
@@ -506,15 +509,16 @@ other_scope_agrees map local bound home change above (of_module at name) there =
 other_scope_agrees map local bound home change above (of_preludes name) there = record { crates = refl; macro_uses = refl }
 
 -- a module that is made, and begins with the macros in textual scope around it
-pub noted_module : (a b : Run) (home : ℕ) (name : List ℕ) (origin : ModuleOrigin) (visibility : Visibility) (parent : Option ModuleId)
+pub noted_module : (a b : Run) (home : ℕ) (name : List ℕ) (origin : ModuleOrigin) (visibility : Visibility) (parent : Option ModuleId) → parent ≡ Some (numbered a.map.id home) → home < length a.map.modules
     → b.map ≡ begun a.map home name (new_module origin visibility parent) → b.local ≡ a.local → b.changed ≡ a.changed → KeepsImports a b → IsNoted a b
-noted_module a b home name origin visibility parent map local changed stay =
+noted_module a b home name origin visibility parent inside low map local changed stay =
     let made : Map = with_module a.map home name (new_module origin visibility parent) in
     let count : ℕ = length a.map.modules in
     let changes : ChangesOnly a.map a.local made a.local None = changes-made a.map a.local home name origin visibility parent in
     let change : ScopeValue → ScopeValue = λ s. record s { legacy_macros = textual_at made home } in
     noted_around a b local changed stay (begun a.map home name (new_module origin visibility parent)) map refl
     (around_later a.map made (with_scope made count change) (modules_around a.map home name origin visibility parent) (scopes_around made count change (λ s other. refl) (λ s id. refl)))
+    (λ h. in_order_scope made (in_order_made a.map home name (new_module origin visibility parent) inside low h) count change)
     (λ slot there.
     agree_later a.map made (with_scope made count change) a.local a.local a.local slot (changes.others slot (λ e. absurd cc)) (other_scope_agrees made a.local count count change (omega arith) slot there))
 
@@ -522,7 +526,7 @@ noted_module a b home name origin visibility parent map local changed stay =
 module _ (a b : Run) (local : b.local ≡ a.local) (changed : b.changed ≡ a.changed) (stay : KeepsImports a b) where
   -- a diagnostic
   pub noted_told : (d : DefDiagnostic) → b.map ≡ with_diagnostic a.map d → IsNoted a b
-  noted_told d map = noted_around a b local changed stay (with_diagnostic a.map d) map refl (record { grows = around; modules = omega arith; entries = λ at name. refl; traits = λ at id. refl }) (λ slot there. same slot)
+  noted_told d map = noted_around a b local changed stay (with_diagnostic a.map d) map refl (record { grows = around; modules = omega arith; entries = λ at name. refl; traits = λ at id. refl }) (λ h. h) (λ slot there. same slot)
     where
       around : Grows a.map (with_diagnostic a.map d)
       around = record { id = refl; holder = refl; crate_data = refl; prelude = refl; parents = λ at m e. ap parent_of e; enums = λ id variants e. e }
@@ -534,7 +538,7 @@ module _ (a b : Run) (local : b.local ≡ a.local) (changed : b.changed ≡ a.ch
   -- the macro that an item defines
   pub noted_defined : (node : AstId) (makro : MacroId) → b.map ≡ with_macro_def a.map node makro → IsNoted a b
   noted_defined node makro map =
-      noted_around a b local changed stay (with_macro_def a.map node makro) map refl (record { grows = around; modules = omega arith; entries = λ at name. refl; traits = λ at id. refl }) (λ slot there. same slot)
+      noted_around a b local changed stay (with_macro_def a.map node makro) map refl (record { grows = around; modules = omega arith; entries = λ at name. refl; traits = λ at id. refl }) (λ h. h) (λ slot there. same slot)
     where
       around : Grows a.map (with_macro_def a.map node makro)
       around = record { id = refl; holder = refl; crate_data = refl; prelude = refl; parents = λ at m e. ap parent_of e; enums = λ id variants e. e }
@@ -546,7 +550,7 @@ module _ (a b : Run) (local : b.local ≡ a.local) (changed : b.changed ≡ a.ch
   -- the variants of an enum that had none
   noted_enum : (id : EnumId) (variants : Variants) → variants_at a.map id ≡ None → b.map ≡ with_enum a.map id variants → IsNoted a b
   noted_enum id variants fresh map =
-      noted_around a b local changed stay (with_enum a.map id variants) map refl (enums_around a.map id variants (λ before e. absurd (let no : ⊥ = cc in no))) (λ slot there. same slot)
+      noted_around a b local changed stay (with_enum a.map id variants) map refl (enums_around a.map id variants (λ before e. absurd (let no : ⊥ = cc in no))) (λ h. h) (λ slot there. same slot)
     where
       same : (slot : PathSlot) → AgreeAt a.map a.local (with_enum a.map id variants) a.local slot
       same (of_module at name) = record { entries = refl; legacy = refl }
@@ -555,7 +559,7 @@ module _ (a b : Run) (local : b.local ≡ a.local) (changed : b.changed ≡ a.ch
   -- what is kept of a macro
   pub noted_described : (makro : MacroId) (what : MacroDataValue) → b.map ≡ with_macro_data a.map makro what → IsNoted a b
   noted_described makro what map =
-      noted_around a b local changed stay (with_macro_data a.map makro what) map refl (record { grows = around; modules = omega arith; entries = λ at name. refl; traits = λ at id. refl }) (λ slot there. same slot)
+      noted_around a b local changed stay (with_macro_data a.map makro what) map refl (record { grows = around; modules = omega arith; entries = λ at name. refl; traits = λ at id. refl }) (λ h. h) (λ slot there. same slot)
     where
       around : Grows a.map (with_macro_data a.map makro what)
       around = record { id = refl; holder = refl; crate_data = refl; prelude = refl; parents = λ at m e. ap parent_of e; enums = λ id variants e. e }
@@ -567,7 +571,7 @@ module _ (a b : Run) (local : b.local ≡ a.local) (changed : b.changed ≡ a.ch
   -- a function that exports a macro
   pub noted_exported : (function : FunctionId) (makro : ProcMacroId) → b.map ≡ with_exported a.map function makro → IsNoted a b
   noted_exported function makro map =
-      noted_around a b local changed stay (with_exported a.map function makro) map refl (record { grows = around; modules = omega arith; entries = λ at name. refl; traits = λ at id. refl }) (λ slot there. same slot)
+      noted_around a b local changed stay (with_exported a.map function makro) map refl (record { grows = around; modules = omega arith; entries = λ at name. refl; traits = λ at id. refl }) (λ h. h) (λ slot there. same slot)
     where
       around : Grows a.map (with_exported a.map function makro)
       around = record { id = refl; holder = refl; crate_data = refl; prelude = refl; parents = λ at m e. ap parent_of e; enums = λ id variants e. e }

@@ -1,26 +1,27 @@
 -- What has changed since imports rested is gathered.
-use Rattle.std.proofs.Common.{Result, Err, ◌≡◌, ◌⊎◌, inl, inr, ◌∙◌, ap, sym, refl, subst, ℕ, ◌<◌, ◌≤◌, Bool, true, false, List, [], ◌++◌, length, slice_get, Contains, Some, cond, append-nil, arith}
+use Rattle.std.proofs.Common.{Result, Err, ◌≡◌, ◌⊎◌, inl, inr, ◌∙◌, ap, sym, refl, subst, ℕ, ◌<◌, Bool, true, false, List, [], ◌++◌, length, slice_get, Contains, Some, cond, append-nil, arith}
 use Rattle.std.proofs.lemmas.List.Elements.{Contains-append_cases, Contains-append_left, Contains-append_right}
 use Rattle.hir_base.specs.declared.ids.MapId.{MapId}
 use Rattle.hir_def_map.specs.Overlay.{Maps}
-use Rattle.hir_def_map.specs.State.{Local, Map}
+use Rattle.hir_def_map.specs.State.{Local}
 use Rattle.hir_def_map.specs.declared.nameres.path_resolution.slots.Slot.{Slot as PathSlot}
-use Rattle.hir_def_map.specs.declared.nameres.path_resolution.slots.Slot.TheVariants.{Module as of_module}
 use Rattle.hir_import_resolution.specs.Inner.State.{IsApart}
-use Rattle.hir_import_resolution.specs.Rounds.{Grew, IsResumable, IsUpToDate as AreUpToDate, is_apart, is_lasting}
+use Rattle.hir_import_resolution.specs.Rounds.{GlobsLast, Grew, HaveGlobs, IsResumable, IsUpToDate as AreUpToDate, is_apart, is_lasting}
+use Rattle.hir_import_resolution.specs.Rest.{BroughtStands}
 use Rattle.hir_import_resolution.specs.State.{ImportState}
+use Rattle.hir_import_resolution.proofs.GlobsLasting.{globs_at_rest}
 use Rattle.hir_import_resolution.specs.declared.import_queue.ImportQueue.{ImportQueue}
 use Rattle.hir_call_queue.specs.Changes.{ChangedValue, IsUntouched, everything, joined, nothing, with_slots}
 use Rattle.hir_def_collector.specs.State.{Core, Run, at_rest, core_in, counted, import_state, with_settled}
-use Rattle.hir_def_collector.specs.Waiting.{IsBehind, IsGathered, IsNoted, IsOutgrown, KeepsModules, LeavesImports, NotesSlots}
+use Rattle.hir_def_collector.specs.Waiting.{IsBehind, IsGathered, IsNotedBeside, IsOutgrown, KeepsModules, LeavesImports, NotesSlots}
 use Rattle.hir_def_collector.proofs.CallReads.{agree_itself, agree_later}
 use Rattle.hir_def_collector.proofs.Lists.{get_inside, get_there}
-use Rattle.hir_def_collector.proofs.Noted.{around_itself, grown_kept, modules_kept_later, there_later}
+use Rattle.hir_def_collector.proofs.Noted.{around_itself, grown_kept, have_globs, modules_kept_later, there_later}
 
 -- ---- slots of two
 
 module _ (g c : ChangedValue) where
-  -- where not any slot may have changed, not any may of either
+  -- if not all slots count as changed of both together, they do of neither
   joined_some : (joined g c).all ≡ false → (c.all ≡ false) × (g.all ≡ false)
   joined_some e = of_second c.all refl e
     where
@@ -71,23 +72,19 @@ module _ (before : ImportState) (a b : Run) (old new : List PathSlot) (grew : Gr
         others = λ slot absent there.
             agree_later before.map a.map b.map before.local a.local b.local slot (grew.others slot (unread slot absent) there)
             (slots.others slot (untouched slot absent) (there_later (length before.map.modules) (length a.map.modules) grew.modules slot there));
-        entries = λ at name absent. left.entries at name (untouched (of_module at name) absent) ∙ grew.entries at name (unread (of_module at name) absent);
-        traits = λ at id. left.traits at id ∙ grew.traits at id;
-        edges = left.edges ∙ grew.edges;
-        brought = λ s absent. left.brought s (λ name is. untouched (of_module s.at name) (absent name is)) ∙ grew.brought s (λ name is. unread (of_module s.at name) (absent name is));
         imports = λ i low. left.reached i (inside_later before.imports a.reached i low (grew.imports i low)) ∙ grew.imports i low;
         taken = λ i low. left.taken i (inside_later before.taken a.taken i (omega (arith, low, paired)) (grew.taken i low)) ∙ grew.taken i low;
       }
 
 -- what is gathered stays all that has changed, as long as the rest is noted
-module _ (finished : Maps) (queue : ImportQueue) (g : ChangedValue) (a b : Run) (noted : IsNoted a b) where
-  outgrown_on : IsOutgrown finished queue (import_state (at_rest (core_in a))) (joined g a.changed).slots → b.changed.all ≡ false → g.all ≡ false
-      → IsOutgrown finished queue (import_state (at_rest (core_in b))) (joined g b.changed).slots
+module _ (finished : Maps) (queue : ImportQueue) (g : ChangedValue) (a b : Run) (noted : IsNotedBeside finished a b) where
+  outgrown_on : IsOutgrown finished queue a (joined g a.changed).slots → b.changed.all ≡ false → g.all ≡ false → IsOutgrown finished queue b (joined g b.changed).slots
   outgrown_on old some first = record {
     before = old.before;
     up_to_date = old.up_to_date;
     paired = old.paired;
     grew = grew_on old.before a b (joined g a.changed).slots (joined g b.changed).slots old.grew old.paired noted.slots (noted.imports some) some untouched unread;
+    globs = noted.globs some old.globs;
   }
     where
       untouched : (slot : PathSlot) → ¬ Contains (joined g b.changed).slots slot → IsUntouched b.changed slot
@@ -104,63 +101,86 @@ module _ (finished : Maps) (queue : ImportQueue) (g : ChangedValue) (a b : Run) 
               absent (subst (λ (xs : List PathSlot). Contains xs slot) (sym (joined_slots g b.changed some first)) (Contains-append_left g.slots b.changed.slots slot gathered))
           go (inr later) = (noted.slots.noted slot (untouched slot absent)).other later
 
-  pub behind_later : IsBehind finished queue (joined g a.changed) (core_in a) → IsBehind finished queue (joined g b.changed) (core_in b)
+  pub behind_later : IsBehind finished queue (joined g a.changed) a → IsBehind finished queue (joined g b.changed) b
   behind_later behind lasting all =
       let each = joined_some g b.changed all in
       let before : (joined g a.changed).all ≡ false = ap (λ (x : ChangedValue). x.all) (joined_is g a.changed (noted.slots.some each.0) each.1) ∙ each.1 in
       outgrown_on (behind lasting before) each.0 each.1
 
+-- a run that has the same core and globs
+same_outgrown : (finished : Maps) (queue : ImportQueue) (a b : Run) (slots : List PathSlot) → core_in b ≡ core_in a → b.globs ≡ a.globs → IsOutgrown finished queue a slots → IsOutgrown finished queue b slots
+same_outgrown finished queue a b slots same globs old = record {
+  before = old.before;
+  up_to_date = old.up_to_date;
+  paired = old.paired;
+  grew = subst (λ (c : Core). Grew old.before (import_state (at_rest c)) slots) (sym same) old.grew;
+  globs =
+      subst (λ (c : Core). GlobsLast finished (import_state (at_rest c)) b.globs) (sym same)
+      (subst (GlobsLast finished (import_state (at_rest (core_in a)))) (sym globs) old.globs);
+}
+
 -- what was noted is gathered, and then nothing is noted
-pub behind_gathered : (finished : Maps) (queue : ImportQueue) (g h : ChangedValue) (a b : Run) → h ≡ joined g a.changed → core_in b ≡ core_in a → b.changed ≡ nothing
-    → IsBehind finished queue (joined g a.changed) (core_in a) → IsBehind finished queue (joined h b.changed) (core_in b)
-behind_gathered finished queue g h a b gathered same none behind =
+pub behind_gathered : (finished : Maps) (queue : ImportQueue) (g h : ChangedValue) (a b : Run) → h ≡ joined g a.changed → core_in b ≡ core_in a → b.globs ≡ a.globs → b.changed ≡ nothing
+    → IsBehind finished queue (joined g a.changed) a → IsBehind finished queue (joined h b.changed) b
+behind_gathered finished queue g h a b gathered same globs none behind =
     let is : joined h b.changed ≡ joined g a.changed = ap (joined h) none ∙ joined_nothing h ∙ gathered in
-    subst (λ (x : ChangedValue). IsBehind finished queue x (core_in b)) (sym is) (subst (IsBehind finished queue (joined g a.changed)) (sym same) behind)
+    subst (λ (x : ChangedValue). IsBehind finished queue x b) (sym is) (λ lasting some. same_outgrown finished queue a b (joined g a.changed).slots same globs (behind lasting some))
 
 -- where imports rest nothing has changed since, and a step that lets calls be expanded changes nothing
-pub behind_settled : (finished : Maps) (queue : ImportQueue) (changed : ChangedValue) (c d : Core) → AreUpToDate finished queue (import_state (at_rest c)) → d ≡ counted (with_settled c) → length d.taken ≡ length d.reached
-    → IsBehind finished queue changed d
-behind_settled finished queue changed c d up is paired lasting all = record {
+pub behind_settled : (finished : Maps) (queue : ImportQueue) (changed : ChangedValue) (c d : Core) (now : Run) → AreUpToDate finished queue (import_state (at_rest c)) → BroughtStands finished (import_state (at_rest c))
+    → d ≡ counted (with_settled c) → core_in now ≡ d → length d.taken ≡ length d.reached → IsBehind finished queue changed now
+behind_settled finished queue changed c d now up stand is same paired lasting all = record {
   before = import_state (at_rest c);
   up_to_date = up;
   paired = ap (λ (x : Core). length x.taken) (sym is) ∙ paired ∙ ap (λ (x : Core). length x.reached) is;
-  grew = subst (λ (x : Core). Grew (import_state (at_rest c)) (import_state (at_rest x)) changed.slots) (sym is) (record {
+  grew = subst (λ (x : Core). Grew (import_state (at_rest c)) (import_state (at_rest x)) changed.slots) (sym there) (record {
     grows = (around_itself c.map).grows;
     modules = omega arith;
     others = λ slot absent there. agree_itself c.map c.local slot;
-    entries = λ at name absent. refl;
-    traits = λ at id. refl;
-    edges = refl;
-    brought = λ s absent. refl;
     imports = λ i low. refl;
     taken = λ i low. refl;
   });
+  globs = subst (λ (x : Core). GlobsLast finished (import_state (at_rest x)) now.globs) (sym there) globs;
 }
+  where
+    there : core_in now ≡ counted (with_settled c)
+    there = same ∙ is
+
+    have : HaveGlobs (import_state (at_rest c)) now.globs
+    have =
+        let same : HaveGlobs (import_state (at_rest (counted (with_settled c)))) now.globs = subst (λ (x : Core). HaveGlobs (import_state (at_rest x)) now.globs) there (have_globs now) in
+        record { edges = same.edges; brought = same.brought }
+
+    -- another count and other calls are nothing to globs
+    rested : GlobsLast finished (import_state (at_rest c)) now.globs
+    rested = globs_at_rest finished queue (import_state (at_rest c)) now.globs up lasting stand have
+
+    globs : GlobsLast finished (import_state (at_rest (counted (with_settled c)))) now.globs
+    globs = record { kept = rested.kept; lasts = record { of_crate = rested.lasts.of_crate; ordered = rested.lasts.ordered; placed = rested.lasts.placed; enums = rested.lasts.enums } }
 
 -- imports that lie apart may be resumed
-pub resumable_behind : (finished : Maps) (queue : ImportQueue) (changed : ChangedValue) (c : Core) (apart : Bool) → (is_lasting queue ≡ true → is_apart queue ≡ apart)
-    → (apart ≡ true → (local : Local) → IsApart finished c.map.id local) → IsBehind finished queue changed c → is_lasting queue ≡ true → changed.all ≡ false
-    → IsResumable finished queue (import_state (at_rest c)) changed.slots
-resumable_behind finished queue changed c apart same lies behind lasting some =
-    let old : IsOutgrown finished queue (import_state (at_rest c)) changed.slots = behind lasting some in
+pub resumable_behind : (finished : Maps) (queue : ImportQueue) (changed : ChangedValue) (now : Run) (apart : Bool) → (is_lasting queue ≡ true → is_apart queue ≡ apart)
+    → (apart ≡ true → (local : Local) → IsApart finished (core_in now).map.id local) → IsBehind finished queue changed now → is_lasting queue ≡ true → changed.all ≡ false
+    → IsResumable finished queue (import_state (at_rest (core_in now))) changed.slots
+resumable_behind finished queue changed now apart same lies behind lasting some =
+    let old : IsOutgrown finished queue now changed.slots = behind lasting some in
     let yes : is_apart queue ≡ true → apart ≡ true = λ e. sym (same lasting) ∙ e in
     record {
       before = old.before;
       up_to_date = old.up_to_date;
       grew = old.grew;
       apart = λ e. subst (λ (own : MapId). IsApart finished own old.before.local) old.grew.grows.id (lies (yes e) old.before.local);
-      apart_now = λ e. lies (yes e) c.local;
+      apart_now = λ e. lies (yes e) (core_in now).local;
     }
 
 -- where nothing lasts, nothing is asked
-pub behind_first : (finished : Maps) (queue : ImportQueue) (changed : ChangedValue) (c : Core) → is_lasting queue ≡ false → IsBehind finished queue changed c
-behind_first finished queue changed c none lasting all = absurd (let no : ⊥ = cc in no)
+pub behind_first : (finished : Maps) (queue : ImportQueue) (changed : ChangedValue) (now : Run) → is_lasting queue ≡ false → IsBehind finished queue changed now
+behind_first finished queue changed now none lasting all = absurd (let no : ⊥ = cc in no)
 
 -- where imports rested, calls were queued and tried, and what has changed was gathered
-pub behind_tried : (finished : Maps) (queue : ImportQueue) (g h : ChangedValue) (rested : Core) (requeued tried : Run) → core_in requeued ≡ rested → ((changed : ChangedValue) → IsBehind finished queue changed rested)
-    → IsGathered g requeued h tried → IsBehind finished queue (joined h tried.changed) (core_in tried)
-behind_tried finished queue g h rested requeued tried same behind gathered =
-    gathered finished queue (subst (IsBehind finished queue (joined g requeued.changed)) (sym same) (behind (joined g requeued.changed)))
+pub behind_tried : (finished : Maps) (queue : ImportQueue) (g h : ChangedValue) (rested : Core) (requeued tried : Run) → core_in requeued ≡ rested
+    → ((changed : ChangedValue) (now : Run) → core_in now ≡ rested → IsBehind finished queue changed now) → IsGathered finished g requeued h tried → IsBehind finished queue (joined h tried.changed) tried
+behind_tried finished queue g h rested requeued tried same behind gathered = gathered queue (behind (joined g requeued.changed) requeued same)
 
 -- ---- what a run fails with
 

@@ -1,22 +1,20 @@
 -- Names that go along globs while items are walked are noted.
-use Rattle.std.proofs.Common.{◌≡◌, ◌≢◌, ◌⊎◌, inl, inr, ◌∙◌, ap, sym, refl, subst, ℕ, zero, Bool, true, false, List, [], ◌∷◌, ◌++◌, length, Option, None, Some, Contains, cond, slice_get, arith}
+use Rattle.std.proofs.Common.{◌≡◌, ◌⊎◌, inl, inr, ◌∙◌, ap, sym, refl, subst, ℕ, Bool, true, false, List, [], ◌∷◌, ◌++◌, length, Option, None, Some, Contains, cond, slice_get, arith}
 use Rattle.std.proofs.lemmas.List.Elements.{Contains-append_cases, Contains-append_left, Contains-append_right, Contains-push_cases}
 use Rattle.std.specs.Option.{option_and_then}
 use Rattle.std.specs.Prelude.{Result, Ok, Err, IfOk, IsOkAnd, OnOk}
 use Rattle.hir_base.specs.declared.ids.ModuleId.{ModuleId}
-use Rattle.hir_base.specs.declared.ids.TraitId.{TraitId}
 use Rattle.hir_scope.specs.declared.imports.GlobId.{GlobId}
 use Rattle.hir_scope.specs.declared.visibility.Visibility.{Visibility}
 use Rattle.hir_def_map.proofs.WellFormed.{parent_listed}
 use Rattle.hir_def_map.specs.Overlay.{Maps}
-use Rattle.hir_def_map.specs.State.{Map, ModuleValue, entry_at, module_at, parent_at, parent_of}
+use Rattle.hir_def_map.specs.State.{Map, ModuleValue, parent_at, parent_of}
 use Rattle.hir_def_map.specs.declared.nameres.path_resolution.slots.Slot.{Slot as PathSlot}
 use Rattle.hir_def_map.specs.declared.nameres.path_resolution.slots.Slot.TheVariants.{Module as of_module}
 use Rattle.hir_def_map_laws.specs.ReadLaw.{AgreeAt, DiffersInScopes}
 use Rattle.hir_def_map_laws.specs.SlotChanges.{ScopesChangeAmong}
-use Rattle.hir_glob_imports.specs.Keys.{name_of, slot_at}
+use Rattle.hir_glob_imports.specs.Keys.{name_of}
 use Rattle.hir_glob_imports.specs.Rules.{brings, copies, follows, raises}
-use Rattle.hir_glob_imports.specs.Waves.{brought_of}
 use Rattle.hir_glob_imports.specs.declared.edge.Bound.{Bound}
 use Rattle.hir_glob_imports.specs.declared.edge.Key.{Key}
 use Rattle.hir_glob_imports.specs.declared.edge.Key.TheVariants.{Types, Values, Macros, Unnamed}
@@ -25,13 +23,13 @@ use Rattle.hir_glob_imports.specs.declared.edge.Target.{Target}
 use Rattle.hir_import_resolution.specs.Changes.{Change as ImportChange, act, along, keeps_trait, perform, pushes, records, takes}
 use Rattle.hir_import_resolution.specs.Directives.{TakenValue}
 use Rattle.hir_import_resolution.specs.Inner.State.{path_slots, slots_named}
-use Rattle.hir_import_resolution.specs.Names.{ScopesValue, bound_of, copied, copied_to, copied_where, followed, followed_to, followed_where, trait_vis}
+use Rattle.hir_import_resolution.specs.Names.{ScopesValue, bound_of, copied, copied_to, copied_where, followed, followed_to, followed_where}
 use Rattle.hir_import_resolution.specs.Rules.{Step, Steps, acts, more, none}
 use Rattle.hir_import_resolution.specs.State.{ImportState, scopes_of}
 use Rattle.hir_import_resolution.specs.declared.directive.ImportDirective.{ImportDirective}
 use Rattle.hir_call_queue.specs.Changes.{ChangedValue, IsUntouched, with_slots}
 use Rattle.hir_def_collector.specs.State.{Run, at_rest, core_in, import_state}
-use Rattle.hir_def_collector.specs.Waiting.{IsNoted, KeepsModules, LeavesImports, NotesSlots, noted_along, noted_name}
+use Rattle.hir_def_collector.specs.Waiting.{IsNotedBeside, KeepsModules, LeavesGlobs, LeavesImports, NotesSlots, noted_along, noted_name}
 use Rattle.hir_def_collector.proofs.Lists.{length_mapped}
 use Rattle.hir_def_collector.proofs.Noted.{helped_alike, some_before, untouched_before, untouched_other}
 
@@ -111,33 +109,6 @@ along_apart (s ∷ ss) c slot e has = go (along_apart ss (noted_name s.at (name_
     go : ¬ Contains (path_slots ss) slot → Contains (slots_named s.at (name_of s.key)) slot ⊎ Contains (path_slots ss) slot → ⊥
     go apart (inl here) = named_apart s.at (name_of s.key) c slot (along_before ss (noted_name s.at (name_of s.key) c) slot e) here
     go apart (inr later) = apart later
-
--- a slot that has a name has the slot of the name
-named_slot : (slots : List GlobSlot) (s : GlobSlot) (name : List ℕ) → Contains slots s → name_of s.key ≡ Some name → Contains (path_slots slots) (of_module s.at name)
-named_slot [] s name has named = absurd (no_member s has)
-named_slot (t ∷ ts) s name has named = go (λ later. named_slot ts s name later named) (first_or_later t ts s has)
-  where
-    there : Contains (slots_named s.at (name_of s.key)) (of_module s.at name)
-    there = subst (λ (n : Option (List ℕ)). Contains (slots_named s.at n) (of_module s.at name)) (sym named) (zero, omega arith, refl)
-
-    go : (Contains ts s → Contains (path_slots ts) (of_module s.at name)) → (t ≡ s) ⊎ Contains ts s → Contains (slots_named t.at (name_of t.key) ++ path_slots ts) (of_module s.at name)
-    go among (inl same) =
-        Contains-append_left (slots_named t.at (name_of t.key)) (path_slots ts) (of_module s.at name)
-        (subst (λ (x : GlobSlot). Contains (slots_named x.at (name_of x.key)) (of_module s.at name)) (sym same) there)
-    go among (inr later) = Contains-append_right (slots_named t.at (name_of t.key)) (path_slots ts) (of_module s.at name) (among later)
-
--- where not any slot is noted, each has a name
-along_named : (slots : List GlobSlot) (c : ChangedValue) → (noted_along slots c).all ≡ false → (s : GlobSlot) → Contains slots s → name_of s.key ≢ None
-along_named [] c e s has unnamed = no_member s has
-along_named (t ∷ ts) c e s has unnamed = go (λ later. along_named ts (noted_name t.at (name_of t.key) c) e s later unnamed) (first_or_later t ts s has)
-  where
-    go : ¬ Contains ts s → (t ≡ s) ⊎ Contains ts s → ⊥
-    go among (inl same) =
-        let here : (noted_name t.at (name_of t.key) c).all ≡ false = along_some ts (noted_name t.at (name_of t.key) c) e in
-        let none : name_of t.key ≡ None = ap (λ (x : GlobSlot). name_of x.key) same ∙ unnamed in
-        let wrong : true ≡ false = subst (λ (n : Option (List ℕ)). (noted_name t.at n c).all ≡ false) none here in
-        absurd (let no : ⊥ = cc in no)
-    go among (inr later) = among later
 
 -- ---- modules are kept where scopes alone change
 
@@ -238,51 +209,29 @@ module _ (finished : Maps) (a b : Run) (slots : List PathSlot) (steps : Steps fi
       (λ slot e. untouched_before_each a.changed slots slot (subst (λ (c : ChangedValue). IsUntouched c slot) changed e))
       (λ slot e. untouched_apart a.changed slots slot (subst (λ (c : ChangedValue). IsUntouched c slot) changed e))
 
--- what globs leave in the slots that didn't change
-pub record SpreadsTo (a b : Run) (slots : List GlobSlot) : Type 0 where
-  pub edges : b.globs.edges ≡ a.globs.edges
-  pub brought : (s : GlobSlot) → ¬ Contains slots s → brought_of b.globs s ≡ brought_of a.globs s
-  pub traits : (at : ℕ) (id : TraitId) → ¬ Contains slots (slot_at at (Unnamed id)) → trait_vis (module_at b.map at) id ≡ trait_vis (module_at a.map at) id
-  pub reached : b.reached ≡ a.reached
-  pub taken : b.taken ≡ a.taken
-
 module _ (finished : Maps) (a b : Run) (slots : List GlobSlot) (steps : Steps finished (import_state (at_rest (core_in a))) (import_state (at_rest (core_in b))))
     (among : ScopesChangeAmong a.map b.map a.local (path_slots slots)) (local : b.local ≡ a.local) (changed : b.changed ≡ noted_along slots a.changed) where
   along_slot : (slot : PathSlot) → IsUntouched b.changed slot → IsUntouched (noted_along slots a.changed) slot
   along_slot slot e = subst (λ (c : ChangedValue). IsUntouched c slot) changed e
 
-  left_along : SpreadsTo a b slots → b.changed.all ≡ false → LeavesImports a b
-  left_along spread e = record {
+  left_along : b.reached ≡ a.reached → b.taken ≡ a.taken → LeavesImports a b
+  left_along reached taken = record {
     enums = λ id variants is. among.differs.enums id ∙ is;
-    entries = λ at name untouched. entries at name (among.others (of_module at name) (along_apart slots a.changed (of_module at name) (along_slot (of_module at name) untouched)));
-    traits = λ at id. spread.traits at id (λ has. along_named slots a.changed some (slot_at at (Unnamed id)) has refl);
-    edges = spread.edges;
-    brought = λ s untouched. spread.brought s (λ has. go s has untouched (name_of s.key) refl);
-    reached = λ i low. ap (λ (rs : List ImportDirective). slice_get rs i) spread.reached;
-    taken = λ i low. ap (λ (ts : List TakenValue). slice_get ts i) spread.taken;
-    longer = let same : length b.reached ≡ length a.reached = ap (λ (rs : List ImportDirective). length rs) spread.reached in omega (arith, same);
-    taken_longer = let same : length b.taken ≡ length a.taken = ap (λ (ts : List TakenValue). length ts) spread.taken in omega (arith, same);
+    reached = λ i low. ap (λ (rs : List ImportDirective). slice_get rs i) reached;
+    taken = λ i low. ap (λ (ts : List TakenValue). slice_get ts i) taken;
+    longer = let same : length b.reached ≡ length a.reached = ap (λ (rs : List ImportDirective). length rs) reached in omega (arith, same);
+    taken_longer = let same : length b.taken ≡ length a.taken = ap (λ (ts : List TakenValue). length ts) taken in omega (arith, same);
   }
-    where
-      some : (noted_along slots a.changed).all ≡ false
-      some = ap (λ (c : ChangedValue). c.all) (sym changed) ∙ e
 
-      entries : (at : ℕ) (name : List ℕ) → AgreeAt a.map a.local b.map a.local (of_module at name) → entry_at b.map at name ≡ entry_at a.map at name
-      entries at name agree = agree.entries
-
-      go : (s : GlobSlot) → Contains slots s → ((name : List ℕ) → name_of s.key ≡ Some name → IsUntouched b.changed (of_module s.at name)) → (o : Option (List ℕ)) → name_of s.key ≡ o → ⊥
-      go s has untouched None is = along_named slots a.changed some s has is
-      go s has untouched (Some name) is =
-          along_apart slots a.changed (of_module s.at name) (along_slot (of_module s.at name) (untouched name is)) (named_slot slots s name has is)
-
-  pub noted_spread : SpreadsTo a b slots → IsNoted a b
-  noted_spread spread = record {
+  pub noted_spread : b.reached ≡ a.reached → b.taken ≡ a.taken → LeavesGlobs finished a b → IsNotedBeside finished a b
+  noted_spread reached taken globs = record {
     slots =
         slots_among finished a b (path_slots slots) steps among local
         (λ e. along_some slots a.changed (ap (λ (c : ChangedValue). c.all) (sym changed) ∙ e))
         (λ slot e. along_before slots a.changed slot (along_slot slot e))
         (λ slot e. along_apart slots a.changed slot (along_slot slot e));
-    imports = λ e. left_along spread e;
+    imports = λ e. left_along reached taken;
+    globs = λ e. globs;
   }
 
 -- ---- where two calls succeed

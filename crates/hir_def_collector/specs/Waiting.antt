@@ -1,25 +1,22 @@
--- Which calls wait, and when is it in vain to try them?
+-- Which calls and imports wait, and when is it in vain to try them?
 use Rattle.std.specs.Prelude.{◌≡◌, ◌≢◌, ℕ, ◌<◌, ◌≤◌, Bool, true, false, [], ◌∷◌, List, Option, None, Some, length, option_map, slice_get, unwrap_or}
 use Rattle.std.specs.List.{All}
 use Rattle.hir_base.specs.declared.ast_id.AstId.{AstId}
 use Rattle.hir_base.specs.declared.ids.EnumId.{EnumId}
-use Rattle.hir_base.specs.declared.ids.TraitId.{TraitId}
 use Rattle.hir_def_map.specs.Macros.{helpers_at}
 use Rattle.hir_def_map.specs.Overlay.{Maps}
 use Rattle.hir_def_map.specs.Scoping.Slots.{reads}
-use Rattle.hir_def_map.specs.State.{IsInOrder, Local, Map, ModuleValue, Variants, entry_at, module_at, numbered, parent_at, variants_at}
+use Rattle.hir_def_map.specs.State.{IsInOrder, Local, Map, ModuleValue, Variants, module_at, numbered, parent_at, variants_at}
 use Rattle.hir_def_map.specs.declared.nameres.path_resolution.slots.Slot.{Slot as PathSlot}
-use Rattle.hir_def_map.specs.declared.nameres.path_resolution.slots.Slot.TheVariants.{Module as of_module, Preludes as of_preludes}
+use Rattle.hir_def_map.specs.declared.nameres.path_resolution.slots.Slot.TheVariants.{Preludes as of_preludes}
 use Rattle.hir_def_map_laws.specs.ReadLaw.{AgreeAt}
 use Rattle.hir_glob_imports.specs.Keys.{name_of}
-use Rattle.hir_glob_imports.specs.Waves.{brought_of}
 use Rattle.hir_glob_imports.specs.declared.edge.Slot.{Slot as GlobSlot}
 use Rattle.hir_worklist.specs.Queue.{IsIdle, count_of, is_unfinished}
 use Rattle.hir_worklist.specs.Settling.{AreWatched}
 use Rattle.hir_import_resolution.specs.Inner.Queue.{slot_cmp}
 use Rattle.hir_import_resolution.specs.Inner.State.{IsApart}
-use Rattle.hir_import_resolution.specs.Names.{trait_vis}
-use Rattle.hir_import_resolution.specs.Rounds.{Grew, IsUpToDate as AreUpToDate, is_lasting}
+use Rattle.hir_import_resolution.specs.Rounds.{GlobsLast, Grew, IsUpToDate as AreUpToDate, is_lasting}
 use Rattle.hir_import_resolution.specs.State.{ImportState}
 use Rattle.hir_import_resolution.specs.declared.import_queue.ImportQueue.{ImportQueue}
 use Rattle.hir_call_queue.specs.Changes.{ChangedValue, IsThere, IsUntouched, everything, joined, with_slot}
@@ -64,22 +61,29 @@ pub record NotesSlots (old new : Run) : Type 0 where
   pub others : (slot : PathSlot) → IsUntouched new.changed slot → IsThere (length old.map.modules) slot → AgreeAt old.map old.local new.map new.local slot
   pub helpers : (node : AstId) (name : List ℕ) → IsUntouched new.changed (of_preludes name) → is_helped new.map node name ≡ is_helped old.map node name
 
--- imports and globs stand where they stood: enums keep their variants; but at noted slots names stand for what they stood for, and what globs brought stays; so do traits without names; no glob was recorded, and imports come behind the others
+-- enums keep their variants, and the imports that there were stand where they stood; others come behind them
 pub record LeavesImports (old new : Run) : Type 0 where
   pub enums : (id : EnumId) (variants : Variants) → variants_at old.map id ≡ Some variants → variants_at new.map id ≡ Some variants
-  pub entries : (at : ℕ) (name : List ℕ) → IsUntouched new.changed (of_module at name) → entry_at new.map at name ≡ entry_at old.map at name
-  pub traits : (at : ℕ) (id : TraitId) → trait_vis (module_at new.map at) id ≡ trait_vis (module_at old.map at) id
-  pub edges : new.globs.edges ≡ old.globs.edges
-  pub brought : (s : GlobSlot) → ((name : List ℕ) → name_of s.key ≡ Some name → IsUntouched new.changed (of_module s.at name)) → brought_of new.globs s ≡ brought_of old.globs s
   pub reached : (i : ℕ) → i < length old.reached → slice_get new.reached i ≡ slice_get old.reached i
   pub taken : (i : ℕ) → i < length old.taken → slice_get new.taken i ≡ slice_get old.taken i
   pub longer : length old.reached ≤ length new.reached
   pub taken_longer : length old.taken ≤ length new.taken
 
--- what has changed of a run is noted, and where not any slot may have changed, imports and globs stand where they stood
+-- what is known of globs beside finished maps stays true
+abbrev pub LeavesGlobs : Maps → Run → Run → Type 0
+LeavesGlobs finished old new = GlobsLast finished (import_state (at_rest (core_in old))) old.globs → GlobsLast finished (import_state (at_rest (core_in new))) new.globs
+
+-- what has changed of a run is noted, and unless all slots count as changed, imports and globs stand where they stood
 pub record IsNoted (old new : Run) : Type 0 where
   pub slots : NotesSlots old new
   pub imports : new.changed.all ≡ false → LeavesImports old new
+  pub globs : new.changed.all ≡ false → (finished : Maps) → LeavesGlobs finished old new
+
+-- the same beside finished maps, which say how names go along globs
+pub record IsNotedBeside (finished : Maps) (old new : Run) : Type 0 where
+  pub slots : NotesSlots old new
+  pub imports : new.changed.all ≡ false → LeavesImports old new
+  pub globs : new.changed.all ≡ false → LeavesGlobs finished old new
 
 -- ---- what waits
 
@@ -134,17 +138,18 @@ LiesApart finished q c = is_apart q ≡ true → (local : Local) → IsApart fin
 
 -- ---- imports that rested
 
--- imports were up to date with where they stood once, and what has changed since differs in these slots alone
-pub record IsOutgrown (finished : Maps) (queue : ImportQueue) (now : ImportState) (slots : List PathSlot) : Type 0 where
+-- imports were up to date with where they stood once, and what has changed since differs in these slots alone; what is known of globs holds
+pub record IsOutgrown (finished : Maps) (queue : ImportQueue) (now : Run) (slots : List PathSlot) : Type 0 where
   pub before : ImportState
   pub up_to_date : AreUpToDate finished queue before
   pub paired : length before.taken ≡ length before.imports
-  pub grew : Grew before now slots
+  pub grew : Grew before (import_state (at_rest (core_in now))) slots
+  pub globs : GlobsLast finished (import_state (at_rest (core_in now))) now.globs
 
--- imports of which what was found out lasts were so, where not any slot may have changed
-abbrev pub IsBehind : Maps → ImportQueue → ChangedValue → Core → Type 0
-IsBehind finished queue changed now = is_lasting queue ≡ true → changed.all ≡ false → IsOutgrown finished queue (import_state (at_rest now)) changed.slots
+-- imports of which what was found out lasts were so, unless all slots count as changed
+abbrev pub IsBehind : Maps → ImportQueue → ChangedValue → Run → Type 0
+IsBehind finished queue changed now = is_lasting queue ≡ true → changed.all ≡ false → IsOutgrown finished queue now changed.slots
 
--- what changes of a run is gathered, or noted by it: whatever imports rested, it is all that has changed since if it was
-abbrev pub IsGathered : ChangedValue → Run → ChangedValue → Run → Type 0
-IsGathered before old after new = (finished : Maps) (queue : ImportQueue) → IsBehind finished queue (joined before old.changed) (core_in old) → IsBehind finished queue (joined after new.changed) (core_in new)
+-- if the slots that were gathered and noted before held all that has changed since imports rested, those that are gathered and noted now do
+abbrev pub IsGathered : Maps → ChangedValue → Run → ChangedValue → Run → Type 0
+IsGathered finished before old after new = (queue : ImportQueue) → IsBehind finished queue (joined before old.changed) old → IsBehind finished queue (joined after new.changed) new

@@ -10,7 +10,6 @@ use Rattle.hir_glob_imports.specs.declared.edge.Bound.{Bound}
 use Rattle.hir_glob_imports.specs.declared.edge.Edge.{Edge}
 use Rattle.hir_glob_imports.specs.declared.edge.Key.{Key}
 use Rattle.hir_glob_imports.specs.declared.edge.Slot.{Slot}
-use Rattle.hir_glob_imports.specs.declared.edge.Target.TheVariants.{Own}
 use Rattle.hir_glob_imports.specs.declared.edge.Update.TheVariants.{Nothing}
 use Rattle.hir_glob_imports.specs.declared.index.EdgesByModule.{EdgesByModule}
 use Rattle.hir_glob_imports.specs.Inner.{IsIndexed, Spreads, edges_at, pair}
@@ -154,7 +153,7 @@ module _ (s : Slot) (g m h : GlobsValue)
 
           at_slot : update_in w (brought_of h) j e s ≡ Nothing
           at_slot = ap (update_of w j e s.key (shown w e s.key) (bound_in w s)) none_here
-              ∙ settled_explicit w j e s.key (shown w e s.key) (bound_in w s) u (explicit.bound u)
+              ∙ settled_explicit w j e s.key (shown w e s.key) (bound_in w s) u (explicit.bound u (ap v.has (sym to) ∙ kept.there j e is))
 
 module _ {T E : Type 0} where
   -- what `changed` ensures, by what its calls do
@@ -177,20 +176,3 @@ module _ {T E : Type 0} where
 
       forgets_g : (q : Slot) → brought_of m q ≡ with_brought (brought_of g) s None q
       forgets_g q = forgets q ∙ ap (λ (y : GlobsValue). with_brought (brought_of y) s None q) view
-
-  -- what `look_again` ensures
-  pub look_again_answer : (r : Result T E) (s : Slot) (g h : GlobsValue) → OnOk r (Spreads s true g h)
-      → record {
-        edges : OnOk r (h.edges ≡ g.edges);
-        brought : OnOk r (h.brought ≡ g.brought);
-        kept : OnOk r ((j : ℕ) (key : Key) → Contains g.pending (j, key) → Contains h.pending (j, key));
-        out : OnOk r ((j : ℕ) (e : Edge) → slice_get g.edges j ≡ Some e → e.source ≡ Own s.at → Contains h.pending (j, s.key));
-        inward : OnOk r ((j : ℕ) (e : Edge) → slice_get g.edges j ≡ Some e → e.importer ≡ s.at → Contains h.pending (j, s.key));
-      }
-  look_again_answer r s g h spreads = record {
-    edges = on_ok_weaker r (λ (x : Spreads s true g h). x.edges) spreads;
-    brought = on_ok_weaker r (λ (x : Spreads s true g h). x.brought) spreads;
-    kept = on_ok_weaker r (λ (x : Spreads s true g h). x.kept) spreads;
-    out = on_ok_weaker r (λ (x : Spreads s true g h). x.out) spreads;
-    inward = on_ok_weaker r (λ (x : Spreads s true g h). x.inward refl) spreads;
-  }

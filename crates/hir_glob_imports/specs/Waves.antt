@@ -61,10 +61,10 @@ pub record IsKept (v : View) (g : GlobsValue) : Type 0 where
   -- what is said to be brought is there
   pub stands : (s : Slot) (by : Brought) → brought_of g s ≡ Some by → Stands v s by
 
--- a slot is bound explicitly, or there is a trait without a name, and nothing else changes
+-- a slot is bound explicitly where its module is there, or there is a trait without a name, and nothing else changes
 pub record IsExplicit (s : Slot) (old new : View) : Type 0 where
   pub changes : ChangesOnly s old new
-  pub bound : is_unnamed s.key ≡ false → IsSome (bound_in new s)
+  pub bound : is_unnamed s.key ≡ false → old.has s.at ≡ true → IsSome (bound_in new s)
 
 -- ---- what holds of an edge at a key that is settled
 

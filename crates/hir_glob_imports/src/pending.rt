@@ -95,19 +95,6 @@ impl GlobImports {
         self.spread(slot, slot.key.is_unnamed())
     }
 
-    /// What stands in a slot may have changed in any way: the edges around it are to be looked at in it.
-    pub fn look_again(&mut self, slot: &Slot) -> Result<(), AllocError>
-        ensures edges { OnOk result (self.new.edges ≡ self.old.edges) }
-        ensures brought { OnOk result (self.new.brought ≡ self.old.brought) }
-        ensures kept { OnOk result ((j : ℕ) (key : Key) → Contains self.old.pending (j, key) → Contains self.new.pending (j, key)) }
-        ensures out { OnOk result ((j : ℕ) (e : Edge) → slice_get self.old.edges j ≡ Some e → e.source ≡ Own slot.now.at
-            → Contains self.new.pending (j, slot.now.key)) }
-        ensures inward { OnOk result ((j : ℕ) (e : Edge) → slice_get self.old.edges j ≡ Some e → e.importer ≡ slot.now.at
-            → Contains self.new.pending (j, slot.now.key)) }
-    {
-        self.spread(slot, true)
-    }
-
     /// The map and what its globs reach have grown in any way: each edge is to be looked at at each key at which its source
     /// has something.
     pub fn reopen<N: Names>(&mut self, alloc: Global, names: &N) -> Result<(), AllocError>

@@ -1,26 +1,23 @@
 -- Steps along globs are steps of imports.
-use Rattle.std.proofs.Common.{◌≡◌, ◌≢◌, ◌∙◌, ap, sym, subst, refl, ℕ, List, [], ◌∷◌, map as list_map, arith}
+use Rattle.std.proofs.Common.{◌≡◌, ◌∙◌, ap, sym, subst, refl, ℕ, List, [], ◌∷◌, map as list_map, arith}
 use Rattle.std.specs.Prelude.{Contains, zero, suc, ◌<◌, length, slice_index_or}
 use Rattle.std.proofs.lemmas.List.Elements.{Contains-append_left, Contains-append_right}
-use Rattle.hir_base.specs.declared.ids.TraitId.{TraitId}
 use Rattle.hir_def_map.specs.Overlay.{Maps}
-use Rattle.hir_def_map.specs.State.{Local, module_at}
+use Rattle.hir_def_map.specs.State.{Local}
 use Rattle.hir_def_map.specs.declared.nameres.path_resolution.slots.Slot.{Slot as PathSlot}
 use Rattle.hir_def_map_laws.specs.SlotChanges.{ScopesChangeAmong}
-use Rattle.hir_glob_imports.proofs.Taking.{noted-other}
-use Rattle.hir_glob_imports.specs.Keys.{name_of, slot_at}
-use Rattle.hir_glob_imports.specs.Rules.{Act, GlobState, May as MayAlong, IsSpent as IsSpentAlong, Rule as GlobRule, Step as StepAlong, Steps as StepsAlong, StepsIn, act as act_along, acts as acts_along, after as after_along, as_seen, copies, brings, follows, raises, copies_along, follows_along, raises_along, more as more_along, more_in, none as none_along, none_in, perform as perform_along, slot_of, ticked as ticked_along}
-use Rattle.hir_glob_imports.specs.declared.edge.Key.TheVariants.{Unnamed}
+use Rattle.hir_glob_imports.specs.Keys.{name_of}
+use Rattle.hir_glob_imports.specs.Rules.{Act, GlobState, May as MayAlong, IsSpent as IsSpentAlong, Rule as GlobRule, Step as StepAlong, Steps as StepsAlong, StepsIn, act as act_along, acts as acts_along, after as after_along, copies, brings, follows, raises, copies_along, follows_along, raises_along, more as more_along, more_in, none as none_along, none_in, perform as perform_along, slot_of, ticked as ticked_along}
 use Rattle.hir_glob_imports.specs.declared.edge.Slot.{Slot}
 use Rattle.hir_import_resolution.specs.Changes.{along, perform}
 use Rattle.hir_import_resolution.specs.Inner.State.{path_slots, slots_named}
-use Rattle.hir_import_resolution.specs.Names.{ScopesValue, scope_table, trait_vis, view_of}
+use Rattle.hir_import_resolution.specs.Names.{ScopesValue, scope_table, view_of}
 use Rattle.hir_import_resolution.specs.Rest.{IsSpent}
 use Rattle.hir_import_resolution.specs.Rules.{Step, Steps, goes_along, more, none}
 use Rattle.hir_import_resolution.specs.Scopes.{open_table, value_of}
 use Rattle.hir_import_resolution.specs.State.{ImportState, glob_state, scopes_of, ticked, with_glob_state}
 use Rattle.hir_import_resolution.specs.declared.scopes.OpenScopes.{OpenScopes}
-use Rattle.hir_import_resolution.proofs.Writes.{Writes, again, copies_write, follows_write, not_same, raises_write, stays, wider}
+use Rattle.hir_import_resolution.proofs.Writes.{Writes, again, copies_write, follows_write, raises_write, stays, wider}
 use Rattle.hir_import_resolution.specs.Inner.OpenLaws.{copies_kept, follows_kept}
 
 -- ---- what a step along a glob changes
@@ -36,12 +33,6 @@ step_edges : (g : GlobState ScopesValue) (rule : GlobRule) → (after_along scop
 step_edges g (copies_along j e s b) = refl
 step_edges g (follows_along j e s b) = refl
 step_edges g (raises_along j e s vis) = refl
-
--- and elsewhere what globs brought stays
-step_brought : (g : GlobState ScopesValue) (rule : GlobRule) (q : Slot) → slot_of rule ≢ q → (after_along scope_table g rule).brought q ≡ g.brought q
-step_brought g (copies_along j e s b) q apart = noted-other g.brought s (as_seen j e b) q (not_same s q apart)
-step_brought g (follows_along j e s b) q apart = noted-other g.brought s (as_seen j e b) q (not_same s q apart)
-step_brought g (raises_along j e s vis) q apart = refl
 
 -- ---- as the resolver's scopes are written
 
@@ -141,8 +132,6 @@ module _ (finished : Maps) where
       pub finished_stays : g.names.finished ≡ finished
       pub edges : g.edges ≡ s.edges
       pub among : (local : Local) → ScopesChangeAmong s.map g.names.map local (path_slots slots)
-      pub brought : (q : Slot) → ¬ Contains slots q → g.brought q ≡ s.brought q
-      pub traits : (at : ℕ) (id : TraitId) → ¬ Contains slots (slot_at at (Unnamed id)) → trait_vis (module_at g.names.map at) id ≡ trait_vis (module_at s.map at) id
       pub steps : Steps finished s (with_glob_state s g)
 
     -- the slot of a name is among those of the slots
@@ -160,11 +149,6 @@ module _ (finished : Maps) where
       finished_stays = ap (λ (g : GlobState ScopesValue). g.names.finished) step.is ∙ writes.finished ∙ goes.finished_stays;
       edges = ap (λ (g : GlobState ScopesValue). g.edges) step.is ∙ step_edges old step.rule ∙ goes.edges;
       among = λ local. again s.map old.names.map new.names.map local (path_slots slots) (goes.among local) (changes local);
-      brought = λ q apart.
-          ap (λ (g : GlobState ScopesValue). g.brought q) step.is ∙ step_brought old step.rule q (λ same. apart (subst (Contains slots) same is_among)) ∙ goes.brought q apart;
-      traits = λ at id apart.
-          ap (λ (g : GlobState ScopesValue). trait_vis (module_at g.names.map at) id) step.is
-          ∙ writes.traits at id (λ same. apart (subst (Contains slots) same is_among)) ∙ goes.traits at id apart;
       steps = more (with_glob_state s old) (with_glob_state s new) goes.steps
           (gone_along (with_glob_state s old) new (subst (λ (g : GlobState ScopesValue). StepAlong scope_table g new) (sym (inside s old goes.finished_stays)) step));
     }
@@ -178,7 +162,7 @@ module _ (finished : Maps) where
             (slot_among slots (slot_of step.rule) is_among) (writes.among local))
 
     pub goes : (slots : List Slot) (to : GlobState ScopesValue) → StepsIn scope_table slots (glob_state finished s) to → Goes slots to
-    goes slots to none_in = record { finished_stays = refl; edges = refl; among = λ local. stays s.map local (path_slots slots); brought = λ q apart. refl; traits = λ at id apart. refl; steps = none }
+    goes slots to none_in = record { finished_stays = refl; edges = refl; among = λ local. stays s.map local (path_slots slots); steps = none }
     goes slots to (more_in old new before step is_among) = one_more slots old new step is_among (goes slots old before)
 
     -- the same of steps of which no slots are told

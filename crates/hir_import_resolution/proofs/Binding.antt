@@ -1,6 +1,7 @@
 -- What imports bind is bound explicitly.
 use Rattle.std.proofs.Common.{◌≡◌, ◌≢◌, ◌∙◌, ap, sym, refl, ℕ, zero, suc, ◌<◌, Bool, true, false, List, [], ◌∷◌, length, Option, None, Some, is_some, cond, arith}
-use Rattle.std.specs.Prelude.{IsSome, slice_get}
+use Rattle.std.proofs.lemmas.Bool.{ltb-true}
+use Rattle.std.specs.Prelude.{IsSome, nat_lt, slice_get}
 use mathlib.Core.Bool.{true≢false}
 use Rattle.hir_base.specs.contracts.ids.ModuleDefIdPartialEq.TheImpl as module_def
 use Rattle.hir_base.specs.contracts.macro_kind.MacroIdPartialEq.TheImpl as makro
@@ -25,7 +26,8 @@ use Rattle.hir_scope.specs.Scope.Push.{pushed_scope, taken_macro, taken_type, ta
 use Rattle.hir_scope.specs.Scope.Reads.{unnamed_vis}
 use Rattle.hir_scope.proofs.AfterPush.{declarations_stay, item_at-with_entry, item_at-with_entry_other}
 use Rattle.hir_scope.proofs.Pushes.{pushed-macros, pushed-types, pushed-values}
-use Rattle.hir_def_map.specs.State.{ModuleValue, globs_after, module_at, place_at, pushed, with_scope}
+use Rattle.hir_def_map.proofs.Grown.{length-changed}
+use Rattle.hir_def_map.specs.State.{ModuleValue, globs_after, module_at, place_at, pushed, with_module_scope, with_scope}
 use Rattle.hir_glob_imports.specs.Keys.{slot_at}
 use Rattle.hir_glob_imports.specs.View.{bound_in}
 use Rattle.hir_glob_imports.specs.Waves.{IsExplicit}
@@ -65,6 +67,12 @@ module _ {D I : Type 0} (same_def : D → D → Bool) (same_import : I → I →
           → IsSome (bound_by in_namespace (item_at (written_items place.1 (cond (takes same_def same_import (has_place globs place) o c.push) (Some c) None) es) place.1))
       go None e = ap (λ (o : Option (Item D I)). is_some (bound_by in_namespace o)) (item_at-with_entry es place.1 c.push.item)
       go (Some b) e = on b e (takes same_def same_import (has_place globs place) (Some b) c.push)
+
+-- the module of a number below the count
+pub found-below : {A : Type 0} (xs : List A) (k : ℕ) → k < length xs → (x : A) × (slice_get xs k ≡ Some x)
+found-below [] k low = absurd (omega arith)
+found-below (x ∷ xs) zero low = (x, refl)
+found-below (x ∷ xs) (suc k) low = found-below xs k (omega arith)
 
 -- ---- namespace after namespace
 
@@ -163,42 +171,50 @@ module _ (n : ScopesValue) (home : ℕ) (name : List ℕ) (items : PerNs) (impor
         ∙ ap (λ (o : Option (Item MacroId ImportOrExternCrate)). is_some (bound_by in_ns.Macros (item_at (written_items name (taken makro.ghosts.eq item_import.ghosts.eq m.scope.macros n.globs.macros here (macro_candidate o import)) m.scope.macros) name))) item.1
         ∙ bound_after makro.ghosts.eq item_import.ghosts.eq in_ns.Macros m.scope.macros n.globs.macros here _
 
-    -- in each namespace in which something is pushed, something is bound afterwards, and nothing else changes
-    pub is_bound : IsBound home name items (view_of n) (view_of (once after_all with_all))
-    is_bound = record {
-      with_types = view_of (once n.globs with_types);
-      with_values = view_of (once n.globs with_values);
-      types = record {
-        stays = λ none. changes_nowhere n home with_types n.globs (types_stay (none_of items.types none));
-        bound = λ some. record { changes = changes_in_slot n home with_types n.globs (Types name) types_apart; bound = λ named. types_bound some };
-      };
-      values = record {
-        stays = λ none. differ_nowhere n home with_types with_values n.globs n.globs (values_stay (none_of items.values none));
-        bound = λ some. record { changes = differ_in_slot n home with_types with_values n.globs n.globs (Values name) values_apart; bound = λ named. values_bound some };
-      };
-      macros = record {
-        stays = λ none. differ_nowhere n home with_values with_all n.globs after_all (macros_stay (none_of items.macros none));
-        bound = λ some. record { changes = differ_in_slot n home with_values with_all n.globs after_all (Macros name) macros_apart; bound = λ named. macros_bound some };
-      };
-    }
+  -- where the module is there
+  there_from : (globs : GlobNames) (change : ScopeValue → ScopeValue) → (view_of (once globs change)).has home ≡ true → (view_of n).has home ≡ true
+  there_from globs change is = sym (ap (λ (count : ℕ). nat_lt home count) (length-changed n.map.modules home (with_module_scope change))) ∙ is
 
--- the module of a number below the count
-pub found-below : {A : Type 0} (xs : List A) (k : ℕ) → k < length xs → (x : A) × (slice_get xs k ≡ Some x)
-found-below [] k low = absurd (omega arith)
-found-below (x ∷ xs) zero low = (x, refl)
-found-below (x ∷ xs) (suc k) low = found-below xs k (omega arith)
+  found : (view_of n).has home ≡ true → (m : ModuleValue) × (module_at n.map home ≡ Some m)
+  found is = found-below n.map.modules home (ltb-true home (length n.map.modules) is)
 
--- a push to a name of a module that is there
-pub push_binds : (n : ScopesValue) (home : ℕ) (name : List ℕ) (items : PerNs) (import : Option ImportOrExternCrate) → home < length n.map.modules
+  -- in each namespace in which something is pushed, something is bound afterwards where the module is there, and nothing else changes
+  is_bound : IsBound home name items (view_of n) (view_of (once after_all with_all))
+  is_bound = record {
+    with_types = view_of (once n.globs with_types);
+    with_values = view_of (once n.globs with_values);
+    types = record {
+      stays = λ none. changes_nowhere n home with_types n.globs (types_stay (none_of items.types none));
+      bound = λ some. record {
+        changes = changes_in_slot n home with_types n.globs (Types name) types_apart;
+        bound = λ named is. let m = found is in types_bound m.0 m.1 some;
+      };
+    };
+    values = record {
+      stays = λ none. differ_nowhere n home with_types with_values n.globs n.globs (values_stay (none_of items.values none));
+      bound = λ some. record {
+        changes = differ_in_slot n home with_types with_values n.globs n.globs (Values name) values_apart;
+        bound = λ named is. let m = found (there_from n.globs with_types is) in values_bound m.0 m.1 some;
+      };
+    };
+    macros = record {
+      stays = λ none. differ_nowhere n home with_values with_all n.globs after_all (macros_stay (none_of items.macros none));
+      bound = λ some. record {
+        changes = differ_in_slot n home with_values with_all n.globs after_all (Macros name) macros_apart;
+        bound = λ named is. let m = found (there_from n.globs with_values is) in macros_bound m.0 m.1 some;
+      };
+    };
+  }
+
+-- a push to a name of a module
+pub push_binds : (n : ScopesValue) (home : ℕ) (name : List ℕ) (items : PerNs) (import : Option ImportOrExternCrate)
     → IsBound home name items (view_of n) (view_of (record n { map = pushed n.map n.globs home name items import; globs = globs_after n.map n.globs home name items import }))
-push_binds n home name items import low =
-    let found = found-below n.map.modules home low in
-    is_bound n home name items import found.0 found.1
+push_binds n home name items import = is_bound n home name items import
 
 -- a trait that is kept without a name
 pub keep_binds : (n : ScopesValue) (home : ℕ) (id : TraitId) (vis : Visibility) (leaf : Option ImportId)
     → IsExplicit (slot_at home (Unnamed id)) (view_of n) (view_of (record n { map = with_scope n.map home (with_trait id vis leaf) }))
 keep_binds n home id vis leaf = record {
   changes = changes_in_slot n home (with_trait id vis leaf) n.globs (Unnamed id) (keeps-trait id vis leaf);
-  bound = λ named. absurd (true≢false named);
+  bound = λ named is. absurd (true≢false named);
 }

@@ -1,5 +1,5 @@
 -- What stands in a resolver once an import has bound something.
-use Rattle.std.proofs.Common.{◌≡◌, ◌∙◌, ap, sym, subst, ℕ, ◌<◌, Bool, List, length, Option, None, Some, is_some, Result, Ok, Err, OnOk}
+use Rattle.std.proofs.Common.{◌≡◌, ◌∙◌, ap, sym, subst, ℕ, Bool, List, Option, None, Some, is_some, Result, Ok, Err, OnOk}
 use Rattle.hir_base.specs.declared.ids.TraitId.{TraitId}
 use Rattle.hir_scope.specs.declared.imports.ImportId.{ImportId}
 use Rattle.hir_scope.specs.declared.imports.ImportOrExternCrate.{ImportOrExternCrate}
@@ -81,9 +81,9 @@ module _ (r : Resolver) (o : OpenScopes) (g : GlobsValue) (home : ℕ) (name n1 
     count = r.count;
   }
 
-  pub pushed_views : home < length r.scopes.map.modules → IsBound home name items (view_of (value_of r.scopes)) (view_of (value_of o))
-  pushed_views low = subst (λ (s : OpenScopes). IsBound home name items (view_of (value_of r.scopes)) (view_of (value_of s))) (sym pushed_is)
-      (push_binds (value_of r.scopes) home name items (Some (way_of source)) low)
+  pub pushed_views : IsBound home name items (view_of (value_of r.scopes)) (view_of (value_of o))
+  pushed_views = subst (λ (s : OpenScopes). IsBound home name items (view_of (value_of r.scopes)) (view_of (value_of s))) (sym pushed_is)
+      (push_binds (value_of r.scopes) home name items (Some (way_of source)))
 
 -- ---- a trait without a name
 

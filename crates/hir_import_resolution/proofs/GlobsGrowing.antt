@@ -1,9 +1,9 @@
 -- Globs see the same of a map that grows around them.
-use Rattle.std.proofs.Common.{◌≡◌, ◌∙◌, ap, refl, ℕ, ◌<◌, Bool, true, false, ◌==◌, inl, inr, List, ◌∷◌, length, ◌≤◌, Option, None, Some, cond, arith}
+use Rattle.std.proofs.Common.{◌≡◌, ◌∙◌, ap, refl, ℕ, ◌<◌, Bool, true, false, ◌==◌, List, ◌∷◌, length, ◌≤◌, Option, None, Some, cond, arith}
 use Rattle.std.proofs.lemmas.Bool.Decides.{nat_tests}
 use Rattle.std.proofs.lemmas.Grind.{common_steps}
 use Rattle.std.specs.List.{list_any}
-use Rattle.std.specs.Prelude.{nat_lt, slice_get, unwrap_or, if◌then◌else◌}
+use Rattle.std.specs.Prelude.{nat_lt, unwrap_or, if◌then◌else◌}
 use Rattle.hir_base.specs.declared.ids.ModuleId.{ModuleId}
 use Rattle.hir_scope.specs.Globs.{GlobNames}
 use Rattle.hir_scope.specs.ModuleTree.{same_crate, same_module}
@@ -15,23 +15,20 @@ use Rattle.hir_def_map.specs.Inner.OverlayLaws.{same_id}
 use Rattle.hir_def_map.specs.Overlay.{Maps, entry_in, module_in, overlay}
 use Rattle.hir_def_map.specs.State.{Map, numbered}
 use Rattle.hir_def_map_laws.specs.ReadLaw.{Grows}
-use Rattle.hir_glob_imports.proofs.Updates.{there_from_seen}
-use Rattle.hir_glob_imports.specs.Keys.{is_unnamed, slot_at}
+use Rattle.hir_glob_imports.specs.Keys.{is_unnamed}
 use Rattle.hir_glob_imports.specs.Moves.{brought_vis, is_as_seen, raise_of, raise_to, same_def, seen_by, shown, update_of, update_of_brought}
-use Rattle.hir_glob_imports.specs.View.{View, bound_in}
-use Rattle.hir_glob_imports.specs.Waves.{GlobsValue, IsKept, IsPendingOrSettled, Stands, brought_of, update_at}
+use Rattle.hir_glob_imports.specs.View.{View}
 use Rattle.hir_glob_imports.specs.declared.edge.Bound.{Bound}
 use Rattle.hir_glob_imports.specs.declared.edge.Brought.{Brought}
 use Rattle.hir_glob_imports.specs.declared.edge.Edge.{Edge}
 use Rattle.hir_glob_imports.specs.declared.edge.Key.{Key}
-use Rattle.hir_glob_imports.specs.declared.edge.Slot.{Slot}
 use Rattle.hir_glob_imports.specs.declared.edge.Target.{Target}
 use Rattle.hir_glob_imports.specs.declared.edge.Target.TheVariants as targets
 use Rattle.hir_glob_imports.specs.declared.edge.Update.{Update}
 use Rattle.hir_glob_imports.specs.declared.edge.Update.TheVariants.{Nothing, Follow}
 use Rattle.hir_import_resolution.specs.Directives.{open_items}
 use Rattle.hir_import_resolution.specs.Names.{bound_at, is_foreign, open_vis, trait_vis, variant_items, view_of}
-use Rattle.hir_import_resolution.specs.Rounds.{ArePlaced, GrowsAround, GrowthKeepsGlobs, HasVariants, IsOrdered, IsPlaced, beside}
+use Rattle.hir_import_resolution.specs.Rounds.{HasVariants, IsOrdered, IsPlaced, beside}
 use Rattle.hir_import_resolution.specs.Visibilities.{greater_in, lesser_in, sees_in}
 use Rattle.hir_import_resolution.proofs.GrownPlaces.{same_greater, same_lesser, same_variant, same_visible}
 
@@ -139,53 +136,3 @@ module _ (finished : Maps) (old new : Map) (names new_names : GlobNames) (ordere
       → w.greater c.vis (brought_vis w e b) ≡ v.greater c.vis (brought_vis v e b)
   greater_placed_still e b c edge source stands =
       ap (w.greater c.vis) (lesser_still e.vis b.vis edge source) ∙ greater_still c.vis (v.lesser e.vis b.vis) stands (lesser_there e.vis b.vis edge source)
-
--- ---- a map that grows around its names
-
-module _ (finished : Maps) (old new : Map) (names new_names : GlobNames) (ordered : IsOrdered finished old) (around : GrowsAround old new)
-    (g : GlobsValue) (placed : ArePlaced (beside finished old names) g.edges) (kept : IsKept (view_of (beside finished old names)) g) where
-  abbrev before : View
-  before = view_of (beside finished old names)
-
-  abbrev after : View
-  after = view_of (beside finished new new_names)
-
-  -- what stands in the map
-  own_still : (at : ℕ) (key : Key) → after.bound (targets.Own at) key ≡ before.bound (targets.Own at) key
-  own_still at key = λ i. bound_at (λ name. around.entries at name i) (λ id. around.traits at id i) key
-
-  shown_still : (j : ℕ) (e : Edge) (key : Key) → slice_get g.edges j ≡ Some e → shown after e key ≡ shown before e key
-  shown_still j e key is =
-      shown_along finished old new names new_names ordered around.grows e key (kept.there j e is)
-      (source_still finished old new names new_names ordered around.grows e.source key (placed.enums j e is) (λ at from. own_still at key))
-
-  greater_along : (j : ℕ) (e : Edge) (key : Key) → slice_get g.edges j ≡ Some e → (b c : Bound) → shown before e key ≡ Some b → bound_in before (slot_at e.importer key) ≡ Some c
-      → after.greater c.vis (brought_vis after e b) ≡ before.greater c.vis (brought_vis before e b)
-  greater_along j e key is b c shows there =
-      greater_placed_still finished old new names new_names ordered around.grows e b c (placed.edges j e is)
-      (placed.sources j e key b is (there_from_seen (before.sees e.importer) (before.bound e.source key) b shows)) (placed.importers j e key c is there)
-
-  update_still : (j : ℕ) (e : Edge) (key : Key) → slice_get g.edges j ≡ Some e → update_at after (brought_of g) j e key ≡ update_at before (brought_of g) j e key
-  update_still j e key is =
-      (λ i. update_of after j e key (shown_still j e key is i) (own_still e.importer key i) (brought_of g (slot_at e.importer key)))
-      ∙ same_update before after j e key (brought_of g (slot_at e.importer key)) (shown before e key) (bound_in before (slot_at e.importer key))
-      (λ b c shows there unnamed. greater_along j e key is b c shows there) (λ b c last shows there brought. greater_along j e key is b c shows there)
-
-  pub kept_still : IsKept after g
-  kept_still = record {
-    there = λ j e is. has_still finished old new names new_names ordered around.grows around.modules e.importer (kept.there j e is);
-    settled = λ j e key is. still j e key is (kept.settled j e key is);
-    stands = λ s by is. on s by (kept.stands s by is);
-  }
-    where
-      still : (j : ℕ) (e : Edge) (key : Key) → slice_get g.edges j ≡ Some e → IsPendingOrSettled before g j e key → IsPendingOrSettled after g j e key
-      still j e key is (inl pending) = inl pending
-      still j e key is (inr nothing) = inr (update_still j e key is ∙ nothing)
-
-      on : (s : Slot) (by : Brought) → Stands before s by → Stands after s by
-      on s by old_stands = record { bound = old_stands.bound; there = own_still s.at s.key ∙ old_stands.there; same = old_stands.same }
-
--- ---- the law
-
-pub growth_keeps_globs : GrowthKeepsGlobs
-growth_keeps_globs finished old new names new_names g ordered around placed kept = kept_still finished old new names new_names ordered around g placed kept

@@ -2,13 +2,9 @@
 use Rattle.std.proofs.Common.{◌≡◌, ◌∙◌, ap, sym, refl, subst, ℕ, zero, suc, ◌<◌, ◌≤◌, Bool, true, false, ◌++◌, None, Some, List, [], ◌∷◌, length, get_or, drop, length-append, ◌+◌, arith}
 use Rattle.std.proofs.Math.Seq.{drop-cons}
 use Rattle.std.proofs.lemmas.List.{drop_all}
-use Rattle.std.proofs.lemmas.List.Elements.{Contains-append_left, Contains-append_right}
-use Rattle.std.proofs.lemmas.Option.{slice_get_within}
 use Rattle.std.specs.Prelude.{not, slice_get, slice_index_or}
 use Rattle.hir_def_map.specs.Overlay.{Maps}
-use Rattle.hir_def_map.specs.State.{Local, Map, parent_of}
 use Rattle.hir_def_map.specs.declared.nameres.path_resolution.slots.Slot.{Slot as PathSlot}
-use Rattle.hir_def_map.specs.declared.nameres.path_resolution.slots.Slot.TheVariants.{Module as of_module, Preludes as of_preludes}
 use Rattle.hir_worklist.proofs.Idle.{idle-appended}
 use Rattle.hir_worklist.specs.Moves.{Appends, Wakes, empty_queue}
 use Rattle.hir_worklist.specs.Queue.{IsIdle, Queue, count_of, is_unfinished}
@@ -17,13 +13,10 @@ use Rattle.hir_worklist.specs.declared.watchers.Watchers.{Watchers}
 use Rattle.hir_import_resolution.specs.declared.directive.ImportDirective.{ImportDirective}
 use Rattle.hir_import_resolution.specs.declared.import_queue.ImportQueue.{ImportQueue}
 use Rattle.hir_import_resolution.specs.Inner.Queue.{AreIdleSettled, IsLonger, IsWoken, WakesEach, slot_cmp, more, none}
-use Rattle.hir_import_resolution.specs.Rounds.{AreQueued, GrowthsFollowOneAnother, IsResumable, is_lasting}
+use Rattle.hir_import_resolution.specs.Rounds.{AreQueued, IsResumable, is_lasting}
 use Rattle.hir_import_resolution.specs.State.{ImportState}
-use Rattle.hir_import_resolution.proofs.Firm.{there_still}
 use Rattle.hir_import_resolution.proofs.Settled.{unchanged_grown}
 use Rattle.hir_import_resolution.proofs.Trying.{woken_anew}
-use Rattle.hir_def_map_laws.proofs.SameAbove.{found-below}
-use Rattle.hir_def_map_laws.specs.ReadLaw.{AgreeAt, Grows}
 
 -- ---- slots that are woken, one after another
 
@@ -108,52 +101,12 @@ queued_first finished queue q s n empty longer all count there = record {
     no_more : (p : ℕ) → p < count_of q → is_unfinished q p ≡ true
     no_more p below = absurd (omega (arith, none_there))
 
--- ---- two times one after another
-
-agree_twice : (a b c : Map) (k l m : Local) (slot : PathSlot) → AgreeAt a k b l slot → AgreeAt b l c m slot → AgreeAt a k c m slot
-agree_twice a b c k l m (of_module at name) first then = record { entries = then.entries ∙ first.entries; legacy = then.legacy ∙ first.legacy }
-agree_twice a b c k l m (of_preludes name) first then = record { crates = then.crates ∙ first.crates; macro_uses = then.macro_uses ∙ first.macro_uses }
-
-grown_twice : (a b c : Map) → length a.modules ≤ length b.modules → Grows a b → Grows b c → Grows a c
-grown_twice a b c longer first then = record {
-  id = then.id ∙ first.id;
-  holder = then.holder ∙ first.holder;
-  crate_data = then.crate_data ∙ first.crate_data;
-  prelude = then.prelude ∙ first.prelude;
-  parents = λ at m e.
-      let there = found-below b.modules at (omega (arith, longer, slice_get_within a.modules at m e)) in
-      then.parents at there.0 there.1 ∙ sym (ap parent_of there.1) ∙ first.parents at m e;
-  enums = λ id variants e. then.enums id variants (first.enums id variants e);
-}
-
 -- ---- later
 
 as_long_by_places : {A : Type 0} (xs ys : List A) → ((i : ℕ) → i < length xs → slice_get ys i ≡ slice_get xs i) → length xs ≤ length ys
 as_long_by_places [] ys same = omega arith
 as_long_by_places (x ∷ xs) [] same = let none : None ≡ Some x = same 0 (omega arith) in absurd cc
 as_long_by_places (x ∷ xs) (y ∷ ys) same = let rest : length xs ≤ length ys = as_long_by_places xs ys (λ i l. same (suc i) (omega arith)) in omega arith
-
-pub growths_follow : GrowthsFollowOneAnother
-growths_follow one two three first then a b = record {
-  grows = grown_twice one.map two.map three.map a.modules a.grows b.grows;
-  modules = omega (arith, a.modules, b.modules);
-  others = λ slot apart there.
-      agree_twice one.map two.map three.map one.local two.local three.local slot (a.others slot (λ h. apart (Contains-append_left first then slot h)) there)
-      (b.others slot (λ h. apart (Contains-append_right first then slot h)) (there_still (length one.map.modules) (length two.map.modules) a.modules slot there));
-  entries = λ at name apart. b.entries at name (λ h. apart (Contains-append_right first then (of_module at name) h)) ∙ a.entries at name (λ h. apart (Contains-append_left first then (of_module at name) h));
-  traits = λ at id. b.traits at id ∙ a.traits at id;
-  edges = b.edges ∙ a.edges;
-  brought = λ s apart.
-      b.brought s (λ name e h. apart name e (Contains-append_right first then (of_module s.at name) h)) ∙ a.brought s (λ name e h. apart name e (Contains-append_left first then (of_module s.at name) h));
-  imports = λ i low. b.imports i (further i low) ∙ a.imports i low;
-  taken = λ i low. b.taken i (further i low) ∙ a.taken i low;
-}
-  where
-    long : length one.imports ≤ length two.imports
-    long = as_long_by_places one.imports two.imports a.imports
-
-    further : (i : ℕ) → i < length one.imports → i < length two.imports
-    further i low = omega (arith, long)
 
 module _ (finished : Maps) (queue : ImportQueue) (now : ImportState) (slots : List PathSlot) (given : IsResumable finished queue now slots) (lasting : is_lasting queue ≡ true) where
   abbrev pub before : ImportState

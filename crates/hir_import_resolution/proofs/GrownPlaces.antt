@@ -17,17 +17,14 @@ use Rattle.hir_scope.specs.Visibility.{both_in, either_written, greater_of, is_v
 use Rattle.hir_scope.specs.declared.visibility.Visibility.{Visibility}
 use Rattle.hir_scope.specs.declared.visibility.Visibility.TheVariants.{Module, PubCrate, Public}
 use Rattle.hir_def_map.specs.Ancestors.{above_in, above_inside, above_under, frame_of, frames_of, holders_in, numbers_of}
-use Rattle.hir_def_map.specs.Inner.OverlayLaws.{frame_holders, same_id}
+use Rattle.hir_def_map.specs.Inner.OverlayLaws.{frame_holders}
 use Rattle.hir_def_map.specs.Overlay.{Maps, Placed, holders_of, holders_or, holders_under, overlay, placed_in}
 use Rattle.hir_def_map.specs.Scoping.Segments.{variant_in}
 use Rattle.hir_def_map.specs.Scoping.Slots.{is_in}
-use Rattle.hir_def_map.specs.State.{Map, Variants, at_name, numbered, root_of, variants_at}
-use Rattle.hir_def_map_laws.proofs.Changed.{holders_out}
-use Rattle.hir_def_map_laws.proofs.Growing.{grown}
+use Rattle.hir_def_map.specs.State.{Map, Variants, at_name, numbered, variants_at}
 use Rattle.hir_def_map_laws.proofs.SameAbove.{same_numbers_above}
-use Rattle.hir_def_map_laws.proofs.SlotChanges.{Grows-itself}
 use Rattle.hir_def_map_laws.specs.ReadLaw.{Grows}
-use Rattle.hir_import_resolution.specs.Rounds.{IsOrdered, IsPlaced, MapsBesideAreOrdered}
+use Rattle.hir_import_resolution.specs.Rounds.{IsOrdered, IsPlaced}
 
 abbrev map_of : Crate → Option BlockId → MapId
 map_of k x = record { krate = k; block = x }
@@ -204,12 +201,3 @@ module _ (finished : Maps) (old new : Map) (grows : Grows old new) (ordered : Is
   same_lesser (Module m e) Public first second = refl
   same_lesser (Module m e) (PubCrate c) first second = refl
   same_lesser (Module m d) (Module n e) first second = same_lower m n d e first second
-
--- ---- a map beside finished ones that don't refer to it
-
-pub beside_ordered : MapsBesideAreOrdered
-unfolding frames_of
-beside_ordered finished map stands = record { in_order = stands.in_order; holders = subst (All (λ (h : AnyModule). is_in map.id h ≡ false)) placed (holders_out (grown finished map map stands (Grows-itself map)) (root_of map.id)) }
-  where
-    placed : holders_in (overlay finished map) (root_of map.id) ≡ (placed_in finished map).holders
-    placed = frame_holders (overlay finished map map.id) ∙ ap holders_of (ap (λ (b : Bool). cond b (Some (placed_in finished map)) (finished map.id)) (same_id map.id))

@@ -16,8 +16,6 @@ pub mod Bound
 -- what lasts
 pub mod Firm
 pub mod Placed
-pub mod LookingAgain
-pub mod Opened
 -- what a resolver does
 pub mod Spread
 pub mod TakenImports
@@ -35,6 +33,7 @@ pub mod Starting
 pub mod Growing
 pub mod GrownPlaces
 pub mod GlobsGrowing
+pub mod GlobsLasting
 pub mod Placing
 pub mod PairsGrowing
 pub mod GrowingAround

@@ -1,6 +1,6 @@
 -- What holds of imports and globs wherever steps lead stays so.
-use Rattle.std.proofs.Common.{◌≡◌, ◌∙◌, ap, sym, subst, refl, ℕ, zero, suc, ◌<◌, ◌≤◌, ◌⊎◌, inl, inr, nat_lt, Bool, true, false, List, [], ◌∷◌, ◌++◌, length, Option, None, Some, is_some, if◌then◌else◌, map as list_map, arith}
-use Rattle.std.proofs.lemmas.Bool.{lt-ltb, ltb-false, ltb-true, true≢false}
+use Rattle.std.proofs.Common.{◌≡◌, ◌∙◌, ap, sym, subst, refl, ℕ, zero, suc, ◌<◌, ◌⊎◌, inl, inr, Bool, true, false, List, [], ◌∷◌, ◌++◌, length, Option, None, Some, is_some, if◌then◌else◌, map as list_map, arith}
+use Rattle.std.proofs.lemmas.Bool.{lt-ltb, ltb-true, true≢false}
 use Rattle.std.specs.Prelude.{Contains, slice_get, slice_set}
 use Rattle.hir_base.specs.declared.ids.TraitId.{TraitId}
 use Rattle.hir_scope.specs.declared.imports.ImportId.{ImportId}
@@ -8,7 +8,7 @@ use Rattle.hir_scope.specs.declared.imports.ImportOrExternCrate.{ImportOrExternC
 use Rattle.hir_scope.specs.declared.per_ns.PerNs.{PerNs}
 use Rattle.hir_scope.specs.declared.visibility.Visibility.{Visibility}
 use Rattle.hir_def_map.specs.Overlay.{Maps}
-use Rattle.hir_def_map.specs.State.{ModuleValue, changed_at, globs_after, module_at, place_at, pushed, pushed_module, with_module_scope}
+use Rattle.hir_def_map.specs.State.{globs_after, module_at, place_at, pushed, pushed_module, with_module_scope}
 use Rattle.hir_def_map.proofs.Grown.{length-changed}
 use Rattle.hir_glob_imports.proofs.Exact.{exact_slot}
 use Rattle.hir_glob_imports.proofs.Linking.{one_or_last}
@@ -119,41 +119,13 @@ bound_stand v w home name items brought bound old =
     with_values : BroughtBy
     with_values = forgotten_in home (Values name) (is_some items.values) with_types
 
--- what is said to be brought where something was forgotten was said so before
-only_forgets : (home : ℕ) (key : Key) (binds : Bool) (brought : BroughtBy) (q : Slot) (by : Brought) → forgotten_in home key binds brought q ≡ Some by → brought q ≡ Some by
-only_forgets home key false brought q by e = e
-only_forgets home key true brought q by e = go (same_slot (slot_at home key) q) e
-  where
-    go : (m : Bool) → (if m then None else brought q) ≡ Some by → brought q ≡ Some by
-    go true f = absurd cc
-    go false f = f
-
--- where there is no such place, nothing changes
-module _ {A : Type 0} where
-  not_changed : (xs : List A) (at : ℕ) (change : A → A) → length xs ≤ at → changed_at xs at change ≡ xs
-  not_changed [] at change over = refl
-  not_changed (x ∷ xs) zero change over = absurd (omega arith)
-  not_changed (x ∷ xs) (suc at) change over = ap (λ (ys : List A). x ∷ ys) (not_changed xs at change (omega arith))
-
 -- items are pushed to a name of a module
 module _ (n : ScopesValue) (home : ℕ) (name : List ℕ) (items : PerNs) (import : Option ImportOrExternCrate) (brought : BroughtBy) (old : AllStand (view_of n) brought) where
   abbrev once : ScopesValue
   once = record n { map = pushed n.map n.globs home name items import; globs = globs_after n.map n.globs home name items import }
 
   pushed_stand : AllStand (view_of once) (forgotten home name items brought)
-  pushed_stand = go (nat_lt home (length n.map.modules)) refl
-    where
-      go : (b : Bool) → nat_lt home (length n.map.modules) ≡ b → AllStand (view_of once) (forgotten home name items brought)
-      go true below = bound_stand (view_of n) (view_of once) home name items brought (push_binds n home name items import (ltb-true home (length n.map.modules) below)) old
-      go false over = λ q by is.
-          let same : changed_at n.map.modules home (pushed_module n.globs (place_at n.map.id home name) items import) ≡ n.map.modules =
-          not_changed n.map.modules home (pushed_module n.globs (place_at n.map.id home name) items import) (omega (arith, ltb-false home (length n.map.modules) over)) in
-          stands_inside n once q by (ap (λ (ms : List ModuleValue). slice_get ms q.at) same)
-          (old q by
-          (only_forgets home (Types name) (is_some items.types) brought q by
-          (only_forgets home (Values name) (is_some items.values) (forgotten_in home (Types name) (is_some items.types) brought) q by
-          (only_forgets home (Macros name) (is_some items.macros)
-          (forgotten_in home (Values name) (is_some items.values) (forgotten_in home (Types name) (is_some items.types) brought)) q by is))))
+  pushed_stand = bound_stand (view_of n) (view_of once) home name items brought (push_binds n home name items import) old
 
 -- ---- what leaves the edges and the takings
 

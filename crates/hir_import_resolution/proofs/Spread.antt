@@ -1,13 +1,10 @@
 -- Names that went along globs in a resolver.
 use Rattle.std.proofs.Common.{◌≡◌, ap, sym, subst, refl, List}
-use Rattle.std.specs.Prelude.{Contains}
 use Rattle.hir_def_map.specs.WorldParts.{part_of}
 use Rattle.hir_def_map_laws.specs.SlotChanges.{ScopesChangeAmong}
 use Rattle.hir_glob_imports.proofs.OfKind.{kinds_kept}
 use Rattle.hir_glob_imports.specs.Rules.{IsSpent as IsSpentAlong, StepsIn}
-use Rattle.hir_glob_imports.specs.Keys.{slot_at}
 use Rattle.hir_glob_imports.specs.Waves.{brought_of, state_of}
-use Rattle.hir_glob_imports.specs.declared.edge.Key.TheVariants.{Unnamed}
 use Rattle.hir_glob_imports.specs.declared.edge.Slot.{Slot}
 use Rattle.hir_glob_imports.specs.declared.step.GlobError.{GlobError}
 use Rattle.hir_glob_imports.specs.declared.step.GlobError.TheVariants as glob_errors
@@ -58,8 +55,6 @@ module _ (r new : Resolver) (slots : List Slot) (steps : StepsIn open_table slot
     };
     taken = taken;
     edges = gone.edges;
-    brought = λ s other. gone.brought s (λ among. other (subst (λ (ss : List Slot). Contains ss s) (sym listed) among));
-    traits = λ at id other. gone.traits at id (λ among. other (subst (λ (ss : List Slot). Contains ss (slot_at at (Unnamed id))) (sym listed) among));
   }
 
   pub spread_recorded : AreRecorded r → AreRecorded new

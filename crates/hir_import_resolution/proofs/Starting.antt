@@ -1,11 +1,10 @@
 -- Where a resolver starts, and what it hands back.
-use Rattle.std.proofs.Common.{◌≡◌, ◌∙◌, ap, sym, subst, ℕ, ◌≤◌, Bool, true, List, [], ◌++◌, None, length}
+use Rattle.std.proofs.Common.{◌≡◌, ◌∙◌, ap, sym, subst, ℕ, ◌≤◌, true, List, [], ◌++◌, None, length}
 use Rattle.std.proofs.lemmas.Bool.{ltb-true}
 use Rattle.hir_def_map.specs.Overlay.{Maps}
 use Rattle.hir_def_map.specs.declared.nameres.path_resolution.slots.Slot.{Slot as PathSlot}
 use Rattle.hir_def_map_laws.specs.SlotChanges.{ScopesChangeAmong}
 use Rattle.hir_glob_imports.proofs.OfKind.{nothing_along}
-use Rattle.hir_glob_imports.specs.Waves.{IsKept}
 use Rattle.hir_glob_imports.specs.declared.step.TheConstants.{MAX_STEPS}
 use Rattle.hir_import_resolution.specs.declared.import_queue.ImportQueue.{ImportQueue}
 use Rattle.hir_import_resolution.specs.declared.imports.Imports.{Imports}
@@ -15,10 +14,6 @@ use Rattle.hir_import_resolution.specs.Inner.State.{IsApart, IsKeptIn, finished_
 use Rattle.hir_import_resolution.specs.Names.{view_of}
 use Rattle.hir_import_resolution.specs.Rest.{IsAtRest, IsRecorded, IsSpent}
 use Rattle.hir_import_resolution.specs.Rounds.{AreQueued, IsUpToDate, Lasts, is_apart, is_lasting}
-use Rattle.hir_import_resolution.specs.Scopes.{value_of}
-use Rattle.hir_import_resolution.specs.declared.scopes.OpenScopes.{OpenScopes}
-use Rattle.hir_import_resolution.proofs.Restarting.{same_state}
-use Rattle.hir_import_resolution.proofs.Trying.{lowered}
 use Rattle.hir_import_resolution.specs.Rules.{Steps}
 use Rattle.hir_import_resolution.specs.State.{ImportState, scopes_of}
 
@@ -52,34 +47,6 @@ begun_kept finished queue given r state same queued fresh are_queued lasts watch
   where
     now : AreQueued (finished_by r) (queue_by r) (state_by r)
     now = queued_through finished (finished_by r) queue (queue_by r) (state_in given) (state_by r) (sym same) (sym queued) (sym state) are_queued
-
-queued_lowered : (finished : Maps) (queue : ImportQueue) (s : ImportState) (lasting : Bool) → (lasting ≡ true → is_lasting queue ≡ true) → AreQueued finished queue s
-    → AreQueued finished (record queue { lasting = lasting }) s
-queued_lowered finished queue s lasting fewer old = record {
-  settled = lowered queue.lasting lasting queue.apart finished s None queue.worklist queue.watchers fewer old.settled;
-  count = old.count;
-  unfinished = old.unfinished;
-  there = old.there;
-  over = old.over;
-  outside = old.outside;
-}
-
--- where the slots that have changed were looked at again, imports may be tried
-pub begun_again : (finished : Maps) (queue : ImportQueue) (given : Imports) (r0 r1 : Resolver) → state_by r0 ≡ state_in given → finished_by r0 ≡ finished → queue_by r0 ≡ queue
-    → r0.changes.items ≡ [] → r1 ≡ record r0 { globs = r1.globs; lasting = r1.lasting } → r1.globs.edges ≡ r0.globs.edges → r1.globs.brought ≡ r0.globs.brought
-    → (r1.lasting ≡ true → r0.lasting ≡ true) → AreQueued finished queue (state_in given) → IsKept (view_of (value_of r0.scopes)) r1.globs → (r1.lasting ≡ true → Lasts (finished_by r0) (state_by r0))
-    → (is_lasting queue ≡ true → is_apart queue ≡ true) → given.count ≤ MAX_STEPS → (is_apart queue ≡ true → IsApart finished given.map.id given.local)
-    → ((p : ℕ) → IsRecorded (state_in given) p) → IsBegun r1 None
-begun_again finished queue given r0 r1 state same queued fresh rest edges brought fewer are_queued kept lasts watches small keeps_apart recorded =
-    begun_kept finished (record queue { lasting = r1.lasting }) given r1 now (ap finished_by rest ∙ same) (ap queue_by rest ∙ (λ i. record (queued i) { lasting = r1.lasting }))
-    (ap (λ (r : Resolver). r.changes.items) rest ∙ fresh)
-    (queued_lowered finished queue (state_in given) r1.lasting (λ e. sym (ap is_lasting queued) ∙ fewer e) are_queued)
-    (λ e. lasts_through (finished_by r0) finished (state_by r0) (state_in given) same state (lasts e))
-    (λ e. watches (sym (ap is_lasting queued) ∙ fewer e)) small keeps_apart
-    (subst (λ (o : OpenScopes). IsKept (view_of (value_of o)) r1.globs) (sym (ap (λ (r : Resolver). r.scopes) rest)) kept) recorded
-  where
-    now : state_by r1 ≡ state_in given
-    now = ap state_by rest ∙ same_state r0 r1.globs edges brought ∙ state
 
 -- where nothing is tried, and nothing is to be looked at along globs, the queue is up to date
 pub up_to_date_after : (f : Maps) (queue : ImportQueue) (s : ImportState) (r : Resolver) → IsRunning r None → r.worklist.current ≡ [] → r.worklist.end ≡ 0

@@ -6,4 +6,3 @@ pub mod OpenLaws
 pub mod State
 pub mod Steps
 pub mod Queue
-pub mod LookAgain

@@ -1,11 +1,10 @@
 -- What may happen to imports between two times that they rest?
-use Rattle.std.specs.Prelude.{◌≡◌, ℕ, ◌<◌, ◌≤◌, Bool, true, List, [], ◌++◌, Option, None, Some, Contains, length, slice_get}
+use Rattle.std.specs.Prelude.{◌≡◌, ℕ, ◌<◌, ◌≤◌, Bool, true, List, [], Option, None, Some, Contains, length, slice_get}
 use Rattle.hir_base.specs.declared.ids.EnumId.{EnumId}
 use Rattle.hir_base.specs.declared.ids.ExternCrateId.{ExternCrateId}
 use Rattle.hir_base.specs.declared.ids.ModuleId.{ModuleId}
 use Rattle.hir_base.specs.declared.ids.TraitId.{TraitId}
 use Rattle.hir_base.specs.declared.macro_kind.MacroId.{MacroId}
-use Rattle.hir_scope.specs.Globs.{GlobNames}
 use Rattle.hir_scope.specs.Scope.{ScopeValue, binding_of}
 use Rattle.hir_scope.specs.Scope.Reads.{unnamed_vis}
 use Rattle.hir_scope.specs.declared.imports.ImportOrExternCrate.{ImportOrExternCrate}
@@ -13,28 +12,26 @@ use Rattle.hir_scope.specs.declared.per_ns.PerNs.{PerNs}
 use Rattle.hir_scope.specs.declared.visibility.Visibility.{Visibility}
 use Rattle.hir_def_map.specs.Declaration.{listed}
 use Rattle.hir_def_map.specs.Overlay.{Maps}
-use Rattle.hir_def_map.specs.State.{Map, Variants, entry_at, globs_after, module_at, new_module, pushed, variants_at, with_enum, with_macro_use, with_module, with_scope}
+use Rattle.hir_def_map.specs.State.{IsInOrder, Map, Variants, entry_at, globs_after, module_at, new_module, pushed, variants_at, with_enum, with_macro_use, with_module, with_scope}
 use Rattle.hir_def_map.specs.declared.nameres.declaration.Declaration.{Declaration}
 use Rattle.hir_def_map.specs.declared.nameres.origin.ModuleOrigin.{ModuleOrigin}
 use Rattle.hir_def_map.specs.declared.nameres.path_resolution.slots.Slot.{Slot as PathSlot}
-use Rattle.hir_def_map.specs.declared.nameres.path_resolution.slots.Slot.TheVariants.{Module as of_module}
-use Rattle.hir_def_map_laws.specs.ReadLaw.{AgreeAt, Grows, StandsBeside}
-use Rattle.hir_glob_imports.specs.Keys.{name_of}
-use Rattle.hir_glob_imports.specs.Waves.{GlobsValue, IsKept, update_at}
-use Rattle.hir_glob_imports.specs.declared.edge.Bound.{Bound}
+use Rattle.hir_def_map_laws.specs.ReadLaw.{AgreeAt, Grows}
+use Rattle.hir_glob_imports.specs.View.{View}
+use Rattle.hir_glob_imports.specs.Waves.{GlobsValue, IsKept, brought_of, update_at}
 use Rattle.hir_glob_imports.specs.declared.edge.Edge.{Edge}
 use Rattle.hir_glob_imports.specs.declared.edge.Key.{Key}
-use Rattle.hir_glob_imports.specs.declared.edge.Slot.{Slot}
-use Rattle.hir_glob_imports.specs.declared.edge.Target.TheVariants as targets
 use Rattle.hir_glob_imports.specs.declared.edge.Update.TheVariants.{Nothing}
 use Rattle.hir_worklist.specs.Queue.{count_of, is_unfinished}
 use Rattle.hir_import_resolution.specs.declared.directive.ImportDirective.{ImportDirective}
 use Rattle.hir_import_resolution.specs.declared.import_queue.ImportQueue.{ImportQueue}
+use Rattle.hir_import_resolution.specs.Changes.{forgotten}
 use Rattle.hir_import_resolution.specs.Inner.Queue.{AreIdleSettled}
 use Rattle.hir_import_resolution.specs.Inner.State.{IsApart}
 use Rattle.hir_import_resolution.specs.Inner.Steps.{IsBound}
 pub use Rattle.hir_import_resolution.specs.Lasting.{HasVariants, IsOrdered, IsPlaced, IsThere, Lasts, beside}
-use Rattle.hir_import_resolution.specs.Names.{ScopesValue, bound_of, trait_vis, view_of}
+use Rattle.hir_import_resolution.specs.Names.{ScopesValue, trait_vis, view_of}
+use Rattle.hir_import_resolution.specs.Rest.{BroughtStands}
 use Rattle.hir_import_resolution.specs.State.{ImportState, scopes_of}
 
 -- ---- what is queued
@@ -68,22 +65,13 @@ pub record IsUpToDate (finished : Maps) (queue : ImportQueue) (s : ImportState) 
 
 -- ---- what may have changed since
 
--- the map and its crates grew, and what they hold differs in these slots alone; no glob was recorded, and the imports that there were stand where they stood, and others may have come behind them
+-- the map and its crates grew, and what they hold differs in these slots alone; the imports that there were stand where they stood, and others may have come behind them
 pub record Grew (old new : ImportState) (slots : List PathSlot) : Type 0 where
   pub grows : Grows old.map new.map
   pub modules : length old.map.modules ≤ length new.map.modules
   pub others : (slot : PathSlot) → ¬ Contains slots slot → IsThere (length old.map.modules) slot → AgreeAt old.map old.local new.map new.local slot
-  -- names in modules that weren't there too, and traits without names
-  pub entries : (at : ℕ) (name : List ℕ) → ¬ Contains slots (of_module at name) → entry_at new.map at name ≡ entry_at old.map at name
-  pub traits : (at : ℕ) (id : TraitId) → trait_vis (module_at new.map at) id ≡ trait_vis (module_at old.map at) id
-  pub edges : new.edges ≡ old.edges
-  pub brought : (s : Slot) → ((name : List ℕ) → name_of s.key ≡ Some name → ¬ Contains slots (of_module s.at name)) → new.brought s ≡ old.brought s
   pub imports : (i : ℕ) → i < length old.imports → slice_get new.imports i ≡ slice_get old.imports i
   pub taken : (i : ℕ) → i < length old.imports → slice_get new.taken i ≡ slice_get old.taken i
-
--- what grows twice grows in the slots of both
-abbrev pub GrowthsFollowOneAnother : Type 0
-GrowthsFollowOneAnother = (one two three : ImportState) (first then : List PathSlot) → Grew one two first → Grew two three then → Grew one three (first ++ then)
 
 -- a queue was up to date, and what changed since differs in these slots alone
 pub record IsResumable (finished : Maps) (queue : ImportQueue) (now : ImportState) (slots : List PathSlot) : Type 0 where
@@ -93,7 +81,12 @@ pub record IsResumable (finished : Maps) (queue : ImportQueue) (now : ImportStat
   pub apart : is_apart queue ≡ true → IsApart finished before.map.id before.local
   pub apart_now : is_apart queue ≡ true → IsApart finished now.map.id now.local
 
--- ---- what globs see of it
+-- ---- globs
+
+-- along a glob nothing is to be done but where it's noted that it is to be looked at, and what was found out of globs lasts
+pub record GlobsLast (finished : Maps) (s : ImportState) (g : GlobsValue) : Type 0 where
+  pub kept : IsKept (view_of (scopes_of finished s)) g
+  pub lasts : Lasts finished s
 
 -- a map grows, and all that its names stand for stays
 pub record GrowsAround (old new : Map) : Type 0 where
@@ -102,21 +95,26 @@ pub record GrowsAround (old new : Map) : Type 0 where
   pub entries : (at : ℕ) (name : List ℕ) → entry_at new at name ≡ entry_at old at name
   pub traits : (at : ℕ) (id : TraitId) → trait_vis (module_at new at) id ≡ trait_vis (module_at old at) id
 
--- globs lead out of enums that have their variants, and the visibilities of globs, and of what stands at their ends, name modules that are there
-pub record ArePlaced (n : ScopesValue) (globs : List Edge) : Type 0 where
-  pub edges : (j : ℕ) (e : Edge) → slice_get globs j ≡ Some e → IsPlaced n.map e.vis
-  pub enums : (j : ℕ) (e : Edge) → slice_get globs j ≡ Some e → HasVariants n.map e.source
-  pub sources : (j : ℕ) (e : Edge) (key : Key) (b : Bound) → slice_get globs j ≡ Some e → bound_of n e.source key ≡ Some b → IsPlaced n.map b.vis
-  pub importers : (j : ℕ) (e : Edge) (key : Key) (b : Bound) → slice_get globs j ≡ Some e → bound_of n (targets.Own e.importer) key ≡ Some b → IsPlaced n.map b.vis
+-- the globs of two states are these
+pub record HaveGlobs (s : ImportState) (g : GlobsValue) : Type 0 where
+  pub edges : s.edges ≡ g.edges
+  pub brought : s.brought ≡ brought_of g
 
--- as of a map that stands beside finished ones
-abbrev pub MapsBesideAreOrdered : Type 0
-MapsBesideAreOrdered = (finished : Maps) (map : Map) → StandsBeside finished map → IsOrdered finished map
+-- where imports rest, globs last if what was found out does
+abbrev pub RestingGlobsLast : Type 0
+RestingGlobsLast = (finished : Maps) (queue : ImportQueue) (s : ImportState) (g : GlobsValue) → IsUpToDate finished queue s → is_lasting queue ≡ true → BroughtStands finished s → HaveGlobs s g
+    → GlobsLast finished s g
 
--- what holds of globs holds while the map grows around them
+-- they do while the map grows around its names, each module behind what it is in
 abbrev pub GrowthKeepsGlobs : Type 0
-GrowthKeepsGlobs = (finished : Maps) (old new : Map) (names new_names : GlobNames) (g : GlobsValue) → IsOrdered finished old → GrowsAround old new
-    → ArePlaced (beside finished old names) g.edges → IsKept (view_of (beside finished old names)) g → IsKept (view_of (beside finished new new_names)) g
+GrowthKeepsGlobs = (finished : Maps) (old new : ImportState) (g : GlobsValue) → HaveGlobs old g → HaveGlobs new g → GrowsAround old.map new.map → IsInOrder new.map
+    → GlobsLast finished old g → GlobsLast finished new g
+
+-- and where something is bound explicitly, once it's noted where to look
+abbrev pub PushesKeepGlobs : Type 0
+PushesKeepGlobs = (finished : Maps) (old new : ImportState) (g h : GlobsValue) (home : ℕ) (name : List ℕ) (items : PerNs) → HaveGlobs old g → HaveGlobs new h
+    → new.map ≡ pushed old.map old.globs home name items None → h.edges ≡ g.edges → brought_of h ≡ forgotten home name items (brought_of g)
+    → ((v w : View) → IsKept v g → IsBound home name items v w → IsKept w h) → GlobsLast finished old g → GlobsLast finished new h
 
 -- modules that are made, definitions that are listed, enums that get their variants and macros of the `macro_use` prelude let a map grow around its names
 abbrev pub ModulesGrowAround : Type 0
@@ -139,5 +137,5 @@ ScopesGrowAround = (map : Map) (at : ℕ) (change : ScopeValue → ScopeValue) �
 
 -- items that are pushed to a name of a module are bound there explicitly, and globs see no other change
 abbrev pub PushesBind : Type 0
-PushesBind = (n : ScopesValue) (home : ℕ) (name : List ℕ) (items : PerNs) (import : Option ImportOrExternCrate) → home < length n.map.modules
+PushesBind = (n : ScopesValue) (home : ℕ) (name : List ℕ) (items : PerNs) (import : Option ImportOrExternCrate)
     → IsBound home name items (view_of n) (view_of (record n { map = pushed n.map n.globs home name items import; globs = globs_after n.map n.globs home name items import }))

@@ -50,17 +50,18 @@ fn wake_slots(
 }
 
 impl ImportQueue {
-    /// No imports, of which nothing lasts.
+    /// No imports; nothing that is found out of them lasts.
     pub fn none(alloc: Global) -> ImportQueue
         ensures value { is_lasting result ≡ false }
     {
         ImportQueue::new(alloc, false, false)
     }
 
-    /// Whether what was found out of imports and globs lasts as the map grows, so that they may be resumed.
+    /// Whether what was found out of imports and globs lasts as the map grows, so that `resume_imports` may take them up.
     ///
-    /// It does but where a path stops at an enum that has no variants yet, or leads to a module that isn't there, where a glob
-    /// leads out of such an enum, or where a visibility names such a module.
+    /// It doesn't in a block's map, nor where finished maps may refer to the map, where a path stops at an enum that has no
+    /// variants yet or leads to a module that isn't there, where a glob leads out of such an enum, or where a visibility names
+    /// such a module. No contract promises that it does elsewhere.
     pub fn lasts(&self) -> bool
         ensures value { result ≡ is_lasting self.now }
     {

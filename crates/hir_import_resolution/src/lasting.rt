@@ -40,7 +40,7 @@ pub(crate) fn is_placed(map: &DefMap, vis: Visibility) -> bool
     }
 }
 
-/// The same of who may see what stands in a slot, if something does.
+/// Whether what stands in a slot, if something does, has a visibility that names a module that is there.
 pub(crate) fn is_placed_at(map: &DefMap, slot: &Slot) -> bool
     ensures placed { result ≡ true → (b : Bound) → bound_inside slot.now.key (module_at map.now slot.now.at) ≡ Some b → IsPlaced map.now b.vis }
 {
@@ -50,7 +50,7 @@ pub(crate) fn is_placed_at(map: &DefMap, slot: &Slot) -> bool
     }
 }
 
-/// The same of who may see a trait that a module has without a name.
+/// Whether a trait that a module may have without a name has such a visibility.
 pub(crate) fn is_trait_placed(map: &DefMap, at: u32, id: TraitId) -> bool
     ensures placed { result ≡ true → (vis : Visibility) → trait_vis (module_at map.now at) id ≡ Some vis → IsPlaced map.now vis }
 {
@@ -87,6 +87,7 @@ fn is_bare_def(map: &DefMap, def: ModuleDefId) -> bool
     }
 }
 
+/// Whether an item is one whose definition is an enum that lies in a map, and has no variants there.
 fn is_bare(map: &DefMap, item: Option<TypesItem>) -> bool
     ensures value { result ≡ is_bare map.now item }
 {
@@ -113,7 +114,7 @@ pub(crate) fn is_there(slot: SlotRef<'_>, modules: u32) -> bool
     }
 }
 
-/// Whether each trait without a name of a module can be seen from modules that are there.
+/// Whether the visibility of each trait that a module has without a name names a module that is there.
 fn has_traits_placed(map: &DefMap, at: u32) -> bool
     ensures placed { result ≡ true → (id : TraitId) (vis : Visibility) → trait_vis (module_at map.now at) id ≡ Some vis → IsPlaced map.now vis }
 {
@@ -129,7 +130,7 @@ fn has_traits_placed(map: &DefMap, at: u32) -> bool
     true
 }
 
-/// The same of each module.
+/// Whether those of the traits without names of all modules do.
 fn have_traits_placed(map: &DefMap) -> bool
     ensures placed { result ≡ true → (at : ℕ) (id : TraitId) (vis : Visibility) → trait_vis (module_at map.now at) id ≡ Some vis → IsPlaced map.now vis }
 {
@@ -149,7 +150,7 @@ fn is_edge_firm(map: &DefMap, edge: &Edge) -> bool
     is_placed(map, edge.vis) && has_variants(map, edge.source)
 }
 
-/// The same of each edge.
+/// Whether the visibility of each edge names a module that is there, and its source has its variants.
 fn are_edges_firm(map: &DefMap, edges: &[Edge]) -> bool
     ensures placed { result ≡ true → (j : ℕ) (e : Edge) → slice_get edges.now j ≡ Some e → IsPlaced map.now e.vis }
     ensures enums { result ≡ true → (j : ℕ) (e : Edge) → slice_get edges.now j ≡ Some e → HasVariants map.now e.source }
@@ -162,7 +163,7 @@ fn are_edges_firm(map: &DefMap, edges: &[Edge]) -> bool
     true
 }
 
-/// Whether what globs brought can be seen from modules that are there.
+/// Whether the visibilities of what globs brought name modules that are there.
 fn is_brought_placed(map: &DefMap, globs: &GlobImports) -> bool
     ensures placed { result ≡ true → (s : GlobSlot) (by : Brought) (b : Bound) → brought_of globs.now s ≡ Some by → bound_inside s.key (module_at map.now s.at) ≡ Some b → IsPlaced map.now b.vis }
 {

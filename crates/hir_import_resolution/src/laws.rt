@@ -1,16 +1,13 @@
 //! What happens between two rounds. The functions do nothing: their contracts are the laws.
-ghost use Rattle.hir_import_resolution.specs.Rounds.{EnumsGrowAround, GrowthKeepsGlobs, GrowthsFollowOneAnother, ListsGrowAround, MacroUsesGrowAround, MapsBesideAreOrdered, ModulesGrowAround, PushesBind, ScopesGrowAround};
+ghost use Rattle.hir_import_resolution.specs.Rounds.{EnumsGrowAround, GrowthKeepsGlobs, ListsGrowAround, MacroUsesGrowAround, ModulesGrowAround, PushesBind, PushesKeepGlobs, RestingGlobsLast, ScopesGrowAround};
 ghost use Rattle.hir_import_resolution.specs.Sound.{GrowthKeepsSound, LocalKeepsSound, PushesKeepSound, ReachedImportsKeepSound, StepsKeepSound};
 
-/// What grows twice grows in the slots of both.
-pub fn growths_follow_one_another()
-    ensures follow { GrowthsFollowOneAnother }
-{}
-
-/// What holds of globs holds while their map grows around them: while all that its names stand for stays.
-pub fn growth_keeps_globs()
-    ensures kept { GrowthKeepsGlobs }
-    ensures beside { MapsBesideAreOrdered }
+/// What is known of globs when imports rest stays true while their map grows: modules and enums may come, and names may be
+/// bound.
+pub fn rounds_keep_globs()
+    ensures resting { RestingGlobsLast }
+    ensures growth { GrowthKeepsGlobs }
+    ensures pushes { PushesKeepGlobs }
 {}
 
 /// What building adds without a push lets a map grow around its names.

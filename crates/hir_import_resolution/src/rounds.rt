@@ -8,7 +8,7 @@ ghost use Rattle.hir_import_resolution.specs.Inner.Queue.{IsBegun};
 ghost use Rattle.hir_import_resolution.specs.Inner.State.{IsApart, finished_by, state_by, state_in};
 ghost use Rattle.hir_import_resolution.specs.Lasting.{Lasts};
 ghost use Rattle.hir_import_resolution.specs.Rest.{IsAtRest, IsSound, IsSpent};
-ghost use Rattle.hir_import_resolution.specs.Rounds.{AreQueued, IsResumable, IsUpToDate, is_apart, is_lasting};
+ghost use Rattle.hir_import_resolution.specs.Rounds.{AreQueued, GlobsLast, IsResumable, IsUpToDate, is_apart, is_lasting};
 ghost use Rattle.hir_import_resolution.specs.Rules.{Steps};
 
 use crate::import_queue::ImportQueue;
@@ -27,7 +27,8 @@ pub struct Resting {
     pub imports: Imports,
     /// What they read, so that they are tried again once that has changed.
     pub queue: ImportQueue,
-    /// The slots that changed as they were taken, where finished maps don't refer to the map that is built.
+    /// The slots that changed as they were taken; it may list one twice. It's empty where finished maps may refer to the map
+    /// that is built.
     pub changed: Vec<Slot>,
 }
 
@@ -61,7 +62,7 @@ fn settle_reopened(
 }
 
 /// Takes imports, in the order in which they were found, until no more comes of them: tries each, and looks at all names along
-/// all globs. They may be taken up again by `resume_imports`.
+/// all globs. Where `ImportQueue::lasts` says so they may be taken up again by `resume_imports`.
 pub fn begin_imports(
     alloc: Global,
     world: WorldPart<'_>,
@@ -91,8 +92,7 @@ pub fn begin_imports(
     settle_reopened(alloc, world, queue, imports)
 }
 
-/// Takes over imports that came to rest: queues those that read a slot that has changed, and those that came besides, and has
-/// globs looked at in such slots.
+/// Takes over imports that came to rest: queues those that read a slot that has changed, and those that came besides.
 fn resumed<'a>(
     alloc: Global,
     world: WorldPart<'a>,
@@ -106,6 +106,7 @@ fn resumed<'a>(
     requires sound { IsSound (part_of world) (state_in imports) }
     requires lasts { is_lasting queue ≡ true }
     requires resumable { IsResumable (part_of world) queue (state_in imports) changed.now }
+    requires globs { GlobsLast (part_of world) (state_in imports) imports.globs }
     ensures begun { IfOk result (λ r. IsBegun r None) }
     ensures over { IfOk result (λ r. r.worklist.current ≡ []) }
     ensures outside { IfOk result (λ r. r.worklist.end ≡ 0) }
@@ -116,17 +117,19 @@ fn resumed<'a>(
 {
     let mut queue = queue;
     queue.wake(changed)?;
-    queue.append(imports.imports.len())?;
-    let mut resolver = Resolver::new(alloc, world, queue, imports);
-    resolver.look_again(changed)?;
+    let count = imports.imports.len();
+    queue.append(count)?;
+    let resolver = Resolver::new(alloc, world, queue, imports);
     Ok(resolver)
 }
 
 /// Takes up imports that came to rest, once their map has grown: tries those that read a slot that has changed, and those
-/// that came besides, until no more comes of them. Along globs only what stands in such slots is looked at.
+/// that came besides, until no more comes of them. Along globs names go only from where that is noted.
 ///
-/// Between two rounds modules and enums may come, names may be bound, and imports may be found, which are pushed behind
-/// the others with nothing taken. `changed` has each slot in which the map differs from when the imports came to rest.
+/// Between two rounds modules and enums may come, names may be bound (`forget`) and go along globs (`spread_changes`), and
+/// imports may be found, which are pushed behind the others with nothing taken. `changed` has each slot in which the map
+/// differs from when the imports came to rest. That anything lasts isn't promised: where it doesn't, or more has changed,
+/// they are begun anew.
 ///
 /// ```text
 /// let mut resting = begin_imports(alloc, world, apart, imports)?;
@@ -152,6 +155,7 @@ pub fn resume_imports(
     requires sound { IsSound (part_of world) (state_in imports) }
     requires lasts { is_lasting queue ≡ true }
     requires resumable { IsResumable (part_of world) queue (state_in imports) changed.now }
+    requires globs { GlobsLast (part_of world) (state_in imports) imports.globs }
     ensures derived { IfOk result (λ r. Steps (part_of world.entry) (state_in imports) (state_in r.imports)) }
     ensures rests { IfOk result (λ r. IsAtRest (part_of world.entry) (state_in r.imports)) }
     ensures sound { IfOk result (λ r. IsSound (part_of world.entry) (state_in r.imports)) }

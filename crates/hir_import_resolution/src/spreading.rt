@@ -1,16 +1,10 @@
 //! Names that go along globs while the map that has them grows.
-ghost use Rattle.std.specs.Prelude.{◌≡◌, ◌≤◌, ℕ, [], Contains, Err, IfOk, OnOk};
-ghost use Rattle.hir_base.specs.declared.ids.TraitId.{TraitId};
-ghost use Rattle.hir_def_map.specs.State.{module_at};
+ghost use Rattle.std.specs.Prelude.{◌≡◌, ◌≤◌, [], Err, IfOk, OnOk};
 ghost use Rattle.hir_def_map.specs.WorldParts.{part_of};
 ghost use Rattle.hir_def_map_laws.specs.SlotChanges.{ScopesChangeAmong};
-ghost use Rattle.hir_glob_imports.specs.Keys.{slot_at};
-ghost use Rattle.hir_glob_imports.specs.Waves.{brought_of};
-ghost use Rattle.hir_glob_imports.specs.declared.edge.Key.TheVariants.{Unnamed};
-ghost use Rattle.hir_glob_imports.specs.declared.edge.Slot.{Slot as GlobSlot};
 ghost use Rattle.hir_import_resolution.specs.Inner.State.{path_slots, state_in};
-ghost use Rattle.hir_import_resolution.specs.Names.{trait_vis};
 ghost use Rattle.hir_import_resolution.specs.Rest.{BroughtStands, IsClosed, IsSound, IsSpent};
+ghost use Rattle.hir_import_resolution.specs.Rounds.{GlobsLast};
 ghost use Rattle.hir_import_resolution.specs.Rules.{Steps};
 
 use crate::import_queue::ImportQueue;
@@ -35,10 +29,8 @@ pub fn spread_changes(
     // each scope that changed is at one of the slots
     ensures changes { IfOk result.1 (λ slots. ScopesChangeAmong imports.map result.0.map imports.local (path_slots slots.items)) }
     ensures settled { OnOk result.1 (result.0.globs.pending ≡ []) }
-    // no glob is recorded, and elsewhere traits without names and what globs brought stay
-    ensures edges { OnOk result.1 (result.0.globs.edges ≡ imports.globs.edges) }
-    ensures brought { IfOk result.1 (λ slots. (s : GlobSlot) → ¬ Contains slots.items s → brought_of result.0.globs s ≡ brought_of imports.globs s) }
-    ensures traits { IfOk result.1 (λ slots. (at : ℕ) (id : TraitId) → ¬ Contains slots.items (slot_at at (Unnamed id)) → trait_vis (module_at result.0.map at) id ≡ trait_vis (module_at imports.map at) id) }
+    // what is known of globs stays true
+    ensures globs { OnOk result.1 (GlobsLast (part_of world.entry) (state_in imports) imports.globs → GlobsLast (part_of world.entry) (state_in result.0) result.0.globs) }
     ensures local { result.0.local ≡ imports.local }
     ensures imports { result.0.imports.items ≡ imports.imports.items }
     ensures taken { result.0.taken.items ≡ imports.taken.items }

@@ -7,7 +7,7 @@ ghost use Rattle.hir_def_map.specs.State.{IsInOrder, Local};
 ghost use Rattle.hir_def_map.specs.WorldParts.{part_of};
 ghost use Rattle.hir_import_resolution.specs.Inner.State.{IsApart};
 ghost use Rattle.hir_import_resolution.specs.Rest.{IsAtRest, IsSound};
-ghost use Rattle.hir_import_resolution.specs.Rounds.{IsResumable, is_apart as are_apart, is_lasting};
+ghost use Rattle.hir_import_resolution.specs.Rounds.{GlobsLast, IsResumable, is_apart as are_apart, is_lasting};
 ghost use Rattle.hir_import_resolution.specs.declared.directive.ImportDirective.{ImportDirective};
 ghost use Rattle.hir_worklist.specs.Queue.{count_of};
 ghost use Rattle.hir_call_queue.specs.Changes.{ChangedValue, joined, nothing};
@@ -20,10 +20,10 @@ ghost use Rattle.hir_def_collector.specs.ItemIds.{module_id};
 ghost use Rattle.hir_def_collector.specs.declared.collector.macro_directive.MacroDirective.{MacroDirective};
 ghost use Rattle.hir_def_collector.specs.Keys.{Environment, IsMeant, input_at, macro_key, macro_tree, source_in, text_at, text_of};
 ghost use Rattle.hir_def_collector.specs.Moves.{Makes, OnceGrown};
-ghost use Rattle.hir_def_collector.specs.State.{at_rest, core_in, import_state};
+ghost use Rattle.hir_def_collector.specs.State.{Run, at_rest, core_in, import_state};
 ghost use Rattle.hir_def_collector.specs.Steps.{CallsMacro, IsDue, Steps, failing, keys_read, with_keys};
 ghost use Rattle.hir_def_collector.specs.Workspace.{entry_look};
-ghost use Rattle.hir_def_collector.specs.Waiting.{IsBehind, IsBetweenPasses, IsGathered, IsNoted, IsStale, IsUpToDate, LiesApart, NotesSlots};
+ghost use Rattle.hir_def_collector.specs.Waiting.{IsBehind, IsBetweenPasses, IsGathered, IsNoted, IsNotedBeside, IsStale, IsUpToDate, LiesApart, NotesSlots};
 
 use crate::collector::def_collector::DefCollector;
 use crate::collector::derives::{
@@ -338,7 +338,7 @@ fn expand<D: SourceDatabase>(
     ensures same { D.workspace db.new ≡ D.workspace db.old }
     ensures placed { AreCallsPlaced locations.old → AreCallsPlaced locations.new }
     ensures ok { OnOk result (OnceGrown locations.new (D.workspace db.old) (λ env. Steps env (part_of world.entry) (at_rest (core_in run.old)) (at_rest (core_in run.new)))) }
-    ensures noted { OnOk result (IsNoted run.old run.new) }
+    ensures noted { OnOk result (IsNotedBeside (part_of world.entry) run.old run.new) }
     ensures handled { OnOk result (slice_get (core_in run.new).fates i ≡ Some Fate.Handled) }
     ensures many { result ≡ Err CollectError.TooMany → OnceGrown locations.new (D.workspace db.old) (λ env. IsSpent env (part_of world.entry) (at_rest (core_in run.old))) }
 {
@@ -423,7 +423,7 @@ fn do_due<D: SourceDatabase>(
     ensures placed { AreCallsPlaced locations.old → AreCallsPlaced locations.new }
     ensures ok { OnOk result (OnceGrown locations.new (D.workspace db.old) (λ env. Steps env (part_of world.entry) (at_rest (core_in run.old)) (at_rest (core_in run.new)))) }
     ensures tried { IfOk result (λ done. TriesCall (part_of world.entry) (core_in run.old) (core_in run.new) i done) }
-    ensures noted { OnOk result (IsNoted run.old run.new) }
+    ensures noted { OnOk result (IsNotedBeside (part_of world.entry) run.old run.new) }
     ensures many { result ≡ Err CollectError.TooMany → OnceGrown locations.new (D.workspace db.old) (λ env. IsSpent env (part_of world.entry) (at_rest (core_in run.old))) }
 {
     match due {
@@ -461,7 +461,7 @@ fn try_call<D: SourceDatabase>(
     ensures same { D.workspace db.new ≡ D.workspace db.old }
     ensures placed { AreCallsPlaced locations.old → AreCallsPlaced locations.new }
     ensures ok { OnOk result (OnceGrown locations.new (D.workspace db.old) (λ env. Steps env (part_of world.entry) (at_rest (core_in run.old)) (at_rest (core_in run.new)))) }
-    ensures noted { OnOk result (IsNoted run.old run.new) }
+    ensures noted { OnOk result (IsNotedBeside (part_of world.entry) run.old run.new) }
     ensures tried { IfOk result (λ done. TriesCall (part_of world.entry) (core_in run.old) (core_in run.new) i done) }
     ensures many { result ≡ Err CollectError.TooMany → OnceGrown locations.new (D.workspace db.old) (λ env. IsSpent env (part_of world.entry) (at_rest (core_in run.old))) }
 {
@@ -497,10 +497,11 @@ fn watch(
     Ok(())
 }
 
-/// Queues the calls that have read what has changed.
+/// Queues the calls that have read what has changed, which is forgotten then.
 fn wake(run: &mut DefCollector, queue: &mut CallQueue) -> Result<(), AllocError>
     ensures woken { OnOk result (IsWoken run.old.changed queue.old queue.new) }
     ensures same { core_in run.new ≡ core_in run.old }
+    ensures globs { run.new.globs ≡ run.old.globs }
     ensures none { OnOk result (run.new.changed ≡ nothing) }
 {
     queue.wake(run.changed())?;
@@ -530,7 +531,7 @@ fn try_queued<D: SourceDatabase>(
     ensures tried { IfOk result (λ done. TriesCall (part_of world.entry) (core_in run.old) (core_in run.new) i done) }
     ensures up_to_date { OnOk result (IsUpToDate (part_of world.entry) queue.new (core_in run.new) None) }
     ensures stays { OnOk result (GoesOn queue.old queue.new) }
-    ensures gathered { OnOk result (IsGathered grown.old run.old grown.new run.new) }
+    ensures gathered { OnOk result (IsGathered (part_of world.entry) grown.old run.old grown.new run.new) }
     ensures many { result ≡ Err CollectError.TooMany → OnceGrown locations.new (D.workspace db.old) (λ env. IsSpent env (part_of world.entry) (at_rest (core_in run.old))) }
 {
     let done = try_call(run, db, world, locations, i)?;
@@ -575,7 +576,7 @@ fn try_calls<D: SourceDatabase>(
     ensures up_to_date { OnOk result (IsUpToDate (part_of world.entry) queue.new (core_in run.new) None) }
     ensures between { OnOk result (IsBetweenPasses queue.new) }
     ensures queue { OnOk result (is_apart queue.new ≡ is_apart queue.old) }
-    ensures gathered { OnOk result (IsGathered grown.old run.old grown.new run.new) }
+    ensures gathered { OnOk result (IsGathered (part_of world.entry) grown.old run.old grown.new run.new) }
     ensures many { result ≡ Err CollectError.TooMany → OnceGrown locations.new (D.workspace db.old) (λ env. IsSpent env (part_of world.entry) (at_rest (core_in run.old))) }
 {
     let mut progress = false;
@@ -587,8 +588,8 @@ fn try_calls<D: SourceDatabase>(
     Ok(progress)
 }
 
-/// Takes imports until no more comes of them, those that rested where they have read one of the slots that have changed since,
-/// `grown`; then those calls may be expanded that there are.
+/// Takes imports until no more comes of them: of those that rested only such as have read one of the slots that have changed
+/// since, `grown`, unless all slots count as changed. Then those calls may be expanded that there are.
 fn settle(
     run: DefCollector,
     world: WorldPart<'_>,
@@ -602,14 +603,15 @@ fn settle(
     requires sound { IsSound (part_of world) (import_state (at_rest (core_in run))) }
     requires queue { is_lasting imports ≡ true → are_apart imports ≡ apart }
     requires resumable { is_lasting imports ≡ true → grown.now.all ≡ false → IsResumable (part_of world) imports (import_state (at_rest (core_in run))) grown.now.slots }
+    requires globs { is_lasting imports ≡ true → grown.now.all ≡ false → GlobsLast (part_of world) (import_state (at_rest (core_in run))) run.globs }
     ensures ok { IfOk result (λ r. (env : Environment) → Steps env (part_of world.entry) (at_rest (core_in run)) (at_rest (core_in r.0))) }
     ensures rests { IfOk result (λ r. IsAtRest (part_of world.entry) (import_state (at_rest (core_in r.0)))) }
     ensures settled { IfOk result (λ r. (core_in r.0).settled ≡ length (core_in r.0).calls) }
     ensures counts { IfOk result (λ r. ((core_in run).count < (core_in r.0).count) × ((core_in run).count < STEP_LIMIT)) }
     ensures noted { IfOk result (λ r. NotesSlots run r.0) }
     ensures queue { IfOk result (λ r. are_apart r.1 ≡ apart) }
-    // nothing has changed since
-    ensures behind { IfOk result (λ r. length (core_in r.0).taken ≡ length (core_in r.0).reached → (changed : ChangedValue) → IsBehind (part_of world.entry) r.1 changed (core_in r.0)) }
+    // nothing has changed since, and it doesn't matter what is noted
+    ensures behind { IfOk result (λ r. length (core_in r.0).taken ≡ length (core_in r.0).reached → (changed : ChangedValue) (now : Run) → core_in now ≡ core_in r.0 → IsBehind (part_of world.entry) r.1 changed now) }
     ensures many { result ≡ Err CollectError.TooMany → (env : Environment) → IsSpent env (part_of world.entry) (at_rest (core_in run)) }
 {
     let (mut run, imports) = run.settle(world, apart, imports, grown)?;
@@ -667,7 +669,7 @@ fn take_turn<D: SourceDatabase>(
     requires stale { IsStale (part_of world) queue.old run }
     requires between { IsBetweenPasses queue.old }
     requires imports { is_lasting imports ≡ true → are_apart imports ≡ apart }
-    requires behind { IsBehind (part_of world) imports (joined grown.old run.changed) (core_in run) }
+    requires behind { IsBehind (part_of world) imports (joined grown.old run.changed) run }
     requires ready { IsReady locations.old (part_of world) (core_in run) }
     requires first { NoneWaitsBefore (core_in run) first }
     ensures kept { KeepsTables locations.old locations.new }
@@ -678,7 +680,7 @@ fn take_turn<D: SourceDatabase>(
     ensures stale { IfOk result (λ r. IsStale (part_of world.entry) queue.new r.0) }
     ensures between { OnOk result (IsBetweenPasses queue.new) }
     ensures imports { IfOk result (λ r. are_apart r.1 ≡ apart) }
-    ensures behind { IfOk result (λ r. IsBehind (part_of world.entry) r.1 (joined grown.new r.0.changed) (core_in r.0)) }
+    ensures behind { IfOk result (λ r. IsBehind (part_of world.entry) r.1 (joined grown.new r.0.changed) r.0) }
     ensures counts { IfOk result (λ r. ((core_in run).count < (core_in r.0).count) × ((core_in run).count < STEP_LIMIT)) }
     ensures turned { IfOk result (λ r. OnceGrown locations.new (D.workspace db.old) (λ env. TakesTurn env (part_of world.entry) (core_in run) (core_in r.0) first r.2)) }
     ensures many { result ≡ Err CollectError.TooMany → OnceGrown locations.new (D.workspace db.old) (λ env. IsSpent env (part_of world.entry) (at_rest (core_in run))) }

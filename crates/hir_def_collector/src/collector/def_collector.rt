@@ -8,7 +8,7 @@ ghost use Rattle.hir_def_map.specs.Macros.{with_diagnostic, with_macro_def};
 ghost use Rattle.hir_def_map_laws.specs.SlotChanges.{ScopesChangeAmong};
 ghost use Rattle.hir_import_resolution.specs.Inner.State.{IsApart, state_in};
 ghost use Rattle.hir_import_resolution.specs.Rest.{IsAtRest, IsClosed, IsSound, IsSpent as ImportsAreSpent};
-ghost use Rattle.hir_import_resolution.specs.Rounds.{IsResumable, IsUpToDate as AreUpToDate, is_apart, is_lasting};
+ghost use Rattle.hir_import_resolution.specs.Rounds.{GlobsLast, IsResumable, IsUpToDate as AreUpToDate, is_apart, is_lasting};
 ghost use Rattle.hir_import_resolution.specs.Rules.{Steps as StepsOfImports};
 ghost use Rattle.hir_import_resolution.specs.Visibilities.{visibility_in};
 ghost use Rattle.hir_call_queue.specs.Changes.{nothing};
@@ -28,6 +28,7 @@ ghost use Rattle.hir_def_collector.specs.Moves.{begun};
 ghost use Rattle.hir_def_collector.specs.Waiting.{IsNoted, NotesSlots};
 
 use crate::collector::collected::{Asked, Collected};
+use crate::collector::crate_attrs::says;
 use crate::collector::def_collector::changes::{changed_by, changed_by_imports, note_variants};
 use crate::collector::diagnostics::{report_calls, report_unresolved, unresolved_crates};
 use crate::collector::exports::{ExportedFunction, censor_root};
@@ -152,8 +153,8 @@ fn end(fates: &mut Vec<Fate>, i: usize, fate: Fate)
     }
 }
 
-/// Takes imports until no more comes of them: those of the queue alone that have read one of the slots, where what was found out
-/// of them lasts and not any slot may have changed, and those that came besides.
+/// Takes imports until no more comes of them: all, or where what was found out lasts and not all slots count as changed, those
+/// of the queue that have read one of the slots, and those that came besides.
 fn take_imports(
     alloc: Global,
     world: WorldPart<'_>,
@@ -169,6 +170,7 @@ fn take_imports(
     requires sound { IsSound (part_of world) (state_in imports) }
     requires queue { is_lasting queue ≡ true → is_apart queue ≡ apart }
     requires resumable { is_lasting queue ≡ true → grown.now.all ≡ false → IsResumable (part_of world) queue (state_in imports) grown.now.slots }
+    requires globs { is_lasting queue ≡ true → grown.now.all ≡ false → GlobsLast (part_of world) (state_in imports) imports.globs }
     ensures derived { IfOk result (λ r. StepsOfImports (part_of world.entry) (state_in imports) (state_in r.imports)) }
     ensures rests { IfOk result (λ r. IsAtRest (part_of world.entry) (state_in r.imports)) }
     ensures sound { IfOk result (λ r. IsSound (part_of world.entry) (state_in r.imports)) }
@@ -515,6 +517,10 @@ impl DefCollector {
             (macros_brought (part_of world.entry) (core_in self.old).map (core_in self.old).dependencies (head_of head.entry) name.now) (Some by))) }
         ensures noted { OnOk result (IsNoted self.old self.new) }
     {
+        let attrs = head.attrs.attrs.as_slice();
+        if !says(attrs, "macro_use") {
+            return Ok(());
+        }
         if self.map.id().block.is_some() {
             return Ok(());
         }
@@ -522,7 +528,6 @@ impl DefCollector {
             return Ok(());
         };
         self.changed.add_everything();
-        let attrs = head.attrs.attrs.as_slice();
         use_wanted(self.allocator(), &mut self.map, scope, attrs, by)?;
         Ok(())
     }
@@ -611,6 +616,7 @@ impl DefCollector {
     /// What has changed was looked at.
     pub fn forget_changes(&mut self)
         ensures value { core_in self.new ≡ core_in self.old }
+        ensures globs { self.new.globs ≡ self.old.globs }
         ensures none { self.new.changed ≡ nothing }
     {
         self.changed.clear();
@@ -645,7 +651,8 @@ impl DefCollector {
     }
 
     /// Takes imports, and what comes of them along globs, until no more comes. Of those in `queue`, where what was found out of
-    /// them lasts, only those are tried that have read one of the slots that have changed since they rested, `grown`.
+    /// them lasts and not all slots count as changed, only those are tried that have read one of the slots that have changed
+    /// since they rested, `grown`.
     pub fn settle(
         self,
         world: WorldPart<'_>,
@@ -659,6 +666,7 @@ impl DefCollector {
         requires sound { IsSound (part_of world) (import_state (at_rest (core_in self))) }
         requires queue { is_lasting queue ≡ true → is_apart queue ≡ apart }
         requires resumable { is_lasting queue ≡ true → grown.now.all ≡ false → IsResumable (part_of world) queue (import_state (at_rest (core_in self))) grown.now.slots }
+        requires globs { is_lasting queue ≡ true → grown.now.all ≡ false → GlobsLast (part_of world) (import_state (at_rest (core_in self))) self.globs }
         ensures ok { IfOk result (λ r. (env : Environment) → Steps env (part_of world.entry) (at_rest (core_in self)) (at_rest (core_in r.0))) }
         ensures noted { IfOk result (λ r. NotesSlots self r.0) }
         ensures rests { IfOk result (λ r. IsAtRest (part_of world.entry) (import_state (at_rest (core_in r.0)))) }

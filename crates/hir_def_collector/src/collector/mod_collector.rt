@@ -21,7 +21,7 @@ ghost use Rattle.hir_def_collector.specs.Steps.{inside_file, visit};
 ghost use Rattle.hir_def_collector.specs.TreeReads.{head_of, visits_at, visits_behind};
 ghost use Rattle.hir_def_collector.specs.Derivation.{IsFull};
 ghost use Rattle.hir_def_collector.specs.Moves.{Drops, GoesInside, Handles, HandlesAndSpreads, HandlesTooFar, MayTake, OnceGrown, Passes, PassesTooFar, TakesFile, Tells, Walks, WalksTooFar, found_view, is_single, opened, tasks_of};
-ghost use Rattle.hir_def_collector.specs.Waiting.{IsNoted};
+ghost use Rattle.hir_def_collector.specs.Waiting.{IsNoted, IsNotedBeside};
 
 use crate::collector::attributes::{Visited, adt_of, pass_attributes};
 use crate::collector::declaration::Declaration;
@@ -567,7 +567,7 @@ fn visit_item<'a, D: SourceDatabase>(
     ensures same { D.workspace db.new ≡ D.workspace db.old }
     ensures ok { IfOk result (λ inside. OnceGrown locations.new (D.workspace db.old) (λ env. (items : List KeptItem) → HandlesAndSpreads env (part_of world.entry) (core_in run.old) (core_in run.new)
         (visit site.now (item_of items (head_of head.entry) (kind_content item.entry))) (tasks_of site.now.home items inside))) }
-    ensures noted { OnOk result (IsNoted run.old run.new) }
+    ensures noted { OnOk result (IsNotedBeside (part_of world.entry) run.old run.new) }
     ensures spread { OnOk result (run.new.globs.pending ≡ []) }
     ensures within { IfOk result (λ inside. GoesInside locations.new (length (core_in run.new).map.modules) site.now (held_numbers (kind_content item.entry)) inside) }
     ensures many { result ≡ Err CollectError.TooMany → OnceGrown locations.new (D.workspace db.old) (λ env. (items : List KeptItem) →
@@ -666,7 +666,7 @@ pub fn walk_item<D: SourceDatabase>(
     ensures same { D.workspace db.new ≡ D.workspace db.old }
     ensures ok { OnOk result (OnceGrown locations.new (D.workspace db.old)
         (λ env. Walks env (part_of world.entry) (core_in run.old) (core_in run.new) (visits_behind source.now.value.tree site.now id.0 done))) }
-    ensures noted { OnOk result (IsNoted run.old run.new) }
+    ensures noted { OnOk result (IsNotedBeside (part_of world.entry) run.old run.new) }
     ensures many { result ≡ Err CollectError.TooMany → OnceGrown locations.new (D.workspace db.old)
         (λ env. WalksTooFar env (part_of world.entry) (core_in run.old) (visits_behind source.now.value.tree site.now id.0 done)) }
 {
@@ -723,7 +723,7 @@ pub fn walk_all<D: SourceDatabase>(
     ensures same { D.workspace db.new ≡ D.workspace db.old }
     ensures ok { OnOk result (OnceGrown locations.new (D.workspace db.old)
         (λ env. Walks env (part_of world.entry) (core_in run.old) (core_in run.new) (visits_at source.now.value.tree site.now (numbers_of ids.now)))) }
-    ensures noted { OnOk result (IsNoted run.old run.new) }
+    ensures noted { OnOk result (IsNotedBeside (part_of world.entry) run.old run.new) }
     ensures many { result ≡ Err CollectError.TooMany → OnceGrown locations.new (D.workspace db.old)
         (λ env. WalksTooFar env (part_of world.entry) (core_in run.old) (visits_at source.now.value.tree site.now (numbers_of ids.now))) }
 {

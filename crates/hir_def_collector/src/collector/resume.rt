@@ -9,7 +9,7 @@ ghost use Rattle.hir_def_collector.specs.Derivation.{IsSpent};
 ghost use Rattle.hir_def_collector.specs.Moves.{OnceGrown};
 ghost use Rattle.hir_def_collector.specs.State.{at_rest, core_in, import_state};
 ghost use Rattle.hir_def_collector.specs.Steps.{IsDue, IsPassedOver, Steps, site_behind};
-ghost use Rattle.hir_def_collector.specs.Waiting.{IsNoted};
+ghost use Rattle.hir_def_collector.specs.Waiting.{IsNotedBeside};
 
 use crate::collector::CollectError;
 use crate::collector::def_collector::DefCollector;
@@ -57,7 +57,7 @@ pub fn skip<D: SourceDatabase>(
     ensures placed { AreCallsPlaced locations.old → AreCallsPlaced locations.new }
     ensures ok { OnOk result (OnceGrown locations.new (D.workspace db.old) (λ env. Steps env (part_of world.entry) (at_rest (core_in run.old)) (at_rest (core_in run.new)))) }
     ensures handled { OnOk result (slice_get (core_in run.new).fates i ≡ Some Fate.Handled) }
-    ensures noted { OnOk result (IsNoted run.old run.new) }
+    ensures noted { OnOk result (IsNotedBeside (part_of world.entry) run.old run.new) }
     ensures many { result ≡ Err CollectError.TooMany → OnceGrown locations.new (D.workspace db.old) (λ env. IsSpent env (part_of world.entry) (at_rest (core_in run.old))) }
 {
     let site = site_behind(&call.site)?;
@@ -114,7 +114,7 @@ fn give_up_at<D: SourceDatabase>(
     ensures placed { AreCallsPlaced locations.old → AreCallsPlaced locations.new }
     ensures ok { OnOk result (OnceGrown locations.new (D.workspace db.old) (λ env. Steps env (part_of world.entry) (at_rest (core_in run.old)) (at_rest (core_in run.new)))) }
     ensures before { OnOk result (NoneWaitsBefore (core_in run.new) (i + 1)) }
-    ensures noted { OnOk result (IsNoted run.old run.new) }
+    ensures noted { OnOk result (IsNotedBeside (part_of world.entry) run.old run.new) }
     ensures many { result ≡ Err CollectError.TooMany → OnceGrown locations.new (D.workspace db.old) (λ env. IsSpent env (part_of world.entry) (at_rest (core_in run.old))) }
 {
     let site = site_behind(&call.site)?;
@@ -154,7 +154,7 @@ pub fn give_up<D: SourceDatabase>(
     ensures placed { AreCallsPlaced locations.old → AreCallsPlaced locations.new }
     ensures ok { OnOk result (OnceGrown locations.new (D.workspace db.old) (λ env. Steps env (part_of world.entry) (at_rest (core_in run.old)) (at_rest (core_in run.new)))) }
     ensures given { IfOk result (λ next. IsGivenUp (core_in run.old) (core_in run.new) next) }
-    ensures noted { OnOk result (IsNoted run.old run.new) }
+    ensures noted { OnOk result (IsNotedBeside (part_of world.entry) run.old run.new) }
     ensures many { result ≡ Err CollectError.TooMany → OnceGrown locations.new (D.workspace db.old) (λ env. IsSpent env (part_of world.entry) (at_rest (core_in run.old))) }
 {
     let Some(i) = first_waiting(run, first) else {

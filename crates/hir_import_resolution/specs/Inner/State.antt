@@ -1,5 +1,5 @@
 -- Where do the imports of a resolver stand, and what changes there?
-use Rattle.std.specs.Prelude.{◌≡◌, ℕ, Bool, ◌+◌, ◌++◌, List, [], ◌∷◌, Option, None, Some, Contains, slice_get, slice_set}
+use Rattle.std.specs.Prelude.{◌≡◌, ℕ, Bool, ◌+◌, ◌++◌, List, [], ◌∷◌, Option, None, Some, slice_get, slice_set}
 use Rattle.hir_base.specs.declared.ids.MapId.{MapId}
 use Rattle.hir_base.specs.declared.ids.TraitId.{TraitId}
 use Rattle.hir_scope.specs.declared.visibility.Visibility.{Visibility}
@@ -10,15 +10,12 @@ use Rattle.hir_def_map.specs.declared.nameres.path_resolution.slots.Slot.{Slot a
 use Rattle.hir_def_map.specs.declared.nameres.path_resolution.slots.Slot.TheVariants.{Module as of_module}
 use Rattle.hir_def_map_laws.specs.ReadLaw.{BeginsOutside, KeepApart}
 use Rattle.hir_def_map_laws.specs.SlotChanges.{ScopesChangeAmong}
-use Rattle.hir_glob_imports.specs.Keys.{name_of, slot_at}
+use Rattle.hir_glob_imports.specs.Keys.{name_of}
 use Rattle.hir_glob_imports.specs.Waves.{AreOfKind, GlobsValue, IsKept, brought_of}
 use Rattle.hir_glob_imports.specs.declared.edge.Edge.{Edge}
-use Rattle.hir_glob_imports.specs.declared.edge.Key.TheVariants.{Unnamed}
 use Rattle.hir_glob_imports.specs.declared.edge.Slot.{Slot}
 use Rattle.hir_glob_imports.specs.declared.step.GlobError.{GlobError}
 use Rattle.hir_glob_imports.specs.declared.step.GlobError.TheVariants as glob_errors
-use Rattle.hir_worklist.specs.Queue.{Queue}
-use Rattle.hir_worklist.specs.declared.watchers.Watchers.{Watchers}
 use Rattle.hir_import_resolution.specs.declared.import_queue.ImportQueue.{ImportQueue}
 use Rattle.hir_import_resolution.specs.declared.imports.Imports.{Imports}
 use Rattle.hir_import_resolution.specs.declared.resolve.ImportError.{ImportError}
@@ -87,10 +84,6 @@ with_globs r scopes globs = record r { scopes = scopes; globs = globs }
 abbrev pub spread_from : Resolver → Resolver → Resolver
 spread_from r other = record r { scopes = other.scopes; globs = other.globs; count = other.count; changes = other.changes }
 
--- with another queue
-abbrev pub with_queue : Resolver → Queue → Watchers PathSlot → Resolver
-with_queue r q watchers = record r { worklist = q; watchers = watchers }
-
 -- where this says whether what was found out lasts
 abbrev pub with_lasting : Resolver → Bool → Resolver
 with_lasting r lasting = record r { lasting = lasting }
@@ -107,7 +100,7 @@ IsKeptIn r = IsKept (view_of (value_of r.scopes)) r.globs
 abbrev pub ArePlacedIn : Resolver → Type 0
 ArePlacedIn r = AreOfKind (IsPlaced r.scopes.map) (view_of (value_of r.scopes)) r.globs.edges (brought_of r.globs)
 
--- a trait that a module has kept without a name, if it has, is seen from a module that is there
+-- a trait that a module has kept without a name, if it has, has a visibility that names a module that is there
 abbrev pub IsTraitPlaced : Resolver → ℕ → Option TraitId → Type 0
 IsTraitPlaced r home kept = (id : TraitId) (vis : Visibility) → kept ≡ Some id → trait_vis (module_at r.scopes.map home) id ≡ Some vis → IsPlaced r.scopes.map vis
 
@@ -159,6 +152,3 @@ pub record IsSpread (old new : Resolver) : Type 0 where
   pub changes : ChangesSlots old new (path_slots new.changes.items)
   pub taken : new.taken ≡ old.taken
   pub edges : new.globs.edges ≡ old.globs.edges
-  -- elsewhere traits without names and what globs brought stay
-  pub brought : (s : Slot) → ¬ Contains new.changes.items s → brought_of new.globs s ≡ brought_of old.globs s
-  pub traits : (at : ℕ) (id : TraitId) → ¬ Contains new.changes.items (slot_at at (Unnamed id)) → trait_vis (module_at new.scopes.map at) id ≡ trait_vis (module_at old.scopes.map at) id

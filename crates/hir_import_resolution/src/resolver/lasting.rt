@@ -1,22 +1,18 @@
 //! Whether what was found out lasts as the map grows.
-ghost use Rattle.std.specs.Prelude.{◌≡◌, true, false, OnOk, Some};
+ghost use Rattle.std.specs.Prelude.{◌≡◌, true, false, Some};
 ghost use Rattle.hir_base.specs.declared.ids.TraitId.{TraitId};
 ghost use Rattle.hir_scope.specs.declared.visibility.Visibility.{Visibility};
 ghost use Rattle.hir_def_map.specs.State.{module_at};
 ghost use Rattle.hir_def_map_laws.specs.ReadLaw.{stops_bare};
-ghost use Rattle.hir_import_resolution.specs.Inner.LookAgain.{AreOpened, ArePlacedAt, OfKey, OfName, OfSlots};
 ghost use Rattle.hir_import_resolution.specs.Inner.State.{with_lasting};
 ghost use Rattle.hir_import_resolution.specs.Lasting.{HasVariants, IsPlaced};
 ghost use Rattle.hir_import_resolution.specs.Names.{trait_vis};
 
-use crate::lasting::{has_variants, is_placed, is_placed_at, is_trait_placed, stops_bare};
+use crate::lasting::{has_variants, is_placed, is_trait_placed, stops_bare};
 use crate::resolver::Resolver;
 use hir_base::ids::TraitId;
-use hir_base::name::Name;
 use hir_def_map::nameres::path_resolution::ResolvePathResult;
-use hir_def_map::nameres::path_resolution::slots::Slot;
-use hir_glob_imports::{Edge, Key, Slot as GlobSlot};
-use std::alloc::AllocError;
+use hir_glob_imports::Edge;
 
 impl Resolver<'_> {
     /// Notes whether a path stops at an enum that has no variants yet.
@@ -48,45 +44,5 @@ impl Resolver<'_> {
         if let Some(id) = kept {
             self.lasting = self.lasting && is_trait_placed(self.scopes.map(), home, id);
         }
-    }
-
-    /// What stands at a key of a module may have changed in any way: globs are to be looked at there.
-    fn look_at(&mut self, at: u32, key: Key) -> Result<(), AllocError>
-        ensures rest { self.new ≡ record self.old { globs = self.new.globs; lasting = self.new.lasting } }
-        ensures opened { OnOk result (AreOpened self.old.globs self.new.globs (OfKey at key)) }
-        ensures lasted { self.new.lasting ≡ true → self.old.lasting ≡ true }
-        ensures placed { OnOk result (self.new.lasting ≡ true → ArePlacedAt self.old (OfKey at key)) }
-    {
-        let slot = GlobSlot { at, key };
-        self.lasting = self.lasting
-            && (self.globs.brought(&slot).is_none() || is_placed_at(self.scopes.map(), &slot));
-        self.globs.look_again(&slot)
-    }
-
-    /// What a name of a module stands for may have changed in any way.
-    fn look_at_name(&mut self, at: u32, name: &Name) -> Result<(), AllocError>
-        ensures rest { self.new ≡ record self.old { globs = self.new.globs; lasting = self.new.lasting } }
-        ensures opened { OnOk result (AreOpened self.old.globs self.new.globs (OfName at name.now)) }
-        ensures lasted { self.new.lasting ≡ true → self.old.lasting ≡ true }
-        ensures placed { OnOk result (self.new.lasting ≡ true → ArePlacedAt self.old (OfName at name.now)) }
-    {
-        self.look_at(at, Key::Types(name.clone()?))?;
-        self.look_at(at, Key::Values(name.clone()?))?;
-        self.look_at(at, Key::Macros(name.clone()?))
-    }
-
-    /// What these slots hold may have changed in any way: globs are to be looked at there.
-    pub(crate) fn look_again(&mut self, slots: &[Slot]) -> Result<(), AllocError>
-        ensures rest { self.new ≡ record self.old { globs = self.new.globs; lasting = self.new.lasting } }
-        ensures opened { OnOk result (AreOpened self.old.globs self.new.globs (OfSlots slots.now)) }
-        ensures lasted { self.new.lasting ≡ true → self.old.lasting ≡ true }
-        ensures placed { OnOk result (self.new.lasting ≡ true → ArePlacedAt self.old (OfSlots slots.now)) }
-    {
-        for slot in slots {
-            if let Slot::Module(at, name) = slot {
-                self.look_at_name(*at, name)?;
-            }
-        }
-        Ok(())
     }
 }

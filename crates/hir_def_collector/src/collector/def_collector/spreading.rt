@@ -7,7 +7,7 @@ ghost use Rattle.hir_def_collector.specs.Derivation.{IsSpent};
 ghost use Rattle.hir_def_collector.specs.Keys.{Environment};
 ghost use Rattle.hir_def_collector.specs.State.{Task, core_in, joined};
 ghost use Rattle.hir_def_collector.specs.Steps.{Steps};
-ghost use Rattle.hir_def_collector.specs.Waiting.{IsNoted, noted_along, noted_name};
+ghost use Rattle.hir_def_collector.specs.Waiting.{IsNotedBeside, noted_along, noted_name};
 
 use crate::collector::CollectError;
 use crate::collector::def_collector::DefCollector;
@@ -19,7 +19,7 @@ use hir_glob_imports::Slot;
 use hir_import_resolution::{ImportError, Imports, spread_changes};
 use std::alloc::AllocError;
 
-/// Notes the slot of a name in a module; all where there is no name, since the slots of paths have names.
+/// Notes the slot of a name in a module. A trait without a name has no slot of paths, so then all count as changed.
 fn note(changed: &mut Changed, at: u32, name: Option<&Name>) -> Result<(), AllocError>
     ensures ok { OnOk result (changed.new ≡ noted_name at (option_copied name.entry) changed.old) }
 {
@@ -59,7 +59,7 @@ impl DefCollector {
     /// Lets what was bound go along globs; the run is given back in any case.
     fn with_changes_spread(self, world: WorldPart<'_>) -> (DefCollector, Result<(), CollectError>)
         ensures ok { OnOk result.1 ((env : Environment) (rest : List Task) → Steps env (part_of world.entry) (joined (core_in self) rest) (joined (core_in result.0) rest)) }
-        ensures noted { OnOk result.1 (IsNoted self result.0) }
+        ensures noted { OnOk result.1 (IsNotedBeside (part_of world.entry) self result.0) }
         ensures settled { OnOk result.1 (result.0.globs.pending ≡ []) }
         ensures modules { OnOk result.1 (length (core_in result.0).map.modules ≡ length (core_in self).map.modules) }
         ensures many { result.1 ≡ Err CollectError.TooMany → (env : Environment) (rest : List Task) → IsSpent env (part_of world.entry) (joined (core_in self) rest) }
@@ -106,7 +106,7 @@ impl DefCollector {
     /// After rust-analyzer's `DefCollector::update_recursive`.
     pub fn spread_changes(&mut self, world: WorldPart<'_>) -> Result<(), CollectError>
         ensures ok { OnOk result ((env : Environment) (rest : List Task) → Steps env (part_of world.entry) (joined (core_in self.old) rest) (joined (core_in self.new) rest)) }
-        ensures noted { OnOk result (IsNoted self.old self.new) }
+        ensures noted { OnOk result (IsNotedBeside (part_of world.entry) self.old self.new) }
         ensures settled { OnOk result (self.new.globs.pending ≡ []) }
         ensures modules { OnOk result (length (core_in self.new).map.modules ≡ length (core_in self.old).map.modules) }
         ensures many { result ≡ Err CollectError.TooMany → (env : Environment) (rest : List Task) → IsSpent env (part_of world.entry) (joined (core_in self.old) rest) }

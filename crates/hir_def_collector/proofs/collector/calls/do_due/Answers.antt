@@ -11,7 +11,7 @@ use Rattle.hir_def_collector.specs.Steps.{IsDeep, drops_call, none}
 use Rattle.hir_def_collector.proofs.CallSteps.{dropped, past_rule}
 use Rattle.hir_def_collector.proofs.Lists.{get_inside, get_set_same}
 use Rattle.hir_def_collector.proofs.GivingUp.{has_impl, nothing_due}
-use Rattle.hir_def_collector.proofs.Noted.{noted_itself}
+use Rattle.hir_def_collector.proofs.Noted.{noted_beside, noted_itself}
 use Rattle.hir_def_collector.proofs.collector.calls.do_due.Goals as goal
 
 -- nothing is
@@ -19,7 +19,7 @@ pub returns-in-Nothing-clause-ok : goal.returns-in-Nothing-clause-ok
 returns-in-Nothing-clause-ok g c = λ grown k. none
 
 pub returns-in-Nothing-clause-noted : goal.returns-in-Nothing-clause-noted
-returns-in-Nothing-clause-noted g c = noted_itself c.args.run.now
+returns-in-Nothing-clause-noted g c = noted_beside (noted_itself c.args.run.now)
 
 pub returns-in-Nothing-clause-tried : goal.returns-in-Nothing-clause-tried
 returns-in-Nothing-clause-tried g c =
@@ -55,7 +55,7 @@ pub returns-in_default-clause-ok : goal.returns-in_default-clause-ok
 returns-in_default-clause-ok g c = λ grown k. none
 
 pub returns-in_default-clause-noted : goal.returns-in_default-clause-noted
-returns-in_default-clause-noted g c = noted_itself c.args.run.now
+returns-in_default-clause-noted g c = noted_beside (noted_itself c.args.run.now)
 
 -- it has an item
 pub returns-in_default-clause-tried : goal.returns-in_default-clause-tried
@@ -83,7 +83,7 @@ pub returns-in_default-builtin_impl-clause-ok : goal.returns-in_default-builtin_
 returns-in_default-builtin_impl-clause-ok g c = λ grown k. none
 
 pub returns-in_default-builtin_impl-clause-noted : goal.returns-in_default-builtin_impl-clause-noted
-returns-in_default-builtin_impl-clause-noted g c = noted_itself c.args.run.now
+returns-in_default-builtin_impl-clause-noted g c = noted_beside (noted_itself c.args.run.now)
 
 -- it is a path of a derive
 pub returns-in_default-builtin_impl-clause-tried : goal.returns-in_default-builtin_impl-clause-tried
@@ -157,3 +157,13 @@ expand-requires-clause-below g c = c.requires.below c.in-Reaches.makro c.in-Reac
 
 pub returns-in_ok-expand-in-Reaches-clause-tried : goal.returns-in_ok-expand-in-Reaches-clause-tried
 returns-in_ok-expand-in-Reaches-clause-tried g c = handled c.args.call.now c.requires.waits.waiting c.in_ok-expand-in-Reaches.ensures.handled
+
+-- what is dropped or derived is noted whatever maps are finished
+pub returns-in_ok-drop_call-in-TooDeep-clause-noted : goal.returns-in_ok-drop_call-in-TooDeep-clause-noted
+returns-in_ok-drop_call-in-TooDeep-clause-noted g c = noted_beside c.in_ok-drop_call-in-TooDeep.ensures.noted
+
+pub returns-in_ok-derive_builtin-in-Derives-clause-noted : goal.returns-in_ok-derive_builtin-in-Derives-clause-noted
+returns-in_ok-derive_builtin-in-Derives-clause-noted g c = noted_beside c.in_ok-derive_builtin-in-Derives.ensures.noted
+
+pub returns-in_ok-drop_reached-in-Drops-clause-noted : goal.returns-in_ok-drop_reached-in-Drops-clause-noted
+returns-in_ok-drop_reached-in-Drops-clause-noted g c = noted_beside c.in_ok-drop_reached-in-Drops.ensures.noted

@@ -13,7 +13,7 @@ use Rattle.hir_def_collector.specs.Moves.{OnceGrown, Walks, WalksTooFar}
 use Rattle.hir_def_collector.specs.State.{core_in}
 use Rattle.hir_def_collector.specs.TreeReads.{visits_at}
 use Rattle.hir_def_collector.proofs.CallSteps.{expanded_and_walked, expanded_too_far, handled_at_last, past_reported, site_inside, site_meant, spent_by_numbers}
-use Rattle.hir_def_collector.proofs.Noted.{noted_follow}
+use Rattle.hir_def_collector.proofs.Noted.{beside_follow, noted_beside, noted_follow}
 use Rattle.hir_def_collector.proofs.collector.calls.expand.Goals as goal
 
 pub look_at_call-requires : goal.look_at_call-requires
@@ -166,4 +166,5 @@ returns-clause-handled g c =
     later c.in_ok-walk_all.ensures.kept v c.in_ok-id.ensures.same last walks
 
 pub returns-clause-noted : goal.returns-clause-noted
-returns-clause-noted g c = noted_follow c.in_ok-id.ensures.noted (noted_follow c.end_call.ensures.noted (noted_follow c.in_ok-bring_helpers.ensures.noted (noted_follow c.in_ok-report_failed.ensures.noted (noted_follow c.in_ok-tick.ensures.noted c.in_ok-walk_all.ensures.noted))))
+returns-clause-noted g c = beside_follow (noted_beside (noted_follow c.in_ok-id.ensures.noted (noted_follow c.end_call.ensures.noted (noted_follow c.in_ok-bring_helpers.ensures.noted (noted_follow c.in_ok-report_failed.ensures.noted c.in_ok-tick.ensures.noted)))))
+    c.in_ok-walk_all.ensures.noted

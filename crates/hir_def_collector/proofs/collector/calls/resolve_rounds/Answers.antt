@@ -38,7 +38,7 @@ rounds-init g c = record {
   stale = stale_now (part_of c.args.world) c.new-queue.result c.args.run (up_to_date_first (part_of c.args.world) c.new-queue.result (core_in c.args.run) c.new-queue.ensures.none);
   between = record { over = ap (λ (q : Queue). q.current) c.new-queue.ensures.none; outside = ap (λ (q : Queue). q.end) c.new-queue.ensures.none };
   imports = λ lasting. absurd (let none : is_lasting c.none-imports.result ≡ false = c.none-imports.ensures.value in let no : ⊥ = cc in no);
-  behind = behind_first (part_of c.args.world) c.none-imports.result (joined c.everything-grown.result c.args.run.changed) (core_in c.args.run) c.none-imports.ensures.value;
+  behind = behind_first (part_of c.args.world) c.none-imports.result (joined c.everything-grown.result c.args.run.changed) c.args.run c.none-imports.ensures.value;
   rounds = λ grown k. record { last = at_rest (core_in c.args.run); rounds = rounds.none (at_rest (core_in c.args.run)) steps.none; after = steps.none };
   first = record { inside = omega arith; none = λ j w. omega arith };
 }

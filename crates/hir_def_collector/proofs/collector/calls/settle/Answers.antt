@@ -41,5 +41,6 @@ pub returns-clause-noted : goal.returns-clause-noted
 returns-clause-noted c = slots_follow c.in_ok-run.ensures.noted c.in_ok-rest.ensures.noted.slots
 
 pub returns-clause-behind : goal.returns-clause-behind
-returns-clause-behind c = λ paired changed.
-    behind_settled (part_of c.args.world) c.in_ok-run.imports changed (core_in c.in_ok-run.run') (core_in c.rest.new.self) c.in_ok-run.ensures.up_to_date c.in_ok-rest.ensures.ok paired
+returns-clause-behind c = λ paired changed now same.
+    behind_settled (part_of c.args.world) c.in_ok-run.imports changed (core_in c.in_ok-run.run') (core_in c.rest.new.self) now c.in_ok-run.ensures.up_to_date c.in_ok-run.ensures.rests.stands c.in_ok-rest.ensures.ok
+    same paired

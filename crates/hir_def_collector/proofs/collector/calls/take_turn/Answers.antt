@@ -1,6 +1,6 @@
 -- One turn: imports rest, what is queued is tried, and where nothing was handled the first attribute that waits is given up.
 use Rattle.std.proofs.lemmas.Result.{err_from_is_err_and}
-use Rattle.std.proofs.Common.{rules, Err, ◌≡◌, ◌∙◌, ◌<◌, ◌≤◌, None, Some, ap, false, length, refl, subst, sym, true, arith}
+use Rattle.std.proofs.Common.{Err, ◌≡◌, ◌∙◌, None, ap, false, length, subst, sym, true, arith}
 use Rattle.hir_base.specs.declared.ids.MapId.{MapId}
 use Rattle.hir_tables.proofs.Growth.{KeepsTables-trans}
 use Rattle.hir_def_map.specs.WorldParts.{part_of}
@@ -35,10 +35,14 @@ settle-requires-clause-apart g c = λ yes. c.requires.apart yes (core_in c.args.
 pub settle-requires-clause-resumable : goal.settle-requires-clause-resumable
 settle-requires-clause-resumable g c =
     let part = part_of c.args.world in
-    let now = core_in c.args.run in
     let all : c.append.new.self ≡ joined c.args.grown.now c.args.run.changed = c.in_ok-append.ensures.ok ∙ ap (joined c.args.grown.now) c.changed.ensures.value in
-    resumable_behind part c.args.imports c.append.new.self now c.args.apart c.requires.imports c.requires.apart
-    (subst (λ (x : ChangedValue). IsBehind part c.args.imports x now) (sym all) c.requires.behind)
+    resumable_behind part c.args.imports c.append.new.self c.args.run c.args.apart c.requires.imports c.requires.apart
+    (subst (λ (x : ChangedValue). IsBehind part c.args.imports x c.args.run) (sym all) c.requires.behind)
+
+pub settle-requires-clause-globs : goal.settle-requires-clause-globs
+settle-requires-clause-globs g c = λ lasting some.
+    let all : c.append.new.self ≡ joined c.args.grown.now c.args.run.changed = c.in_ok-append.ensures.ok ∙ ap (joined c.args.grown.now) c.changed.ensures.value in
+    (c.requires.behind lasting (ap (λ (x : ChangedValue). x.all) (sym all) ∙ some)).globs
 
 pub requeue-requires-clause-apart : goal.requeue-requires-clause-apart
 requeue-requires-clause-apart g c = λ yes local.

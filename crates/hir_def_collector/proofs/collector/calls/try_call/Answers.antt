@@ -9,7 +9,7 @@ use Rattle.hir_def_collector.specs.CallMoves.{IsDueOf, left}
 use Rattle.hir_def_collector.specs.State.{Core, at_rest, core_in}
 use Rattle.hir_def_collector.specs.Steps.{IsDue, none}
 use Rattle.hir_def_collector.proofs.GivingUp.{nothing_due, nothing_waits}
-use Rattle.hir_def_collector.proofs.Noted.{noted_itself}
+use Rattle.hir_def_collector.proofs.Noted.{noted_beside, noted_itself}
 use Rattle.hir_def_collector.proofs.collector.calls.try_call.Goals as goal
 
 -- nothing waits at the place
@@ -29,10 +29,10 @@ returns-in-Nothing-clause-tried g c =
     (subst (IsDueOf (part_of c.args.world) (core_in c.args.run.now) c.in-Some.call.now) c.in-Nothing.is c.due_of-due.ensures.value))
 
 pub returns-in_default-clause-noted : goal.returns-in_default-clause-noted
-returns-in_default-clause-noted g c = noted_itself c.args.run.now
+returns-in_default-clause-noted g c = noted_beside (noted_itself c.args.run.now)
 
 pub returns-in-Nothing-clause-noted : goal.returns-in-Nothing-clause-noted
-returns-in-Nothing-clause-noted g c = noted_itself c.args.run.now
+returns-in-Nothing-clause-noted g c = noted_beside (noted_itself c.args.run.now)
 
 -- something is: what was copied is what waits
 pub do_due-requires-clause-waits : goal.do_due-requires-clause-waits

@@ -39,7 +39,7 @@ tries-init g c =
       bounded = omega (arith, c.requires.settled);
       apart = refl;
       up_to_date = up_to_date_opened (part_of c.args.world) c.args.queue.now c.open.new.self (core_in c.args.run.now) c.requires.up_to_date c.requires.between.over c.open.ensures.value;
-      gathered = λ finished imports behind. behind;
+      gathered = λ imports behind. behind;
       end = let all : (worklist_of c.open.new.self).end ≡ count_of (worklist_of c.args.queue.now) = ap (λ (q : Queue). q.end) opens in omega (arith, all, c.requires.all, c.requires.settled);
       tried = λ grown k.
           subst (λ (q : Queue). AreTried (environment grown (g.D.SourceDatabase.workspace c.args.db.now)) (part_of c.args.world) (core_in c.args.run.now) (core_in c.args.run.now) q.current false) (sym opens)
@@ -85,7 +85,7 @@ tries-preserved g c =
       bounded = settled_bounded here c.tries.invariant.bounded;
       apart = on.apart ∙ ap is_apart c.in-Some.ensures.rest ∙ c.tries.invariant.apart;
       up_to_date = c.in_ok-done.ensures.up_to_date;
-      gathered = λ finished imports behind. c.in_ok-done.ensures.gathered finished imports (c.tries.invariant.gathered finished imports behind);
+      gathered = λ imports behind. c.in_ok-done.ensures.gathered imports (c.tries.invariant.gathered imports behind);
       end = let same : (worklist_of c.try_queued.new.queue).end ≡ (worklist_of c.tries.queue).end = on.pass.end ∙ takes.end in omega (arith, same, c.tries.invariant.end);
       tried = λ grown k.
           subst (AreTried (environment grown w) part old new (worklist_of c.try_queued.new.queue).current) (sym c.either-progress.ensures.value)

@@ -23,7 +23,7 @@ invariant-tries g l = record {
   bounded : (core_in l.run).settled ≤ length (core_in l.run).calls;
   apart : is_apart l.queue ≡ is_apart l.initial.queue;
   up_to_date : IsUpToDate (part_of l.world) l.queue (core_in l.run) None;
-  gathered : IsGathered l.initial.grown l.initial.run l.grown l.run;
+  gathered : IsGathered (part_of l.world) l.initial.grown l.initial.run l.grown l.run;
   end : (worklist_of l.queue).end ≤ (core_in l.initial.run).settled;
   tried : OnceGrown l.locations (g.D.SourceDatabase.workspace l.initial.db) (λ env. AreTried env (part_of l.world) (core_in l.initial.run) (core_in l.run) (worklist_of l.queue).current l.progress);
 }

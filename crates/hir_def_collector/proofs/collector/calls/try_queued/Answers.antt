@@ -70,9 +70,10 @@ returns-clause-stays g c = c.in_ok-wake.ensures.woken.on
 -- ---- what has changed is gathered
 
 pub returns-clause-gathered : goal.returns-clause-gathered
-returns-clause-gathered g c = λ finished imports behind.
-    behind_gathered finished imports c.args.grown.now c.append.new.self c.try_call.new.run c.wake.new.run (c.in_ok-append.ensures.ok ∙ ap (joined c.args.grown.now) c.changed.ensures.value) c.wake.ensures.same
-    c.in_ok-wake.ensures.none (behind_later finished imports c.args.grown.now c.args.run.now c.try_call.new.run c.in_ok-done.ensures.noted behind)
+returns-clause-gathered g c = λ imports behind.
+    behind_gathered (part_of c.args.world) imports c.args.grown.now c.append.new.self c.try_call.new.run c.wake.new.run (c.in_ok-append.ensures.ok ∙ ap (joined c.args.grown.now) c.changed.ensures.value)
+    c.wake.ensures.same c.wake.ensures.globs c.in_ok-wake.ensures.none
+    (behind_later (part_of c.args.world) imports c.args.grown.now c.args.run.now c.try_call.new.run c.in_ok-done.ensures.noted behind)
 
 pub returns-then-not-done-clause-gathered : goal.returns-then-not-done-clause-gathered
-returns-then-not-done-clause-gathered g c = λ finished imports behind. behind_later finished imports c.args.grown.now c.args.run.now c.try_call.new.run c.in_ok-done.ensures.noted behind
+returns-then-not-done-clause-gathered g c = λ imports behind. behind_later (part_of c.args.world) imports c.args.grown.now c.args.run.now c.try_call.new.run c.in_ok-done.ensures.noted behind

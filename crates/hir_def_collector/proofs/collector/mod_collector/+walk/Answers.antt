@@ -28,7 +28,7 @@ use Rattle.hir_def_collector.proofs.Finding.{falls_inside, falls_to_file, falls_
 use Rattle.hir_def_collector.proofs.ModuleFiles.{site_kept}
 use Rattle.hir_def_collector.proofs.Outline.{meant_inside}
 use Rattle.hir_def_collector.proofs.Walked.{All-below, All-same_numbers, Walks-all, Walks-append, Walks-through, Walks-waits, WalksTo-next, WalksTo-none, WalksTooFar-behind, WalksTooFar-first, WalksTooFar-here, WalksTooFar-next, WalksTooFar-passed, WalksTooFar-passing, WalksTooFar-through, above_each, above_least, at_each, at_index, dropped_at, enabled_one, far_at, holds_of_one, longer_after, nowhere, past_none, past_one, still_there, there_behind, visits_alone, visits_one}
-use Rattle.hir_def_collector.proofs.Noted.{noted_follow, noted_itself}
+use Rattle.hir_def_collector.proofs.Noted.{beside_follow, noted_beside, noted_itself}
 use Rattle.hir_def_collector.proofs.collector.mod_collector.+walk.Goals as goal
 
 pub walk_all-loop-id-init : goal.walk_all-loop-id-init
@@ -38,7 +38,7 @@ walk_all-loop-id-init g t c = record {
   same = refl;
   walked = λ grown k. WalksTo-none c.args.source.now.value.tree c.args.site.now (environment grown (g.D.SourceDatabase.workspace c.args.db.now)) (part_of c.args.world) c.args.ids.now (core_in c.args.run.now);
   in_range = c.requires.in_range;
-  noted = noted_itself c.args.run.now;
+  noted = noted_beside (noted_itself c.args.run.now);
 }
 
 pub walk_all-walk_item-requires : goal.walk_all-walk_item-requires
@@ -81,7 +81,7 @@ walk_all-loop-id-preserved g t c =
           WalksTo-next tree site (environment grown w) part ids (core_in c.args.run.now) (core_in c.loop-id.run) (core_in c.walk_item.new.run) i x within e
           (c.loop-id.invariant.walked grown (KeepsTables-trans c.loop-id.locations c.walk_item.new.locations grown c.in_ok-walk_item.ensures.kept k)) (step grown k);
       in_range = omega (arith, longer, c.loop-id.invariant.in_range);
-      noted = noted_follow c.loop-id.invariant.noted c.in_ok-walk_item.ensures.noted;
+      noted = beside_follow c.loop-id.invariant.noted c.in_ok-walk_item.ensures.noted;
     }
 
 pub walk_all-returns-in_err-walk_item-clause-kept : goal.walk_all-returns-in_err-walk_item-clause-kept
@@ -694,10 +694,16 @@ walk_item-returns-in-Nothing-clause-ok g t c = λ grown k.
     Walks-through (core_in c.args.run.now) passed (core_in c.visit_item.new.run) (core_in c.visit_item.new.run) v done past.0 (visits_behind tree site n done) [] is (passes (environment grown w)) first (record { steps = λ rest. none })
 
 pub walk_item-returns-in_ok-close-in-Held-clause-noted : goal.walk_item-returns-in_ok-close-in-Held-clause-noted
-walk_item-returns-in_ok-close-in-Held-clause-noted g t c = noted_follow c.in_ok-pass.ensures.noted (noted_follow c.in_ok-inside.ensures.noted (noted_follow c.in_ok-walk_all-in-Held.ensures.noted c.in_ok-close-in-Held.ensures.noted))
+walk_item-returns-in_ok-close-in-Held-clause-noted g t c = beside_follow (noted_beside c.in_ok-pass.ensures.noted) (beside_follow c.in_ok-inside.ensures.noted (beside_follow c.in_ok-walk_all-in-Held.ensures.noted (noted_beside c.in_ok-close-in-Held.ensures.noted)))
 
 pub walk_item-returns-in_ok-close-in-File-clause-noted : goal.walk_item-returns-in_ok-close-in-File-clause-noted
-walk_item-returns-in_ok-close-in-File-clause-noted g t c = noted_follow c.in_ok-pass.ensures.noted (noted_follow c.in_ok-inside.ensures.noted (noted_follow c.in_ok-walk_all-in-File.ensures.noted c.in_ok-close-in-File.ensures.noted))
+walk_item-returns-in_ok-close-in-File-clause-noted g t c = beside_follow (noted_beside c.in_ok-pass.ensures.noted) (beside_follow c.in_ok-inside.ensures.noted (beside_follow c.in_ok-walk_all-in-File.ensures.noted (noted_beside c.in_ok-close-in-File.ensures.noted)))
 
 pub walk_item-returns-in-Nothing-clause-noted : goal.walk_item-returns-in-Nothing-clause-noted
-walk_item-returns-in-Nothing-clause-noted g t c = noted_follow c.in_ok-pass.ensures.noted c.in_ok-inside.ensures.noted
+walk_item-returns-in-Nothing-clause-noted g t c = beside_follow (noted_beside c.in_ok-pass.ensures.noted) c.in_ok-inside.ensures.noted
+
+pub walk_item-returns-in-Some-clause-noted : goal.walk_item-returns-in-Some-clause-noted
+walk_item-returns-in-Some-clause-noted g t c = noted_beside c.in_ok-drop_item.ensures.noted
+
+pub walk_item-returns-then-is_none-clause-noted : goal.walk_item-returns-then-is_none-clause-noted
+walk_item-returns-then-is_none-clause-noted g t c = noted_beside c.in_ok-pass.ensures.noted

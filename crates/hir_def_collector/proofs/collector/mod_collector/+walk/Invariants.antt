@@ -5,7 +5,7 @@ use Rattle.hir_def_map.specs.WorldParts.{part_of}
 use Rattle.hir_def_collector.specs.Calls.{AreCallsPlaced}
 use Rattle.hir_def_collector.specs.Moves.{OnceGrown}
 use Rattle.hir_def_collector.specs.TreeReads.{above}
-use Rattle.hir_def_collector.specs.Waiting.{IsNoted}
+use Rattle.hir_def_collector.specs.Waiting.{IsNotedBeside}
 use Rattle.hir_def_collector.proofs.Walked.{WalksTo}
 use Rattle.hir_def_collector.proofs.collector.mod_collector.+walk.Given as goal
 use Rattle.hir_def_collector.specs.State.{core_in}
@@ -17,7 +17,7 @@ invariant-walk_all-loop-id g l = record {
   same : g.D.SourceDatabase.workspace l.db ≡ g.D.SourceDatabase.workspace l.initial.db;
   walked : OnceGrown l.locations (g.D.SourceDatabase.workspace l.initial.db) (λ env. WalksTo l.source.value.tree l.site env (part_of l.world) l.ids (core_in l.initial.run) (core_in l.run) l.id-index);
   in_range : l.site.home < length (core_in l.run).map.modules;
-  noted : IsNoted l.initial.run l.run;
+  noted : IsNotedBeside (part_of l.world) l.initial.run l.run;
 }
 
 -- what an item holds has lower numbers, or is deeper, and a file is deeper

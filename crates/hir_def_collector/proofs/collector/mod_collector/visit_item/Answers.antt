@@ -7,7 +7,7 @@ use Rattle.hir_def_collector.specs.Keys.{environment}
 use Rattle.hir_def_collector.specs.Moves.{GoesInside}
 use Rattle.hir_def_collector.specs.State.{core_in}
 use Rattle.hir_def_collector.proofs.Moves.{Steps-first, Steps-one, spent_after}
-use Rattle.hir_def_collector.proofs.Noted.{noted_follow}
+use Rattle.hir_def_collector.proofs.Noted.{beside_follow, noted_beside}
 use Rattle.hir_def_collector.proofs.collector.mod_collector.visit_item.Goals as goal
 
 pub returns-in_err-inside-clause-many : goal.returns-in_err-inside-clause-many
@@ -28,7 +28,7 @@ returns-clause-ok g c = λ grown k items. record {
 }
 
 pub returns-clause-noted : goal.returns-clause-noted
-returns-clause-noted g c = noted_follow c.in_ok-inside.ensures.noted c.in_ok-spread_changes.ensures.noted
+returns-clause-noted g c = beside_follow (noted_beside c.in_ok-inside.ensures.noted) c.in_ok-spread_changes.ensures.noted
 
 pub returns-clause-within : goal.returns-clause-within
 returns-clause-within g c =

@@ -6,14 +6,14 @@ use Rattle.hir_def_collector.specs.Calls.{IsWaiting, waiting_item}
 use Rattle.hir_def_collector.specs.State.{Core, at_rest, core_in}
 use Rattle.hir_def_collector.specs.Steps.{none}
 use Rattle.hir_def_collector.proofs.GivingUp.{has_item}
-use Rattle.hir_def_collector.proofs.Noted.{noted_itself}
+use Rattle.hir_def_collector.proofs.Noted.{noted_beside, noted_itself}
 use Rattle.hir_def_collector.proofs.collector.resume.give_up.Goals as goal
 
 pub returns-in_default-clause-ok : goal.returns-in_default-clause-ok
 returns-in_default-clause-ok g c = λ grown k. none
 
 pub returns-in_default-clause-noted : goal.returns-in_default-clause-noted
-returns-in_default-clause-noted g c = noted_itself c.args.run.now
+returns-in_default-clause-noted g c = noted_beside (noted_itself c.args.run.now)
 
 pub returns-in_default-clause-given : goal.returns-in_default-clause-given
 returns-in_default-clause-given g c = (refl, c.in_default.ensures.none refl)
@@ -22,7 +22,7 @@ pub returns-in_default-waiting-clause-ok : goal.returns-in_default-waiting-claus
 returns-in_default-waiting-clause-ok g c = λ grown k. none
 
 pub returns-in_default-waiting-clause-noted : goal.returns-in_default-waiting-clause-noted
-returns-in_default-waiting-clause-noted g c = noted_itself c.args.run.now
+returns-in_default-waiting-clause-noted g c = noted_beside (noted_itself c.args.run.now)
 
 pub returns-in_default-waiting-clause-given : goal.returns-in_default-waiting-clause-given
 returns-in_default-waiting-clause-given g c =
@@ -33,7 +33,7 @@ pub returns-in_default-waiting_item-clause-ok : goal.returns-in_default-waiting_
 returns-in_default-waiting_item-clause-ok g c = λ grown k. none
 
 pub returns-in_default-waiting_item-clause-noted : goal.returns-in_default-waiting_item-clause-noted
-returns-in_default-waiting_item-clause-noted g c = noted_itself c.args.run.now
+returns-in_default-waiting_item-clause-noted g c = noted_beside (noted_itself c.args.run.now)
 
 pub returns-in_default-waiting_item-clause-given : goal.returns-in_default-waiting_item-clause-given
 returns-in_default-waiting_item-clause-given g c =

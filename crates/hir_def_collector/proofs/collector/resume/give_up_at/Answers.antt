@@ -19,7 +19,7 @@ use Rattle.hir_def_collector.proofs.CallSteps.{falls_back_at, given_up, kept_ins
 use Rattle.hir_def_collector.proofs.GivingUp.{none_before}
 use Rattle.hir_def_collector.proofs.Lists.{get_inside}
 use Rattle.hir_def_collector.proofs.Numbers.{tables_stay}
-use Rattle.hir_def_collector.proofs.Noted.{noted_follow}
+use Rattle.hir_def_collector.proofs.Noted.{beside_follow, noted_beside, noted_follow}
 use Rattle.hir_def_collector.proofs.collector.resume.give_up_at.Goals as goal
 
 pub walk_item-requires-clause-in_range : goal.walk_item-requires-clause-in_range
@@ -108,4 +108,4 @@ returns-clause-before g c =
     ((c.in_ok-walk_item.ensures.ok tables (tables_stay tables)).steps [])
 
 pub returns-clause-noted : goal.returns-clause-noted
-returns-clause-noted g c = noted_follow c.end_call.ensures.noted (noted_follow c.in_ok-tell.ensures.noted (noted_follow c.in_ok-tick.ensures.noted c.in_ok-walk_item.ensures.noted))
+returns-clause-noted g c = beside_follow (noted_beside (noted_follow c.end_call.ensures.noted (noted_follow c.in_ok-tell.ensures.noted c.in_ok-tick.ensures.noted))) c.in_ok-walk_item.ensures.noted

@@ -19,7 +19,7 @@ use Rattle.hir_def_collector.proofs.CallSteps.{kept_inside, kept_item, past_rule
 use Rattle.hir_def_collector.proofs.Lists.{get_inside, get_set_same}
 use Rattle.hir_def_collector.proofs.Numbers.{tables_stay}
 use Rattle.hir_def_collector.proofs.Tried.{handled_stays}
-use Rattle.hir_def_collector.proofs.Noted.{noted_follow}
+use Rattle.hir_def_collector.proofs.Noted.{beside_follow, noted_beside, noted_follow}
 use Rattle.hir_def_collector.proofs.collector.resume.skip.Goals as goal
 
 pub walk_item-requires-clause-in_range : goal.walk_item-requires-clause-in_range
@@ -90,4 +90,4 @@ returns-clause-handled g c =
     handled_stays ((c.in_ok-walk_item.ensures.ok tables (tables_stay tables)).steps []) c.args.i now
 
 pub returns-clause-noted : goal.returns-clause-noted
-returns-clause-noted g c = noted_follow c.end_call.ensures.noted (noted_follow c.in_ok-tick.ensures.noted c.in_ok-walk_item.ensures.noted)
+returns-clause-noted g c = beside_follow (noted_beside (noted_follow c.end_call.ensures.noted c.in_ok-tick.ensures.noted)) c.in_ok-walk_item.ensures.noted

@@ -23,12 +23,12 @@ returns-clause-placed c = on_both c.forget.result _ _ _
     placed_bound c.args.self.now c.push.new.self c.forget.new.globs c.args.home (ap (λ (o : OpenScopes). o.map.id) named)
     (ap (λ (o : OpenScopes). length o.map.modules) named ∙ length-changed c.args.self.now.scopes.map.modules c.args.home _) edges c.args.name.now c.args.items brought
     (pushed_views c.args.self.now c.push.new.self c.forget.new.globs c.args.home c.args.name.now c.in_ok-clone.field-0 c.args.items c.args.source c.way.result
-    c.in_ok-clone.ensures.value c.way.ensures.value c.in_ok-push.ensures.ok c.requires.there))
+    c.in_ok-clone.ensures.value c.way.ensures.value c.in_ok-push.ensures.ok))
     c.forget.ensures.edges c.forget.ensures.brought
 
 pub returns-clause-kept : goal.returns-clause-kept
 returns-clause-kept c = OnOk-map c.forget.result _ _
     (λ e kept. e (view_of (value_of c.args.self.now.scopes)) (view_of (value_of c.push.new.self)) kept
     (pushed_views c.args.self.now c.push.new.self c.forget.new.globs c.args.home c.args.name.now c.in_ok-clone.field-0 c.args.items c.args.source c.way.result
-    c.in_ok-clone.ensures.value c.way.ensures.value c.in_ok-push.ensures.ok c.requires.there))
+    c.in_ok-clone.ensures.value c.way.ensures.value c.in_ok-push.ensures.ok))
     c.forget.ensures.kept

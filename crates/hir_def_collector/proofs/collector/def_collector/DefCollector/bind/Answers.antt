@@ -44,5 +44,6 @@ returns c =
           ∙ ap (λ (r : Run). with_bound (core_in r) c.args.home c.args.name c.args.items) c.self.view_is;
       noted =
           subst (λ (r : Run). IsNoted r after) c.self.view_is
-          (noted_push before after c.args.home c.args.name c.args.items c.in_ok-push.ensures.ok refl c.in_ok-add.ensures.ok c.in_ok-forget.ensures.edges c.in_ok-forget.ensures.brought refl refl);
+          (noted_push before after c.args.home c.args.name c.args.items c.in_ok-push.ensures.ok refl c.in_ok-add.ensures.ok c.in_ok-forget.ensures.edges c.in_ok-forget.ensures.brought
+          c.in_ok-forget.ensures.kept refl refl);
     }

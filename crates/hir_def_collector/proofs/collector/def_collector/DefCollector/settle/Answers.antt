@@ -5,7 +5,7 @@ use Rattle.hir_def_map.specs.WorldParts.{part_of}
 use Rattle.hir_def_map.specs.declared.nameres.path_resolution.slots.Slot.{Slot}
 use Rattle.hir_import_resolution.specs.declared.directive.ImportDirective.{ImportDirective}
 use Rattle.hir_import_resolution.specs.Inner.State.{state_in}
-use Rattle.hir_import_resolution.specs.Rounds.{IsResumable}
+use Rattle.hir_import_resolution.specs.Rounds.{GlobsLast, IsResumable}
 use Rattle.hir_call_queue.specs.Changes.{with_slots}
 use Rattle.hir_def_collector.specs.Derivation.{IsSpent}
 use Rattle.hir_def_collector.specs.contracts.collector.def_collector.DefCollector.{the_view}
@@ -29,6 +29,13 @@ pub take_imports-requires-clause-resumable : goal.take_imports-requires-clause-r
 unfolding core_in
 take_imports-requires-clause-resumable c = λ lasting some.
     subst (λ (r : Run). IsResumable (part_of c.args.world) c.args.queue (import_state (at_rest (core_in r))) c.args.grown.now.slots) (sym c.self.view_is) (c.requires.resumable lasting some)
+
+pub take_imports-requires-clause-globs : goal.take_imports-requires-clause-globs
+unfolding core_in
+take_imports-requires-clause-globs c = λ lasting some.
+    let now : GlobsLast (part_of c.args.world) (import_state (at_rest (core_in (the_view c.self.inside)))) (the_view c.self.inside).globs =
+    subst (λ (r : Run). GlobsLast (part_of c.args.world) (import_state (at_rest (core_in r))) r.globs) (sym c.self.view_is) (c.requires.globs lasting some) in
+    now
 
 pub returns-in_err-resting-clause-many : goal.returns-in_err-resting-clause-many
 unfolding core_in

@@ -7,7 +7,7 @@ use Rattle.hir_def_collector.specs.Derivation.{IsSpent}
 use Rattle.hir_def_collector.specs.contracts.collector.def_collector.DefCollector.{the_view}
 use Rattle.hir_def_collector.specs.State.{Run, State, core_in, import_state, joined, with_import_state}
 use Rattle.hir_def_collector.specs.Steps.{Steps}
-use Rattle.hir_def_collector.specs.Waiting.{IsNoted}
+use Rattle.hir_def_collector.specs.Waiting.{IsNotedBeside}
 use Rattle.hir_def_collector.proofs.ImportSteps.{spent_from, steps_from}
 use Rattle.hir_def_collector.proofs.Spreading.{both_of_each, noted_spread, same_count, through_both}
 use Rattle.hir_def_collector.proofs.collector.def_collector.DefCollector.with_changes_spread.Goals as goal
@@ -38,12 +38,10 @@ returns-clause-noted c =
     } in
     let slots = c.spread_changes-imports.result.1 in
     let given = c.spread_changes-imports.ensures in
-    let globs = both_of_each _ _ slots given.edges (both_of_each _ _ slots given.brought given.traits) in
-    through_both _ _ _ slots c.note_changes-noted.result c.note_changes-noted.ensures.ok (both_of_each _ _ slots (both_of_each _ _ slots given.derived given.changes) globs)
+    through_both _ _ _ slots c.note_changes-noted.result c.note_changes-noted.ensures.ok (both_of_each _ _ slots (both_of_each _ _ slots given.derived given.changes) given.globs)
     (λ slots noted all.
-    subst (λ (r : Run). IsNoted r after) c.self.view_is
-    (noted_spread (part_of c.args.world) before after slots.items all.0.0 all.0.1 given.local noted
-    (record { edges = all.1.0; brought = all.1.1.0; traits = all.1.1.1; reached = given.imports; taken = given.taken })))
+    subst (λ (r : Run). IsNotedBeside (part_of c.args.world) r after) c.self.view_is
+    (noted_spread (part_of c.args.world) before after slots.items all.0.0 all.0.1 given.local noted given.imports given.taken all.1))
 
 pub returns-clause-modules : goal.returns-clause-modules
 unfolding core_in
